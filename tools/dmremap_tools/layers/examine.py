@@ -149,6 +149,5 @@ def by_role(members: Sequence[Member]) -> Tuple[Dict[int, Member], int]:
             found[role] = it
     dropped = [role for role in found if any(it.is_dropped(role) for it in found.values())]
     for role in dropped:
-        streams.tell(f"left out: {quoting.shown(found[role].path)}, which the array has dropped")
-    kept = {role: it for role, it in found.items() if role not in dropped}
-    return kept or first.refuse("no member of it is active: give those that are, or " + START), count
+        streams.tell(f"left out: {quoting.shown(found.pop(role).path)}, which the array has dropped")
+    return found or first.refuse("no member of it is active: give those that are, or " + START), count

@@ -28,7 +28,6 @@ from dmremap_tools.model.device import blocks_of
 Run = Tuple[str, int, int]
 # Lines that are written at once.
 AT_ONCE = 1 << 10
-
 EXAMPLE = "dmremap-tools md --name md0 examine.txt > md0.table"
 
 

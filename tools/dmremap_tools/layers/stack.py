@@ -46,27 +46,21 @@ class Stack(NamedTuple):
 
 
 def load(asked: str, given: Given, room: str) -> Stack:
-    copy = given.copied(room)
-    text = os.path.join(room, "given.concise")
-    put(text, [_concise(asked, copy, given.file)])
-    return Stack(tables.read(text)[0], sizes_of(copy), copy.file if copy.disks is None else None)
-
-
-def sizes_of(given: Given) -> Dict[str, int]:
-    return dict(of_group(given.file)) if given.disks is None else disks.read(given.disks)
-
-
-def _concise(asked: str, copy: Given, name: str) -> str:
-    """Its tables in the concise form. A snapshot or a store that dmremap refuses is refused with what a kernel does with it."""
+    """Loads a stack. A snapshot or a store that dmremap refuses is refused with what a kernel does with it."""
+    copy, text = given.copied(room), os.path.join(room, "given.concise")
     with tempfile.TemporaryFile() as said:
         try:
-            return program.ask([asked, "concise", *copy.words()], said=said)
+            printed = program.ask([asked, "concise", *copy.words()], said=said)
         except (Refusal, streams.OutputFailed):
             said.seek(0)
             message = said.read().decode("utf-8", "surrogateescape")
-            where, why = refused.told(streams.name_of(name), copy.form, streams.read(copy.file), lambda: sizes_of(copy), message)
+            name, content = streams.name_of(given.file), streams.read(copy.file)
+            where, why = refused.told(name, copy.form, content, lambda: disks.read(copy.disks), message)
             if why:
                 raise Refusal(where, why)
             if message:
                 streams.tell(message.rstrip("\n"))
             raise
+    put(text, [printed])
+    sizes = dict(of_group(copy.file)) if copy.disks is None else disks.read(copy.disks)
+    return Stack(tables.read(text)[0], sizes, copy.file if copy.disks is None else None)

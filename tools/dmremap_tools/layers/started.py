@@ -7,7 +7,7 @@ import stat
 from typing import Dict, Iterable, Iterator, List, NamedTuple, Optional
 
 from dmremap_tools.answers.sources import opened
-from dmremap_tools.base import paths, program, quoting, streams, tables
+from dmremap_tools.base import paths, program, quoting, streams
 from dmremap_tools.base.given import Given, put
 from dmremap_tools.base.paths import Place
 from dmremap_tools.base.refusal import Refusal
@@ -45,7 +45,16 @@ def start(words: argparse.Namespace, source: Given, devices: Optional[Iterable[s
         here = {disk: place for disk, place in stores.items() if os.path.exists(place.path)}
         command += ["--paths", os.path.join(room, "PATHS")]
         put(command[-1], rows_of(here))
-        check(command, snapshots, [disk for disk in stores if disk not in here])
+        try:
+            found = store_states.chunks_in(command, snapshots)
+        except store_states.Unread as refusal:
+            absent = quoting.some([quoting.shown(disk) for disk in stores if disk not in here])
+            which = f" ({absent})" if refusal.word == "missing" else ""
+            raise Refusal(refusal.where, f"{refusal.why}{which}; {NEXT}")
+        for name, count in found.items():
+            if count is None:
+                raise Refusal("the store of " + name, INVALID)
+            streams.tell(f"{name}: its store has {count} chunk{'s' * (count != 1)}")
     return Started(command, loaded, places)
 
 
@@ -59,16 +68,3 @@ def rows_of(places: Dict[str, Place]) -> Iterator[str]:
                          "image that was read with O_DIRECT, as `dd iflag=direct` does")
         os.close(descriptor)
         yield f"{disk} {place.path}?offset={place.start}\n"
-
-
-def check(command: List[str], snapshots: List[tables.Device], absent: List[str]) -> None:
-    """Tells what the stores have, or refuses one. `absent` are disks that aren't here."""
-    try:
-        found = store_states.chunks_in(command, snapshots)
-    except store_states.Unread as refusal:
-        which = f" ({quoting.some([quoting.shown(disk) for disk in absent])})" if refusal.word == "missing" else ""
-        raise Refusal(refusal.where, f"{refusal.why}{which}; {NEXT}")
-    for name, count in found.items():
-        if count is None:
-            raise Refusal("the store of " + name, INVALID)
-        streams.tell(f"{name}: its store has {count} chunk{'s' * (count != 1)}")

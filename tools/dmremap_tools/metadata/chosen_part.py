@@ -24,9 +24,7 @@ ARRAY, PARTITION = re.compile(r"(?:/dev/)?md(?:_?d?\d+(?:p\d+)?|/.+)|9:\d+"), re
 LARGE_SECTOR, LAST_BEFORE_DATA = 4096, 4096
 # Bits of a superblock's feature map that don't say that data is elsewhere; bad blocks are refused by themselves.
 HARMLESS = BITMAP | LAYOUT_SAID | BAD_BLOCKS
-# What is said where the image of a whole disk is given for a partition.
 GIVE = "give the partition that it is, as IMAGE?offset=BYTES"
-# What is said of a member that doesn't have all of a physical volume, and of what may be no member any more.
 PARTS = ("a member of an md array that isn't raid1, so that no member has all of a physical volume: give the images of "
          "all members to `save GROUP/VOLUME OUT IMAGE..`, which puts it together")
 CHANGING = ("a member of an md array that is a spare, or is being filled or reshaped, so that it doesn't have the "
@@ -44,11 +42,6 @@ class Member(NamedTuple):
     image: Image
     size: int
     superblock: Superblock
-
-    @property
-    def data_at(self) -> int:
-        """The byte of the whole image at which its data begins."""
-        return self.image.base + self.superblock.start * SECTOR
 
     def check(self, others: "Iterable[Member]") -> None:
         """Refuses a member that doesn't have all data of its array, or is older than another one."""
@@ -82,14 +75,15 @@ def check_places(places: Dict[str, Place], are_volumes: bool = False) -> None:
         is_array = bool(ARRAY.fullmatch(name))
         for member in members[place.path]:
             is_behind = member.image.base < place.start < member.image.base + member.size
-            is_beginning = place.start in (member.image.base, member.data_at)
+            data_at = member.image.base + member.superblock.start * SECTOR
+            is_beginning = place.start in (member.image.base, data_at)
             is_volume = are_volumes and (is_beginning or not place.is_said) and member.has_volume()
             if is_behind or is_volume or is_array and is_beginning:
                 member.check(everyone)
             is_array_place = is_array and not are_volumes and (is_behind or is_beginning)
-            if is_array_place and place.start != member.data_at and not PARTITION.fullmatch(name):
+            if is_array_place and place.start != data_at and not PARTITION.fullmatch(name):
                 why = f"{quoting.shown(name)} is an array, and this place is in a member of one whose data begins at"
-                why = f"{why} byte {member.data_at}: give that, as IMAGE?offset=BYTES"
+                why = f"{why} byte {data_at}: give that, as IMAGE?offset=BYTES"
                 raise Refusal(quoting.shown(place.path), why)
 
 
@@ -151,17 +145,15 @@ def check_mirrored(image: Image) -> None:
     the data begins there, and else of a time after the array's."""
     is_labelled = label_of(image)[0] is not None
     for superblock in md_superblock.superblocks(image):
-        why = fault_of(superblock)
-        if why and not (is_labelled and superblock.start):
-            raise Refusal(image.path, why)
+        if not (is_labelled and superblock.start):
+            Member(image, image.size, superblock).check(())
     for at in md_superblock.damaged(image):
         if not is_labelled or at > LAST_BEFORE_DATA:
             raise Refusal(image.path, DAMAGED.format(image.base + at))
 
 
 def taken_from_array(image: Image) -> Image:
-    """The physical volume in a member of an md array, or the image itself. Sums tell whether what is read there is
-    whole."""
+    """The physical volume in a member of an md array, which is told, or the image itself."""
     data = array_data(image) if label_of(image)[0] is None else None
     if data:
         sector = (data.base - image.base) // SECTOR
@@ -187,12 +179,19 @@ def chosen_parts(disk: Image) -> List[Image]:
         # It doesn't say in which sectors it counts, and labels do.
         larger = table_of(disk, LARGE_SECTOR)
         volumes = with_volumes(disk, larger.partitions if larger else [])
+    found = f"the image of a whole disk ({table.kind})"
+    if not volumes and any(partition.start >= disk.size for partition in table.partitions):
+        starts = [f"{partition.number} from sector {partition.start // SECTOR} on" for partition in table.partitions]
+        others = quoting.some(starts)
+        raise Refusal(disk.path, f"{found}, which ends before its partitions do ({others}): take more of the disk")
+    numbers = quoting.some([str(partition.number) for partition in volumes or table.partitions])
     if not volumes:
-        raise Refusal(disk.path, no_volume(disk, table))
-    which = f"partition {numbers_of(volumes)} is a physical volume: that is"
+        raise Refusal(disk.path, f"{found}, none of whose partitions ({numbers or '-'}) has a sound label: {GIVE}"
+                      f"{where_volumes_begin(disk)}")
+    which = f"partition {numbers} is a physical volume: that is"
     if len(volumes) > 1:
-        which = f"partitions {numbers_of(volumes)} are physical volumes: these are"
-    streams.tell(f"{disk.path}: the image of a whole disk ({table.kind}), whose {which} read")
+        which = f"partitions {numbers} are physical volumes: these are"
+    streams.tell(f"{disk.path}: {found}, whose {which} read")
     return [disk.part(partition.start, partition.size) for partition in volumes]
 
 
@@ -211,24 +210,10 @@ def found_table(disk: Image, sector: int = SECTOR) -> Optional[Table]:
     return table_of(disk, sector) or (backup_of(disk) if label_of(disk)[0] is None else None)
 
 
-def no_volume(disk: Image, table: Table) -> str:
-    """Why no partition is a physical volume, and what to try."""
-    found = f"the image of a whole disk ({table.kind})"
-    if any(partition.start >= disk.size for partition in table.partitions):
-        others = [f"{partition.number} from sector {partition.start // SECTOR} on" for partition in table.partitions]
-        return f"{found}, which ends before its partitions do ({quoting.some(others)}): take more of the disk"
-    numbers = numbers_of(table.partitions) or "-"
-    return f"{found}, none of whose partitions ({numbers}) has a sound label: {GIVE}{where_volumes_begin(disk)}"
-
-
 def with_volumes(disk: Image, partitions: List[Partition]) -> List[Partition]:
     """The partitions that are there and are physical volumes, or have one in a member of an md array."""
     parts = ((each, disk.part(each.start, each.size)) for each in partitions if each.start < disk.size)
     return [each for each, part in parts if label_of(part)[0] is not None or array_data(part) is not None]
-
-
-def numbers_of(partitions: List[Partition]) -> str:
-    return quoting.some([str(partition.number) for partition in partitions])
 
 
 def volumes_in(image: Image) -> Iterator[int]:

@@ -25,9 +25,9 @@ def judge(group: Group) -> None:
     waiting = deque(group.records)
     while waiting:
         gone = _judge_record(group, waiting.popleft(), merging)
+        if not waiting and not gone:
+            gone = _judge_places(group)
         waiting += [record for name in gone for record in users.get(name, ())]
-        if not waiting:
-            waiting += [record for name in _judge_places(group) for record in users.get(name, ())]
 
 
 def leave_others(group: Group, wanted: List[bytes]) -> None:

@@ -68,8 +68,8 @@ def summary(text: bytes) -> str:
     beginning, time = beginning_of(text), time_of(text)
     name = f"{beginning.group.decode()} seqno {beginning.seqno}" if beginning else "another text"
     try:
-        group = next(iter(Document("", text).top.sections()), None)
-        nodes = sections_in(group, b"logical_volumes") if group else []
+        groups = Document("", text).top.sections()[:1]
+        nodes = [node for group in groups for node in sections_in(group, b"logical_volumes")]
         volumes = quoting.some([shown(it.key) for it in nodes]) or "none"
     except Refusal:
         volumes = "unknown"

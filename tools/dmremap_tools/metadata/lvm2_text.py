@@ -52,6 +52,8 @@ TOP, GROUP = {b"contents", b"version"}, {b"extent_size"}
 PHYSICAL, VOLUME = {b"device", b"dev_size", b"pe_start", b"pe_count"}, {b"status", b"flags", b"segment_count"}
 SEGMENT = {b"stripes", b"start_extent", b"extent_count", b"type", b"stripe_count", b"stripe_size", b"chunk_size",
            b"origin", b"cow_store"}
+# Lists of the parts of a raid volume: its data, with what says how that is kept before each of them.
+RAID_PARTS = (b"raids", b"raid0_lvs")
 
 
 def add_words(parser: argparse.ArgumentParser) -> None:
@@ -173,7 +175,9 @@ def mend_group(copy: Mending, group: Group) -> None:
     for node in group.physicals.values():
         mend_section(copy, node, PHYSICAL, ())
         _mend_physical(copy, group, node)
-    parts = group.raid_parts()
+    segments = [segment for volume in group.volumes.values() for segment in volume.segments]
+    raids = [it.node for it in segments if (it.kind or b"").startswith(b"raid")]
+    parts = {name for node in raids for key in RAID_PARTS for name in node.values(key)}
     for volume in group.volumes.values():
         if volume.why:
             continue

@@ -4,6 +4,7 @@ from typing import List, Optional
 
 from dmremap_tools.base import quoting, streams
 from dmremap_tools.base.disk_image import Image, other_form
+from dmremap_tools.base.luks_header import is_container
 from dmremap_tools.base.numbers import SECTOR
 from dmremap_tools.base.refusal import Refusal
 from dmremap_tools.metadata.chosen_part import where_volumes_begin
@@ -13,7 +14,7 @@ from dmremap_tools.model.physical_volume import EMPTY, MISSING, MOST_AREAS, SEAR
 
 OTHER = "try another physical volume of the group, or a file in /etc/lvm/backup"
 OLDER = "see what is left of older texts with --list"
-LUKS, ENCRYPTED = b"LUKS\xba\xbe", "it is encrypted with LUKS: open it with cryptsetup, and take what is opened"
+ENCRYPTED = "it is encrypted with LUKS: open it with cryptsetup, and take what is opened"
 # How much of an image is looked through for older texts where it isn't known where the areas are.
 HEAD = 1 << 20
 
@@ -53,8 +54,7 @@ def _searched_areas(image: Image, why: List[str]) -> List[Area]:
             areas.append(physical_volume.area_at(image, at, size))
     said, most = quoting.some(why, "; "), SEARCHED >> 20
     if not areas:
-        first = image.read(0, SECTOR)
-        known = ENCRYPTED if first.startswith(LUKS) else other_form(first)
+        known = ENCRYPTED if is_container(image) else other_form(image.read(0, SECTOR))
         advice = ": " + (known or "take the physical volume from its first byte on, or " + OTHER)
         found = where_volumes_begin(image)
         raise Refusal(image.path, f"{said}, and no metadata area is in the first or last {most} MiB{found or advice}")
@@ -94,9 +94,8 @@ def _places(areas: List[Area]) -> str:
 
 def texts_in(image: Image) -> List[RingText]:
     """The older texts in the areas of an image, or at its beginning where these aren't known; no empty list."""
-    texts: List[RingText] = []
-    for start, size in physical_volume.areas_in(image):
-        texts += texts_of_ring(image.base + start + SECTOR, image.read(start + SECTOR, size - SECTOR))
+    rings = ((start + SECTOR, size - SECTOR) for start, size in physical_volume.areas_in(image))
+    texts = [it for start, size in rings for it in texts_of_ring(image.base + start, image.read(start, size))]
     texts = texts or texts_of_ring(image.base, image.read(0, HEAD), False)
     if not texts:
         raise Refusal(image.path, "there is no text of a group: "
@@ -104,7 +103,7 @@ def texts_in(image: Image) -> List[RingText]:
     return texts
 
 
-def text_of(image: Image, seqno: int, at: Optional[int] = None) -> bytes:
+def text_of(image: Image, seqno: int, at: Optional[int]) -> bytes:
     """The older text with this number, or the one at a byte."""
     texts = [it for it in texts_in(image) if (it.beginning.seqno == seqno if at is None else it.beginning.at == at)]
     which, there = (f"with the seqno {seqno}", "those there are") if at is None else ("at that place", "the places")

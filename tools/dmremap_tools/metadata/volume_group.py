@@ -1,7 +1,7 @@
 """The volumes of a group as its metadata says them."""
 
 import collections
-from typing import Dict, List, NamedTuple, Optional, Set, Tuple
+from typing import Dict, List, NamedTuple, Optional, Tuple
 
 from dmremap_tools.base import names
 from dmremap_tools.base.config_text import Node, Value
@@ -9,8 +9,6 @@ from dmremap_tools.base.config_text import Node, Value
 # The types of segments that dmremap reads, and what lvm2 calls the first of them as well.
 STRIPED, LINEAR, SNAPSHOT, NO_STORE = b"striped", b"linear", b"snapshot", (b"zero", b"error")
 TYPES = (STRIPED, LINEAR, SNAPSHOT) + NO_STORE
-# Lists of the parts of a raid volume: its data, with what says how that is kept before each of them.
-RAID_PARTS = (b"raids", b"raid0_lvs")
 
 
 class Segment:
@@ -42,14 +40,9 @@ class Volume:
         return Record(self, node.value(b"origin", bytes), store, is_merging, node.value(b"chunk_size", int))
 
 
-class Record(NamedTuple):
-    """A snapshot: `store` is the volume that has its name; one that `is_merging` is written back to its origin."""
-
-    volume: Volume
-    origin: Optional[bytes]
-    store: Optional[bytes]
-    is_merging: bool
-    chunk: Optional[int]
+# A snapshot: `store` is the volume that has its name; one that `is_merging` is written back to its origin.
+Record = NamedTuple("Record", [("volume", Volume), ("origin", Optional[bytes]), ("store", Optional[bytes]),
+                               ("is_merging", bool), ("chunk", Optional[int])])
 
 
 class Group:
@@ -65,10 +58,6 @@ class Group:
     def name_length(self, *parts: bytes) -> int:
         """The bytes of the name of a device: each hyphen of a part is doubled."""
         return len(b"-".join(it.replace(b"-", b"--") for it in (self.name,) + parts))
-
-    def raid_parts(self) -> Set[Value]:
-        return {name for volume in self.volumes.values() for segment in volume.segments
-                if (segment.kind or b"").startswith(b"raid") for key in RAID_PARTS for name in segment.node.values(key)}
 
 
 def sections_in(node: Node, key: bytes) -> List[Node]:
