@@ -6,7 +6,6 @@ from typing import Dict, Iterator, List, NamedTuple, NoReturn, Optional, Sequenc
 from dmremap_tools.base import names, quoting, tables
 from dmremap_tools.base.refusal import Refusal
 from dmremap_tools.layers import examine
-from dmremap_tools.layers.examine import Member
 
 PARITY = ("raid4", "raid5", "raid6")
 # Metadata 0.90 lies in the last 64 KiB of a member that begin at a multiple of that.
@@ -19,7 +18,7 @@ class Array:
     """An array of the members that are there, by their roles. `disks` has the name of each member in the table, where it
     isn't its path, and `sizes` the sectors of members whose metadata doesn't say them."""
 
-    def __init__(self, members: Sequence[Member], disks: Dict[str, str], sizes: Dict[str, int]) -> None:
+    def __init__(self, members: Sequence[examine.Member], disks: Dict[str, str], sizes: Dict[str, int]) -> None:
         for path in [*disks, *sizes]:
             if path not in (it.path for it in members):
                 raise Refusal(quoting.shown(path), "no member of the array has this path: give one that `mdadm --examine` printed")
@@ -35,7 +34,7 @@ class Array:
     def refuse(self, why: str) -> NoReturn:
         self.there[0].refuse(why)
 
-    def member(self, role: int) -> Member:
+    def member(self, role: int) -> examine.Member:
         """The member that has this role, which is refused if it is missing."""
         if role not in self.by_role:
             self.refuse("device %d of the array is missing: add what `mdadm --examine` prints of it" % role)

@@ -71,12 +71,10 @@ def follow(array: arrays.Array, disk: str, copy: "int | None", source: pieces.An
     if copy is not None and copy >= copies:
         array.refuse(f"it has {copies} copies, counted from 0: give a lower --copy")
     for piece in source:
-        is_move = piece.what in ("R", "W")
         if disk not in (piece.disk, piece.to):
-            said = f"{piece.request} {piece.what} {piece.disk} {piece.start} {piece.count}" if is_move else source.line
-            streams.out.write(said + "\n")
+            streams.out.write(source.line + "\n")
             continue
-        if not is_move or piece.what == "W" and array.level in arrays.PARITY:
+        if piece.what not in ("R", "W") or piece.what == "W" and array.level in arrays.PARITY:
             source.refuse_line(f"on {shown} only reads are followed, leave others out")
         if piece.count > requests.MOST:
             source.refuse_line("longer than a request is, give what `dmremap map` prints")

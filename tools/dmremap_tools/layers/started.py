@@ -9,7 +9,6 @@ from typing import Dict, Iterable, Iterator, List, NamedTuple, Optional
 from dmremap_tools.answers.sources import opened
 from dmremap_tools.base import paths, program, quoting, streams
 from dmremap_tools.base.given import Given, put
-from dmremap_tools.base.paths import Place
 from dmremap_tools.base.refusal import Refusal
 from dmremap_tools.layers import stack, store_states
 from dmremap_tools.machines.placed import by_ids
@@ -18,7 +17,7 @@ NEXT = "--paths says where disks are, and --fresh takes every snapshot as new"
 INVALID = ("it is invalid, as it was full once: what the origin overwrote since is lost, and nothing of the snapshot is read; --fresh "
            "takes what the origin has")
 # The words with which dmremap maps; the whole stack, and where its disks are.
-Started = NamedTuple("Started", [("words", List[str]), ("loaded", stack.Stack), ("places", Dict[str, Place])])
+Started = NamedTuple("Started", [("words", List[str]), ("loaded", stack.Stack), ("places", Dict[str, paths.Place])])
 
 
 def add_words(parser: argparse.ArgumentParser) -> None:
@@ -41,7 +40,7 @@ def start(words: argparse.Namespace, source: Given, devices: Optional[Iterable[s
             raise Refusal("the store of " + device.name, "it isn't persistent, so no disk says what is in it; --fresh takes it as new")
     if snapshots:
         disks = part.below(it.lines[0].words[1] for it in snapshots)[1]
-        stores = {disk: places.get(disk) or Place(disk) for disk in sorted(disks)}
+        stores = {disk: places.get(disk) or paths.Place(disk) for disk in sorted(disks)}
         here = {disk: place for disk, place in stores.items() if os.path.exists(place.path)}
         command += ["--paths", os.path.join(room, "PATHS")]
         put(command[-1], rows_of(here))
@@ -58,7 +57,7 @@ def start(words: argparse.Namespace, source: Given, devices: Optional[Iterable[s
     return Started(command, loaded, places)
 
 
-def rows_of(places: Dict[str, Place]) -> Iterator[str]:
+def rows_of(places: Dict[str, paths.Place]) -> Iterator[str]:
     """PATHS, with these disks."""
     for disk, place in places.items():
         place.check_sectors(disk)

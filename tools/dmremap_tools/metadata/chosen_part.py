@@ -90,9 +90,8 @@ def check_places(places: Dict[str, Place], are_volumes: bool = False) -> None:
 def check_newest(paths: Iterable[str]) -> None:
     """Refuses a member with a physical volume that is older than another one in these images."""
     members = [member for path in dict.fromkeys(paths) if path != "-" for member in members_of(path)]
-    for member in members:
-        if member.has_volume():
-            member.check_age(members)
+    for member in filter(Member.has_volume, members):
+        member.check_age(members)
 
 
 def members_of(path: str) -> List[Member]:

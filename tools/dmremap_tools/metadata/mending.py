@@ -24,8 +24,6 @@ AT_END, OTHER, RETURNED = re.compile(rb"\r+(?=\n|\Z)"), re.compile(rb"(#[^\n]*)|
 UNKNOWN = "\ufffd".encode()
 # That in the place of each byte that is no UTF-8, as Python reads these.
 MARKS = dict.fromkeys(range(0xDC80, 0xDD00), "\ufffd")
-# Bytes from the first of these on, up to the second, and what stands in their place.
-Change = Tuple[int, int, bytes]
 
 
 class Mending:
@@ -49,8 +47,8 @@ class Mending:
         self.say(node.start, f"left out: {what}: {why}")
 
     def tell(self) -> None:
-        self.said.sort(key=lambda it: it[0])
-        streams.tell(*(f"{self.document.path}:{line}: {what}" for line, what in self.said))
+        said = sorted(self.said, key=lambda it: it[0])
+        streams.tell(*(f"{self.document.path}:{line}: {what}" for line, what in said))
 
     def write(self, start: int, end: int, content: bytes) -> None:
         """Puts bytes in the place of those from `start` to `end`, also where others were put there before."""
@@ -64,8 +62,8 @@ class Mending:
         self.write(item.start, item.end, content)
         self.say_changed(item.start, node.key, why)
 
-    def gaps(self) -> List[Change]:
-        """The bytes that are left out, with indentation and a comment behind them, and the newlines that stay."""
+    def gaps(self) -> List[Tuple[int, int, bytes]]:
+        """Where the bytes that are left out begin and end, with indentation and a comment, and newlines, which stay."""
         content, gaps = self.document.content, []
         for node in self.left_out:
             start = node.start

@@ -26,7 +26,6 @@ from typing import List
 
 from dmremap_tools.base import numbers, quoting, streams
 from dmremap_tools.base.disk_image import Image, open_image
-from dmremap_tools.base.numbers import SECTOR
 from dmremap_tools.base.paths import Place, place_of
 from dmremap_tools.base.refusal import Refusal, WrongWords
 from dmremap_tools.metadata.chosen_part import check_newest, chosen_parts, taken_from_array
@@ -76,7 +75,7 @@ def _first_if_equal(images: List[Image]) -> bytes:
     texts = [valid_text(it, areas_of(it)) for it in images]
     if len({without_time(it) for it in texts}) > 1:
         for image, text in zip(images, texts):
-            where = f" from sector {image.base // SECTOR} on" if image.base else ""
+            where = f" from sector {image.base // numbers.SECTOR} on" if image.base else ""
             streams.tell(f"{image.path}{where}: {summary(text)}")
         raise Refusal(images[0].path, "the texts differ: "
                       "look at what each has, and take the volume that is right alone")
