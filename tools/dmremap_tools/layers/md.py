@@ -47,8 +47,7 @@ def run(words: argparse.Namespace) -> None:
     array = arrays.Array(examine.read(words.examined), _pairs(words.path, "--path MEMBER=DISK"), sizes)
     if words.name is not None:
         name = names.Names().device(words.name, names.Word("--name"))
-        for line in list(arrays.lines_of(array, words.copy)):
-            streams.out.write("%s: %s\n" % (name, line))
+        streams.out.write("".join([f"{name}: {line}\n" for line in arrays.lines_of(array, words.copy)]))
     else:
         follow(array, words.follow, words.copy, pieces.Answers(words.file))
 

@@ -82,9 +82,8 @@ def check_places(places: Dict[str, Place], are_volumes: bool = False) -> None:
                 member.check(everyone)
             is_array_place = is_array and not are_volumes and (is_behind or is_beginning)
             if is_array_place and place.start != data_at and not PARTITION.fullmatch(name):
-                why = f"{quoting.shown(name)} is an array, and this place is in a member of one whose data begins at"
-                why = f"{why} byte {data_at}: give that, as IMAGE?offset=BYTES"
-                raise Refusal(quoting.shown(place.path), why)
+                raise Refusal(quoting.shown(place.path), f"{quoting.shown(name)} is an array, and this place is in a "
+                              f"member of one whose data begins at byte {data_at}: give that, as IMAGE?offset=BYTES")
 
 
 def check_newest(paths: Iterable[str]) -> None:
@@ -124,7 +123,7 @@ def fault_of(superblock: Superblock) -> Optional[str]:
 
 
 def array_data(image: Image) -> Optional[Image]:
-    """The physical volume in a member of an array, or the image itself. Sums tell whether what is read is whole."""
+    """The physical volume in the data of a member of an array, or None. Its sums tell whether what is read is whole."""
     for superblock in md_superblock.superblocks(image):
         data = image.part(superblock.start * SECTOR, min(image.size, superblock.length * SECTOR))
         if label_of(data)[0]:

@@ -175,9 +175,8 @@ def mend_group(copy: Mending, group: Group) -> None:
     for node in group.physicals.values():
         mend_section(copy, node, PHYSICAL, ())
         _mend_physical(copy, group, node)
-    segments = [segment for volume in group.volumes.values() for segment in volume.segments]
-    raids = [it.node for it in segments if (it.kind or b"").startswith(b"raid")]
-    parts = {name for node in raids for key in RAID_PARTS for name in node.values(key)}
+    raids = [it for volume in group.volumes.values() for it in volume.segments if (it.kind or b"").startswith(b"raid")]
+    parts = {name for it in raids for key in RAID_PARTS for name in it.node.values(key)}
     for volume in group.volumes.values():
         if volume.why:
             continue

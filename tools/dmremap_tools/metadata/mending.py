@@ -2,7 +2,7 @@
 
 import re
 from collections import deque
-from typing import Collection, Dict, List, Optional, Set, Tuple
+from typing import Collection, Dict, Iterator, List, Optional, Set, Tuple
 
 from dmremap_tools.base import streams
 from dmremap_tools.base.config_text import ANEW, DECIMAL, DOUBLE, NUMBER, Document, Item, Node, is_word_between, shown
@@ -47,8 +47,8 @@ class Mending:
         self.say(node.start, f"left out: {what}: {why}")
 
     def tell(self) -> None:
-        said = sorted(self.said, key=lambda it: it[0])
-        streams.tell(*(f"{self.document.path}:{line}: {what}" for line, what in said))
+        path, said = self.document.path, sorted(self.said, key=lambda it: it[0])
+        streams.tell(*(f"{path}:{line}: {what}" for line, what in said))
 
     def write(self, start: int, end: int, content: bytes) -> None:
         """Puts bytes in the place of those from `start` to `end`, also where others were put there before."""
@@ -110,7 +110,7 @@ def mend_section(copy: Mending, node: Node, fields: Collection[bytes], sections:
             if is_field:
                 _mend_field(copy, child)
         else:
-            fault = _unreadable(copy.document, child)
+            fault = next(_faults_of(copy.document, child), None)
             if fault:
                 copy.drop(child, shown(child.key), f"{fault}, which dmremap doesn't read; it says nothing of sectors")
 
@@ -156,25 +156,21 @@ def _mend_field(copy: Mending, node: Node) -> None:
             copy.say_changed(item.start, node.key, "a comma is missing")
 
 
-def _unreadable(document: Document, node: Node) -> Optional[str]:
-    """Why dmremap can't pass over a field or a section, or None."""
-    waiting = [node]
-    while waiting:
-        node = waiting.pop()
-        if node.children is not None and node.level > LEVELS:
-            return f"more than {LEVELS} sections in each other"
-        waiting += node.children or ()
-        if node.is_plain:
-            continue
-        if document.content[node.start:node.start + 1] in (b'"', b"'") or not WORD.match(node.key):
-            return "a key that is no word"
-        for item in node.items:
-            fault = _unreadable_item(document.content[item.start:item.end], item.kind)
-            if fault:
-                return fault
-            if node.is_list and (item.comma >= 0) != (item is not node.items[-1]):
-                return "a comma too many or too few"
-    return None
+def _faults_of(document: Document, node: Node) -> Iterator[str]:
+    """Why dmremap can't pass over a field or a section. No more than the first is asked for, so that this ends early."""
+    if node.children is not None and node.level > LEVELS:
+        yield f"more than {LEVELS} sections in each other"
+    is_quoted = document.content[node.start:node.start + 1] in (b'"', b"'")
+    if not node.is_plain and (is_quoted or not WORD.match(node.key)):
+        yield "a key that is no word"
+    for item in () if node.is_plain else node.items:
+        fault = _unreadable_item(document.content[item.start:item.end], item.kind)
+        if fault:
+            yield fault
+        if node.is_list and (item.comma >= 0) != (item is not node.items[-1]):
+            yield "a comma too many or too few"
+    for child in reversed(node.children or ()):
+        yield from _faults_of(document, child)
 
 
 def _unreadable_item(text: bytes, kind: str) -> Optional[str]:

@@ -67,11 +67,9 @@ def sections_in(node: Node, key: bytes) -> List[Node]:
 
 def disk_names(physicals: List[Node]) -> List[str]:
     """The names that dmremap has for these disks: the paths that are names of one disk each, or else the keys."""
-    paths = [it.value(b"device", bytes) or it.key for it in physicals]
-    count = collections.Counter(paths)
-    named = []
+    paths = [(it.value(b"device", bytes) or it.key).decode("utf-8", "surrogateescape") for it in physicals]
+    count, named = collections.Counter(paths), []
     for node, path in zip(physicals, paths):
-        text = path.decode("utf-8", "surrogateescape")
-        is_name = text.startswith("/") and names.DISK.fullmatch(text) and count[path] == 1
-        named.append(text if is_name else node.key.decode("utf-8", "surrogateescape"))
+        is_name = path.startswith("/") and names.DISK.fullmatch(path) and count[path] == 1
+        named.append(path if is_name else node.key.decode("utf-8", "surrogateescape"))
     return named
