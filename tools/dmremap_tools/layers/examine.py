@@ -1,7 +1,7 @@
 """Members of md arrays, as `mdadm --examine` prints them."""
 
 import re
-from typing import Dict, List, NoReturn, Optional, Sequence, Tuple
+from typing import Dict, List, NoReturn, Optional, Sequence, Set, Tuple
 
 from dmremap_tools.base import quoting, streams
 from dmremap_tools.base.refusal import Refusal
@@ -74,14 +74,14 @@ class Member:
             self.refuse("no number, %s: Events : %s" % (ANEW, quoting.shown(text)))
         return [int(it) for it in text.split(".")]
 
-    def is_dropped(self, role: int) -> bool:
-        """Whether it says that the array has this role no more."""
+    def dropped(self) -> Set[int]:
+        """The roles that it says the array has no more."""
         if self.is_old():
             others = [it for key, it in self.states.items() if key != "this"]
-            return any(other == role and not state.startswith("active sync") for other, state in others)
-        state = self.fields.get("Array State", "").split(" ")[0]
+            return {role for role, state in others if not state.startswith("active sync")}
         # R is one that is being replaced, and whole until it is.
-        return role < len(state) and state[role] not in "AR"
+        states = self.fields.get("Array State", "").split(" ")[0]
+        return {role for role, state in enumerate(states) if state not in "AR"}
 
     def check(self) -> None:
         """Refuses it if its sum is wrong, or data lies elsewhere than its fields say."""
@@ -147,7 +147,7 @@ def by_role(members: Sequence[Member]) -> Tuple[Dict[int, Member], int]:
             it.refuse(f"{quoting.shown(found[role].path)} is device {role} as well: leave one of them out")
         else:
             found[role] = it
-    dropped = [role for role in found if any(it.is_dropped(role) for it in found.values())]
-    for role in dropped:
+    dropped = set().union(*(it.dropped() for it in found.values()))
+    for role in [it for it in found if it in dropped]:
         streams.tell(f"left out: {quoting.shown(found.pop(role).path)}, which the array has dropped")
     return found or first.refuse("no member of it is active: give those that are, or " + START), count

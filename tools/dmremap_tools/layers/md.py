@@ -63,7 +63,6 @@ def _pairs(given: List[str], form: str) -> Dict[str, str]:
 
 
 def follow(array: arrays.Array, disk: str, copy: "int | None", source: pieces.Answers) -> None:
-    """Prints answers with the pieces on a disk followed on."""
     copies, shown = array.copies.near * array.copies.far, quoting.shown(disk)
     if array.level not in (*arrays.PARITY, "raid10"):
         array.refuse(f"--follow isn't for {quoting.shown(array.level)}: make its table with --name")

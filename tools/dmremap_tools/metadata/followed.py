@@ -117,17 +117,15 @@ def _record_fault(group: Group, record: Record, origin: Volume, store: Volume,
 
 def _judge_places(group: Group) -> List[bytes]:
     """Leaves out the snapshots that have more places for chunks than dmremap counts in all; returns who can't stay."""
-    records: Dict[Optional[bytes], List[Record]] = {}
-    for record in group.records:
-        if not record.volume.why:
-            records.setdefault(record.store, []).append(record)
+    order = {name: at for at, name in enumerate(group.volumes)}
+    staying = [it for it in group.records if not it.volume.why and it.store in order]
     left, gone = store_places.MOST, []
-    for volume in group.volumes.values():
-        for record in records.get(volume.name, ()):
-            wanted = store_places.places(record.chunk, volume.extents * (group.extent_size or 0))
-            if wanted <= left:
-                left -= wanted
-            else:
-                why = f"with places for {wanted} chunks, and dmremap counts {store_places.MOST} in all"
-                gone += _leave_snapshot(record, volume, f"it is a snapshot of {shown(record.origin or b'')} {why}")
+    for record in sorted(staying, key=lambda it: order[it.store]):
+        store = group.volumes[record.store]
+        wanted = store_places.places(record.chunk, store.extents * (group.extent_size or 0))
+        if wanted <= left:
+            left -= wanted
+        else:
+            why = f"with places for {wanted} chunks, and dmremap counts {store_places.MOST} in all"
+            gone += _leave_snapshot(record, store, f"it is a snapshot of {shown(record.origin or b'')} {why}")
     return gone

@@ -52,8 +52,6 @@ TOP, GROUP = {b"contents", b"version"}, {b"extent_size"}
 PHYSICAL, VOLUME = {b"device", b"dev_size", b"pe_start", b"pe_count"}, {b"status", b"flags", b"segment_count"}
 SEGMENT = {b"stripes", b"start_extent", b"extent_count", b"type", b"stripe_count", b"stripe_size", b"chunk_size",
            b"origin", b"cow_store"}
-# Lists of the parts of a raid volume: its data, with what says how that is kept before each of them.
-RAID_PARTS = (b"raids", b"raid0_lvs")
 
 
 def add_words(parser: argparse.ArgumentParser) -> None:
@@ -176,7 +174,8 @@ def mend_group(copy: Mending, group: Group) -> None:
         mend_section(copy, node, PHYSICAL, ())
         _mend_physical(copy, group, node)
     raids = [it for volume in group.volumes.values() for it in volume.segments if (it.kind or b"").startswith(b"raid")]
-    parts = {name for it in raids for key in RAID_PARTS for name in it.node.values(key)}
+    # These lists have the data of a raid volume, with what says how that is kept before each part of it.
+    parts = {name for it in raids for key in (b"raids", b"raid0_lvs") for name in it.node.values(key)}
     for volume in group.volumes.values():
         if volume.why:
             continue
