@@ -124,11 +124,9 @@ def fault_of(superblock: Superblock) -> Optional[str]:
 
 def array_data(image: Image) -> Optional[Image]:
     """The physical volume in the data of a member of an array, or None. Its sums tell whether what is read is whole."""
-    for superblock in md_superblock.superblocks(image):
-        data = image.part(superblock.start * SECTOR, min(image.size, superblock.length * SECTOR))
-        if label_of(data)[0]:
-            return data
-    return None
+    members = md_superblock.superblocks(image)
+    parts = (image.part(it.start * SECTOR, min(image.size, it.length * SECTOR)) for it in members)
+    return next((it for it in parts if label_of(it)[0]), None)
 
 
 def volume_label(image: Image) -> Optional[Label]:

@@ -33,8 +33,7 @@ def beginnings_in(content: bytes) -> Iterator[Beginning]:
 
 def beginning_of(text: bytes) -> Optional[Beginning]:
     """The beginning of a text that is whole."""
-    beginning = next(beginnings_in(text[:LONGEST_BEGINNING]), None)
-    return beginning if beginning and beginning.at == 0 else None
+    return next((it for it in beginnings_in(text[:LONGEST_BEGINNING]) if it.at == 0), None)
 
 
 def texts_of_ring(start: int, ring: bytes, is_ring: bool = True) -> List[RingText]:

@@ -126,12 +126,11 @@ def group_of(copy: Mending) -> Node:
 
 def drop_volumes(copy: Mending, group: Group) -> None:
     """Leaves out the volumes that can't stay, and says what answers lack of origins that lose snapshots."""
+    judge(group)
     for volume in group.volumes.values():
         if volume.node.value(b"segment_count", int) not in (None, len(volume.segments)):
             why = f"segment_count isn't the number of its segments, {len(volume.segments)}: {ANEW}"
             raise copy.document.refused(volume.node.start, f"{shown(volume.name)}: {why}")
-    judge(group)
-    for volume in group.volumes.values():
         if volume.why == NOT_ASKED:
             copy.left_out.add(volume.node)
         elif volume.why:
@@ -176,9 +175,7 @@ def mend_group(copy: Mending, group: Group) -> None:
     raids = [it for volume in group.volumes.values() for it in volume.segments if (it.kind or b"").startswith(b"raid")]
     # These lists have the data of a raid volume, with what says how that is kept before each part of it.
     parts = {name for it in raids for key in (b"raids", b"raid0_lvs") for name in it.node.values(key)}
-    for volume in group.volumes.values():
-        if volume.why:
-            continue
+    for volume in [it for it in group.volumes.values() if not it.why]:
         if volume.name in parts:
             _mend_part(copy, volume)
         mend_section(copy, volume.node, VOLUME, {it.node for it in volume.segments})
