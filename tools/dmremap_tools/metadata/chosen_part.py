@@ -12,8 +12,9 @@ from dmremap_tools.base.numbers import SECTOR
 from dmremap_tools.base.partition_table import GPT_SECTORS, DamagedTable, Table, backup_of, table_of
 from dmremap_tools.base.paths import Place
 from dmremap_tools.base.refusal import Refusal
+from dmremap_tools.layers.examine import HARMLESS
 from dmremap_tools.model import md_superblock
-from dmremap_tools.model.md_superblock import BAD_BLOCKS, BITMAP, LAYOUT_SAID, Superblock, has_all
+from dmremap_tools.model.md_superblock import BAD_BLOCKS, Superblock, has_all
 from dmremap_tools.model.physical_volume import LABEL, LABEL_SECTORS, Label, label_fault, label_of
 
 WINDOW, PROGRESS = 4 << 20, 64
@@ -22,8 +23,6 @@ ARRAY, PARTITION = re.compile(r"(?:/dev/)?md(?:_?d?\d+(?:p\d+)?|/.+)|9:\d+"), re
 # What a sector has on disks that don't have 512 bytes in it, and the last byte at which a superblock begins that lies
 # before its data.
 LARGE_SECTOR, LAST_BEFORE_DATA = 4096, 4096
-# Bits of a superblock's feature map that don't say that data is elsewhere; bad blocks are refused by themselves.
-HARMLESS = BITMAP | LAYOUT_SAID | BAD_BLOCKS
 GIVE = "give the partition that it is, as IMAGE?offset=BYTES"
 PARTS = ("a member of an md array that isn't raid1, so that no member has all of a physical volume: give the images of "
          "all members to `save GROUP/VOLUME OUT IMAGE..`, which puts it together")

@@ -98,10 +98,8 @@ def drop_twice(copy: Mending) -> None:
     while waiting:
         section = waiting.pop()
         last = {it.key: it for it in section.children}
-        for node in section.children:
+        for node in [it for it in section.children if last[it.key] is not it]:
             counting = last[node.key]
-            if counting is node:
-                continue
             if node.children is not None or counting.children is not None:
                 raise copy.document.refused(counting.start, f"{shown(node.key)} is there twice, first in line "
                                             f"{copy.document.line_at(node.start)}: put the two together")
