@@ -188,10 +188,9 @@ def _unreadable_item(text: bytes, kind: str) -> Optional[str]:
 def mended(copy: Mending, content: bytes) -> bytes:
     """The copy of a content, with white space as dmremap reads it. Says what it lacks of that."""
     if content.startswith(MARK):
-        copy.said.append((1, "changed: a byte order mark is taken out"))
+        copy.say(0, "changed: a byte order mark is taken out")
     if b"\0" in content:
-        line = 1 + content[:content.index(b"\0")].count(b"\n")
-        copy.said.append((line, "left out: the NUL here, and what comes after it"))
+        copy.say(len(copy.document.content), "left out: the NUL here, and what comes after it")
     gaps, reached = deque(sorted(copy.gaps())), 0
     for at in copy.document.tight:
         while gaps and gaps[0][0] <= at:
