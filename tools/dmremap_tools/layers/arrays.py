@@ -175,7 +175,7 @@ def _rows_of_copies(array: Array, copy: Optional[int]) -> Iterator[tables.Line]:
 
 
 def place(array: Array, number: int, copy: int) -> Tuple[int, int]:
-    """The role and the row of a chunk. In raid10 the far copies of each near one have numbers that follow each other."""
+    """The role and the row of a chunk. In raid10 the far copies of each near one have consecutive numbers."""
     if array.level != "raid10":
         row, column = divmod(number, array.count - (2 if array.level == "raid6" else 1))
         # Layouts that end in -6 come again after one row less.

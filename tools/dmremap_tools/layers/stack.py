@@ -12,7 +12,7 @@ from dmremap_tools.machines.disks import of_group
 
 
 class Stack(NamedTuple):
-    """The devices in their order, and the sectors of each disk; `group` is the file of the metadata that say them."""
+    """The devices in their order, and the sectors of each disk; `group` is the file of metadata that has both."""
 
     devices: List[tables.Device]
     sizes: Dict[str, int]

@@ -157,7 +157,7 @@ def _mend_field(copy: Mending, node: Node) -> None:
 
 
 def _faults_of(document: Document, node: Node) -> Iterator[str]:
-    """Why dmremap can't pass over a field or a section. No more than the first is asked for, so that this ends early."""
+    """Why dmremap can't pass over a field or a section. Asked for the first alone, it goes no deeper than LEVELS."""
     if node.children is not None and node.level > LEVELS:
         yield f"more than {LEVELS} sections in each other"
     is_quoted = document.content[node.start:node.start + 1] in (b'"', b"'")

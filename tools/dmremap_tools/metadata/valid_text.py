@@ -63,8 +63,7 @@ def _searched_areas(image: Image, why: List[str]) -> List[Area]:
 
 
 def valid_text(image: Image, areas: List[Area]) -> bytes:
-    """The text with the highest number, of those that are sound. Refuses texts of different groups, and different
-    texts with that number."""
+    """The sound text with the highest number. Refuses texts of different groups, and different ones of that number."""
     sound = [it for it in areas if it.text is not None]
     if not sound:
         why = "; ".join(f"{_places([it])}: {it.fault}" for it in areas)
