@@ -13,7 +13,7 @@ use Rattle.dm_table.specs.declared.tables.table.Target.{Target}
 use Rattle.dm_table.specs.declared.tables.table.Target.TheVariants as targets
 use Rattle.dm_stack.specs.Description.{Description, lower_len, lower_of}
 use Rattle.dm_stack.specs.checks.Soundness.{HasGoodChunk, HaveGoodChunks, is_bad_chunk, is_bad_snapshot, snapshot, bad_snapshots_in}
-use Rattle.dm_stack.proofs.checks.Passes.{append_none, faults_by_none}
+use Rattle.dm_stack.proofs.checks.Passes.{all_changed, append_none, faults_by_none}
 
 pub chunk_within : (chunk : ℕ) → is_bad_chunk chunk ≡ false → (0 < chunk) × (chunk ≤ 1024)
 chunk_within chunk good =
@@ -28,8 +28,7 @@ good_chunk stack lines len (targets.Snapshot origin store kind chunk) good =
 good_chunk stack lines len _ good = tt
 
 pub good_lines : (stack : Description) (count : ℕ) (lines : List Line) → AllByRecursion (λ line. is_bad_snapshot stack count line.len line.target ≡ false) lines → AllByRecursion (λ line. HasGoodChunk line.target) lines
-good_lines stack count [] good = tt
-good_lines stack count (line ∷ lines) good = (good_chunk stack count line.len line.target good.0, good_lines stack count lines good.1)
+good_lines stack count lines good = all_changed (λ line. is_bad_snapshot stack count line.len line.target ≡ false) (λ line. HasGoodChunk line.target) lines (λ line. good_chunk stack count line.len line.target) good
 
 good_devices : (stack : Description) (devices : List DeviceSpec) → flat_map (λ device. bad_snapshots_in stack device.lines) devices ≡ [] → AllByRecursion (λ device. HaveGoodChunks device.lines) devices
 good_devices stack [] none = tt

@@ -56,25 +56,25 @@ many_lines stack found few_devices few_disks is =
 
 -- An element of lists in a row
 
-get_left : {X : Type 0} (xs ys : List X) (n : ℕ) → n < length xs → slice_get (xs ++ ys) n ≡ slice_get xs n
-get_left [] ys n within = absurd (omega arith)
-get_left (x ∷ xs) ys zero within = refl
-get_left (x ∷ xs) ys (suc n) within = get_left xs ys n (omega arith)
+pub get_front : {X : Type 0} (xs ys : List X) (n : ℕ) → n < length xs → slice_get (xs ++ ys) n ≡ slice_get xs n
+get_front [] ys n within = absurd (omega arith)
+get_front (x ∷ xs) ys zero within = refl
+get_front (x ∷ xs) ys (suc n) within = get_front xs ys n (omega arith)
 
-get_right : {X : Type 0} (xs ys : List X) (n : ℕ) → slice_get (xs ++ ys) (length xs + n) ≡ slice_get ys n
-get_right [] ys n = let e : 0 + n ≡ n = omega arith in rw e
-get_right (x ∷ xs) ys n = let e : suc (length xs) + n ≡ suc (length xs + n) = omega arith in rw e (get_right xs ys n)
+pub get_after : {X : Type 0} (xs ys : List X) (n : ℕ) → slice_get (xs ++ ys) (length xs + n) ≡ slice_get ys n
+get_after [] ys n = let e : 0 + n ≡ n = omega arith in rw e
+get_after (x ∷ xs) ys n = let e : suc (length xs) + n ≡ suc (length xs + n) = omega arith in rw e (get_after xs ys n)
 
 pub line_in : (devices : List DeviceSpec) (i left : ℕ) (device : DeviceSpec) → i < length devices → device ≡ get_or devices i device → left < length device.lines → slice_get (all_lines (drop i devices)) left ≡ slice_get device.lines left
 line_in devices i left device within is inside =
     let at : drop i devices ≡ device ∷ drop (i + 1) devices = rw is (drop_more devices i device within) in
-    rw at (get_left device.lines (all_lines (drop (i + 1) devices)) left inside)
+    rw at (get_front device.lines (all_lines (drop (i + 1) devices)) left inside)
 
 pub line_later : (devices : List DeviceSpec) (i left : ℕ) (device : DeviceSpec) → i < length devices → device ≡ get_or devices i device → length device.lines ≤ left → slice_get (all_lines (drop (i + 1) devices)) (left - length device.lines) ≡ slice_get (all_lines (drop i devices)) left
 line_later devices i left device within is after =
     let at : drop i devices ≡ device ∷ drop (i + 1) devices = rw is (drop_more devices i device within) in
     let sum : length device.lines + (left - length device.lines) ≡ left = omega arith in
-    rw at (cc (get_right device.lines (all_lines (drop (i + 1) devices)) (left - length device.lines)))
+    rw at (cc (get_after device.lines (all_lines (drop (i + 1) devices)) (left - length device.lines)))
 
 -- The end of lines
 

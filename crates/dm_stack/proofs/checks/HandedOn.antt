@@ -14,7 +14,7 @@ use Rattle.dm_table.specs.load.LoadFault.{fault, faults_by, first_or, first_faul
 use Rattle.dm_stack.specs.Description.{Description, end_of}
 use Rattle.dm_stack.specs.checks.Soundness.{Early, HaveSmallEnds, IsRefusedBy, Late, OnCycle, WithBefore, all_lines, checks_after, checks_before, crowded, deep, depth_of, empty, empty_in, faults_by_id, has_bad_store, has_bad_stripes, is_far, is_large, is_misplaced, is_repeated, is_unknown, misplaced, misplaced_in, misplaced_kind, passes_end, past, range, snapshot, bad_snapshots_in, is_bad_snapshot, store, stripe, too_large, too_many, twice, twice_in, unknown, with_before, without_lines}
 use Rattle.dm_table.specs.tables.Span.{spans}
-use Rattle.dm_stack.proofs.checks.Passes.{all_parts, append_none, faults_by_none}
+use Rattle.dm_stack.proofs.checks.Passes.{all_changed, all_parts, append_none, faults_by_none}
 
 -- Ends within the limit
 
@@ -25,15 +25,11 @@ line_within line large =
     let c = or_parts (nat_lt (2 ^ 50) (line.start + line.len)) (list_any is_far (spans line)) b.1 in
     ltb-false _ _ c.0
 
-pub lines_within : (lines : List Line) → AllByRecursion (λ line. is_large line ≡ false) lines → AllByRecursion (λ line. line.start + line.len ≤ 2 ^ 50) lines
-lines_within [] small = tt
-lines_within (line ∷ lines) small = (line_within line small.0, lines_within lines small.1)
-
 devices_within : (devices : List DeviceSpec) → AllByRecursion (λ line. is_large line ≡ false) (all_lines devices) → AllByRecursion (λ device. HaveSmallEnds device.lines) devices
 devices_within [] small = tt
 devices_within (device ∷ devices) small =
     let parts = all_parts (λ line. is_large line ≡ false) device.lines (all_lines devices) small in
-    (All-from_recursion (λ line. line.start + line.len ≤ 2 ^ 50) device.lines (lines_within device.lines parts.0), devices_within devices parts.1)
+    (All-from_recursion (λ line. line.start + line.len ≤ 2 ^ 50) device.lines (all_changed _ (λ line. line.start + line.len ≤ 2 ^ 50) device.lines line_within parts.0), devices_within devices parts.1)
 
 pub ends_within : (stack : Description) → too_large stack ≡ [] → All (λ device. HaveSmallEnds device.lines) stack.devices
 ends_within stack e =
@@ -56,6 +52,10 @@ all_append P (x ∷ xs) ys h k = (h.0, all_append P xs ys h.1 k)
 pub all_each : {X Y : Type 0} (P : Y → Type 0) (f : X → List Y) (xs : List X) → ((x : X) → AllByRecursion P (f x)) → AllByRecursion P (flat_map f xs)
 all_each P f [] each = tt
 all_each P f (x ∷ xs) each = all_append P (f x) (flat_map f xs) (each x) (all_each P f xs each)
+
+pub each_in : {X Y : Type 0} (Q : X → Type 0) (P : Y → Type 0) (f : X → List Y) (xs : List X) → AllByRecursion Q xs → ((x : X) → Q x → AllByRecursion P (f x)) → AllByRecursion P (flat_map f xs)
+each_in Q P f [] all each = tt
+each_in Q P f (x ∷ xs) all each = all_append P (f x) (flat_map f xs) (each x all.0) (each_in Q P f xs all.1 each)
 
 cond_not_memory : (at : LoadFault) (later : List LoadFault) (b : Bool) → IsNotMemory at → AllByRecursion IsNotMemory later → AllByRecursion IsNotMemory (cond b (at ∷ later) later)
 cond_not_memory at later true here more = (here, more)

@@ -10,7 +10,7 @@ use Rattle.dm_table.specs.declared.load.load_fault.LoadKind.TheVariants.{Gap, Ov
 use Rattle.dm_table.specs.declared.tables.table.Line.{Line}
 use Rattle.dm_stack.specs.Description.{end_of}
 use Rattle.dm_stack.specs.checks.Soundness.{WithBefore, is_misplaced, misplaced_in, misplaced_kind, with_before}
-use Rattle.dm_stack.proofs.checks.Passes.{filter_none, map_none}
+use Rattle.dm_stack.proofs.checks.Passes.{all_changed, filter_none, map_none}
 use Rattle.dm_stack.proofs.checks.WithBefore.{drop-with_before, further_on, none-with_before}
 
 -- The end of lines, with one more
@@ -67,10 +67,6 @@ AreInRow end (line ∷ lines) = (line.start ≡ end) × AreInRow (line.start + l
 all_of-map : {X Y : Type 0} (P : Y → Type 0) (f : X → Y) (xs : List X) → AllByRecursion P (map f xs) → AllByRecursion (λ x. P (f x)) xs
 all_of-map P f [] each = tt
 all_of-map P f (x ∷ xs) each = (each.0, all_of-map P f xs each.1)
-
-all_changed : {X : Type 0} (P Q : X → Type 0) (xs : List X) → ((x : X) → P x → Q x) → AllByRecursion P xs → AllByRecursion Q xs
-all_changed P Q [] change each = tt
-all_changed P Q (x ∷ xs) change each = (change x each.0, all_changed P Q xs change each.1)
 
 -- a line starts where these lines and those before it end
 abbrev pub IsPlacedAfter : List Line → WithBefore Line → Type 0

@@ -1,14 +1,15 @@
 -- Checks in a row, what is named among devices that are there, and the first ring.
 use Rattle.std.proofs.Common.{◌≡◌, ◌≢◌, ◌⊎◌, ℕ, zero, suc, ◌+◌, ◌<◌, Bool, false, inl, inr, List, [], ◌∷◌, Option, Some, None, Result, Ok, Vec, Global, arith, refl, sym, ap, ◌∙◌, drop, get_or, length, map, take}
-use Rattle.std.specs.Prelude.{IfOk, IfSome, IfNone, find, is_none}
+use Rattle.std.specs.Prelude.{IfErr, IfOk, IfSome, IfNone, find, is_none}
+use Rattle.std.specs.Result.{IsErrAnd}
 use Rattle.std.specs.List.{AllByRecursion, flat_map, list_any, position_or_len}
 use Rattle.std.proofs.lemmas.Bool.{leb-false, or_parts}
 use Rattle.std.proofs.lemmas.List.{drop_more, length-map, length-take-le, take-append-drop}
 use Rattle.std.proofs.lemmas.List.Elements.{All-from_recursion}
+use Rattle.std.proofs.lemmas.Result.{err_from_is_err_and}
 use Rattle.dm_table.specs.declared.tables.table.DevRef.{DevRef}
 use Rattle.dm_table.specs.declared.tables.table.DevRef.TheVariants as refs
 use Rattle.dm_table.specs.declared.tables.table.DeviceSpec.{DeviceSpec}
-use Rattle.dm_table.specs.declared.tables.table.Line.{Line}
 use Rattle.dm_table.specs.declared.load.load_fault.LoadKind.{LoadKind}
 use Rattle.dm_table.specs.declared.load.load_fault.LoadKind.TheVariants.{Cycle, Memory, Unknown}
 use Rattle.dm_table.specs.declared.load.load_fault.LoadFault.{LoadFault}
@@ -17,9 +18,9 @@ use Rattle.dm_table.specs.load.LoadFault.{IsMemoryFault, fault, first_or, first_
 use Rattle.dm_stack.specs.Description.{Description, device_links, is_same, line_links, links, ref_link}
 use Rattle.dm_stack.specs.checks.Graph.{IsClosed, IsFirstRing, Reaches, depths_to, greatest, links_in, links_of}
 use Rattle.dm_stack.specs.checks.Depth.{stack_depth}
-use Rattle.dm_stack.specs.checks.Soundness.{Early, HasNoCycle, IsFirstCycle, IsRefusedBy, IsSound, Late, all_lines, checks_after, checks_before, is_unknown, is_unknown_ref, unknown}
+use Rattle.dm_stack.specs.checks.Soundness.{Early, HasNoCycle, IsFirstCycle, IsRefusedBy, Late, all_lines, checks_after, checks_before, is_unknown, is_unknown_ref, unknown}
 use Rattle.dm_table.specs.tables.Span.{Span, spans}
-use Rattle.dm_stack.proofs.checks.HandedOn.{all_append, refused_not_memory}
+use Rattle.dm_stack.proofs.checks.HandedOn.{all_append, each_in, refused_not_memory}
 use Rattle.dm_table.proofs.FaultLemmas.{first_or-found, first_or-none, first_or-passed}
 use Rattle.dm_stack.proofs.checks.Passes.{all_parts, faults_by_none}
 use Rattle.dm_stack.proofs.lines.SpanLemmas.{none_past}
@@ -29,7 +30,7 @@ use Rattle.dm_stack.proofs.lines.SpanLemmas.{none_past}
 abbrev pub FindNothing : List (List LoadFault) → Type 0
 FindNothing checks = AllByRecursion (λ faults. first_or faults None ≡ None) checks
 
-nothing_found : (checks : List (List LoadFault)) → FindNothing checks → first_fault checks ≡ None
+pub nothing_found : (checks : List (List LoadFault)) → FindNothing checks → first_fault checks ≡ None
 nothing_found [] none = refl
 nothing_found (faults ∷ checks) none = first_or-passed faults _ none.0 ∙ nothing_found checks none.1
 
@@ -46,23 +47,14 @@ refused_early stack index at none e = Early (first_at (checks_before stack) inde
 pub refused_late : (stack : Description) (index : ℕ) (at : LoadFault) → first_fault (checks_before stack) ≡ None → HasNoCycle stack → FindNothing (take index (checks_after stack)) → first_or (get_or (checks_after stack) index []) None ≡ Some at → IsRefusedBy stack at
 refused_late stack index at before acyclic none e = Late before acyclic (first_at (checks_after stack) index at none e)
 
-pub early_passed : (stack : Description) → FindNothing (checks_before stack) → first_fault (checks_before stack) ≡ None
-early_passed stack none = nothing_found (checks_before stack) none
-
-pub are_sound : (stack : Description) → first_fault (checks_before stack) ≡ None → HasNoCycle stack → FindNothing (checks_after stack) → IsSound stack
-are_sound stack before acyclic none = record { before = before; acyclic = acyclic; after = nothing_found (checks_after stack) none }
-
-is_memory : (kind : LoadKind) → (kind ≡ Memory) ⊎ (kind ≢ Memory)
-is_memory Memory = inl refl
-is_memory _ = inr (λ e. cc)
-
-by_kind : {P Q : Type 0} (kind : LoadKind) → (kind ≢ Memory → P) → (kind ≡ Memory → Q) → (kind ≡ Memory) ⊎ (kind ≢ Memory) → P ⊎ Q
-by_kind kind found memory (inl is) = inr (memory is)
-by_kind kind found memory (inr other) = inl (found other)
+-- what the exit of a `?` returns is the fault that it was given
+pub handed : {T : Type 0} (P : LoadFault → Type 0) (result : Result T LoadFault) (at : LoadFault) → IsErrAnd result (λ fault. fault ≡ at) → P at → IfErr result P
+handed P result at is holds = let p = err_from_is_err_and result is in rw (p.1, p.2) holds
 
 -- a fault means that memory ran out, or it does not
 pub found_or_memory : {P Q : Type 0} (kind : LoadKind) → (kind ≢ Memory → P) → (kind ≡ Memory → Q) → P ⊎ Q
-found_or_memory kind found memory = by_kind kind found memory (is_memory kind)
+found_or_memory Memory found memory = inr (memory refl)
+found_or_memory _ found memory = inl (found (λ e. cc))
 
 -- why a load is refused, by whether memory ran out
 pub refused_if : (stack : Description) (at : LoadFault) → IsRefusedBy stack at ⊎ IsMemoryFault Source at → at.kind ≢ Memory → IsRefusedBy stack at
@@ -96,16 +88,11 @@ spans_there stack (span ∷ named) e =
     let parts = or_parts (is_unknown_ref stack span.to) (list_any (λ s. is_unknown_ref stack s.to) named) e in
     all_append (λ id. id < length stack.devices) (ref_link stack span.to) (flat_map (λ s. ref_link stack s.to) named) (ref_there stack span.to parts.0) (spans_there stack named parts.1)
 
-lines_there : (stack : Description) (lines : List Line) → AllByRecursion (λ line. is_unknown stack line ≡ false) lines → AreThere stack (flat_map (line_links stack) lines)
-lines_there stack [] known = tt
-lines_there stack (line ∷ lines) known =
-    all_append (λ id. id < length stack.devices) (line_links stack line) (flat_map (line_links stack) lines) (spans_there stack (spans line) known.0) (lines_there stack lines known.1)
-
 devices_there : (stack : Description) (devices : List DeviceSpec) → AllByRecursion (λ line. is_unknown stack line ≡ false) (all_lines devices) → AllByRecursion (AreThere stack) (map (device_links stack) devices)
 devices_there stack [] known = tt
 devices_there stack (device ∷ devices) known =
     let parts = all_parts (λ line. is_unknown stack line ≡ false) device.lines (all_lines devices) known in
-    (lines_there stack device.lines parts.0, devices_there stack devices parts.1)
+    (each_in (λ line. is_unknown stack line ≡ false) (λ id. id < length stack.devices) (line_links stack) device.lines parts.0 (λ line. spans_there stack (spans line)), devices_there stack devices parts.1)
 
 at_or : {X : Type 0} (P : X → Type 0) (xs : List X) (i : ℕ) (other : X) → AllByRecursion P xs → P other → P (get_or xs i other)
 at_or P [] i other each last = last

@@ -1,7 +1,5 @@
 -- A description is sound, or one fault refuses it, and never both.
-use Rattle.std.proofs.Common.{◌≡◌, ℕ, ◌<◌, ◌∷◌, Option, Some, None, arith, inl, inr, sym, ap, ◌∙◌, get_or, length}
-use Rattle.std.specs.Prelude.{◌⊎◌}
-use Rattle.std.proofs.lemmas.Bool.{cases_order}
+use Rattle.std.proofs.Common.{◌≡◌, ℕ, ◌<◌, ◌∷◌, Option, Some, None, arith, sym, ap, ◌∙◌, get_or, length}
 use Rattle.std.proofs.Math.Seq.{get_or-append_seam}
 use Rattle.std.proofs.lemmas.List.{length-append}
 use Rattle.dm_table.specs.declared.load.load_fault.LoadFault.{LoadFault}
@@ -15,13 +13,8 @@ no_cycle : (stack : Description) (found : LoadFault) → HasNoCycle stack → Is
 no_cycle stack found acyclic ring = acyclic (length ring.before) (ring_within stack found ring) ring.cycle
 
 -- of two first rings neither is before the other
-by_order : (m n : ℕ) → (m < n → ⊥) → (n < m → ⊥) → (m ≡ n) ⊎ ((m < n) ⊎ (n < m)) → m ≡ n
-by_order m n above below (inl same) = same
-by_order m n above below (inr (inl earlier)) = absurd (above earlier)
-by_order m n above below (inr (inr later)) = absurd (below later)
-
-same_place : (m n : ℕ) → (m < n → ⊥) → (n < m → ⊥) → m ≡ n
-same_place m n above below = by_order m n above below (cases_order m n)
+pub same_place : (m n : ℕ) → (m < n → ⊥) → (n < m → ⊥) → m ≡ n
+same_place m n above below = grind (arith, above, below)
 
 one_ring : (stack : Description) (a b : LoadFault) → IsFirstCycle stack a → IsFirstCycle stack b → a ≡ b
 one_ring stack a b p q =

@@ -18,6 +18,10 @@ pub all_parts : {X : Type 0} (P : X → Type 0) (xs ys : List X) → AllByRecurs
 all_parts P [] ys h = (tt, h)
 all_parts P (x ∷ xs) ys h = let parts = all_parts P xs ys h.1 in ((h.0, parts.0), parts.1)
 
+pub all_changed : {X : Type 0} (P Q : X → Type 0) (xs : List X) → ((x : X) → P x → Q x) → AllByRecursion P xs → AllByRecursion Q xs
+all_changed P Q [] change each = tt
+all_changed P Q (x ∷ xs) change each = (change x each.0, all_changed P Q xs change each.1)
+
 pub cond_none : {X : Type 0} (x : X) (later : List X) (b : Bool) → cond b (x ∷ later) later ≡ [] → (b ≡ false) × (later ≡ [])
 cond_none x later true e = absurd cc
 cond_none x later false e = (refl, e)

@@ -2,7 +2,7 @@
 use Rattle.std.proofs.Common.{◌≡◌, ℕ, zero, suc, ◌+◌, ◌-◌, ◌<◌, ◌≤◌, List, [], ◌∷◌, length, get_or, map, replicate, Vec, refl, ap, ◌∙◌, arith}
 use Rattle.std.specs.Global.{Global}
 use Rattle.std.specs.List.{Contains, All, range_with_len}
-use Rattle.std.proofs.lemmas.List.{get_or-map, length-map}
+use Rattle.std.proofs.lemmas.List.{get_or-map, get_or-replicate, length-map, length-replicate}
 use Rattle.std.proofs.lemmas.List.Elements.{All-map, All-same, Contains-get_or}
 use Rattle.std.proofs.lemmas.List.FromFn.{get_or-map-range_with_len, length-map-range_with_len, fill_by_all}
 use Rattle.dm_stack.specs.checks.Graph.{links_in, links_of, Names, IsClosed, Reaches, greatest, depth_to, depths_to, depth_over}
@@ -38,18 +38,9 @@ depths_to-last g n (suc k) closed last =
     rw e (cc (depths_to-round g (n + k) closed, depths_to-last g n k closed last, depths_to-round g n closed))
 
 -- no level gives no depth
-get_or-zeros : (n k : ℕ) → ◌≡◌ {A = ℕ} (get_or (replicate n 0) k 0) 0
-get_or-zeros zero k = refl
-get_or-zeros (suc n) zero = refl
-get_or-zeros (suc n) (suc k) = get_or-zeros n k
-
-length-zeros : (n : ℕ) → length {A = ℕ} (replicate n 0) ≡ n
-length-zeros zero = refl
-length-zeros (suc n) = ap suc (length-zeros n)
-
 pub depths_to-none : (g : List (List ℕ)) (n : ℕ) → n ≡ length g → replicate n 0 ≡ depths_to g 0
 unfolding depth_to
-depths_to-none g n e = fill_by_all (λ d. depth_to g 0 d) (replicate n 0) (length g) 0 (length-zeros n ∙ e) (λ k below. get_or-zeros n k)
+depths_to-none g n e = fill_by_all (λ d. depth_to g 0 d) (replicate n 0) (length g) 0 (length-replicate n 0 ∙ e) (λ k below. get_or-replicate n k 0 0 (omega (arith, below, e)))
 
 pub depths_to-length : (g : List (List ℕ)) (n : ℕ) → length (depths_to g n) ≡ length g
 depths_to-length g n = length-map-range_with_len (λ d. depth_to g n d) 0 (length g)

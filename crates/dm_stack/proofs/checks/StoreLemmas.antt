@@ -2,6 +2,8 @@
 use Rattle.std.proofs.Common.{◌≡◌, ℕ, zero, suc, ◌+◌, ◌<◌, ◌≤◌, Bool, true, false, cond, not, nat_le, List, [], ◌∷◌, ◌++◌, arith, inl, inr, ◌⊎◌, refl, sym, ap, ◌∙◌, get_or, length, map, max, Some, Vec, Global}
 use Rattle.std.specs.Prelude.{◌&&◌, slice_get}
 use Rattle.std.specs.List.{Contains, flat_map, list_all, range_with_len}
+use Rattle.std.proofs.Math.Bool.{and-false, and-true, and_assoc}
+use Rattle.std.proofs.Math.Dec.{leb-suc-suc}
 use Rattle.std.proofs.lemmas.Bool.{cases_lt, le-leb, lt-leb}
 use Rattle.std.proofs.lemmas.List.{append-nil, get_or_past, length-map, map-append}
 use Rattle.std.proofs.lemmas.List.Elements.{Contains-append_cases}
@@ -47,10 +49,6 @@ all_same p q (x ∷ xs) same = let here = same x in let rest = all_same p q xs s
 
 -- What a device names is a store, by its links
 
-and-true : (b : Bool) → (b && true) ≡ b
-and-true true = refl
-and-true false = refl
-
 -- a device is a store through these levels
 abbrev pub is_store_device : Description → ℕ → ℕ → Bool
 is_store_device stack levels device = is_store_to stack levels (Device device)
@@ -70,10 +68,6 @@ named_lines stack [] device = refl
 named_lines stack (first ∷ devices) zero = refl
 named_lines stack (first ∷ devices) (suc device) = named_lines stack devices device
 
-and_assoc : (a b c : Bool) → (a && (b && c)) ≡ ((a && b) && c)
-and_assoc true b c = refl
-and_assoc false b c = refl
-
 store_step : (stack : Description) (levels device : ℕ) → is_store_device stack (suc levels) device ≡ (may_store (is_ro_at stack device) (lines_at stack device) && list_all (is_store_device stack levels) (links_of (links stack) device))
 unfolding is_store_to
 store_step stack levels device =
@@ -82,7 +76,7 @@ store_step stack levels device =
     rw (all_both (λ line. is_plain line.target) (λ line. list_all (λ span. is_store_to stack levels (lower_of stack span.to)) (spans line)) lines
     ∙ ap (λ (all : Bool). list_all (λ line. is_plain line.target) lines && all)
     (all_same (λ line. list_all (λ span. is_store_to stack levels (lower_of stack span.to)) (spans line)) (λ line. list_all (is_store_device stack levels) (line_links stack line)) lines (λ line. sym (line_store stack levels line))
-    ∙ sym (all_flat (is_store_device stack levels) (line_links stack) lines) ∙ ap (λ (ids : List ℕ). list_all (is_store_device stack levels) ids) (sym named))) (and_assoc (not (is_ro_at stack device)) (list_all (λ line. is_plain line.target) lines) _)
+    ∙ sym (all_flat (is_store_device stack levels) (line_links stack) lines) ∙ ap (λ (ids : List ℕ). list_all (is_store_device stack levels) ids) (sym named))) (sym (and_assoc (not (is_ro_at stack device)) (list_all (λ line. is_plain line.target) lines) _))
 
 -- Depths within a limit
 
@@ -93,16 +87,9 @@ greatest_within : (f : ℕ → ℕ) (xs : List ℕ) (n : ℕ) → nat_le (greate
 greatest_within f [] n = le-leb 0 n (omega arith)
 greatest_within f (x ∷ xs) n = rw (← greatest_within f xs n) (max_within (f x) (greatest (map f xs)) n)
 
-le_suc : (a b : ℕ) → nat_le (suc a) (suc b) ≡ nat_le a b
-le_suc a b = by_order (cases_lt b a)
-  where
-    by_order : (b < a) ⊎ (a ≤ b) → nat_le (suc a) (suc b) ≡ nat_le a b
-    by_order (inl more) = lt-leb (suc a) (suc b) (omega (arith, more)) ∙ sym (lt-leb a b more)
-    by_order (inr less) = le-leb (suc a) (suc b) (omega (arith, less)) ∙ sym (le-leb a b less)
-
 depth_within : (g : List (List ℕ)) (n device : ℕ) → nat_le (depth_to g (suc (suc n)) device) (suc n) ≡ list_all (λ e. nat_le (depth_to g (suc n) e) n) (links_of g device)
 unfolding depth_to
-depth_within g n device = le_suc (greatest (map (λ e. depth_to g (suc n) e) (links_of g device))) n ∙ greatest_within (λ e. depth_to g (suc n) e) (links_of g device) n
+depth_within g n device = leb-suc-suc (greatest (map (λ e. depth_to g (suc n) e) (links_of g device))) n ∙ greatest_within (λ e. depth_to g (suc n) e) (links_of g device) n
 
 depth_first : (g : List (List ℕ)) (device : ℕ) → nat_le (depth_to g 1 device) 0 ≡ false
 unfolding depth_to
@@ -114,11 +101,7 @@ depth_first g device = lt-leb _ 0 (omega arith)
 marked : (p : ℕ → Bool) (device : ℕ) (ids : List ℕ) (may : Bool) → (may ≡ false → p device ≡ false) → list_all p (ids ++ cond may [] (device ∷ [])) ≡ (may && list_all p ids)
 marked p device ids true barred = rw (append-nil ids)
 marked p device ids false barred =
-    rw (list_all-append, barred, and_no)
-  where
-    and_no : (b : Bool) → (b && false) ≡ false
-    and_no true = refl
-    and_no false = refl
+    rw (list_all-append, barred, and-false)
 
 barred_at : (stack : Description) (levels device : ℕ) → may_store (is_ro_at stack device) (lines_at stack device) ≡ false → is_store_device stack levels device ≡ false
 unfolding is_store_to

@@ -1,6 +1,6 @@
 -- The elements of a list with those before them, one by one.
 use Rattle.std.proofs.Common.{◌≡◌, ℕ, zero, suc, ◌+◌, ◌<◌, ◌≤◌, List, [], ◌∷◌, arith, refl, sym, ap, ◌∙◌, drop, get_or, length, take}
-use Rattle.std.proofs.lemmas.List.{drop_more, get_or-map, length-map}
+use Rattle.std.proofs.lemmas.List.{drop_all, drop_more, get_or-map, length-map}
 use Rattle.dm_stack.specs.checks.Soundness.{WithBefore, with_before}
 
 -- an element further on
@@ -24,11 +24,5 @@ drop-with_before {X} xs i x within is =
     rw (← (get_or-with_before xs i here x within ∙ ap (λ (y : X). record { before = take i xs; it = y }) (sym is))) (drop_more (with_before xs) i here (omega (arith, length-with_before xs)))
 
 -- nothing is left at the end
-drop-past : {X : Type 0} (xs : List X) (i : ℕ) → length xs ≤ i → drop i xs ≡ []
-drop-past [] zero past = refl
-drop-past [] (suc i) past = refl
-drop-past (x ∷ xs) zero past = absurd (omega arith)
-drop-past (x ∷ xs) (suc i) past = drop-past xs i (omega arith)
-
 pub none-with_before : {X : Type 0} (xs : List X) (i : ℕ) → length xs ≤ i → drop i (with_before xs) ≡ []
-none-with_before xs i past = drop-past (with_before xs) i (omega (arith, length-with_before xs))
+none-with_before xs i past = drop_all i (with_before xs) (omega (arith, length-with_before xs))

@@ -1,7 +1,8 @@
 -- That two claims meet, as it is computed and as it is defined.
 use Rattle.std.proofs.Common.{◌≡◌, ℕ, Bool, true, false, not, refl, sym, ap, ◌∙◌, arith}
-use Rattle.std.specs.Prelude.{◌&&◌, ◌==◌, max, min, nat_lt}
-use Rattle.std.proofs.lemmas.Bool.{and_from, and_parts, eq-eqb, eqb-true, lt-ltb, ltb-true, true≢false}
+use Rattle.std.specs.Prelude.{◌==◌, max, min, nat_lt}
+use Rattle.std.proofs.Math.Bool.{and_comm}
+use Rattle.std.proofs.lemmas.Bool.{and_from, and_parts, eq-eqb, eqb-true, lt-ltb, ltb-true, not-true, true≢false}
 use Rattle.dm_table.specs.declared.tables.table.Use.{Use}
 use Rattle.dm_table.specs.declared.tables.table.Use.TheVariants.{Own, Reading, Serving}
 use Rattle.dm_stack.specs.declared.claims.claim.Claim.{Claim}
@@ -44,24 +45,12 @@ share_turn Serving Own = refl
 share_turn Serving Reading = refl
 share_turn Serving Serving = refl
 
-max_turn : (a b : ℕ) → max a b ≡ max b a
-max_turn a b = omega arith
-
-min_turn : (a b : ℕ) → min a b ≡ min b a
-min_turn a b = omega arith
-
 meets_turn : (one other : Claim) → meets one other ≡ meets other one
 meets_turn one other =
-    rw (same_turn one.to other.to, max_turn one.start other.start, min_turn one.end other.end, share_turn one.kind other.kind)
-
-and_turn : (a b : Bool) → (a && b) ≡ (b && a)
-and_turn true true = refl
-and_turn true false = refl
-and_turn false true = refl
-and_turn false false = refl
+    rw (same_turn one.to other.to, share_turn one.kind other.kind) (grind arith)
 
 pub rivals_turn : (count : ℕ) (one other : Numbered) → rivals count one other ≡ rivals count other one
-rivals_turn count one other = rw (and_turn (nat_lt one.number count) (nat_lt other.number count), meets_turn one.claim other.claim)
+rivals_turn count one other = rw (and_comm (nat_lt one.number count) (nat_lt other.number count), meets_turn one.claim other.claim)
 
 -- They meet exactly where some sector is in both, first of all at the greater start
 
@@ -81,12 +70,8 @@ meet_from one other some =
     record {
       here = record { on = same_is one.to other.to parts.0; from = omega arith; before = omega (arith, inside) };
       there = record { on = refl; from = omega arith; before = omega (arith, inside) };
-      rivals = not_true (may_share one.kind other.kind) more.1;
+      rivals = not-true (may_share one.kind other.kind) more.1;
     }
-  where
-    not_true : (b : Bool) → not b ≡ true → b ≡ false
-    not_true true e = absurd (true≢false (sym e))
-    not_true false e = refl
 
 by_test : (one other : Claim) (b : Bool) → meets one other ≡ b → NeverMeet one other → meets one other ≡ false
 by_test one other true some apart = absurd (apart other.to (max one.start other.start) (meet_from one other some))

@@ -1,12 +1,12 @@
 -- Lists in which a test passes for no two elements, in whichever order they stand.
-use Rattle.std.proofs.Common.{◌≡◌, ◌⊎◌, inl, inr, ℕ, zero, suc, ◌<◌, Bool, true, false, List, [], ◌∷◌, ◌++◌, refl, sym, ap, subst, ◌∙◌, arith, get_or, length}
+use Rattle.std.proofs.Common.{◌≡◌, ◌⊎◌, inl, inr, ℕ, zero, suc, ◌<◌, Bool, true, false, cond, List, [], ◌∷◌, ◌++◌, refl, sym, ap, subst, ◌∙◌, arith, get_or, length}
 use Rattle.std.specs.Prelude.{◌==◌}
 use Rattle.std.specs.List.{AllPairs, list_any, swap}
 use Rattle.std.specs.List.Sorted.{IsPermutation}
 use Rattle.std.proofs.lemmas.Bool.{eqb-true, eqb-false, or_parts}
 use Rattle.std.proofs.lemmas.List.{append-nil, append_assoc, get_or_append_left, length-append}
 use Rattle.std.proofs.Math.Seq.{get_or-append_seam}
-use Rattle.std.proofs.lemmas.List.Edits.{length-swap, Swapped, swapped_from_swap}
+use Rattle.std.proofs.lemmas.List.Edits.{length-swap, swapped_from_swap}
 use Rattle.std.proofs.lemmas.List.Folds.{list_any_none}
 use Rattle.std.proofs.lemmas.List.Quantifiers.{all_pairs_push}
 use Rattle.std.proofs.lemmas.List.Sorted.{IsPermutation-keeps}
@@ -16,56 +16,33 @@ use Rattle.dm_stack.specs.claims.Sweep.{has_pair}
 pub record HasNoPair {X : Type 0} (test : X → X → Bool) (xs : List X) : Type 0 where
   pub at : (i j : ℕ) (d : X) → i < length xs → j < length xs → (i ≡ j → ⊥) → test (get_or xs i d) (get_or xs j d) ≡ false
 
-same_or_not : (i j : ℕ) → (i ≡ j) ⊎ (i ≡ j → ⊥)
-same_or_not i j = by_test (i == j) refl
-  where
-    by_test : (b : Bool) → (i == j) ≡ b → (i ≡ j) ⊎ (i ≡ j → ⊥)
-    by_test true e = inl (eqb-true i j e)
-    by_test false e = inr (eqb-false i j e)
-
 -- where an element stood before the elements at i and j changed places
-data Stood (i j now before : ℕ) : Type 0 where
-  First : now ≡ i → before ≡ j → Stood i j now before
-  Second : now ≡ j → before ≡ i → Stood i j now before
-  Other : (now ≡ i → ⊥) → (now ≡ j → ⊥) → before ≡ now → Stood i j now before
+abbrev stood : (i j now : ℕ) → ℕ
+stood i j now = cond (now == i) j (cond (now == j) i now)
 
-stood_apart : (i j p q m n : ℕ) → Stood i j p m → Stood i j q n → (p ≡ q → ⊥) → m ≡ n → ⊥
-stood_apart i j p q m n (First a b) (First e f) apart same = apart (omega arith)
-stood_apart i j p q m n (First a b) (Second e f) apart same = apart (omega arith)
-stood_apart i j p q m n (First a b) (Other e f g) apart same = f (omega arith)
-stood_apart i j p q m n (Second a b) (First e f) apart same = apart (omega arith)
-stood_apart i j p q m n (Second a b) (Second e f) apart same = apart (omega arith)
-stood_apart i j p q m n (Second a b) (Other e f g) apart same = e (omega arith)
-stood_apart i j p q m n (Other a b h) (First e f) apart same = b (omega arith)
-stood_apart i j p q m n (Other a b h) (Second e f) apart same = a (omega arith)
-stood_apart i j p q m n (Other a b h) (Other e f g) apart same = apart (omega arith)
+stood_apart : (i j p q : ℕ) → (p ≡ q → ⊥) → stood i j p ≡ stood i j q → ⊥
+stood_apart i j p q apart same = grind (arith, apart, same)
 
-record Before {X : Type 0} (xs : List X) (i j now : ℕ) (d : X) : Type 0 where
-  place : ℕ
-  within : place < length xs
-  stood : Stood i j now place
-  is : get_or (swap xs i j) now d ≡ get_or xs place d
+stood_within : (i j p n : ℕ) → i < n → j < n → p < n → stood i j p < n
+stood_within i j p n a b within = grind (arith, a, b, within)
 
 same_swap : {X : Type 0} (xs : List X) (i j : ℕ) → swap xs i j ≡ swap xs i j
 same_swap xs i j = refl
 
-before_swap : {X : Type 0} (xs : List X) (i j now : ℕ) (d : X) → i < length xs → j < length xs → now < length xs → Before xs i j now d
-before_swap xs i j now d p q within =
-    let s = swapped_from_swap xs (swap xs i j) i j d p q (same_swap xs i j) in
-    by s (same_or_not now i) (same_or_not now j)
+before_swap : {X : Type 0} (xs : List X) (i j now : ℕ) (d : X) → i < length xs → j < length xs → get_or (swap xs i j) now d ≡ get_or xs (stood i j now) d
+before_swap xs i j now d p q = by (now == i) (now == j) refl refl
   where
-    by : Swapped (λ k. get_or xs k d) (λ k. get_or (swap xs i j) k d) i j → (now ≡ i) ⊎ (now ≡ i → ⊥) → (now ≡ j) ⊎ (now ≡ j → ⊥) → Before xs i j now d
-    by s (inl e) other = record { place = j; within = q; stood = First e refl; is = rw e s.0 }
-    by s (inr a) (inl e) = record { place = i; within = p; stood = Second e refl; is = rw e s.1 }
-    by s (inr a) (inr b) = record { place = now; within = within; stood = Other a b refl; is = s.2 now a b }
+    by : (a b : Bool) → (now == i) ≡ a → (now == j) ≡ b → get_or (swap xs i j) now d ≡ get_or xs (cond a j (cond b i now)) d
+    by true b e f = let same = eqb-true now i e in rw same (swapped_from_swap xs (swap xs i j) i j d p q (same_swap xs i j)).0
+    by false true e f = let same = eqb-true now j f in rw same (swapped_from_swap xs (swap xs i j) i j d p q (same_swap xs i j)).1
+    by false false e f = (swapped_from_swap xs (swap xs i j) i j d p q (same_swap xs i j)).2 now (eqb-false now i e) (eqb-false now j f)
 
 no_pair_swapped : {X : Type 0} (test : X → X → Bool) (xs : List X) (i j : ℕ) → i < length xs → j < length xs → HasNoPair test xs → HasNoPair test (swap xs i j)
 no_pair_swapped test xs i j p q none = record {
   at = λ a b d in_a in_b apart.
       let long = length-swap xs i j in
-      let m = before_swap xs i j a d p q (omega (arith, long)) in
-      let n = before_swap xs i j b d p q (omega (arith, long)) in
-      rw (m.is, n.is) (none.at m.place n.place d m.within n.within (stood_apart i j a b m.place n.place m.stood n.stood apart));
+      rw (before_swap xs i j a d p q, before_swap xs i j b d p q)
+      (none.at (stood i j a) (stood i j b) d (stood_within i j a (length xs) p q (omega (arith, long))) (stood_within i j b (length xs) p q (omega (arith, long))) (stood_apart i j a b apart));
 }
 
 -- so of a list in any other order

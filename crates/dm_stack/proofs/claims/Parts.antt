@@ -5,6 +5,7 @@ use Rattle.std.specs.List.{AllPairs, flat_map, range_with_len}
 use Rattle.std.proofs.lemmas.Bool.{cases_order}
 use Rattle.std.proofs.lemmas.List.FromFn.{get_or-range_with_len, length-range_with_len}
 use Rattle.std.proofs.lemmas.Option.{get_or_from_slice_get, slice_get-get_or, slice_get_within}
+use Rattle.dm_stack.proofs.checks.FirstFaults.{get_after, get_front}
 
 -- what holds of each two, by their places
 abbrev pub PairsAt : {X : Type 0} → (X → X → Type 0) → List X → Type 0
@@ -26,15 +27,10 @@ same_place R xs i j a b pairs at on never neither = elim (cases_order i j) [
 -- Places in two lists
 
 pub get_left : {X : Type 0} (us vs : List X) (i : ℕ) (a : X) → slice_get us i ≡ Some a → slice_get (us ++ vs) i ≡ Some a
-get_left [] vs i a at = absurd cc
-get_left (u ∷ us) vs zero a at = at
-get_left (u ∷ us) vs (suc i) a at = get_left us vs i a at
+get_left us vs i a at = get_front us vs i (slice_get_within us i a at) ∙ at
 
 pub get_right : {X : Type 0} (us vs : List X) (i : ℕ) (a : X) → slice_get vs i ≡ Some a → slice_get (us ++ vs) (length us + i) ≡ Some a
-get_right {X = X} [] vs i a at = let e : i ≡ length {A = X} [] + i = omega arith in rw (← e) at
-get_right (u ∷ us) vs i a at =
-    let e : suc (length us + i) ≡ length (u ∷ us) + i = omega arith in
-    rw (← e) (get_right us vs i a at)
+get_right us vs i a at = get_after us vs i ∙ at
 
 pairs_left : {X : Type 0} (R : X → X → Type 0) (us vs : List X) → PairsAt R (us ++ vs) → PairsAt R us
 pairs_left R us vs pairs i j a b at on less = pairs i j a b (get_left us vs i a at) (get_left us vs j b on) less

@@ -3,6 +3,7 @@ use Rattle.std.proofs.Common.{◌≡◌, ℕ, suc, ◌+◌, ◌<◌, ◌≤◌, 
 use Rattle.std.specs.Prelude.{◌||◌, ◌&&◌, fold, max, min, nat_lt}
 use Rattle.std.specs.List.{AllByRecursion, list_any}
 use Rattle.std.specs.List.Sorted.{IsNonDecreasingBy}
+use Rattle.std.proofs.Math.Bool.{and-false, or-false}
 use Rattle.std.proofs.Math.Seq.{drop-cons}
 use Rattle.std.proofs.lemmas.Bool.{le-ltb, lt-ltb}
 use Rattle.std.proofs.lemmas.List.{get_or-take, get_or_default, length-take, take_more}
@@ -15,7 +16,7 @@ use Rattle.dm_stack.specs.declared.claims.reach.Reach.{Reach}
 use Rattle.dm_stack.specs.declared.claims.tidy.Numbered.{Numbered}
 use Rattle.dm_stack.specs.claims.Claims.{may_share}
 use Rattle.dm_stack.specs.Description.{is_same_lower}
-use Rattle.dm_stack.specs.claims.Sweep.{has_pair, held_end, meets, no_reach, own_end, reach_meets, reach_next, reach_of, reach_with, rival_end, rivals}
+use Rattle.dm_stack.specs.claims.Sweep.{has_pair, held_end, no_reach, own_end, reach_meets, reach_next, reach_of, reach_with, rival_end, rivals}
 
 -- a claim that starts no earlier meets one of these, or the reach of others, exactly if it meets the reach of all
 ends_meet : (start first end last reach : ℕ) → first ≤ start → ((nat_lt (max first start) (min last end) && true) || (nat_lt start end && nat_lt start reach)) ≡ (nat_lt start end && nat_lt start (max reach last))
@@ -81,10 +82,6 @@ below_none start end = grind arith
 none_reached : (start end : ℕ) (kind : Use) → (nat_lt start end && nat_lt start (rival_end kind no_reach)) ≡ false
 none_reached start end kind = rw (none_held kind) (below_none start end)
 
-or_false : (b : Bool) → (b || false) ≡ b
-or_false true = refl
-or_false false = refl
-
 -- In the order of the starts, at the claim of a place
 
 starts_before : (order : List Numbered) (k : ℕ) (next : Numbered) → IsNonDecreasingBy (λ one. one.claim.start) order → k < length order → next ≡ get_or order k next → AllByRecursion (λ one. one.claim.start ≤ next.claim.start) (take k order)
@@ -98,17 +95,13 @@ starts_before order k next sorted within is =
 pub met : (count : ℕ) (order : List Numbered) (k : ℕ) (next : Numbered) → IsNonDecreasingBy (λ one. one.claim.start) order → k < length order → next ≡ get_or order k next → next.number < count
     → list_any (λ one. rivals count one next) (take k order) ≡ reach_meets (reach_of count next.claim.to (take k order)) next.claim
 met count order k next sorted within is below =
-    cc (sym (or_false (list_any (λ one. rivals count one next) (take k order))), none_reached next.claim.start next.claim.end next.claim.kind, met_from count next (lt-ltb next.number count below) no_reach (take k order) (starts_before order k next sorted within is))
-
-not_counted : (a b : Bool) → ((a && false) && b) ≡ false
-not_counted true b = refl
-not_counted false b = refl
+    cc (sym (or-false (list_any (λ one. rivals count one next) (take k order))), none_reached next.claim.start next.claim.end next.claim.kind, met_from count next (lt-ltb next.number count below) no_reach (take k order) (starts_before order k next sorted within is))
 
 -- a claim that isn't counted meets none
 pub not_met : (count : ℕ) (next : Numbered) (before : List Numbered) → count ≤ next.number → list_any (λ one. rivals count one next) before ≡ false
 not_met count next [] past = refl
 not_met count next (one ∷ before) past =
-    let here : rivals count one next ≡ false = rw (le-ltb next.number count past) (not_counted (nat_lt one.number count) (meets one.claim next.claim)) in
+    let here : rivals count one next ≡ false = rw (le-ltb next.number count past, and-false) in
     rw (here, not_met count next before past)
 
 taken_next : (order : List Numbered) (k : ℕ) (next : Numbered) → k < length order → next ≡ get_or order k next → take (k + 1) order ≡ take k order ++ next ∷ []

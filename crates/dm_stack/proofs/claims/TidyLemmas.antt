@@ -1,14 +1,14 @@
 -- Claims in the order of their starts, and in that of their list: the same pairs meet, and so the same claim is the first that meets an earlier one.
 use Rattle.std.proofs.Common.{◌≡◌, ℕ, zero, suc, ◌+◌, ◌<◌, ◌≤◌, Bool, true, false, cond, not, List, [], ◌∷◌, ◌++◌, Option, Some, None, refl, sym, ap, subst, ◌∙◌, arith, get_or, length, take, drop}
-use Rattle.std.specs.Prelude.{◌&&◌, find, nat_lt, option_map, slice_get}
+use Rattle.std.specs.Prelude.{◌&&◌, find, nat_lt, option_map}
 use Rattle.std.specs.List.{All, AllPairs}
 use Rattle.std.specs.List.Sorted.{IsPermutation}
+use Rattle.std.proofs.Math.Bool.{and-false}
 use Rattle.std.proofs.Math.Seq.{drop-cons}
-use Rattle.std.proofs.lemmas.Bool.{le-ltb, lt-ltb, ltb-false, ltb-true, true≢false}
-use Rattle.std.proofs.lemmas.List.{drop_all, get_or-take, get_or_default, length-take, take-append-drop, take_more}
+use Rattle.std.proofs.lemmas.Bool.{le-ltb, lt-ltb, ltb-false, ltb-true, not-true, true≢false}
+use Rattle.std.proofs.lemmas.List.{drop_all, get_or-take, length-take, take-append-drop, take_more}
 use Rattle.std.proofs.lemmas.List.Quantifiers.{all_pairs_push}
 use Rattle.std.proofs.lemmas.List.Sorted.{All-permutation, IsPermutation-sym, length_permutation}
-use Rattle.std.proofs.lemmas.Option.{slice_get_read}
 use Rattle.dm_stack.specs.declared.claims.claim.Claim.{Claim}
 use Rattle.dm_stack.specs.declared.claims.tidy.Numbered.{Numbered}
 use Rattle.dm_stack.specs.claims.Claims.{NeverMeet, IsFirstClash}
@@ -50,18 +50,11 @@ order_length claims order moved = length_permutation (numbered 0 claims) order m
 
 -- Pairs of claims below an index
 
-no_pairs : {X : Type 0} (R : X → X → Type 0) → AllPairs R []
-no_pairs R i j d less within = absurd (omega (arith, within))
-
 counted_pair : (count i j : ℕ) (b : Bool) → i < count → j < count → ((nat_lt i count && nat_lt j count) && b) ≡ b
 counted_pair count i j b p q = rw (lt-ltb i count p, lt-ltb j count q)
 
 late_pair : (count i j : ℕ) (b : Bool) → count ≤ j → ((nat_lt i count && nat_lt j count) && b) ≡ false
-late_pair count i j b past = rw (le-ltb j count past) (none (nat_lt i count) b)
-  where
-    none : (a b : Bool) → ((a && false) && b) ≡ false
-    none true b = refl
-    none false b = refl
+late_pair count i j b past = rw (le-ltb j count past, and-false)
 
 rivals_at : (count : ℕ) (claims : List Claim) (i j : ℕ) (d : Numbered) → i < length claims → j < length claims
     → rivals count (get_or (numbered 0 claims) i d) (get_or (numbered 0 claims) j d) ≡ ((nat_lt i count && nat_lt j count) && meets (get_or claims i d.claim) (get_or claims j d.claim))
@@ -90,14 +83,10 @@ no_rivals_below count claims pairs i j d less within =
         cc (counted_pair count i j (meets (get_or claims i d.claim) (get_or claims j d.claim)) (omega arith) below, one, ap (meets (get_or (take count claims) i d.claim)) (sym other), none_from _ _ (pairs i j d.claim less (omega arith)))
     by false e within = late_pair count i j (meets (get_or claims i d.claim) (get_or claims j d.claim)) (ltb-false j count e)
 
-tidy_pairs : (b : Bool) → not b ≡ true → b ≡ false
-tidy_pairs true e = absurd (true≢false (sym e))
-tidy_pairs false e = refl
-
 -- no two claims below an index meet exactly if the walk finds none
 pub tidy_below : (count : ℕ) (claims : List Claim) (order : List Numbered) → IsPermutation (numbered 0 claims) order → is_tidy_to count order ≡ true → AllPairs NeverMeet (take count claims)
 tidy_below count claims order moved tidy =
-    let found = pairs_from_search (rivals count) [] order (tidy_pairs _ tidy) (no_pairs (λ x y. rivals count x y ≡ false)) in
+    let found = pairs_from_search (rivals count) [] order (not-true _ tidy) (λ i j d less within. absurd (omega (arith, within))) in
     let back = no_pair_moved (rivals count) order (numbered 0 claims) (IsPermutation-sym (numbered 0 claims) order moved) (no_pair_from_pairs (rivals count) order (rivals_turn count) found) in
     never_meet_below count claims (pairs_from_no_pair (rivals count) (numbered 0 claims) back)
 
@@ -135,7 +124,7 @@ record Found (test : Claim → Bool) (xs : List Claim) (x : Claim) : Type 0 wher
   here : test x ≡ true
   passed : All (λ one. test one ≡ false) before
 
-some_is : (x y : Claim) → Some x ≡ Some y → x ≡ y
+pub some_is : (x y : Claim) → Some x ≡ Some y → x ≡ y
 some_is x y e = cc
 
 passed_more : (test : Claim → Bool) (x : Claim) (before : List Claim) → test x ≡ false → All (λ one. test one ≡ false) before → All (λ one. test one ≡ false) (x ∷ before)
@@ -161,19 +150,6 @@ none_in test y xs false is later e = passed_more test y xs is (later e)
 none_found : (test : Claim → Bool) (xs : List Claim) → find test xs ≡ None → All (λ one. test one ≡ false) xs
 none_found test [] e k d within = absurd (omega (arith, within))
 none_found test (y ∷ xs) e k d within = none_in test y xs (test y) refl (none_found test xs) e k d within
-
--- the claim at an index
-pub record At (claims : List Claim) (index : ℕ) : Type 0 where
-  pub claim : Claim
-  pub is : claim ≡ get_or claims index claim
-  pub read : slice_get claims index ≡ Some claim
-
-pub at : (claims : List Claim) (index : ℕ) → index < length claims → At claims index
-at [] index within = absurd (omega (arith, within))
-at (x ∷ xs) index within =
-    let claim = get_or (x ∷ xs) index x in
-    let is : claim ≡ get_or (x ∷ xs) index claim = get_or_default (x ∷ xs) index x claim within in
-    record { claim = claim; is = is; read = slice_get_read (x ∷ xs) (length (x ∷ xs)) index claim refl within is }
 
 pub first_is : (claims : List Claim) (order : List Numbered) (index : ℕ) (later : Claim) → IsPermutation (numbered 0 claims) order → index < length claims → later ≡ get_or claims index later
     → is_tidy_to index order ≡ true → is_tidy_to (index + 1) order ≡ false → IsFirstClash claims (clash_with (take index claims) later)

@@ -1,6 +1,6 @@
 -- What the claims of a stack are on, and which devices none of them are on.
 use Rattle.std.proofs.Common.{◌≡◌, ℕ, zero, suc, ◌+◌, ◌<◌, ◌≤◌, Bool, true, false, not, List, [], ◌∷◌, ◌++◌, Option, Some, None, refl, sym, ap, subst, ◌∙◌, arith, get_or, length, map}
-use Rattle.std.specs.Prelude.{◌↔◌, ◌||◌, IfOk, IfSome, IsTrue, is_none, nat_lt, slice_get}
+use Rattle.std.specs.Prelude.{◌↔◌, IfOk, IfSome, IsTrue, is_none, nat_lt, slice_get}
 use Rattle.std.proofs.Common.{Result, Ok, Err}
 use Rattle.std.specs.declared.alloc.AllocError.{AllocError}
 use Rattle.std.specs.List.{All, AllByRecursion, AllPairs, flat_map, list_any, position_or_len, range_with_len}
@@ -9,7 +9,7 @@ use Rattle.std.proofs.lemmas.Bool.{eq-eqb, eqb-true, ltb-false, ltb-true, or_par
 use Rattle.std.proofs.lemmas.List.{append_assoc, get_or_append_left, length-append}
 use Rattle.std.proofs.lemmas.List.Elements.{All-from_recursion}
 use Rattle.std.proofs.lemmas.List.Sums.{prefix_len-le-length}
-use Rattle.std.proofs.lemmas.List.Folds.{Any-from_list_any}
+use Rattle.std.proofs.lemmas.List.Folds.{Any-from_list_any, list_any-append}
 use Rattle.std.proofs.lemmas.Option.{slice_get_past, slice_get_read}
 use Rattle.dm_table.specs.declared.tables.table.DevRef.{DevRef}
 use Rattle.dm_table.specs.declared.tables.table.DevRef.TheVariants as refs
@@ -31,7 +31,8 @@ use Rattle.dm_stack.specs.lines.Span as by_id
 use Rattle.dm_stack.specs.checks.Soundness.{IsSound, all_lines, is_past, passes, passes_end}
 use Rattle.dm_table.specs.tables.Span.{Span, spans}
 use Rattle.dm_stack.specs.claims.Sweep.{IsCounted}
-use Rattle.dm_stack.proofs.checks.HandedOn.{all_append, all_each}
+use Rattle.dm_stack.proofs.checks.HandedOn.{all_each, each_in}
+use Rattle.dm_stack.proofs.checks.OneFault.{same_place}
 use Rattle.dm_stack.proofs.checks.Passes.{all_parts, faults_by_none, passes_all}
 use Rattle.dm_stack.proofs.claims.PairLemmas.{none_before}
 use Rattle.dm_stack.proofs.lines.SpanLemmas.{any_map, any_same, any_span, past_is}
@@ -73,17 +74,9 @@ claims_within stack =
 
 -- A device is named by a line exactly if a claim is on it
 
-any_append : {X : Type 0} (test : X → Bool) (xs ys : List X) → list_any test (xs ++ ys) ≡ (list_any test xs || list_any test ys)
-any_append test [] ys = refl
-any_append test (x ∷ xs) ys = by (test x) (any_append test xs ys)
-  where
-    by : (b : Bool) → list_any test (xs ++ ys) ≡ (list_any test xs || list_any test ys) → (b || list_any test (xs ++ ys)) ≡ ((b || list_any test xs) || list_any test ys)
-    by true e = refl
-    by false e = e
-
 any_flat : {X Y : Type 0} (test : Y → Bool) (f : X → List Y) (xs : List X) → list_any test (flat_map f xs) ≡ list_any (λ x. list_any test (f x)) xs
 any_flat test f [] = refl
-any_flat test f (x ∷ xs) = rw (← any_flat test f xs) (any_append test (f x) (flat_map f xs))
+any_flat test f (x ∷ xs) = rw (← any_flat test f xs) (list_any-append test (f x) (flat_map f xs))
 
 by_ids : (stack : Description) (test : List Line → Bool) (before devices : List DeviceSpec) (id : ℕ) → stack.devices ≡ before ++ devices → id ≡ length before
     → list_any (λ device. test (lines_at stack device)) (range_with_len id (length devices)) ≡ list_any (λ device. test device.lines) devices
@@ -164,13 +157,9 @@ clash_unties all clash is pairs =
     get_or_append_left front (is.later ∷ is.after) is.later (length is.before) (omega (arith, length-append is.before (is.earlier ∷ is.between))) ∙ get_or-append_seam is.before is.earlier is.between is.later in
     subst (λ (claim : Claim). NeverMeet claim is.later) one (subst (NeverMeet (get_or whole (length is.before) is.later)) (get_or-append_seam front is.later is.after is.later) apart) clash.lower clash.sector is.meet
 
-untied : (stack : Description) (found : Option Clash) → IsFirstClash (claims stack) found → IsTrue (is_none found) ↔ IsTidy stack
+pub untied : (stack : Description) (found : Option Clash) → IsFirstClash (claims stack) found → IsTrue (is_none found) ↔ IsTidy stack
 untied stack None pairs = (λ e. pairs, λ tidy. refl)
 untied stack (Some clash) is = (λ e. absurd (true≢false (sym e)), λ tidy. absurd (clash_unties (claims stack) clash is tidy))
-
-pub tidiness : (stack : Description) (result : Result (Option Clash) AllocError) → IfOk result (λ found. IsFirstClash (claims stack) found) → IfOk result (λ found. IsTrue (is_none found) ↔ IsTidy stack)
-tidiness stack (Ok found) is = untied stack found is
-tidiness stack (Err fault) is = tt
 
 -- The clash of claims is one
 
@@ -210,30 +199,24 @@ stands all clash is =
       of_other = λ d. rw (← late d) is.of_later;
     }
 
-in_turn : (a b : ℕ) → (a < b → ⊥) → (b < a → ⊥) → a ≡ b
-in_turn a b less more = grind (arith, less, more)
-
 same_parts : (a b : Clash) → a.lower ≡ b.lower → a.sector ≡ b.sector → a.first ≡ b.first → a.second ≡ b.second → a ≡ b
 same_parts a b lower sector first second =
     rw (lower, sector, first, second)
-  where
-    make : Lower → ℕ → ℕ → ℕ → Clash
-    make lower sector first second = record { lower = lower; sector = sector; first = first; second = second }
 
 same_clash : (all : List Claim) (a b : Clash) (d : Claim) → Stands all a → Stands all b → a ≡ b
 same_clash all a b d x y =
-    let other : x.other ≡ y.other = in_turn x.other y.other
+    let other : x.other ≡ y.other = same_place x.other y.other
     (λ less. y.pairs x.one x.other d x.in_order less a.lower a.sector (x.meet d))
     (λ more. x.pairs y.one y.other d y.in_order more b.lower b.sector (y.meet d)) in
     let there : get_or all x.other d ≡ get_or all y.other d = rw other in
-    let one : x.one ≡ y.one = in_turn x.one y.one
+    let one : x.one ≡ y.one = same_place x.one y.one
     (λ less. y.earliest x.one d less a.lower a.sector (rw there at (x.meet d)))
     (λ more. x.earliest y.one d more b.lower b.sector (rw there (y.meet d))) in
     let here : get_or all x.one d ≡ get_or all y.one d = rw one in
     let lower : a.lower ≡ b.lower = cc (sym (x.meet d).there.on, there, (y.meet d).there.on) in
     let meet_a : MeetAt (get_or all y.one d) (get_or all y.other d) b.lower a.sector = rw (← here, ← there, ← lower) (x.meet d) in
     let meet_b : MeetAt (get_or all x.one d) (get_or all x.other d) a.lower b.sector = rw (here, there, lower) (y.meet d) in
-    let sector : a.sector ≡ b.sector = in_turn a.sector b.sector (λ less. y.least d a.sector less meet_a) (λ more. x.least d b.sector more meet_b) in
+    let sector : a.sector ≡ b.sector = same_place a.sector b.sector (λ less. y.least d a.sector less meet_a) (λ more. x.least d b.sector more meet_b) in
     same_parts a b lower sector (cc (x.of_one d, y.of_one d)) (cc (x.of_other d, y.of_other d))
 
 pub one_clash : (all : List Claim) (found other : Option Clash) → IsFirstClash all found → IsFirstClash all other → found ≡ other
@@ -251,10 +234,6 @@ record Inside (stack : Description) (claim : Claim) : Type 0 where
 range_below : (from count end : ℕ) → from + count ≡ end → AllByRecursion (λ id. id < end) (range_with_len from count)
 range_below from zero end e = tt
 range_below from (suc count) end e = (omega (arith, e), range_below (from + 1) count end (omega (arith, e)))
-
-each_in : {X Y : Type 0} (Q : X → Type 0) (P : Y → Type 0) (f : X → List Y) (xs : List X) → AllByRecursion Q xs → ((x : X) → Q x → AllByRecursion P (f x)) → AllByRecursion P (flat_map f xs)
-each_in Q P f [] all each = tt
-each_in Q P f (x ∷ xs) all each = all_append P (f x) (flat_map f xs) (each x all.0) (each_in Q P f xs all.1 each)
 
 end_inside : (whole offset : ℕ) (len : Option ℕ) → passes whole offset len ≡ false → span_end whole offset len ≤ whole
 end_inside whole offset (Some len) e = ltb-false whole (offset + len) e
@@ -301,13 +280,9 @@ clash_there stack clash sound is =
       second = rw (s.of_other d) other.device;
     }
 
-found_there : (stack : Description) (found : Option Clash) → IsSound stack → IsFirstClash (claims stack) found → IfSome found (IsThere stack)
+pub found_there : (stack : Description) (found : Option Clash) → IsSound stack → IsFirstClash (claims stack) found → IfSome found (IsThere stack)
 found_there stack None sound is = tt
 found_there stack (Some clash) sound is = clash_there stack clash sound is
-
-pub result_there : (stack : Description) (result : Result (Option Clash) AllocError) → IsSound stack → IfOk result (λ found. IsFirstClash (claims stack) found) → IfOk result (λ found. IfSome found (IsThere stack))
-result_there stack (Ok found) sound is = found_there stack found sound is
-result_there stack (Err fault) sound is = tt
 
 -- and so its report is one
 pub one_report : (stack : Description) (text other : List ℕ) → IsReport stack text → IsReport stack other → text ≡ other

@@ -1,7 +1,6 @@
 -- Each check finds its fault where those before it find nothing.
 use Rattle.std.proofs.Common.{◌≡◌, ℕ, List, [], None, refl, sym, ap, ◌∙◌, get_or, inl, inr, map}
 use Rattle.std.specs.Prelude.{nat_lt}
-use Rattle.std.proofs.lemmas.Result.{err_from_is_err_and}
 use Rattle.dm_table.specs.declared.load.load_fault.LoadKind.TheVariants.{Deep}
 use Rattle.dm_table.specs.load.LoadFault.{first_or, first_fault}
 use Rattle.dm_table.proofs.FaultLemmas.{first_or-none}
@@ -10,53 +9,36 @@ use Rattle.dm_stack.specs.checks.Graph.{IsFirstRing, depths_to, greatest}
 use Rattle.dm_stack.specs.Stack.{resolved_device}
 use Rattle.dm_stack.specs.checks.Snapshots.{snapshots}
 use Rattle.dm_stack.specs.checks.Depth.{stack_depth}
-use Rattle.dm_stack.specs.checks.Soundness.{HasNoCycle, OnCycle, checks_before, crowded, deep, faults_by_id, range, snapshot, store, stripe, too_large, unknown}
+use Rattle.dm_stack.specs.checks.Soundness.{HasNoCycle, OnCycle, checks_after, checks_before, crowded, deep, faults_by_id, range, snapshot, store, stripe, too_large, unknown}
 use Rattle.dm_stack.specs.checks.Store.{store_links}
 use Rattle.dm_stack.proofs.checks.ChunkLemmas.{good_chunks}
 use Rattle.dm_stack.proofs.checks.DepthTests.{depth_each, told_deep}
 use Rattle.dm_stack.proofs.checks.HandedOn.{ends_within}
-use Rattle.dm_stack.proofs.checks.LoadLemmas.{are_sound, closed_links, deepest_is, early_passed, found_or_memory, made_ok, refused_early, refused_late}
+use Rattle.dm_stack.proofs.checks.LoadLemmas.{closed_links, deepest_is, found_or_memory, handed, made_ok, nothing_found, refused_early, refused_late}
 use Rattle.dm_stack.proofs.checks.load.check.Goals as goal
 use Rattle.dm_stack.proofs.checks.load.check.Goals.{After-deref-2, In_ok-found}
 
 pub returns-in_err-check_counts-clause-fault : goal.returns-in_err-check_counts-clause-fault
-returns-in_err-check_counts-clause-fault c =
-    let stack : Description = record { devices = c.args.devices.now; disks = c.args.disks.now } in
-    let p = err_from_is_err_and c.from_residual.result c.from_residual.ensures.1 in
-    rw (p.1, p.2) (inl (refused_early stack 0 _ tt (sym c.in_err-check_counts.ensures)))
+returns-in_err-check_counts-clause-fault c = handed _ _ _ c.from_residual.ensures.1 (inl (refused_early _ 0 _ tt (sym c.in_err-check_counts.ensures)))
 
 pub returns-in_err-check_numbers-clause-fault : goal.returns-in_err-check_numbers-clause-fault
-returns-in_err-check_numbers-clause-fault c =
-    let stack : Description = record { devices = c.args.devices.now; disks = c.args.disks.now } in
-    let p = err_from_is_err_and c.from_residual-in_err-check_numbers.result c.from_residual-in_err-check_numbers.ensures.1 in
-    rw (p.1, p.2) (inl (refused_early stack 1 _ (sym c.in_ok-check_counts.ensures, tt) (sym c.in_err-check_numbers.ensures)))
+returns-in_err-check_numbers-clause-fault c = handed _ _ _ c.from_residual-in_err-check_numbers.ensures.1 (inl (refused_early _ 1 _ (sym c.in_ok-check_counts.ensures, tt) (sym c.in_err-check_numbers.ensures)))
 
 pub returns-in_err-check_lengths-clause-fault : goal.returns-in_err-check_lengths-clause-fault
-returns-in_err-check_lengths-clause-fault c =
-    let stack : Description = record { devices = c.args.devices.now; disks = c.args.disks.now } in
-    let p = err_from_is_err_and c.from_residual-in_err-check_lengths.result c.from_residual-in_err-check_lengths.ensures.1 in
-    rw (p.1, p.2) (inl (refused_early stack 3 _ (sym c.in_ok-check_counts.ensures, (sym c.in_ok-check_numbers.ensures, (c.in_ok-names.ensures.apart, tt))) (sym c.in_err-check_lengths.ensures)))
+returns-in_err-check_lengths-clause-fault c = handed _ _ _ c.from_residual-in_err-check_lengths.ensures.1 (inl (refused_early _ 3 _ (sym c.in_ok-check_counts.ensures, (sym c.in_ok-check_numbers.ensures, (c.in_ok-names.ensures.apart, tt))) (sym c.in_err-check_lengths.ensures)))
 
 pub returns-in_err-check_starts-clause-fault : goal.returns-in_err-check_starts-clause-fault
-returns-in_err-check_starts-clause-fault c =
-    let stack : Description = record { devices = c.args.devices.now; disks = c.args.disks.now } in
-    let p = err_from_is_err_and c.from_residual-in_err-check_starts.result c.from_residual-in_err-check_starts.ensures.1 in
-    rw (p.1, p.2) (inl (refused_early stack 4 _ (sym c.in_ok-check_counts.ensures, (sym c.in_ok-check_numbers.ensures, (c.in_ok-names.ensures.apart, (sym c.in_ok-check_lengths.ensures, tt)))) (sym c.in_err-check_starts.ensures)))
+returns-in_err-check_starts-clause-fault c = handed _ _ _ c.from_residual-in_err-check_starts.ensures.1 (inl (refused_early _ 4 _ (sym c.in_ok-check_counts.ensures, (sym c.in_ok-check_numbers.ensures, (c.in_ok-names.ensures.apart, (sym c.in_ok-check_lengths.ensures, tt)))) (sym c.in_err-check_starts.ensures)))
 
 pub returns-in_err-check_references-clause-fault : goal.returns-in_err-check_references-clause-fault
 returns-in_err-check_references-clause-fault c =
-    let stack : Description = record { devices = c.args.devices.now; disks = c.args.disks.now } in
-    let p = err_from_is_err_and c.from_residual-in_err-check_references.result c.from_residual-in_err-check_references.ensures.1 in
     let e = ap (λ (described : Description). first_or (unknown described) None) (sym c.new-stack.ensures) ∙ sym c.in_err-check_references.ensures in
-    rw (p.1, p.2) (inl (refused_early stack 5 _ (sym c.in_ok-check_counts.ensures, (sym c.in_ok-check_numbers.ensures, (c.in_ok-names.ensures.apart, (sym c.in_ok-check_lengths.ensures, (sym c.in_ok-check_starts.ensures, tt))))) e))
+    handed _ _ _ c.from_residual-in_err-check_references.ensures.1 (inl (refused_early _ 5 _ (sym c.in_ok-check_counts.ensures, (sym c.in_ok-check_numbers.ensures, (c.in_ok-names.ensures.apart, (sym c.in_ok-check_lengths.ensures, (sym c.in_ok-check_starts.ensures, tt))))) e))
 
 pub returns-in_err-names-clause-fault : goal.returns-in_err-names-clause-fault
 returns-in_err-names-clause-fault c =
-    let stack : Description = record { devices = c.args.devices.now; disks = c.args.disks.now } in
-    let p = err_from_is_err_and c.from_residual-in_err-names.result c.from_residual-in_err-names.ensures.1 in
-    rw (p.1, p.2)
-    (found_or_memory c.in_err-names.field-0.0.kind
-    (λ other. refused_early stack 2 _ (sym c.in_ok-check_counts.ensures, (sym c.in_ok-check_numbers.ensures, tt)) (c.in_err-names.ensures.fault other)) c.in_err-names.ensures.memory)
+    handed _ _ _ c.from_residual-in_err-names.ensures.1 (found_or_memory c.in_err-names.field-0.0.kind
+    (λ other. refused_early _ 2 _ (sym c.in_ok-check_counts.ensures, (sym c.in_ok-check_numbers.ensures, tt)) (c.in_err-names.ensures.fault other)) c.in_err-names.ensures.memory)
 
 pub new-indexed-requires-clause-small : goal.new-indexed-requires-clause-small
 new-indexed-requires-clause-small c =
@@ -78,10 +60,9 @@ follow-requires c = closed_links c.new-stack.result (sym c.in_ok-check_reference
 pub returns-in_err-check_cycles-clause-fault : goal.returns-in_err-check_cycles-clause-fault
 returns-in_err-check_cycles-clause-fault c =
     let stack : Description = record { devices = c.args.devices.now; disks = c.args.disks.now } in
-    let p = err_from_is_err_and c.from_residual-in_err-check_cycles.result c.from_residual-in_err-check_cycles.ensures.1 in
     let is = c.new-stack.ensures in
-    let before = early_passed stack (sym c.in_ok-check_counts.ensures, (sym c.in_ok-check_numbers.ensures, (c.in_ok-names.ensures.apart, (sym c.in_ok-check_lengths.ensures, (sym c.in_ok-check_starts.ensures, (ap (λ (described : Description). first_or (unknown described) None) (sym is) ∙ sym c.in_ok-check_references.ensures, tt)))))) in
-    rw (p.1, p.2) (inl (OnCycle before (rw is at c.in_err-check_cycles.ensures.fault)))
+    let before = nothing_found (checks_before stack) (sym c.in_ok-check_counts.ensures, (sym c.in_ok-check_numbers.ensures, (c.in_ok-names.ensures.apart, (sym c.in_ok-check_lengths.ensures, (sym c.in_ok-check_starts.ensures, (ap (λ (described : Description). first_or (unknown described) None) (sym is) ∙ sym c.in_ok-check_references.ensures, tt)))))) in
+    handed _ _ _ c.from_residual-in_err-check_cycles.ensures.1 (inl (OnCycle before (rw is at c.in_err-check_cycles.ensures.fault)))
 
 pub check_cycles-requires : goal.check_cycles-requires
 check_cycles-requires c = made_ok c.follow.result c.in_ok-graph.graph (λ graph. IsFirstRing (links c.new-stack.result) graph.cycle) c.in_ok-graph.ensures.made c.follow.ensures.cycle
@@ -107,7 +88,7 @@ passed c =
     let is = c.new-stack.ensures in
     record {
       same = is;
-      before = early_passed stack (sym c.in_ok-check_counts.ensures, (sym c.in_ok-check_numbers.ensures, (c.in_ok-names.ensures.apart, (sym c.in_ok-check_lengths.ensures, (sym c.in_ok-check_starts.ensures, (ap (λ (described : Description). first_or (unknown described) None) (sym is) ∙ sym c.in_ok-check_references.ensures, tt))))));
+      before = nothing_found (checks_before stack) (sym c.in_ok-check_counts.ensures, (sym c.in_ok-check_numbers.ensures, (c.in_ok-names.ensures.apart, (sym c.in_ok-check_lengths.ensures, (sym c.in_ok-check_starts.ensures, (ap (λ (described : Description). first_or (unknown described) None) (sym is) ∙ sym c.in_ok-check_references.ensures, tt))))));
       acyclic = rw is at c.in_ok-check_cycles.ensures.passed;
       told = told_deep stack c.deref-2.result.now stack.devices (rw is at (depths_are c)) refl;
     }
@@ -117,39 +98,33 @@ check_depths-requires c = rw (depth_each c.new-stack.result c.deref-2.result.now
 
 pub returns-in_err-check_depths-clause-fault : goal.returns-in_err-check_depths-clause-fault
 returns-in_err-check_depths-clause-fault c =
-    let p = err_from_is_err_and c.from_residual-in_err-check_depths.result c.from_residual-in_err-check_depths.ensures.1 in
     let k = passed (goal.at.returns-in_err-check_depths-clause-fault c).After-deref-2 in
-    rw (p.1, p.2) (inl (refused_late _ 0 _ k.before k.acyclic tt (sym k.told ∙ sym c.in_err-check_depths.ensures)))
+    handed _ _ _ c.from_residual-in_err-check_depths.ensures.1 (inl (refused_late _ 0 _ k.before k.acyclic tt (sym k.told ∙ sym c.in_err-check_depths.ensures)))
 
 pub returns-in_err-check_stripes-clause-fault : goal.returns-in_err-check_stripes-clause-fault
 returns-in_err-check_stripes-clause-fault c =
-    let p = err_from_is_err_and c.from_residual-in_err-check_stripes.result c.from_residual-in_err-check_stripes.ensures.1 in
     let k = passed (goal.at.returns-in_err-check_stripes-clause-fault c).After-deref-2 in
-    rw (p.1, p.2) (inl (refused_late _ 1 _ k.before k.acyclic (sym k.told ∙ sym c.in_ok-check_depths.ensures, tt) (rw (c.in_err-check_stripes.ensures, k.same))))
+    handed _ _ _ c.from_residual-in_err-check_stripes.ensures.1 (inl (refused_late _ 1 _ k.before k.acyclic (sym k.told ∙ sym c.in_ok-check_depths.ensures, tt) (rw (c.in_err-check_stripes.ensures, k.same))))
 
 pub returns-in_err-check_ranges-clause-fault : goal.returns-in_err-check_ranges-clause-fault
 returns-in_err-check_ranges-clause-fault c =
-    let p = err_from_is_err_and c.from_residual-in_err-check_ranges.result c.from_residual-in_err-check_ranges.ensures.1 in
     let k = passed (goal.at.returns-in_err-check_ranges-clause-fault c).After-deref-2 in
-    rw (p.1, p.2) (inl (refused_late _ 2 _ k.before k.acyclic (sym k.told ∙ sym c.in_ok-check_depths.ensures, (ap (λ (described : Description). first_or (stripe described) None) (sym k.same) ∙ sym c.in_ok-check_stripes.ensures, tt)) (rw (c.in_err-check_ranges.ensures, k.same))))
+    handed _ _ _ c.from_residual-in_err-check_ranges.ensures.1 (inl (refused_late _ 2 _ k.before k.acyclic (sym k.told ∙ sym c.in_ok-check_depths.ensures, (ap (λ (described : Description). first_or (stripe described) None) (sym k.same) ∙ sym c.in_ok-check_stripes.ensures, tt)) (rw (c.in_err-check_ranges.ensures, k.same))))
 
 pub returns-in_err-check_snapshots-clause-fault : goal.returns-in_err-check_snapshots-clause-fault
 returns-in_err-check_snapshots-clause-fault c =
-    let p = err_from_is_err_and c.from_residual-in_err-check_snapshots.result c.from_residual-in_err-check_snapshots.ensures.1 in
     let k = passed (goal.at.returns-in_err-check_snapshots-clause-fault c).After-deref-2 in
-    rw (p.1, p.2) (inl (refused_late _ 3 _ k.before k.acyclic (sym k.told ∙ sym c.in_ok-check_depths.ensures, (ap (λ (described : Description). first_or (stripe described) None) (sym k.same) ∙ sym c.in_ok-check_stripes.ensures, (ap (λ (described : Description). first_or (range described) None) (sym k.same) ∙ sym c.in_ok-check_ranges.ensures, tt))) (rw (c.in_err-check_snapshots.ensures, k.same))))
+    handed _ _ _ c.from_residual-in_err-check_snapshots.ensures.1 (inl (refused_late _ 3 _ k.before k.acyclic (sym k.told ∙ sym c.in_ok-check_depths.ensures, (ap (λ (described : Description). first_or (stripe described) None) (sym k.same) ∙ sym c.in_ok-check_stripes.ensures, (ap (λ (described : Description). first_or (range described) None) (sym k.same) ∙ sym c.in_ok-check_ranges.ensures, tt))) (rw (c.in_err-check_snapshots.ensures, k.same))))
 
 pub returns-in_err-check_stores-clause-fault : goal.returns-in_err-check_stores-clause-fault
 returns-in_err-check_stores-clause-fault c =
-    let p = err_from_is_err_and c.from_residual-in_err-check_stores.result c.from_residual-in_err-check_stores.ensures.1 in
     let k = passed (goal.at.returns-in_err-check_stores-clause-fault c).After-deref-2 in
-    rw (p.1, p.2) (inl (refused_late _ 4 _ k.before k.acyclic (sym k.told ∙ sym c.in_ok-check_depths.ensures, (ap (λ (described : Description). first_or (stripe described) None) (sym k.same) ∙ sym c.in_ok-check_stripes.ensures, (ap (λ (described : Description). first_or (range described) None) (sym k.same) ∙ sym c.in_ok-check_ranges.ensures, (ap (λ (described : Description). first_or (snapshot described) None) (sym k.same) ∙ sym c.in_ok-check_snapshots.ensures, tt)))) (rw (c.in_err-check_stores.ensures, k.same))))
+    handed _ _ _ c.from_residual-in_err-check_stores.ensures.1 (inl (refused_late _ 4 _ k.before k.acyclic (sym k.told ∙ sym c.in_ok-check_depths.ensures, (ap (λ (described : Description). first_or (stripe described) None) (sym k.same) ∙ sym c.in_ok-check_stripes.ensures, (ap (λ (described : Description). first_or (range described) None) (sym k.same) ∙ sym c.in_ok-check_ranges.ensures, (ap (λ (described : Description). first_or (snapshot described) None) (sym k.same) ∙ sym c.in_ok-check_snapshots.ensures, tt)))) (rw (c.in_err-check_stores.ensures, k.same))))
 
 pub returns-in_err-check_places-clause-fault : goal.returns-in_err-check_places-clause-fault
 returns-in_err-check_places-clause-fault c =
-    let p = err_from_is_err_and c.from_residual-in_err-check_places.result c.from_residual-in_err-check_places.ensures.1 in
     let k = passed (goal.at.returns-in_err-check_places-clause-fault c).After-deref-2 in
-    rw (p.1, p.2) (inl (refused_late _ 5 _ k.before k.acyclic (sym k.told ∙ sym c.in_ok-check_depths.ensures, (ap (λ (described : Description). first_or (stripe described) None) (sym k.same) ∙ sym c.in_ok-check_stripes.ensures, (ap (λ (described : Description). first_or (range described) None) (sym k.same) ∙ sym c.in_ok-check_ranges.ensures, (ap (λ (described : Description). first_or (snapshot described) None) (sym k.same) ∙ sym c.in_ok-check_snapshots.ensures, (ap (λ (described : Description). first_or (store described) None) (sym k.same) ∙ sym c.in_ok-check_stores.ensures, tt))))) (rw (c.in_err-check_places.ensures, k.same))))
+    handed _ _ _ c.from_residual-in_err-check_places.ensures.1 (inl (refused_late _ 5 _ k.before k.acyclic (sym k.told ∙ sym c.in_ok-check_depths.ensures, (ap (λ (described : Description). first_or (stripe described) None) (sym k.same) ∙ sym c.in_ok-check_stripes.ensures, (ap (λ (described : Description). first_or (range described) None) (sym k.same) ∙ sym c.in_ok-check_ranges.ensures, (ap (λ (described : Description). first_or (snapshot described) None) (sym k.same) ∙ sym c.in_ok-check_snapshots.ensures, (ap (λ (described : Description). first_or (store described) None) (sym k.same) ∙ sym c.in_ok-check_stores.ensures, tt))))) (rw (c.in_err-check_places.ensures, k.same))))
 
 pub check_starts-requires : goal.check_starts-requires
 check_starts-requires c =
@@ -160,26 +135,24 @@ pub check_places-requires : goal.check_places-requires
 check_places-requires c = good_chunks c.new-stack.result (first_or-none (snapshot c.new-stack.result) None (sym c.in_ok-check_snapshots.ensures)).0
 
 pub returns-in_err-graph-clause-fault : goal.returns-in_err-graph-clause-fault
-returns-in_err-graph-clause-fault c =
-    let p = err_from_is_err_and c.from_residual-in_err-graph.result c.from_residual-in_err-graph.ensures.1 in
-    rw (p.1, p.2) (inr c.in_err-graph.ensures.memory)
+returns-in_err-graph-clause-fault c = handed _ _ _ c.from_residual-in_err-graph.ensures.1 (inr c.in_err-graph.ensures.memory)
 
 pub returns-in_err-found-clause-fault : goal.returns-in_err-found-clause-fault
-returns-in_err-found-clause-fault c =
-    let p = err_from_is_err_and c.from_residual-in_err-found.result c.from_residual-in_err-found.ensures.1 in
-    rw (p.1, p.2) (inr c.in_err-found.ensures.memory)
+returns-in_err-found-clause-fault c = handed _ _ _ c.from_residual-in_err-found.ensures.1 (inr c.in_err-found.ensures.memory)
 
 pub returns-in_err-snapshots-clause-fault : goal.returns-in_err-snapshots-clause-fault
-returns-in_err-snapshots-clause-fault c =
-    let p = err_from_is_err_and c.from_residual-in_err-snapshots.result c.from_residual-in_err-snapshots.ensures.1 in
-    rw (p.1, p.2) (inr c.in_err-snapshots.ensures.memory)
+returns-in_err-snapshots-clause-fault c = handed _ _ _ c.from_residual-in_err-snapshots.ensures.1 (inr c.in_err-snapshots.ensures.memory)
 
 pub returns-clause-loaded : goal.returns-clause-loaded
 returns-clause-loaded c =
     let k = passed (goal.at.returns-clause-loaded c).After-deref-2 in
     record {
-      sound = are_sound _ k.before k.acyclic
-          (sym k.told ∙ sym c.in_ok-check_depths.ensures, (ap (λ (described : Description). first_or (stripe described) None) (sym k.same) ∙ sym c.in_ok-check_stripes.ensures, (ap (λ (described : Description). first_or (range described) None) (sym k.same) ∙ sym c.in_ok-check_ranges.ensures, (ap (λ (described : Description). first_or (snapshot described) None) (sym k.same) ∙ sym c.in_ok-check_snapshots.ensures, (ap (λ (described : Description). first_or (store described) None) (sym k.same) ∙ sym c.in_ok-check_stores.ensures, (ap (λ (described : Description). first_or (crowded described) None) (sym k.same) ∙ sym c.in_ok-check_places.ensures, tt))))));
+      sound = record {
+        before = k.before;
+        acyclic = k.acyclic;
+        after = nothing_found (checks_after _)
+            (sym k.told ∙ sym c.in_ok-check_depths.ensures, (ap (λ (described : Description). first_or (stripe described) None) (sym k.same) ∙ sym c.in_ok-check_stripes.ensures, (ap (λ (described : Description). first_or (range described) None) (sym k.same) ∙ sym c.in_ok-check_ranges.ensures, (ap (λ (described : Description). first_or (snapshot described) None) (sym k.same) ∙ sym c.in_ok-check_snapshots.ensures, (ap (λ (described : Description). first_or (store described) None) (sym k.same) ∙ sym c.in_ok-check_stores.ensures, (ap (λ (described : Description). first_or (crowded described) None) (sym k.same) ∙ sym c.in_ok-check_places.ensures, tt))))));
+      };
       device_names = c.in_ok-names.ensures.devices;
       disk_names = c.in_ok-names.ensures.disks;
       found = by_ids (goal.at.returns-clause-loaded c).In_ok-found;

@@ -1,13 +1,9 @@
-use Rattle.std.proofs.Common.{◌≡◌, Some, length, refl, sym, ap, ◌∙◌}
+use Rattle.std.proofs.Common.{length, refl, sym, ap, ◌∙◌}
 use Rattle.std.specs.Prelude.{take}
 use Rattle.std.proofs.lemmas.Option.{slice_get_read}
-use Rattle.dm_stack.specs.declared.claims.claim.Claim.{Claim}
 use Rattle.dm_stack.specs.claims.Sweep.{clash_with}
-use Rattle.dm_stack.proofs.claims.TidyLemmas.{clash_here, clash_none}
+use Rattle.dm_stack.proofs.claims.TidyLemmas.{clash_here, clash_none, some_is}
 use Rattle.dm_stack.proofs.claims.tidy.clash_at.Goals as goal
-
-some_is : (one other : Claim) → Some one ≡ Some other → one ≡ other
-some_is one other e = cc
 
 pub returns-then-meets : goal.returns-then-meets
 returns-then-meets c later there =

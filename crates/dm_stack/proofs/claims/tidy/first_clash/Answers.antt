@@ -1,9 +1,11 @@
 use Rattle.std.proofs.Common.{◌≡◌, ◌<◌, ◌+◌, true, length, sym, ap, subst, ◌∙◌, arith}
 use Rattle.std.specs.List.{AllPairs}
 use Rattle.std.proofs.lemmas.List.{take_all}
+use Rattle.std.proofs.lemmas.Option.{get_or_from_slice_get}
 use Rattle.dm_stack.specs.claims.Claims.{NeverMeet, IsFirstClash}
 use Rattle.dm_stack.specs.claims.Sweep.{is_tidy_to}
-use Rattle.dm_stack.proofs.claims.TidyLemmas.{at, first_is, order_length, counted_kept, tidy_below}
+use Rattle.dm_stack.proofs.claims.TidyLemmas.{first_is, order_length, counted_kept, tidy_below}
+use Rattle.dm_stack.proofs.SoundLines.{there}
 use Rattle.dm_stack.proofs.claims.tidy.first_clash.Goals as goal
 
 pub is_tidy_to-requires-clause-counted : goal.is_tidy_to-requires-clause-counted
@@ -38,7 +40,7 @@ returns c =
     let index = c.in_ok-tidy.tidy in
     let within : index < length claims =
     omega (arith, c.in_ok-tidy.ensures.within, ap length c.deref-2.ensures.value, order_length claims order c.in_ok-order.ensures.same) in
-    let later = at claims index within in
-    subst (IsFirstClash claims) (sym (c.clash_at.ensures later.claim later.read))
-    (first_is claims order index later.claim c.in_ok-order.ensures.same within later.is
+    let later = there claims index within in
+    subst (IsFirstClash claims) (sym (c.clash_at.ensures later.it later.at))
+    (first_is claims order index later.it c.in_ok-order.ensures.same within (sym (get_or_from_slice_get claims index later.it later.it later.at))
     (ap (is_tidy_to index) (sym c.deref-2.ensures.value) ∙ c.in_ok-tidy.ensures.tidy) (ap (is_tidy_to (index + 1)) (sym c.deref-2.ensures.value) ∙ c.in_ok-tidy.ensures.next))

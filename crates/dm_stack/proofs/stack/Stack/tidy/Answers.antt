@@ -1,6 +1,7 @@
 use Rattle.std.proofs.Common.{subst, sym}
+use Rattle.std.proofs.lemmas.Result.{IfOk-weaker}
 use Rattle.dm_stack.specs.checks.Soundness.{IsSound}
-use Rattle.dm_stack.proofs.claims.TopLemmas.{are_claims, claims_within, none_passes, one_clash, result_there, tidiness}
+use Rattle.dm_stack.proofs.claims.TopLemmas.{are_claims, claims_within, found_there, none_passes, one_clash, untied}
 use Rattle.dm_stack.proofs.stack.Stack.tidy.Goals as goal
 
 pub claims-requires : goal.claims-requires
@@ -17,7 +18,7 @@ returns-clause-clash c =
     rw made at c.first_clash.ensures
 
 pub returns-clause-tidy : goal.returns-clause-tidy
-returns-clause-tidy c = tidiness c.args.self.now c.first_clash.result (returns-clause-clash c)
+returns-clause-tidy c = IfOk-weaker c.first_clash.result _ _ (untied c.args.self.now) (returns-clause-clash c)
 
 pub returns-clause-one : goal.returns-clause-one
 returns-clause-one c = one_clash
@@ -26,4 +27,4 @@ pub returns-in_err-claims-clause-one : goal.returns-in_err-claims-clause-one
 returns-in_err-claims-clause-one c = one_clash
 
 pub returns-clause-there : goal.returns-clause-there
-returns-clause-there c = result_there c.args.self.now c.first_clash.result c.resolved.ensures.sound (returns-clause-clash c)
+returns-clause-there c = IfOk-weaker c.first_clash.result _ _ (λ found. found_there c.args.self.now found c.resolved.ensures.sound) (returns-clause-clash c)
