@@ -1,11 +1,10 @@
 -- Checks that test each device by its id.
-use Rattle.std.proofs.Common.{◌≡◌, ℕ, suc, ◌+◌, ◌<◌, Bool, List, [], ◌∷◌, None, arith, refl, ◌∙◌, get_or, length}
+use Rattle.std.proofs.Common.{◌≡◌, ℕ, suc, ◌+◌, ◌<◌, Bool, List, [], ◌∷◌, arith, refl, ◌∙◌, get_or, length}
 use Rattle.std.specs.Prelude.{nat_lt}
 use Rattle.std.proofs.lemmas.List.{length-map}
 use Rattle.dm_table.specs.declared.load.load_fault.LoadKind.{LoadKind}
 use Rattle.dm_table.specs.declared.load.load_fault.LoadKind.TheVariants.{Deep}
 use Rattle.dm_table.specs.declared.tables.table.DeviceSpec.{DeviceSpec}
-use Rattle.dm_table.specs.load.LoadFault.{first_or}
 use Rattle.dm_stack.specs.Description.{Description, device_links, links}
 use Rattle.dm_stack.specs.checks.Graph.{depths_to}
 use Rattle.dm_stack.specs.checks.Soundness.{deep, depth_of, faults_by_id}
@@ -27,7 +26,3 @@ told_depths stack depths e =
 
 pub depth_each : (stack : Description) (depths : List ℕ) → depths ≡ depths_to (links stack) 33 → length depths ≡ length stack.devices
 depth_each stack depths e = rw e (depths_to-length (links stack) 33 ∙ length-map stack.devices (device_links stack))
-
-pub told_deep : (stack : Description) (depths : List ℕ) (devices : List DeviceSpec) → depths ≡ depths_to (links stack) 33 → devices ≡ stack.devices → first_or (faults_by_id Deep (λ id. nat_lt 32 (get_or depths id 0)) 0 devices) None ≡ first_or (deep stack) None
-told_deep stack depths devices e same =
-    rw (same, told_depths stack depths e)

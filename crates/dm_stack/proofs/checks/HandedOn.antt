@@ -1,6 +1,6 @@
 -- What the checks hand on: ends within the limit, and faults that don't mean that memory ran out.
 use Rattle.std.proofs.Common.{◌≡◌, ◌≢◌, ℕ, suc, ◌+◌, ◌^◌, ◌≤◌, Bool, true, false, cond, List, [], ◌∷◌, ◌++◌, Option, Some, None, ◌∙◌, ap, drop, length, map}
-use Rattle.std.specs.Prelude.{◌==◌, filter, nat_lt, ◌||◌}
+use Rattle.std.specs.Prelude.{filter, nat_lt, ◌||◌}
 use Rattle.std.specs.List.{All, AllByRecursion, flat_map, list_any}
 use Rattle.std.proofs.lemmas.Bool.{or_parts, ltb-false}
 use Rattle.std.proofs.lemmas.List.Elements.{All-from_recursion}
@@ -12,7 +12,7 @@ use Rattle.dm_table.specs.declared.load.load_fault.LoadKind.TheVariants.{Limit, 
 use Rattle.dm_table.specs.declared.load.load_fault.LoadFault.{LoadFault}
 use Rattle.dm_table.specs.load.LoadFault.{fault, faults_by, first_or, first_fault}
 use Rattle.dm_stack.specs.Description.{Description, end_of}
-use Rattle.dm_stack.specs.checks.Soundness.{Early, HaveSmallEnds, IsRefusedBy, Late, OnCycle, WithBefore, all_lines, checks_after, checks_before, crowded, deep, depth_of, empty, empty_in, faults_by_id, has_bad_store, has_bad_stripes, is_far, is_large, is_misplaced, is_repeated, is_unknown, misplaced, misplaced_in, misplaced_kind, passes_end, past, range, snapshot, bad_snapshots_in, is_bad_snapshot, store, stripe, too_large, too_many, twice, twice_in, unknown, with_before, without_lines}
+use Rattle.dm_stack.specs.checks.Soundness.{Early, HaveSmallEnds, IsRefusedBy, Late, OnCycle, WithBefore, all_lines, checks_after, checks_before, crowded, deep, depth_of, empty, empty_in, faults_by_id, has_bad_store, has_bad_stripes, is_far, is_large, is_misplaced, is_unknown, misplaced, misplaced_in, misplaced_kind, passes_end, range, snapshot, bad_snapshots_in, is_bad_snapshot, store, stripe, too_large, too_many, twice, unknown, with_before, without_lines}
 use Rattle.dm_table.specs.tables.Span.{spans}
 use Rattle.dm_stack.proofs.checks.Passes.{all_changed, all_parts, append_none, faults_by_none}
 
@@ -61,7 +61,7 @@ cond_not_memory : (at : LoadFault) (later : List LoadFault) (b : Bool) → IsNot
 cond_not_memory at later true here more = (here, more)
 cond_not_memory at later false here more = more
 
-by_not_memory : {X : Type 0} (kind : LoadKind) (place : X → Place) (bad : X → Bool) (xs : List X) → kind ≢ Memory → AllByRecursion IsNotMemory (faults_by kind place bad xs)
+pub by_not_memory : {X : Type 0} (kind : LoadKind) (place : X → Place) (bad : X → Bool) (xs : List X) → kind ≢ Memory → AllByRecursion IsNotMemory (faults_by kind place bad xs)
 by_not_memory kind place bad [] other = tt
 by_not_memory kind place bad (x ∷ xs) other = cond_not_memory (fault kind (place x)) (faults_by kind place bad xs) (bad x) other (by_not_memory kind place bad xs other)
 
@@ -77,29 +77,6 @@ each_not_memory : (lines : List (WithBefore Line)) → AllByRecursion IsNotMemor
 each_not_memory [] = tt
 each_not_memory (line ∷ lines) = (kind_not_memory line.it.at (nat_lt (end_of line.before) line.it.start), each_not_memory lines)
 
-many_not_memory : (stack : Description) → AllByRecursion IsNotMemory (too_many stack)
-many_not_memory stack =
-    all_append IsNotMemory (past 1024 (λ device. device.at) stack.devices ++ past 1024 (λ disk. disk.at) stack.disks) (past 65536 (λ line. line.at) (all_lines stack.devices))
-    (all_append IsNotMemory (past 1024 (λ device. device.at) stack.devices) (past 1024 (λ disk. disk.at) stack.disks)
-    (by_not_memory Limit (λ device. device.at) (λ device. true) (drop 1024 stack.devices) (λ e. cc)) (by_not_memory Limit (λ disk. disk.at) (λ disk. true) (drop 1024 stack.disks) (λ e. cc)))
-    (by_not_memory Limit (λ line. line.at) (λ line. true) (drop 65536 (all_lines stack.devices)) (λ e. cc))
-
-large_not_memory : (stack : Description) → AllByRecursion IsNotMemory (too_large stack)
-large_not_memory stack =
-    all_append IsNotMemory (faults_by Limit (λ line. line.at) is_large (all_lines stack.devices)) (faults_by Limit (λ disk. disk.at) (λ disk. nat_lt (2 ^ 50) disk.len) stack.disks)
-    (by_not_memory Limit (λ line. line.at) is_large (all_lines stack.devices) (λ e. cc)) (by_not_memory Limit (λ disk. disk.at) (λ disk. nat_lt (2 ^ 50) disk.len) stack.disks (λ e. cc))
-
-both_not_memory : (stack : Description) → AllByRecursion IsNotMemory (twice stack)
-both_not_memory stack =
-    all_append IsNotMemory (twice_in (λ device. device.name) (λ device. device.at) stack.devices) (twice_in (λ disk. disk.name) (λ disk. disk.at) stack.disks)
-    (by_not_memory Twice (λ device. device.it.at) (is_repeated (λ device. device.name)) (with_before stack.devices) (λ e. cc))
-    (by_not_memory Twice (λ disk. disk.it.at) (is_repeated (λ disk. disk.name)) (with_before stack.disks) (λ e. cc))
-
-empty_not_memory : (device : DeviceSpec) → AllByRecursion IsNotMemory (empty_in device)
-empty_not_memory device =
-    all_append IsNotMemory (without_lines device device.lines) (faults_by Empty (λ line. line.at) (λ line. line.len == 0) device.lines) (without_not_memory device device.lines)
-    (by_not_memory Empty (λ line. line.at) (λ line. line.len == 0) device.lines (λ e. cc))
-
 at_not_memory : (kind : LoadKind) (bad : ℕ → Bool) (id : ℕ) (devices : List DeviceSpec) → kind ≢ Memory → AllByRecursion IsNotMemory (faults_by_id kind bad id devices)
 at_not_memory kind bad id [] other = tt
 at_not_memory kind bad id (device ∷ devices) other = cond_not_memory (fault kind device.at) (faults_by_id kind bad (suc id) devices) (bad id) other (at_not_memory kind bad (suc id) devices other)
@@ -107,12 +84,14 @@ at_not_memory kind bad id (device ∷ devices) other = cond_not_memory (fault ki
 -- a fault of the checks before the one for cycles, and of those after it
 before_not_memory : (stack : Description) (at : LoadFault) → first_fault (checks_before stack) ≡ Some at → IsNotMemory at
 before_not_memory stack at e =
-    first_not_memory (too_many stack) _ at (many_not_memory stack)
-    (first_not_memory (too_large stack) _ at (large_not_memory stack)
-    (first_not_memory (twice stack) _ at (both_not_memory stack)
+    first_not_memory (too_many stack) _ at
+    (all_append IsNotMemory _ _ (all_append IsNotMemory _ _ (by_not_memory Limit (λ device. device.at) (λ device. true) (drop 1024 stack.devices) (λ e. cc)) (by_not_memory Limit (λ disk. disk.at) (λ disk. true) (drop 1024 stack.disks) (λ e. cc)))
+    (by_not_memory Limit (λ line. line.at) (λ line. true) (drop 65536 (all_lines stack.devices)) (λ e. cc)))
+    (first_not_memory (too_large stack) _ at (all_append IsNotMemory _ _ (by_not_memory Limit _ _ (all_lines stack.devices) (λ e. cc)) (by_not_memory Limit _ _ stack.disks (λ e. cc)))
+    (first_not_memory (twice stack) _ at (all_append IsNotMemory _ _ (by_not_memory Twice _ _ (with_before stack.devices) (λ e. cc)) (by_not_memory Twice _ _ (with_before stack.disks) (λ e. cc)))
     (first_not_memory (empty stack) _ at
-    (all_append IsNotMemory (flat_map empty_in stack.devices) (faults_by Empty (λ disk. disk.at) (λ disk. disk.len == 0) stack.disks) (all_each IsNotMemory empty_in stack.devices empty_not_memory)
-    (by_not_memory Empty (λ disk. disk.at) (λ disk. disk.len == 0) stack.disks (λ e. cc)))
+    (all_append IsNotMemory _ _ (all_each IsNotMemory empty_in stack.devices (λ device. all_append IsNotMemory _ _ (without_not_memory device device.lines) (by_not_memory Empty _ _ device.lines (λ e. cc))))
+    (by_not_memory Empty _ _ stack.disks (λ e. cc)))
     (first_not_memory (misplaced stack) _ at (all_each IsNotMemory (λ device. misplaced_in device.lines) stack.devices (λ device. each_not_memory (filter is_misplaced (with_before device.lines))))
     (first_not_memory (unknown stack) None at (by_not_memory Unknown (λ line. line.at) (is_unknown stack) (all_lines stack.devices) (λ e. cc)) (λ none. absurd cc)))))) e
 

@@ -1,26 +1,14 @@
 -- The faults of a list of paths: a name that stands twice, and then one of no disk.
-use Rattle.std.proofs.Common.{◌≡◌, ◌≢◌, inl, inr, ℕ, List, [], ◌∷◌, Bool, true, false, Option, None, Some, Result, Ok, Err, OnOk, IfErr, sym, ap, ◌∙◌}
-use Rattle.std.proofs.lemmas.Bool.{cases_Bool}
+use Rattle.std.proofs.Common.{◌≡◌, ◌≢◌, ℕ, List, Bool, true, false, Option, None, Some, Result, Ok, Err, OnOk, IfErr, sym, ap, ◌∙◌}
 use Rattle.std.specs.Prelude.{is_none, is_some, not}
 use Rattle.std.specs.Result.{result_err}
 use Rattle.dm_table.specs.declared.load.place.Part.TheVariants.{Source}
 use Rattle.dm_table.specs.declared.load.place.Place.{Place}
-use Rattle.dm_table.specs.declared.load.load_fault.LoadKind.{LoadKind}
 use Rattle.dm_table.specs.declared.load.load_fault.LoadKind.TheVariants.{Memory, Unknown}
 use Rattle.dm_table.specs.declared.load.load_fault.LoadFault.{LoadFault}
 use Rattle.dm_table.specs.load.LoadFault.{IsMemoryFault, faults_by, first_or}
 use Rattle.dm_table.proofs.FaultLemmas.{first_or-passed}
-
--- each fault of a kind has it
-kind_found : {X : Type 0} (kind : LoadKind) (place : X → Place) (bad : X → Bool) (xs : List X) (found : LoadFault) → first_or (faults_by kind place bad xs) None ≡ Some found → found.kind ≡ kind
-kind_found kind place bad [] found e = absurd cc
-kind_found kind place bad (x ∷ xs) found e = elim (cases_Bool (bad x)) [
-  | inl is ↦ same_kind _ found (rw is at e)
-  | inr other ↦ kind_found kind place bad xs found (rw other at e)
-]
-  where
-    same_kind : (first other : LoadFault) → Some first ≡ Some other → other.kind ≡ first.kind
-    same_kind first other e = let same : first ≡ other = cc in ap (λ (f : LoadFault). f.kind) (sym same)
+use Rattle.dm_stack.proofs.checks.HandedOn.{by_not_memory, first_not_memory}
 
 -- no name stands twice, and the second check ran
 pub known_passed : (first later : List LoadFault) (result : Result (Unit {0}) LoadFault) → first_or first None ≡ None → result_err result ≡ first_or later None → OnOk result (first_or first (first_or later None) ≡ None)
@@ -35,7 +23,7 @@ known_found first later (Err fault) none found = λ _. first_or-passed first _ n
 pub known_memory : {X : Type 0} (place : X → Place) (bad : X → Bool) (xs : List X) (result : Result (Unit {0}) LoadFault) → result_err result ≡ first_or (faults_by Unknown place bad xs) None
     → IfErr result (λ fault. fault.kind ≡ Memory → IsMemoryFault Source fault)
 known_memory place bad xs (Ok done) found = tt
-known_memory place bad xs (Err fault) found = λ memory. let kind = kind_found Unknown place bad xs fault (sym found) in absurd cc
+known_memory place bad xs (Err fault) found = λ memory. absurd (first_not_memory (faults_by Unknown place bad xs) None fault (by_not_memory Unknown place bad xs (λ e. cc)) (λ none. absurd cc) (sym found) memory)
 
 -- whether a name was found
 pub unknown_told : (found named : Option ℕ) (none : Bool) → is_some found ≡ not none → found ≡ named → none ≡ is_none named

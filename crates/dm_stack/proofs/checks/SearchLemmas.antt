@@ -1,5 +1,5 @@
 -- A search: what is visited is reached, and all that is reached is visited once nothing waits.
-use Rattle.std.proofs.Common.{◌≡◌, ◌⊎◌, inl, inr, ℕ, zero, suc, ◌+◌, ◌<◌, ◌≤◌, Bool, true, false, not, cond, List, [], ◌∷◌, ◌++◌, length, get_or, set, take, drop, replicate, Vec, refl, sym, ap, ◌∙◌, true≢false, arith, get_or-set_other, get_or-set_same}
+use Rattle.std.proofs.Common.{◌≡◌, ◌⊎◌, inl, inr, ℕ, zero, suc, ◌+◌, ◌<◌, Bool, true, false, not, cond, List, [], ◌∷◌, ◌++◌, length, get_or, set, take, drop, replicate, Vec, sym, ap, ◌∙◌, true≢false, arith, get_or-set_other, get_or-set_same}
 use Rattle.std.specs.Global.{Global}
 use Rattle.std.specs.List.{Contains}
 use Rattle.std.proofs.lemmas.Bool.{cases_eq}
@@ -10,9 +10,6 @@ use Rattle.dm_stack.specs.checks.Graph.{links_in, links_of, Names, IsClosed, IsP
 use Rattle.dm_stack.proofs.checks.PathLemmas.{links_of-at, Reaches-named, Reaches-more}
 
 -- marks
-
-Contains-none : (e : ℕ) → Contains {X = ℕ} [] e → ⊥
-Contains-none e (k, below, is) = absurd (omega arith)
 
 IsVisited-below : (visited : List Bool) (d : ℕ) → IsVisited visited d → d < length visited
 IsVisited-below [] d is = absurd cc
@@ -41,10 +38,7 @@ marked_left visited d below fresh =
 
 -- the marks that a visit leaves are all that there are
 marks_whole : (n : ℕ) (after before : List Bool) → length after ≡ length before → n ≡ length before → take n (after ++ drop (length after) before) ≡ after
-marks_whole n after before same is_n =
-    let le : n ≤ length after = omega arith in
-    let all : length after ≤ n = omega arith in
-    take-append-le n after (drop (length after) before) le ∙ take_all n after all
+marks_whole n after before same is_n = take-append-le n after (drop (length after) before) (omega arith) ∙ take_all n after (omega arith)
 
 -- a visit
 
@@ -115,7 +109,7 @@ Searched-first g d after waits size visit = record {
   size = size;
   reached = λ e is. elim ((visit.marks e).0 is) [ inl earlier ↦ absurd (IsVisited-none (length g) e earlier) | inr named ↦ Reaches-named g d e named ];
   named = λ e there. (visit.marks e).1 (inr there);
-  waits = λ e there. elim (visit.only e there) [ inl earlier ↦ absurd (Contains-none e earlier) | inr is ↦ is ];
+  waits = λ e there. elim (visit.only e there) [ inl earlier ↦ absurd (omega (arith, earlier.1)) | inr is ↦ is ];
   looked = λ e is. elim (visit.fresh e is) [ inl earlier ↦ absurd (IsVisited-none (length g) e earlier) | inr there ↦ inl there ];
 }
 
@@ -145,11 +139,8 @@ Searched-next g d next before after rest waits size search visit =
 along : (g : List (List ℕ)) (d : ℕ) (visited : List Bool) → Searched g d visited [] → (x : ℕ) (between : List ℕ) (e : ℕ) → ((f : ℕ) → Names g x f → IsVisited visited f) → IsPath g x between e → IsVisited visited e
 along g d visited search x [] e closed path = closed e path
 along g d visited search x (m ∷ ms) e closed path =
-    let onward : (f : ℕ) → Names g m f → IsVisited visited f = elim (search.looked m (closed m path.0)) [ inl waits ↦ absurd (Contains-none m waits) | inr next ↦ next ] in
+    let onward : (f : ℕ) → Names g m f → IsVisited visited f = elim (search.looked m (closed m path.0)) [ inl waits ↦ absurd (omega (arith, waits.1)) | inr next ↦ next ] in
     along g d visited search m ms e onward path.1
-
-Searched-last : (g : List (List ℕ)) (d e : ℕ) (visited : List Bool) → Searched g d visited [] → Reaches g d e → IsVisited visited e
-Searched-last g d e visited search reaches = along g d visited search d reaches.between e search.named reaches.path
 
 -- what is named at an index is what the device names
 pub named_is : (links : List (Vec ℕ Global)) (d : ℕ) (named : Vec ℕ Global) (passed : List ℕ) → d < length links → named ≡ get_or links d named → passed ≡ named.items → passed ≡ links_of (links_in links) d
@@ -168,7 +159,7 @@ Searched-below links d next marks waited rest search waited_is =
 pub Searched-none : (g : List (List ℕ)) (d : ℕ) (visited : List Bool) (waiting : List ℕ) (read : Bool) → Searched g d visited waiting → waiting ≡ [] → read ≡ get_or visited d read → read ≡ false → Reaches g d d → ⊥
 Searched-none g d visited waiting read search none is_read unread reaches =
     let at_end : Searched g d visited [] = rw (← none) search in
-    let is : IsVisited visited d = Searched-last g d d visited at_end reaches in
+    let is : IsVisited visited d = along g d visited at_end d reaches.between d at_end.named reaches.path in
     let not_is : get_or visited d false ≡ false = sym (rw unread at is_read) in
     absurd (true≢false (sym is ∙ not_is))
 
@@ -189,7 +180,3 @@ Searched-on g d next n named marks passed after waited rest waits named_is passe
     let from : Searched g d marks (rest ++ next ∷ []) = rw (← waited_is) search in
     let onward : Visits (links_of g next) marks after rest waits = rw (← named_is, ← passed_is) visit in
     rw (marks_whole n after marks as_marks n_is) (Searched-next g d next marks after rest waits (as_marks ∙ search.size) from onward)
-
-pub empty : (xs : List ℕ) (n : ℕ) → n ≡ length xs → n ≡ 0 → xs ≡ []
-empty [] n is zero_is = refl
-empty (x ∷ xs) n is zero_is = absurd (omega arith)

@@ -36,23 +36,10 @@ pub record IsVia (stack : Description) (device place column : ℕ) (line : Line)
 claim_at : (stack : Description) (device place column : ℕ) (line : Line) (lower : Lower) (at : ℕ) (kind : Use) (via : IsVia stack device place column line lower at kind) → slice_get (line_claims stack device line) column ≡ Some (span_claim stack device via.span)
 claim_at stack device place column line lower at kind via = slice_get-map (span_claim stack device) (spans line) column ∙ ap (option_map (span_claim stack device)) via.span_at
 
-has_it : (stack : Description) (device place column : ℕ) (line : Line) (lower : Lower) (at : ℕ) (kind : Use) (via : IsVia stack device place column line lower at kind) → HasSector (span_claim stack device via.span) lower at
-has_it stack device place column line lower at kind via = record { on = via.on; from = via.from; before = via.before }
-
 -- Two of one device, line by line and column by column
 
 line_is : (a b : Line) → Some a ≡ Some b → a ≡ b
 line_is a b e = cc
-
-one_in_device : (stack : Description) (device p q i j : ℕ) (l m : Line) (x y : Claim) → PairsAt NeverMeet (device_claims stack device) → slice_get (lines_at stack device) p ≡ Some l → slice_get (lines_at stack device) q ≡ Some m
-    → slice_get (line_claims stack device l) i ≡ Some x → slice_get (line_claims stack device m) j ≡ Some y → (NeverMeet x y → ⊥) → (NeverMeet y x → ⊥) → (l ≡ m) × (i ≡ j)
-one_in_device stack device p q i j l m x y pairs on_p on_q at_i at_j never neither =
-    let places : p ≡ q = same_part NeverMeet (line_claims stack device) (lines_at stack device) p q i j l m x y pairs on_p on_q at_i at_j never neither in
-    let lines : l ≡ m = line_is l m (sym on_p ∙ ap (slice_get (lines_at stack device)) places ∙ on_q) in (
-      lines,
-      same_place NeverMeet (line_claims stack device l) i j x y (pairs_part NeverMeet (line_claims stack device) (lines_at stack device) p l pairs on_p)
-          at_i (rw lines at_j) never neither,
-    )
 
 pub record AreOne (d e i j : ℕ) (l m : Line) : Type 0 where
   pub devices : d ≡ e
@@ -62,15 +49,18 @@ pub record AreOne (d e i j : ℕ) (l m : Line) : Type 0 where
 by_device : (stack : Description) (d e p q i j : ℕ) (l m : Line) (x y : Claim) → d ≡ e → PairsAt NeverMeet (device_claims stack d) → slice_get (lines_at stack d) p ≡ Some l → slice_get (lines_at stack e) q ≡ Some m
     → slice_get (line_claims stack d l) i ≡ Some x → slice_get (line_claims stack e m) j ≡ Some y → (NeverMeet x y → ⊥) → (NeverMeet y x → ⊥) → AreOne d e i j l m
 by_device stack d e p q i j l m x y same pairs on_p on_q at_i at_j never neither =
-    let parts = one_in_device stack d p q i j l m x y pairs on_p (rw same on_q) at_i (rw same at_j) never neither in
-    record { devices = same; lines = parts.0; columns = parts.1 }
+    let on_q = rw (← same) at on_q in let at_j = rw (← same) at at_j in
+    let places : p ≡ q = same_part NeverMeet (line_claims stack d) (lines_at stack d) p q i j l m x y pairs on_p on_q at_i at_j never neither in
+    let lines : l ≡ m = line_is l m (sym on_p ∙ ap (slice_get (lines_at stack d)) places ∙ on_q) in
+    record { devices = same; lines = lines; columns = same_place NeverMeet (line_claims stack d l) i j x y (pairs_part NeverMeet (line_claims stack d) (lines_at stack d) p l pairs on_p) at_i (rw lines at_j) never neither }
 
 -- two columns that name one sector are one, where they may not share it
 pub one_via : (stack : Description) (d e p q i j : ℕ) (l m : Line) (lower : Lower) (at : ℕ) (one other : Use) → IsTidy stack → IsVia stack d p i l lower at one → IsVia stack e q j m lower at other → may_share one other ≡ false → AreOne d e i j l m
 one_via stack d e p q i j l m lower at one other tidy a b rivals =
     let x = span_claim stack d a.span in let y = span_claim stack e b.span in
     let clash : may_share x.kind y.kind ≡ false = rw a.used (ap (may_share one) b.used ∙ rivals) in
-    let has_x = has_it stack d p i l lower at one a in let has_y = has_it stack e q j m lower at other b in
+    let has_x : HasSector x lower at = record { on = a.on; from = a.from; before = a.before } in
+    let has_y : HasSector y lower at = record { on = b.on; from = b.from; before = b.before } in
     let never : NeverMeet x y → ⊥ = λ apart. apart lower at (record { here = has_x; there = has_y; rivals = clash }) in
     let neither : NeverMeet y x → ⊥ = λ apart. apart lower at (record { here = has_y; there = has_x; rivals = share_turn y.kind x.kind ∙ clash }) in
     let pairs = pairs_at NeverMeet (claims stack) tidy in

@@ -1,8 +1,9 @@
 -- What holds of each two elements of a list, where the list is made of parts: two elements of which it does not hold stand at one place.
-use Rattle.std.proofs.Common.{◌≡◌, ℕ, zero, suc, ◌+◌, ◌<◌, inl, inr, Bool, true, false, cond, List, [], ◌∷◌, ◌++◌, Option, Some, length, refl, ap, ◌∙◌, arith}
+use Rattle.std.proofs.Common.{◌≡◌, ℕ, zero, suc, ◌+◌, ◌<◌, inl, inr, Bool, List, [], ◌∷◌, ◌++◌, Some, length, refl, sym, ap, ◌∙◌, arith}
 use Rattle.std.specs.Prelude.{find, slice_get}
-use Rattle.std.specs.List.{AllPairs, flat_map, range_with_len}
+use Rattle.std.specs.List.{AllPairs, flat_map, position_or_len, range_with_len}
 use Rattle.std.proofs.lemmas.Bool.{cases_order}
+use Rattle.std.proofs.lemmas.List.Folds.{find_at}
 use Rattle.std.proofs.lemmas.List.FromFn.{get_or-range_with_len, length-range_with_len}
 use Rattle.std.proofs.lemmas.Option.{get_or_from_slice_get, slice_get-get_or, slice_get_within}
 use Rattle.dm_stack.proofs.checks.FirstFaults.{get_after, get_front}
@@ -75,10 +76,5 @@ number_at count i below =
     slice_get-get_or (range_with_len 0 count) i 0 (let long = length-range_with_len 0 count in omega (arith, long, below))
     ∙ ap Some (get_or-range_with_len 0 count i 0 below ∙ (let e : 0 + i ≡ i = omega arith in e))
 
-found_by : {X : Type 0} (first x : X) (xs : List X) (later : Option X) (b : Bool) → (later ≡ Some x → (p : ℕ) × (slice_get xs p ≡ Some x)) → cond b (Some first) later ≡ Some x → (p : ℕ) × (slice_get (first ∷ xs) p ≡ Some x)
-found_by first x xs later true more is = (0, is)
-found_by first x xs later false more is = let rest = more is in (suc rest.0, rest.1)
-
 pub found_place : {X : Type 0} (test : X → Bool) (xs : List X) (x : X) → find test xs ≡ Some x → (p : ℕ) × (slice_get xs p ≡ Some x)
-found_place test [] x is = absurd cc
-found_place test (first ∷ xs) x is = found_by first x xs (find test xs) (test first) (λ later. found_place test xs x later) is
+found_place test xs x is = (position_or_len test xs, sym (find_at test xs) ∙ is)

@@ -1,12 +1,15 @@
 -- Claims in the order of their starts, and in that of their list: the same pairs meet, and so the same claim is the first that meets an earlier one.
-use Rattle.std.proofs.Common.{◌≡◌, ℕ, zero, suc, ◌+◌, ◌<◌, ◌≤◌, Bool, true, false, cond, not, List, [], ◌∷◌, ◌++◌, Option, Some, None, refl, sym, ap, subst, ◌∙◌, arith, get_or, length, take, drop}
-use Rattle.std.specs.Prelude.{◌&&◌, find, nat_lt, option_map}
-use Rattle.std.specs.List.{All, AllPairs}
+use Rattle.std.proofs.Common.{◌≡◌, ◌⊎◌, inl, inr, ℕ, zero, suc, ◌+◌, ◌<◌, ◌≤◌, Bool, true, false, not, List, [], ◌∷◌, ◌++◌, Option, Some, None, refl, sym, ap, subst, ◌∙◌, arith, get_or, length, take, drop}
+use Rattle.std.specs.Prelude.{◌&&◌, find, nat_lt, option_map, slice_get}
+use Rattle.std.specs.List.{All, AllPairs, after_first, position_or_len}
 use Rattle.std.specs.List.Sorted.{IsPermutation}
 use Rattle.std.proofs.Math.Bool.{and-false}
 use Rattle.std.proofs.Math.Seq.{drop-cons}
-use Rattle.std.proofs.lemmas.Bool.{le-ltb, lt-ltb, ltb-false, ltb-true, not-true, true≢false}
+use Rattle.std.proofs.lemmas.Bool.{cases_lt, le-ltb, lt-ltb, ltb-false, ltb-true, not-true, true≢false}
 use Rattle.std.proofs.lemmas.List.{drop_all, get_or-take, length-take, take-append-drop, take_more}
+use Rattle.std.proofs.lemmas.List.Folds.{find_at}
+use Rattle.std.proofs.lemmas.List.Sums.{fails_before_first, passes_at_first, split_at_first}
+use Rattle.std.proofs.lemmas.Option.{get_or_from_slice_get, slice_get-get_or, slice_get_within}
 use Rattle.std.proofs.lemmas.List.Quantifiers.{all_pairs_push}
 use Rattle.std.proofs.lemmas.List.Sorted.{All-permutation, IsPermutation-sym, length_permutation}
 use Rattle.dm_stack.specs.declared.claims.claim.Claim.{Claim}
@@ -116,40 +119,16 @@ pub clash_here : (before : List Claim) (k : ℕ) (earlier later : Claim) → k <
 clash_here before k earlier later within is met =
     rw ((drop-cons before k earlier within ∙ ap (λ (one : Claim). one ∷ drop (suc k) before) (sym is)), met)
 
--- what a search found, and what it passed
-record Found (test : Claim → Bool) (xs : List Claim) (x : Claim) : Type 0 where
-  before : List Claim
-  after : List Claim
-  split : xs ≡ before ++ x ∷ after
-  here : test x ≡ true
-  passed : All (λ one. test one ≡ false) before
-
 pub some_is : (x y : Claim) → Some x ≡ Some y → x ≡ y
 some_is x y e = cc
 
-passed_more : (test : Claim → Bool) (x : Claim) (before : List Claim) → test x ≡ false → All (λ one. test one ≡ false) before → All (λ one. test one ≡ false) (x ∷ before)
-passed_more test x before is passed zero d within = is
-passed_more test x before is passed (suc k) d within = passed k d (omega (arith, within))
-
-found_in : (test : Claim → Bool) (y : Claim) (xs : List Claim) (x : Claim) (b : Bool) → test y ≡ b → (find test xs ≡ Some x → Found test xs x) → cond b (Some y) (find test xs) ≡ Some x → Found test (y ∷ xs) x
-found_in test y xs x true is later e =
-    let same = some_is y x e in
-    record { before = []; after = xs; split = rw same; here = ap test (sym same) ∙ is; passed = λ k d within. absurd (omega (arith, within)) }
-found_in test y xs x false is later e =
-    let rest = later e in
-    record { before = y ∷ rest.before; after = rest.after; split = rw rest.split; here = rest.here; passed = passed_more test y rest.before is rest.passed }
-
-found : (test : Claim → Bool) (xs : List Claim) (x : Claim) → find test xs ≡ Some x → Found test xs x
-found test [] x e = absurd cc
-found test (y ∷ xs) x e = found_in test y xs x (test y) refl (found test xs x) e
-
-none_in : (test : Claim → Bool) (y : Claim) (xs : List Claim) (b : Bool) → test y ≡ b → (find test xs ≡ None → All (λ one. test one ≡ false) xs) → cond b (Some y) (find test xs) ≡ None → All (λ one. test one ≡ false) (y ∷ xs)
-none_in test y xs true is later e = absurd cc
-none_in test y xs false is later e = passed_more test y xs is (later e)
-
+-- what a search passed, where it found nothing
 none_found : (test : Claim → Bool) (xs : List Claim) → find test xs ≡ None → All (λ one. test one ≡ false) xs
-none_found test [] e k d within = absurd (omega (arith, within))
-none_found test (y ∷ xs) e k d within = none_in test y xs (test y) refl (none_found test xs) e k d within
+none_found test xs e k d within = fails_before_first test xs k d (by (position_or_len test xs) (cases_lt (position_or_len test xs) (length xs)) (sym (find_at test xs) ∙ e))
+  where
+    by : (n : ℕ) → (n < length xs) ⊎ (length xs ≤ n) → slice_get xs n ≡ None → k < n
+    by n (inl found) none = let some = slice_get-get_or xs n d found in absurd cc
+    by n (inr past) none = omega (arith, within, past)
 
 pub first_is : (claims : List Claim) (order : List Numbered) (index : ℕ) (later : Claim) → IsPermutation (numbered 0 claims) order → index < length claims → later ≡ get_or claims index later
     → is_tidy_to index order ≡ true → is_tidy_to (index + 1) order ≡ false → IsFirstClash claims (clash_with (take index claims) later)
@@ -169,17 +148,23 @@ first_is claims order index later moved within is tidy clash = by (find (λ one.
         let none = none_found (λ one. meets one later) (take index claims) e in
         absurd (clash_below (index + 1) claims order moved clash (subst (AllPairs NeverMeet) (sym more) (all_pairs_push NeverMeet (take index claims) later pairs (λ k d below. never_meet_from _ _ (none k d below)))))
     by (Some earlier) e =
-        let f = found (λ one. meets one later) (take index claims) earlier e in
-        let met = meet_from earlier later f.here in
+        let test = λ (one : Claim). meets one later in
+        let before = take index claims in
+        let place = position_or_len test before in
+        let there : slice_get before place ≡ Some earlier = sym (find_at test before) ∙ e in
+        let inside = slice_get_within before place earlier there in
+        let here = get_or_from_slice_get before place earlier earlier there in
+        let split = rw here at (split_at_first test before earlier inside) in
+        let met = meet_from earlier later (ap test (sym here) ∙ passes_at_first test before earlier inside) in
         record {
-          before = f.before;
+          before = take place before;
           earlier = earlier;
-          between = f.after;
+          between = after_first test before;
           later = later;
           after = drop (suc index) claims;
-          split = rw (← f.split) whole;
-          first = subst (AllPairs NeverMeet) f.split pairs;
-          earliest = λ k d below. never_meet_from _ _ (f.passed k d below);
+          split = rw (← split) whole;
+          first = subst (AllPairs NeverMeet) split pairs;
+          earliest = λ k d below. let short = length-take place before in rw (get_or-take place before k d (omega arith)) (never_meet_from _ _ (fails_before_first test before k d (omega arith)));
           meet = met;
           least = λ sector below other. omega (arith, below, other.here.from, other.there.from);
           of_earlier = refl;

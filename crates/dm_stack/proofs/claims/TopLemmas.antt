@@ -6,11 +6,12 @@ use Rattle.std.specs.declared.alloc.AllocError.{AllocError}
 use Rattle.std.specs.List.{All, AllByRecursion, AllPairs, flat_map, list_any, position_or_len, range_with_len}
 use Rattle.std.proofs.Math.Seq.{get_or-append_seam}
 use Rattle.std.proofs.lemmas.Bool.{eq-eqb, eqb-true, ltb-false, ltb-true, or_parts, true≢false}
-use Rattle.std.proofs.lemmas.List.{append_assoc, get_or_append_left, length-append}
+use Rattle.std.proofs.lemmas.List.{get_or-map, get_or_append_left, length-append, length-map}
+use Rattle.std.proofs.lemmas.List.FromFn.{fill_by_all}
 use Rattle.std.proofs.lemmas.List.Elements.{All-from_recursion}
 use Rattle.std.proofs.lemmas.List.Sums.{prefix_len-le-length}
 use Rattle.std.proofs.lemmas.List.Folds.{Any-from_list_any, list_any-append}
-use Rattle.std.proofs.lemmas.Option.{slice_get_past, slice_get_read}
+use Rattle.std.proofs.lemmas.Option.{get_or_from_slice_get, slice_get_past}
 use Rattle.dm_table.specs.declared.tables.table.DevRef.{DevRef}
 use Rattle.dm_table.specs.declared.tables.table.DevRef.TheVariants as refs
 use Rattle.dm_table.specs.declared.tables.table.DeviceSpec.{DeviceSpec}
@@ -21,7 +22,7 @@ use Rattle.dm_stack.specs.declared.claims.clash.Clash.{Clash}
 use Rattle.dm_stack.specs.declared.id.Lower.{Lower}
 use Rattle.dm_stack.specs.declared.id.Lower.TheVariants.{Device, Disk}
 use Rattle.dm_stack.specs.claims.Claims.{AreTops, NeverMeet, IsClash, IsFirstClash, IsLower, IsThere, IsTidy, IsTop, MeetAt, claims, device_claims, line_claims, span_claim, span_end}
-use Rattle.dm_stack.specs.Description.{Description, is_same, lines_at, lines_or_none, lower_len, lower_of}
+use Rattle.dm_stack.specs.Description.{Description, is_same, lines_at, lower_len, lower_of}
 use Rattle.dm_stack.specs.claims.Naming.{is_device, is_named, line_names}
 use Rattle.dm_stack.specs.Report.{IsReport, report_text}
 use Rattle.dm_stack.specs.declared.lines.resolved_table.ResolvedDevice.{ResolvedDevice}
@@ -78,17 +79,14 @@ any_flat : {X Y : Type 0} (test : Y → Bool) (f : X → List Y) (xs : List X) �
 any_flat test f [] = refl
 any_flat test f (x ∷ xs) = rw (← any_flat test f xs) (list_any-append test (f x) (flat_map f xs))
 
-by_ids : (stack : Description) (test : List Line → Bool) (before devices : List DeviceSpec) (id : ℕ) → stack.devices ≡ before ++ devices → id ≡ length before
-    → list_any (λ device. test (lines_at stack device)) (range_with_len id (length devices)) ≡ list_any (λ device. test device.lines) devices
-by_ids stack test before [] id split is = refl
-by_ids stack test before (device ∷ devices) id split is =
-    let within : id < length stack.devices = omega (arith, ap length split, length-append before (device ∷ devices)) in
-    let at : slice_get stack.devices id ≡ Some device =
-    slice_get_read stack.devices (length stack.devices) id device refl within
-    (rw (split, is, get_or-append_seam)) in
-    let here : test (lines_at stack id) ≡ test device.lines = ap test (ap lines_or_none at) in
-    let later = by_ids stack test (before ++ device ∷ []) devices (id + 1) (split ∙ sym (append_assoc before (device ∷ []) devices)) (omega (arith, is, length-append before (device ∷ []))) in
-    rw (here, later)
+-- the lines of each device, by its id
+rows : (stack : Description) → map (λ device. device.lines) stack.devices ≡ map (lines_at stack) (range_with_len 0 (length stack.devices))
+rows stack =
+    fill_by_all (lines_at stack) (map (λ (device : DeviceSpec). device.lines) stack.devices) (length stack.devices) [] (length-map stack.devices _)
+    (λ id within. let d = there stack.devices id within in get_or-map (λ (device : DeviceSpec). device.lines) stack.devices id d.it [] within ∙ ap (λ (device : DeviceSpec). device.lines) (get_or_from_slice_get stack.devices id d.it d.it d.at) ∙ sym (lines_there stack id d.it d.at))
+
+by_ids : (stack : Description) (test : List Line → Bool) → list_any (λ device. test (lines_at stack device)) (range_with_len 0 (length stack.devices)) ≡ list_any (λ device. test device.lines) stack.devices
+by_ids stack test = sym (any_map test (lines_at stack) (range_with_len 0 (length stack.devices))) ∙ ap (list_any test) (sym (rows stack)) ∙ any_map test (λ device. device.lines) stack.devices
 
 -- a line names this device, by what it says by ids
 abbrev names_it : Description → ℕ → Line → Bool
@@ -109,7 +107,7 @@ named_by_claims stack device =
     any_flat test (line_claims stack id) (lines_at stack id)
     ∙ any_same (λ line. list_any test (line_claims stack id line)) (names_it stack device) (lines_at stack id)
     (λ line. any_map test (span_claim stack id) (spans line) ∙ sym (any_span (λ span. is_device device span.to) stack line)))
-    ∙ by_ids stack (list_any (names_it stack device)) [] stack.devices 0 refl refl ∙ sym (named_lines stack device)
+    ∙ by_ids stack (list_any (names_it stack device)) ∙ sym (named_lines stack device)
 
 device_is : (device : ℕ) (lower : Lower) → is_device device lower ≡ true → lower ≡ Device device
 device_is device (Device id) e = rw (eqb-true id device e)

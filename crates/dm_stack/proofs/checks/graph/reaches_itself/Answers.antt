@@ -1,8 +1,8 @@
 -- Each visit keeps the search, and at its end what is visited is what is reached.
 use Rattle.std.proofs.Common.{◌<◌, length, sym, ap, ◌∙◌, arith}
-use Rattle.std.proofs.lemmas.List.{length-map}
+use Rattle.std.proofs.lemmas.List.{length-map, nil_from_length}
 use Rattle.dm_stack.specs.checks.Graph.{links_in}
-use Rattle.dm_stack.proofs.checks.SearchLemmas.{Searched-begun, Searched-on, Searched-below, Searched-none, empty, named_is, named_inside}
+use Rattle.dm_stack.proofs.checks.SearchLemmas.{Searched-begun, Searched-on, Searched-below, Searched-none, named_is, named_inside}
 use Rattle.dm_stack.proofs.checks.graph.reaches_itself.Goals as goal
 
 pub visit-requires : goal.visit-requires
@@ -44,4 +44,4 @@ loop-next-preserved c =
 
 pub returns-clause-no : goal.returns-clause-no
 returns-clause-no c =
-    Searched-none (links_in c.args.links.now) c.args.device c.loop-next.visited.items c.loop-next.waiting.items c.index.result.now c.loop-next.invariant (empty c.loop-next.waiting.items c.loop-next.waiting.len c.loop-next.waiting.ok.0 c.in_default.ensures.cases.0) c.index.ensures
+    Searched-none (links_in c.args.links.now) c.args.device c.loop-next.visited.items c.loop-next.waiting.items c.index.result.now c.loop-next.invariant (nil_from_length c.loop-next.waiting.items (sym c.loop-next.waiting.ok.0 ∙ c.in_default.ensures.cases.0)) c.index.ensures

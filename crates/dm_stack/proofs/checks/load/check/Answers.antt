@@ -1,7 +1,8 @@
 -- Each check finds its fault where those before it find nothing.
-use Rattle.std.proofs.Common.{◌≡◌, ℕ, List, [], None, refl, sym, ap, ◌∙◌, get_or, inl, inr, map}
+use Rattle.std.proofs.Common.{◌≡◌, ℕ, List, [], None, sym, ap, ◌∙◌, get_or, inl, inr, map}
 use Rattle.std.specs.Prelude.{nat_lt}
 use Rattle.dm_table.specs.declared.load.load_fault.LoadKind.TheVariants.{Deep}
+use Rattle.dm_table.specs.declared.load.load_fault.LoadFault.{LoadFault}
 use Rattle.dm_table.specs.load.LoadFault.{first_or, first_fault}
 use Rattle.dm_table.proofs.FaultLemmas.{first_or-none}
 use Rattle.dm_stack.specs.Description.{Description, links}
@@ -12,7 +13,7 @@ use Rattle.dm_stack.specs.checks.Depth.{stack_depth}
 use Rattle.dm_stack.specs.checks.Soundness.{HasNoCycle, OnCycle, checks_after, checks_before, crowded, deep, faults_by_id, range, snapshot, store, stripe, too_large, unknown}
 use Rattle.dm_stack.specs.checks.Store.{store_links}
 use Rattle.dm_stack.proofs.checks.ChunkLemmas.{good_chunks}
-use Rattle.dm_stack.proofs.checks.DepthTests.{depth_each, told_deep}
+use Rattle.dm_stack.proofs.checks.DepthTests.{depth_each, told_depths}
 use Rattle.dm_stack.proofs.checks.HandedOn.{ends_within}
 use Rattle.dm_stack.proofs.checks.LoadLemmas.{closed_links, deepest_is, found_or_memory, handed, made_ok, nothing_found, refused_early, refused_late}
 use Rattle.dm_stack.proofs.checks.load.check.Goals as goal
@@ -90,7 +91,7 @@ passed c =
       same = is;
       before = nothing_found (checks_before stack) (sym c.in_ok-check_counts.ensures, (sym c.in_ok-check_numbers.ensures, (c.in_ok-names.ensures.apart, (sym c.in_ok-check_lengths.ensures, (sym c.in_ok-check_starts.ensures, (ap (λ (described : Description). first_or (unknown described) None) (sym is) ∙ sym c.in_ok-check_references.ensures, tt))))));
       acyclic = rw is at c.in_ok-check_cycles.ensures.passed;
-      told = told_deep stack c.deref-2.result.now stack.devices (rw is at (depths_are c)) refl;
+      told = ap (λ (faults : List LoadFault). first_or faults None) (told_depths stack c.deref-2.result.now (rw is at (depths_are c)));
     }
 
 pub check_depths-requires : goal.check_depths-requires
