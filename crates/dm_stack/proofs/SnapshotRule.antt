@@ -1,9 +1,10 @@
 -- In a sound stack the snapshots are the devices whose first sector lies in a snapshot's line, and that line is all of them.
-use Rattle.std.proofs.Common.{◌≡◌, ℕ, zero, suc, ◌+◌, ◌<◌, ◌≤◌, Bool, true, false, cond, not, inl, inr, ◌⊎◌, List, [], ◌∷◌, Some, arith, refl, sym, ap, subst, ◌∙◌, length}
-use Rattle.std.specs.Prelude.{◌==◌, ◌||◌, filter, find, option_map}
+use Rattle.std.proofs.Common.{◌≡◌, ℕ, ◌+◌, ◌<◌, Bool, true, false, cond, not, inl, inr, List, [], ◌∷◌, Some, arith, refl, sym, ap, subst, ◌∙◌, get_or, length}
+use Rattle.std.specs.Prelude.{◌==◌, ◌||◌, find, option_map}
 use Rattle.std.specs.List.{AllByRecursion, range_with_len}
+use Rattle.std.proofs.Math.Bool.{or-false}
 use Rattle.std.proofs.lemmas.Bool.{cases_lt, eqb-true, not-false, or_cases, or_left, or_parts, or_right}
-use Rattle.std.proofs.lemmas.List.Elements.{All-from_recursion}
+use Rattle.std.proofs.lemmas.List.Elements.{filter_passes}
 use Rattle.std.proofs.lemmas.Option.{slice_get_past}
 use Rattle.dm_table.specs.declared.tables.table.Line.{Line}
 use Rattle.dm_table.specs.declared.tables.table.Target.{Target}
@@ -20,17 +21,6 @@ use Rattle.dm_stack.proofs.checks.LayoutLemmas.{AreInRow}
 use Rattle.dm_stack.proofs.lines.Members.{in_range, kept}
 use Rattle.dm_stack.proofs.SoundLines.{device_some, device_sound, holds_from, lines_there, there}
 
--- Numbers that pass a test, among those from 0 on
-
-each_by : (P : ℕ → Type 0) (x : ℕ) (rest : List ℕ) (b : Bool) → (b ≡ true → P x) → AllByRecursion P rest → AllByRecursion P (cond b (x ∷ rest) rest)
-each_by P x rest true here more = (here refl, more)
-each_by P x rest false here more = more
-
-each_kept : (P : ℕ → Type 0) (p : ℕ → Bool) (a n : ℕ) → ((x : ℕ) → x < a + n → p x ≡ true → P x) → AllByRecursion P (filter p (range_with_len a n))
-each_kept P p a zero each = tt
-each_kept P p a (suc n) each =
-    each_by P a (filter p (range_with_len (a + 1) n)) (p a) (each a (omega arith)) (each_kept P p (a + 1) n (λ x below. each x (omega (arith, below))))
-
 -- A device with a snapshot's line has no other
 
 one_by : (stack : Description) (lines len : ℕ) (target : Target) → is_bad_snapshot stack lines len target ≡ false → is_snapshot target ≡ true → lines ≡ 1
@@ -40,11 +30,10 @@ one_by stack lines len _ good is = absurd cc
 
 one_of : (stack : Description) (count : ℕ) (lines : List Line) → AllByRecursion (λ line. is_bad_snapshot stack count line.len line.target ≡ false) lines → has_snapshot lines ≡ true → count ≡ 1
 one_of stack count [] good is = absurd cc
-one_of stack count (line ∷ lines) good is = by_part (one_of stack count lines good.1) (or_cases (is_snapshot line.target) (has_snapshot lines) is)
-  where
-    by_part : (has_snapshot lines ≡ true → count ≡ 1) → (is_snapshot line.target ≡ true) ⊎ (has_snapshot lines ≡ true) → count ≡ 1
-    by_part more (inl here) = one_by stack count line.len line.target good.0 here
-    by_part more (inr later) = more later
+one_of stack count (line ∷ lines) good is = elim (or_cases (is_snapshot line.target) (has_snapshot lines) is) [
+  | inl here ↦ one_by stack count line.len line.target good.0 here
+  | inr later ↦ one_of stack count lines good.1 later
+]
 
 -- the target of a snapshot's line, by ids
 pub record IsOver (stack : Description) (target : Target) : Type 0 where
@@ -63,11 +52,7 @@ pub record IsOnly (lines : List Line) : Type 0 where
 
 alone : (lines : List Line) → length lines ≡ 1 → has_snapshot lines ≡ true → IsOnly lines
 alone [] one is = absurd cc
-alone (line ∷ []) one is = record { line = line; is = refl; over = by_part (or_cases (is_snapshot line.target) false is) }
-  where
-    by_part : (is_snapshot line.target ≡ true) ⊎ (false ≡ true) → is_snapshot line.target ≡ true
-    by_part (inl here) = here
-    by_part (inr wrong) = absurd cc
+alone (line ∷ []) one is = record { line = line; is = refl; over = sym (or-false (is_snapshot line.target)) ∙ is }
 alone (line ∷ next ∷ lines) one is = absurd (omega (arith, one))
 
 line_from : (line : Line) → 0 < line.len → line.start ≡ 0 → line_of (line ∷ []) 0 ≡ Some line
@@ -130,18 +115,16 @@ any_found stack test (first ∷ lines) line snapshot at is = by_test (λ e. any_
     by_test more false e = or_right (is_snapshot first.target) (has_snapshot lines) (more e)
 
 pub lines_within : (stack : Description) (device : ℕ) → has_snapshot (lines_at stack device) ≡ true → device < length stack.devices
-lines_within stack device is = by_place (cases_lt device (length stack.devices))
-  where
-    by_place : (device < length stack.devices) ⊎ (length stack.devices ≤ device) → device < length stack.devices
-    by_place (inl within) = within
-    by_place (inr past) =
-        let none = slice_get_past stack.devices device past in
-        let no : has_snapshot (lines_at stack device) ≡ false = rw none in
-        absurd (let both = sym no ∙ is in cc)
+lines_within stack device is = elim (cases_lt device (length stack.devices)) [
+  | inl within ↦ within
+  | inr past ↦ absurd (let none = slice_get_past stack.devices device past in let no : has_snapshot (lines_at stack device) ≡ false = rw none in let both = sym no ∙ is in cc)
+]
 
 pub are_snapshots : (stack : Description) → IsSound stack → AreSnapshots stack (snapshots stack)
 are_snapshots stack sound = record {
-  each = All-from_recursion (IsSnapshot stack) (snapshots stack) (each_kept (IsSnapshot stack) (λ device. has_snapshot (lines_at stack device)) 0 (length stack.devices) (λ device below is. each_snapshot stack sound device (omega (arith, below)) is));
+  each = λ k d within.
+      let is = filter_passes (λ device. has_snapshot (lines_at stack device)) (range_with_len 0 (length stack.devices)) k d within in
+      each_snapshot stack sound (get_or (snapshots stack) k d) (lines_within stack (get_or (snapshots stack) k d) is) is;
   among = λ device line snapshot at is.
       let has = any_found stack (holds 0) (lines_at stack device) line snapshot at is in
       kept (λ id. has_snapshot (lines_at stack id)) (range_with_len 0 (length stack.devices)) device has (in_range (length stack.devices) device (lines_within stack device has));

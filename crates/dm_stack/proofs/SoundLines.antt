@@ -1,9 +1,12 @@
 -- What a sound stack says of its devices, of its disks, and of the line of a sector.
-use Rattle.std.proofs.Common.{◌≡◌, ℕ, zero, suc, ◌+◌, ◌*◌, ◌^◌, ◌<◌, ◌≤◌, Bool, true, false, cond, nat_lt, nat_le, List, [], ◌∷◌, length, map, Option, Some, None, refl, sym, ap, subst, ◌∙◌, arith}
-use Rattle.std.specs.Prelude.{◌/◌, ◌%◌, ◌==◌, ◌&&◌, ◌||◌, not, find, position, slice_get}
+use Rattle.std.proofs.Common.{◌≡◌, ℕ, zero, suc, ◌+◌, ◌*◌, ◌^◌, ◌<◌, ◌≤◌, Bool, true, false, cond, nat_lt, nat_le, List, [], ◌∷◌, length, map, Some, None, refl, sym, ap, subst, ◌∙◌, arith, Option}
+use Rattle.std.specs.Prelude.{◌/◌, ◌%◌, ◌==◌, ◌||◌, not, find, position, slice_get, ◌&&◌}
 use Rattle.std.specs.List.{AllByRecursion, flat_map, list_any, position_or_len}
 use Rattle.std.proofs.lemmas.Bool.{and_parts, or_parts, leb-true, le-leb, ltb-true, ltb-false, lt-ltb, eqb-true, not-false}
 use Rattle.std.proofs.lemmas.List.{length-map}
+use Rattle.std.proofs.lemmas.List.Folds.{find_at}
+use Rattle.std.proofs.lemmas.List.Sums.{passes_at_first}
+use Rattle.std.proofs.lemmas.Option.{get_or_from_slice_get, slice_get_within}
 use Rattle.std.proofs.Math.Nat.{div-add-mod, mul_comm}
 use Rattle.dm_table.specs.declared.tables.table.Column.{Column}
 use Rattle.dm_table.specs.declared.tables.table.DevRef.{DevRef}
@@ -37,14 +40,17 @@ position_or_len-map f test (x ∷ xs) = rw (position_or_len-map f test xs)
 pub position-map : {X Y : Type 0} (f : X → Y) (test : Y → Bool) (xs : List X) → position test (map f xs) ≡ position (λ x. test (f x)) xs
 position-map f test xs = rw (position_or_len-map f test xs, length-map xs f)
 
-cond_found : {X : Type 0} (P : X → Type 0) (test : X → Bool) (first x : X) (later : Option X) (b : Bool) → test first ≡ b → P first → (later ≡ Some x → (test x ≡ true) × P x) → cond b (Some first) later ≡ Some x → (test x ≡ true) × P x
-cond_found {X = X} P test first x later true is here more e = let same : first ≡ x = cc in rw (← same) (is, here)
-cond_found P test first x later false is here more e = more e
+got : {X : Type 0} (P : X → Type 0) (xs : List X) (id : ℕ) (x : X) → AllByRecursion P xs → slice_get xs id ≡ Some x → P x
+got P [] id x h e = absurd cc
+got P (first ∷ xs) zero x h e = let same : first ≡ x = cc in subst P same h.0
+got P (first ∷ xs) (suc id) x h e = got P xs id x h.1 e
 
 -- what a search found passes its test, and shares what all elements have
 pub found : {X : Type 0} (P : X → Type 0) (test : X → Bool) (xs : List X) (x : X) → AllByRecursion P xs → find test xs ≡ Some x → (test x ≡ true) × P x
-found P test [] x h e = absurd cc
-found P test (first ∷ xs) x h e = cond_found P test first x (find test xs) (test first) refl h.0 (found P test xs x h.1) e
+found P test xs x h e =
+    let at = sym (find_at test xs) ∙ e in
+    let here = get_or_from_slice_get xs (position_or_len test xs) x x at in
+    (ap test (sym here) ∙ passes_at_first test xs x (slice_get_within xs (position_or_len test xs) x at), got P xs (position_or_len test xs) x h at)
 
 -- Lines that start where the one before ends
 
@@ -314,11 +320,6 @@ device_small stack id sound within =
     rw (lines_there stack id d.it d.at) (end_small d.it.lines (device_sound stack id d.it sound d.at).small)
 
 -- The length of a disk
-
-got : {X : Type 0} (P : X → Type 0) (xs : List X) (id : ℕ) (x : X) → AllByRecursion P xs → slice_get xs id ≡ Some x → P x
-got P [] id x h e = absurd cc
-got P (first ∷ xs) zero x h e = let same : first ≡ x = cc in subst P same h.0
-got P (first ∷ xs) (suc id) x h e = got P xs id x h.1 e
 
 pub disk_some : (stack : Description) (id : ℕ) (disk : Disk) → IsSound stack → slice_get stack.disks id ≡ Some disk → 0 < disk.len
 disk_some stack id disk sound at =

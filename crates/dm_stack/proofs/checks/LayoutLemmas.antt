@@ -1,8 +1,8 @@
 -- Lines that start where the one before ends.
-use Rattle.std.proofs.Common.{◌≡◌, ℕ, ◌+◌, ◌<◌, ◌≤◌, true, false, not, nat_lt, List, [], ◌∷◌, ◌++◌, Some, None, arith, refl, sym, ap, ◌∙◌, append_assoc, drop, get_or, length, map, take}
+use Rattle.std.proofs.Common.{◌≡◌, ℕ, ◌+◌, ◌<◌, ◌≤◌, Bool, true, false, cond, not, nat_lt, List, [], ◌∷◌, ◌++◌, Some, None, arith, refl, sym, ap, ◌∙◌, append_assoc, drop, get_or, length, map, take}
 use Rattle.std.specs.Prelude.{filter}
 use Rattle.std.specs.List.{AllByRecursion}
-use Rattle.std.proofs.lemmas.Bool.{eq-eqb, eqb-true, ne_eqb, lt-ltb, le-ltb, not-false}
+use Rattle.std.proofs.lemmas.Bool.{eq-eqb, eqb-true, ne_eqb, not-false}
 use Rattle.std.proofs.lemmas.List.{append-nil, take_more}
 use Rattle.dm_table.specs.load.LoadFault.{fault, first_or}
 use Rattle.dm_table.specs.declared.load.load_fault.LoadFault.{LoadFault}
@@ -34,18 +34,11 @@ misplaced_from lines i = map (λ line. fault (misplaced_kind line) line.it.at) (
 abbrev pub line_here : List Line → ℕ → Line → WithBefore Line
 line_here lines i line = record { before = take i lines; it = line }
 
-pub gap_here : (lines : List Line) (i end : ℕ) (line : Line) → i < length lines → line ≡ get_or lines i line → end ≡ end_of (take i lines) → end < line.start → first_or (misplaced_from lines i) None ≡ Some (fault Gap line.at)
-gap_here lines i end line within is ends after =
+pub misplaced_here : (lines : List Line) (i end : ℕ) (line : Line) (b : Bool) → i < length lines → line ≡ get_or lines i line → end ≡ end_of (take i lines) → (line.start ≡ end → ⊥) → nat_lt end line.start ≡ b → first_or (misplaced_from lines i) None ≡ Some (fault (cond b Gap Overlap) line.at)
+misplaced_here lines i end line b within is ends apart after =
     let at = drop-with_before lines i line within is in
-    let bad : is_misplaced (line_here lines i line) ≡ true = ap not (ne_eqb line.start (end_of (take i lines)) (λ same. omega arith)) in
-    let kind : nat_lt (end_of (take i lines)) line.start ≡ true = lt-ltb (end_of (take i lines)) line.start (omega arith) in
-    rw (at, bad, kind)
-
-pub overlap_here : (lines : List Line) (i end : ℕ) (line : Line) → i < length lines → line ≡ get_or lines i line → end ≡ end_of (take i lines) → line.start < end → first_or (misplaced_from lines i) None ≡ Some (fault Overlap line.at)
-overlap_here lines i end line within is ends before =
-    let at = drop-with_before lines i line within is in
-    let bad : is_misplaced (line_here lines i line) ≡ true = ap not (ne_eqb line.start (end_of (take i lines)) (λ same. omega arith)) in
-    let kind : nat_lt (end_of (take i lines)) line.start ≡ false = le-ltb (end_of (take i lines)) line.start (omega arith) in
+    let bad : is_misplaced (line_here lines i line) ≡ true = ap not (ne_eqb line.start (end_of (take i lines)) (λ same. apart (same ∙ sym ends))) in
+    let kind : nat_lt (end_of (take i lines)) line.start ≡ b = rw (← ends) after in
     rw (at, bad, kind)
 
 pub placed_here : (lines : List Line) (i end : ℕ) (line : Line) → i < length lines → line ≡ get_or lines i line → end ≡ end_of (take i lines) → line.start ≤ end → end ≤ line.start → misplaced_from lines (i + 1) ≡ misplaced_from lines i

@@ -1,8 +1,8 @@
 -- Checks in a row, what is named among devices that are there, and the first ring.
-use Rattle.std.proofs.Common.{◌≡◌, ◌≢◌, ◌⊎◌, ℕ, zero, suc, ◌+◌, ◌<◌, Bool, false, inl, inr, List, [], ◌∷◌, Option, Some, None, Result, Ok, Vec, Global, arith, refl, sym, ap, ◌∙◌, drop, get_or, length, map, take}
-use Rattle.std.specs.Prelude.{IfErr, IfOk, IfSome, IfNone, find, is_none}
+use Rattle.std.proofs.Common.{◌≡◌, ◌≢◌, ◌⊎◌, ℕ, zero, suc, ◌+◌, ◌<◌, false, inl, inr, List, [], ◌∷◌, Option, Some, None, Result, Ok, Vec, Global, arith, refl, sym, ap, ◌∙◌, drop, get_or, length, map, take}
+use Rattle.std.specs.Prelude.{IfErr, IfOk, IfSome, IfNone}
 use Rattle.std.specs.Result.{IsErrAnd}
-use Rattle.std.specs.List.{AllByRecursion, flat_map, list_any, position_or_len}
+use Rattle.std.specs.List.{AllByRecursion, flat_map, list_any}
 use Rattle.std.proofs.lemmas.Bool.{leb-false, or_parts}
 use Rattle.std.proofs.lemmas.List.{drop_more, length-map, length-take-le, take-append-drop}
 use Rattle.std.proofs.lemmas.List.Elements.{All-from_recursion}
@@ -71,15 +71,12 @@ made_ok {T} {E} made value P is holds = rw is at holds
 
 -- What is named is there
 
-place_before : {X : Type 0} (test : X → Bool) (xs : List X) → is_none (find test xs) ≡ false → position_or_len test xs < length xs
-place_before test xs e = leb-false (length xs) (position_or_len test xs) (none_past test xs ∙ e)
-
 -- ids of devices of a stack
 abbrev pub AreThere : Description → List ℕ → Type 0
 AreThere stack ids = AllByRecursion (λ id. id < length stack.devices) ids
 
 ref_there : (stack : Description) (to : DevRef) → is_unknown_ref stack to ≡ false → AreThere stack (ref_link stack to)
-ref_there stack (refs.Device name) e = (place_before (λ device. is_same device.name name) stack.devices e, tt)
+ref_there stack (refs.Device name) e = (leb-false _ _ (none_past (λ device. is_same device.name name) stack.devices ∙ e), tt)
 ref_there stack (refs.Disk name) e = tt
 
 spans_there : (stack : Description) (named : List Span) → list_any (λ span. is_unknown_ref stack span.to) named ≡ false → AreThere stack (flat_map (λ span. ref_link stack span.to) named)

@@ -9,12 +9,9 @@ use Rattle.dm_stack.specs.checks.Graph.{links_in, links_of, Names, IsClosed, Rea
 use Rattle.dm_stack.proofs.checks.PathLemmas.{links_of-at}
 use Rattle.dm_stack.proofs.checks.DepthLemmas.{depth_to-le, depth_to-no_cycle}
 
-Contains-tail : (x y : ℕ) (ys : List ℕ) → Contains ys x → Contains (y ∷ ys) x
-Contains-tail x y ys (k, below, is_x) = (suc k, omega arith, is_x)
-
 greatest-same : (f h : ℕ → ℕ) (xs : List ℕ) → ((x : ℕ) → Contains xs x → f x ≡ h x) → greatest (map f xs) ≡ greatest (map h xs)
 greatest-same f h [] same = refl
-greatest-same f h (x ∷ xs) same = omega (arith, same x (zero, omega arith, refl), greatest-same f h xs (λ y there. same y (Contains-tail y x xs there)))
+greatest-same f h (x ∷ xs) same = omega (arith, same x (zero, omega arith, refl), greatest-same f h xs (λ y there. same y (suc there.0, omega (arith, there.1), there.2)))
 
 -- the depth of each device, by its index
 pub depths_to-at : (g : List (List ℕ)) (n d : ℕ) → d < length g → get_or (depths_to g n) d 0 ≡ depth_to g n d

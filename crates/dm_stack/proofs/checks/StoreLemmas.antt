@@ -1,5 +1,5 @@
 -- A device is a store exactly where its depth is within the limit, once those that no store may be made of name themselves.
-use Rattle.std.proofs.Common.{◌≡◌, ℕ, zero, suc, ◌+◌, ◌<◌, ◌≤◌, Bool, true, false, cond, not, nat_le, List, [], ◌∷◌, ◌++◌, arith, inl, inr, ◌⊎◌, refl, sym, ap, ◌∙◌, get_or, length, map, max, Some, Vec, Global}
+use Rattle.std.proofs.Common.{◌≡◌, ℕ, zero, suc, ◌+◌, ◌<◌, ◌≤◌, Bool, true, false, cond, not, nat_le, List, [], ◌∷◌, ◌++◌, arith, inl, inr, ◌⊎◌, refl, sym, ap, ◌∙◌, get_or, length, map, Some, Vec, Global}
 use Rattle.std.specs.Prelude.{◌&&◌, slice_get}
 use Rattle.std.specs.List.{Contains, flat_map, list_all, range_with_len}
 use Rattle.std.proofs.Math.Bool.{and-false, and-true, and_assoc}
@@ -80,12 +80,9 @@ store_step stack levels device =
 
 -- Depths within a limit
 
-max_within : (a b n : ℕ) → nat_le (max a b) n ≡ (nat_le a n && nat_le b n)
-max_within a b n = grind arith
-
 greatest_within : (f : ℕ → ℕ) (xs : List ℕ) (n : ℕ) → nat_le (greatest (map f xs)) n ≡ list_all (λ x. nat_le (f x) n) xs
 greatest_within f [] n = le-leb 0 n (omega arith)
-greatest_within f (x ∷ xs) n = rw (← greatest_within f xs n) (max_within (f x) (greatest (map f xs)) n)
+greatest_within f (x ∷ xs) n = rw (← greatest_within f xs n) (grind arith)
 
 depth_within : (g : List (List ℕ)) (n device : ℕ) → nat_le (depth_to g (suc (suc n)) device) (suc n) ≡ list_all (λ e. nat_le (depth_to g (suc n) e) n) (links_of g device)
 unfolding depth_to
@@ -116,15 +113,10 @@ links_past stack device past = get_or_past (store_links stack) device [] (omega 
 
 -- where a device names itself, it is no store at any level
 all_marked : (stack : Description) (levels device : ℕ) → list_all (is_store_device stack levels) (links_of (store_links stack) device) ≡ (may_store (is_ro_at stack device) (lines_at stack device) && list_all (is_store_device stack levels) (links_of (links stack) device))
-all_marked stack levels device = by_place (cases_lt device (length stack.devices))
-  where
-    by_place : (device < length stack.devices) ⊎ (length stack.devices ≤ device) → list_all (is_store_device stack levels) (links_of (store_links stack) device) ≡ (may_store (is_ro_at stack device) (lines_at stack device) && list_all (is_store_device stack levels) (links_of (links stack) device))
-    by_place (inl within) =
-        rw links_there (marked (is_store_device stack levels) device (links_of (links stack) device) (may_store (is_ro_at stack device) (lines_at stack device)) (barred_at stack levels device))
-    by_place (inr past) =
-        let none = slice_get_past stack.devices device past in
-        let named = named_lines stack stack.devices device in
-        rw (links_past, named, none)
+all_marked stack levels device = elim (cases_lt device (length stack.devices)) [
+  | inl within ↦ rw links_there (marked (is_store_device stack levels) device (links_of (links stack) device) (may_store (is_ro_at stack device) (lines_at stack device)) (barred_at stack levels device))
+  | inr past ↦ let none = slice_get_past stack.devices device past in let named = named_lines stack stack.devices device in rw (links_past, named, none)
+]
 
 pub store_depth : (stack : Description) (levels device : ℕ) → nat_le (depth_to (store_links stack) (suc levels) device) levels ≡ is_store_device stack levels device
 unfolding is_store_to

@@ -1,6 +1,6 @@
 -- That two claims meet, as it is computed and as it is defined.
 use Rattle.std.proofs.Common.{◌≡◌, ℕ, Bool, true, false, not, refl, sym, ap, ◌∙◌, arith}
-use Rattle.std.specs.Prelude.{◌==◌, max, min, nat_lt}
+use Rattle.std.specs.Prelude.{max, min, nat_lt}
 use Rattle.std.proofs.Math.Bool.{and_comm}
 use Rattle.std.proofs.lemmas.Bool.{and_from, and_parts, eq-eqb, eqb-true, lt-ltb, ltb-true, not-true, true≢false}
 use Rattle.dm_table.specs.declared.tables.table.Use.{Use}
@@ -25,14 +25,11 @@ self_same (Disk id) = eq-eqb id id refl
 
 -- Either claim may come first
 
-eq_turn : (a b : ℕ) → (a == b) ≡ (b == a)
-eq_turn a b = grind arith
-
 same_turn : (one other : Lower) → is_same_lower one other ≡ is_same_lower other one
-same_turn (Device one) (Device other) = eq_turn one other
+same_turn (Device one) (Device other) = grind arith
 same_turn (Device one) (Disk other) = refl
 same_turn (Disk one) (Device other) = refl
-same_turn (Disk one) (Disk other) = eq_turn one other
+same_turn (Disk one) (Disk other) = grind arith
 
 pub share_turn : (one other : Use) → may_share one other ≡ may_share other one
 share_turn Own Own = refl

@@ -26,16 +26,13 @@ stood_apart i j p q apart same = grind (arith, apart, same)
 stood_within : (i j p n : ℕ) → i < n → j < n → p < n → stood i j p < n
 stood_within i j p n a b within = grind (arith, a, b, within)
 
-same_swap : {X : Type 0} (xs : List X) (i j : ℕ) → swap xs i j ≡ swap xs i j
-same_swap xs i j = refl
-
 before_swap : {X : Type 0} (xs : List X) (i j now : ℕ) (d : X) → i < length xs → j < length xs → get_or (swap xs i j) now d ≡ get_or xs (stood i j now) d
 before_swap xs i j now d p q = by (now == i) (now == j) refl refl
   where
     by : (a b : Bool) → (now == i) ≡ a → (now == j) ≡ b → get_or (swap xs i j) now d ≡ get_or xs (cond a j (cond b i now)) d
-    by true b e f = let same = eqb-true now i e in rw same (swapped_from_swap xs (swap xs i j) i j d p q (same_swap xs i j)).0
-    by false true e f = let same = eqb-true now j f in rw same (swapped_from_swap xs (swap xs i j) i j d p q (same_swap xs i j)).1
-    by false false e f = (swapped_from_swap xs (swap xs i j) i j d p q (same_swap xs i j)).2 now (eqb-false now i e) (eqb-false now j f)
+    by true b e f = let same = eqb-true now i e in rw same (swapped_from_swap xs (swap xs i j) i j d p q refl).0
+    by false true e f = let same = eqb-true now j f in rw same (swapped_from_swap xs (swap xs i j) i j d p q refl).1
+    by false false e f = (swapped_from_swap xs (swap xs i j) i j d p q refl).2 now (eqb-false now i e) (eqb-false now j f)
 
 no_pair_swapped : {X : Type 0} (test : X → X → Bool) (xs : List X) (i j : ℕ) → i < length xs → j < length xs → HasNoPair test xs → HasNoPair test (swap xs i j)
 no_pair_swapped test xs i j p q none = record {
@@ -53,12 +50,9 @@ no_pair_moved test xs ys moved none = IsPermutation-keeps xs (HasNoPair test) no
 
 pub no_pair_from_pairs : {X : Type 0} (test : X → X → Bool) (xs : List X) → ((x y : X) → test x y ≡ test y x) → AllPairs (λ x y. test x y ≡ false) xs → HasNoPair test xs
 no_pair_from_pairs test xs turns pairs = record {
-  at = λ i j d p q apart. by i j d p q apart (i_or_j i j apart);
+  at = λ i j d p q apart. by i j d p q apart (grind (arith, apart));
 }
   where
-    i_or_j : (i j : ℕ) → (i ≡ j → ⊥) → (i < j) ⊎ (j < i)
-    i_or_j i j apart = grind (arith, apart)
-
     by : (i j : ℕ) (d : _) → i < length xs → j < length xs → (i ≡ j → ⊥) → (i < j) ⊎ (j < i) → test (get_or xs i d) (get_or xs j d) ≡ false
     by i j d p q apart (inl less) = pairs i j d less q
     by i j d p q apart (inr more) = turns _ _ ∙ pairs j i d more p
@@ -78,13 +72,10 @@ pairs_from_search test before (x ∷ xs) none pairs =
     subst (AllPairs (λ x y. test x y ≡ false)) (append_assoc before (x ∷ []) xs)
     (pairs_from_search test (before ++ x ∷ []) xs parts.1 (all_pairs_push (λ x y. test x y ≡ false) before x pairs (none_before (λ earlier. test earlier x) before parts.0)))
 
-met_none : {X : Type 0} (test : X → X → Bool) (before : List X) (x : X) (xs : List X) → AllPairs (λ x y. test x y ≡ false) (before ++ x ∷ xs) → (k : ℕ) (d : X) → k < length before → test (get_or before k d) x ≡ false
-met_none test before x xs pairs k d within =
-    rw (← get_or_append_left before (x ∷ xs) d k within) (ap (test (get_or (before ++ x ∷ xs) k d)) (sym (get_or-append_seam before x xs d)) ∙ pairs k (length before) d within (omega (arith, length-append before (x ∷ xs))))
-
 pub search_from_pairs : {X : Type 0} (test : X → X → Bool) (before xs : List X) → AllPairs (λ x y. test x y ≡ false) (before ++ xs) → has_pair test before xs ≡ false
 search_from_pairs test before [] pairs = refl
 search_from_pairs test before (x ∷ xs) pairs =
-    let here : list_any (λ earlier. test earlier x) before ≡ false = list_any_none (λ earlier. test earlier x) before (λ k d within. met_none test before x xs pairs k d within) in
+    let here : list_any (λ earlier. test earlier x) before ≡ false = list_any_none (λ earlier. test earlier x) before (λ k d within.
+    rw (← get_or_append_left before (x ∷ xs) d k within) (ap (test (get_or (before ++ x ∷ xs) k d)) (sym (get_or-append_seam before x xs d)) ∙ pairs k (length before) d within (omega (arith, length-append before (x ∷ xs))))) in
     let later = search_from_pairs test (before ++ x ∷ []) xs (subst (AllPairs (λ x y. test x y ≡ false)) (sym (append_assoc before (x ∷ []) xs)) pairs) in
     rw (here, later)

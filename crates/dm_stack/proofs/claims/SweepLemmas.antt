@@ -19,18 +19,11 @@ use Rattle.dm_stack.specs.Description.{is_same_lower}
 use Rattle.dm_stack.specs.claims.Sweep.{has_pair, held_end, no_reach, own_end, reach_meets, reach_next, reach_of, reach_with, rival_end, rivals}
 
 -- a claim that starts no earlier meets one of these, or the reach of others, exactly if it meets the reach of all
-ends_meet : (start first end last reach : ℕ) → first ≤ start → ((nat_lt (max first start) (min last end) && true) || (nat_lt start end && nat_lt start reach)) ≡ (nat_lt start end && nat_lt start (max reach last))
-ends_meet start first end last reach le = grind arith
-
-shared : (b : Bool) (start end reach : ℕ) → ((b && false) || (nat_lt start end && nat_lt start reach)) ≡ (nat_lt start end && nat_lt start (max reach 0))
-shared true start end reach = grind arith
-shared false start end reach = grind arith
-
--- the same where they may share, which they never meet by
+-- and where they may share, which they never meet by, no less
 one_meets : (share : Bool) (start first end last reach : ℕ) → first ≤ start
     → ((nat_lt (max first start) (min last end) && not share) || (nat_lt start end && nat_lt start reach)) ≡ (nat_lt start end && nat_lt start (max reach (cond share 0 last)))
-one_meets true start first end last reach le = shared (nat_lt (max first start) (min last end)) start end reach
-one_meets false start first end last reach le = ends_meet start first end last reach le
+one_meets true start first end last reach le = rw and-false (grind arith)
+one_meets false start first end last reach le = grind (arith, le)
 
 -- the end that a claim must not start before is the greatest of those that it may not share with
 rival_more : (kind other : Use) (last : ℕ) (reach : Reach)
@@ -71,16 +64,10 @@ met_from count next below reach [] starts = refl
 met_from count next below reach (one ∷ before) starts =
     cc (or_swap (rivals count one next) (list_any (λ one. rivals count one next) before) (reach_meets reach next.claim), step count one next reach starts.0 below, met_from count next below (reach_next count next.claim.to reach one) before starts.1)
 
-none_held : (kind : Use) → rival_end kind no_reach ≡ 0
-none_held Own = refl
-none_held Reading = refl
-none_held Serving = refl
-
-below_none : (start end : ℕ) → (nat_lt start end && nat_lt start 0) ≡ false
-below_none start end = grind arith
-
 none_reached : (start end : ℕ) (kind : Use) → (nat_lt start end && nat_lt start (rival_end kind no_reach)) ≡ false
-none_reached start end kind = rw (none_held kind) (below_none start end)
+none_reached start end Own = grind arith
+none_reached start end Reading = grind arith
+none_reached start end Serving = grind arith
 
 -- In the order of the starts, at the claim of a place
 

@@ -5,7 +5,7 @@ use Rattle.std.specs.List.{All, AllPairs, after_first, position_or_len}
 use Rattle.std.specs.List.Sorted.{IsPermutation}
 use Rattle.std.proofs.Math.Bool.{and-false}
 use Rattle.std.proofs.Math.Seq.{drop-cons}
-use Rattle.std.proofs.lemmas.Bool.{cases_lt, le-ltb, lt-ltb, ltb-false, ltb-true, not-true, true≢false}
+use Rattle.std.proofs.lemmas.Bool.{cases_lt, lt-ltb, ltb-true, not-true, true≢false}
 use Rattle.std.proofs.lemmas.List.{drop_all, get_or-take, length-take, take-append-drop, take_more}
 use Rattle.std.proofs.lemmas.List.Folds.{find_at}
 use Rattle.std.proofs.lemmas.List.Sums.{fails_before_first, passes_at_first, split_at_first}
@@ -56,9 +56,6 @@ order_length claims order moved = length_permutation (numbered 0 claims) order m
 counted_pair : (count i j : ℕ) (b : Bool) → i < count → j < count → ((nat_lt i count && nat_lt j count) && b) ≡ b
 counted_pair count i j b p q = rw (lt-ltb i count p, lt-ltb j count q)
 
-late_pair : (count i j : ℕ) (b : Bool) → count ≤ j → ((nat_lt i count && nat_lt j count) && b) ≡ false
-late_pair count i j b past = rw (le-ltb j count past, and-false)
-
 rivals_at : (count : ℕ) (claims : List Claim) (i j : ℕ) (d : Numbered) → i < length claims → j < length claims
     → rivals count (get_or (numbered 0 claims) i d) (get_or (numbered 0 claims) j d) ≡ ((nat_lt i count && nat_lt j count) && meets (get_or claims i d.claim) (get_or claims j d.claim))
 rivals_at count claims i j d p q = rw (numbered_at 0 claims i i d p (omega arith), numbered_at 0 claims j j d q (omega arith))
@@ -84,7 +81,7 @@ no_rivals_below count claims pairs i j d less within =
         let one = get_or-take count claims i d.claim (omega arith) in
         let other = get_or-take count claims j d.claim below in
         cc (counted_pair count i j (meets (get_or claims i d.claim) (get_or claims j d.claim)) (omega arith) below, one, ap (meets (get_or (take count claims) i d.claim)) (sym other), none_from _ _ (pairs i j d.claim less (omega arith)))
-    by false e within = late_pair count i j (meets (get_or claims i d.claim) (get_or claims j d.claim)) (ltb-false j count e)
+    by false e within = rw (e, and-false)
 
 -- no two claims below an index meet exactly if the walk finds none
 pub tidy_below : (count : ℕ) (claims : List Claim) (order : List Numbered) → IsPermutation (numbered 0 claims) order → is_tidy_to count order ≡ true → AllPairs NeverMeet (take count claims)

@@ -1,17 +1,17 @@
 -- What the claims of a stack are on, and which devices none of them are on.
 use Rattle.std.proofs.Common.{◌≡◌, ℕ, zero, suc, ◌+◌, ◌<◌, ◌≤◌, Bool, true, false, not, List, [], ◌∷◌, ◌++◌, Option, Some, None, refl, sym, ap, subst, ◌∙◌, arith, get_or, length, map}
-use Rattle.std.specs.Prelude.{◌↔◌, IfOk, IfSome, IsTrue, is_none, nat_lt, slice_get}
+use Rattle.std.specs.Prelude.{◌↔◌, IfOk, IfSome, IsTrue, is_none}
 use Rattle.std.proofs.Common.{Result, Ok, Err}
 use Rattle.std.specs.declared.alloc.AllocError.{AllocError}
 use Rattle.std.specs.List.{All, AllByRecursion, AllPairs, flat_map, list_any, position_or_len, range_with_len}
 use Rattle.std.proofs.Math.Seq.{get_or-append_seam}
-use Rattle.std.proofs.lemmas.Bool.{eq-eqb, eqb-true, ltb-false, ltb-true, or_parts, true≢false}
+use Rattle.std.proofs.lemmas.Bool.{eq-eqb, eqb-true, ltb-false, or_parts, true≢false}
 use Rattle.std.proofs.lemmas.List.{get_or-map, get_or_append_left, length-append, length-map}
 use Rattle.std.proofs.lemmas.List.FromFn.{fill_by_all}
 use Rattle.std.proofs.lemmas.List.Elements.{All-from_recursion}
 use Rattle.std.proofs.lemmas.List.Sums.{prefix_len-le-length}
 use Rattle.std.proofs.lemmas.List.Folds.{Any-from_list_any, list_any-append}
-use Rattle.std.proofs.lemmas.Option.{get_or_from_slice_get, slice_get_past}
+use Rattle.std.proofs.lemmas.Option.{get_or_from_slice_get}
 use Rattle.dm_table.specs.declared.tables.table.DevRef.{DevRef}
 use Rattle.dm_table.specs.declared.tables.table.DevRef.TheVariants as refs
 use Rattle.dm_table.specs.declared.tables.table.DeviceSpec.{DeviceSpec}
@@ -37,6 +37,7 @@ use Rattle.dm_stack.proofs.checks.OneFault.{same_place}
 use Rattle.dm_stack.proofs.checks.Passes.{all_parts, faults_by_none, passes_all}
 use Rattle.dm_stack.proofs.claims.PairLemmas.{none_before}
 use Rattle.dm_stack.proofs.lines.SpanLemmas.{any_map, any_same, any_span, past_is}
+use Rattle.dm_stack.proofs.InStack.{device_there, disk_there}
 use Rattle.dm_stack.proofs.SoundLines.{device_sound, lines_there, there}
 
 -- no line of a sound stack passes the end of what it names
@@ -254,13 +255,9 @@ claims_inside stack sound =
     All-from_recursion (Inside stack) (claims stack)
     (each_in (λ id. id < length stack.devices) (Inside stack) (device_claims stack) (range_with_len 0 (length stack.devices)) (range_below 0 (length stack.devices) (length stack.devices) (omega arith)) (λ device within. device_inside stack device sound within))
 
-by_length : {X : Type 0} (xs : List X) (id len : ℕ) (none_len : slice_get xs id ≡ None → len ≡ 0) (b : Bool) → nat_lt id (length xs) ≡ b → 0 < len → id < length xs
-by_length xs id len none_len true is some = ltb-true id (length xs) is
-by_length xs id len none_len false is some = absurd (omega (arith, some, none_len (slice_get_past xs id (ltb-false id (length xs) is))))
-
 lower_there : (stack : Description) (lower : Lower) → 0 < lower_len stack lower → IsLower stack lower
-lower_there stack (Device id) some = by_length stack.devices id (lower_len stack (Device id)) (λ none. cc) (nat_lt id (length stack.devices)) refl some
-lower_there stack (Disk id) some = by_length stack.disks id (lower_len stack (Disk id)) (λ none. cc) (nat_lt id (length stack.disks)) refl some
+lower_there stack (Device id) some = device_there stack id 0 some
+lower_there stack (Disk id) some = disk_there stack id 0 some
 
 clash_there : (stack : Description) (clash : Clash) → IsSound stack → IsClash (claims stack) clash → IsThere stack clash
 clash_there stack clash sound is =
