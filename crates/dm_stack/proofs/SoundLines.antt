@@ -1,12 +1,12 @@
 -- What a sound stack says of its devices, of its disks, and of the line of a sector.
-use Rattle.std.proofs.Common.{◌≡◌, ℕ, zero, suc, ◌+◌, ◌*◌, ◌^◌, ◌<◌, ◌≤◌, Bool, true, false, cond, nat_lt, nat_le, List, [], ◌∷◌, length, map, Some, None, refl, sym, ap, subst, ◌∙◌, arith, Option}
-use Rattle.std.specs.Prelude.{◌/◌, ◌%◌, ◌==◌, ◌||◌, not, find, position, slice_get, ◌&&◌}
+use Rattle.std.proofs.Common.{◌≡◌, ℕ, zero, suc, ◌+◌, ◌*◌, ◌^◌, ◌<◌, ◌≤◌, Bool, true, false, nat_lt, nat_le, List, [], ◌∷◌, length, map, Some, refl, sym, ap, subst, ◌∙◌, arith}
+use Rattle.std.specs.Prelude.{◌/◌, ◌%◌, ◌==◌, ◌&&◌, ◌||◌, not, find, position, slice_get}
 use Rattle.std.specs.List.{AllByRecursion, flat_map, list_any, position_or_len}
 use Rattle.std.proofs.lemmas.Bool.{and_parts, or_parts, leb-true, le-leb, ltb-true, ltb-false, lt-ltb, eqb-true, not-false}
 use Rattle.std.proofs.lemmas.List.{length-map}
 use Rattle.std.proofs.lemmas.List.Folds.{find_at}
 use Rattle.std.proofs.lemmas.List.Sums.{passes_at_first}
-use Rattle.std.proofs.lemmas.Option.{get_or_from_slice_get, slice_get_within}
+use Rattle.std.proofs.lemmas.Option.{cond_some, get_or_from_slice_get, slice_get_within}
 use Rattle.std.proofs.Math.Nat.{div-add-mod, mul_comm}
 use Rattle.dm_table.specs.declared.tables.table.Column.{Column}
 use Rattle.dm_table.specs.declared.tables.table.DevRef.{DevRef}
@@ -233,13 +233,9 @@ pub lines_there : (stack : Description) (id : ℕ) (device : DeviceSpec) → sli
 lines_there stack id device at = ap lines_or_none at
 
 -- the only line of a device is all of it
-alone_by : (first line : Line) (b : Bool) → cond b (Some first) None ≡ Some line → first ∷ [] ≡ line ∷ []
-alone_by first line true e = let same : first ≡ line = cc in rw same
-alone_by first line false e = absurd cc
-
 alone : (test : Line → Bool) (lines : List Line) (line : Line) → find test lines ≡ Some line → length lines ≡ 1 → lines ≡ line ∷ []
 alone test [] line e one = absurd (omega (arith, one))
-alone test (first ∷ []) line e one = alone_by first line (test first) e
+alone test (first ∷ []) line e one = let same = (cond_some (test first) first line e).1 in rw same
 alone test (first ∷ next ∷ lines) line e one = absurd (omega (arith, one))
 
 whole_line : (stack : Description) (id : ℕ) (test : Line → Bool) (lines : List Line) (line : Line) → lines_at stack id ≡ lines → AreInRow 0 lines → find test lines ≡ Some line → length lines ≡ 1 → IsWhole stack id line

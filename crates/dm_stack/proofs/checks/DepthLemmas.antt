@@ -53,7 +53,7 @@ depth_to-cycle g (suc n) d reaches =
 
 -- a device that is not too deep does not reach itself
 pub depth_to-no_cycle : (g : List (List ℕ)) (n d : ℕ) → depth_to g n d < n → Reaches g d d → ⊥
-depth_to-no_cycle g n d shallow reaches = absurd (omega (arith, depth_to-cycle g n d reaches))
+depth_to-no_cycle g n d shallow reaches = omega (arith, depth_to-cycle g n d reaches)
 
 depth_to-step : (g : List (List ℕ)) (n d : ℕ) → depth_to g (suc n) d ≡ suc (greatest (map (λ e. depth_to g n e) (links_of g d)))
 unfolding depth_to

@@ -129,29 +129,23 @@ store_depth stack (suc levels) device =
 -- What is named is there
 
 closed_marked : (d e n : ℕ) (may : Bool) (ids : List ℕ) → d < n → ((e : ℕ) → Contains ids e → e < n) → Contains (store_links_of may d ids) e → e < n
-closed_marked d e n may ids within inside named = by_part (Contains-append_cases ids (cond may [] (d ∷ [])) e named)
+closed_marked d e n may ids within inside named = elim (Contains-append_cases ids (cond may [] (d ∷ [])) e named) [ inl earlier ↦ inside e earlier | inr last ↦ itself may last ]
   where
     itself : (b : Bool) → Contains (cond b [] (d ∷ [])) e → e < n
     itself true (k, below, is) = absurd (omega (arith, below))
     itself false (zero, below, is) = omega (arith, is, within)
     itself false (suc k, below, is) = absurd (omega (arith, below))
 
-    by_part : Contains ids e ⊎ Contains (cond may [] (d ∷ [])) e → e < n
-    by_part (inl earlier) = inside e earlier
-    by_part (inr last) = itself may last
-
 pub closed_stores : (stack : Description) → IsClosed (links stack) → IsClosed (store_links stack)
-closed_stores stack closed d e named = by_place (cases_lt d (length stack.devices))
-  where
-    count : length (store_links stack) ≡ length stack.devices
-    count = length-map-range_with_len (store_links_at stack) 0 (length stack.devices)
-
-    by_place : (d < length stack.devices) ⊎ (length stack.devices ≤ d) → e < length (store_links stack)
-    by_place (inl within) =
-        let here = rw links_there at named in
-        let below = closed_marked d e (length stack.devices) _ (links_of (links stack) d) within (λ other is. let inside = closed d other is in omega (arith, inside, length-map stack.devices (device_links stack))) here in
-        omega (arith, below, count)
-    by_place (inr past) = let here = rw links_past at named in absurd (omega (arith, here.1))
+closed_stores stack closed d e named =
+    let count : length (store_links stack) ≡ length stack.devices = length-map-range_with_len (store_links_at stack) 0 (length stack.devices) in
+    elim (cases_lt d (length stack.devices)) [
+      | inl within ↦
+          let here = rw links_there at named in
+          let below = closed_marked d e (length stack.devices) _ (links_of (links stack) d) within (λ other is. let inside = closed d other is in omega (arith, inside, length-map stack.devices (device_links stack))) here in
+          omega (arith, below, count)
+      | inr past ↦ let here = rw links_past at named in absurd (omega (arith, here.1))
+    ]
 
 -- The depths that were counted
 
@@ -181,17 +175,13 @@ deep_same stack depths _ is = refl
 
 -- The links, device by device
 
-store_links_here : (stack : Description) (id : ℕ) (device : DeviceSpec) (named : List (Vec ℕ Global)) (links_at : Vec ℕ Global) → id < length stack.devices → device ≡ get_or stack.devices id device → id < length named → links_at ≡ get_or named id links_at → links_in named ≡ links stack
-    → store_links_of (may_store device.ro device.lines) id links_at.items ≡ store_links_at stack id
-store_links_here stack id device named links_at within is below is_links are =
-    let at : slice_get stack.devices id ≡ Some device = slice_get_read stack.devices (length stack.devices) id device refl within is in
-    let here = sym (links_of-at named id links_at below is_links) ∙ ap (λ (g : List (List ℕ)). links_of g id) are in
-    cc (here, at)
-
 pub store_links_next : (stack : Description) (id : ℕ) (device : DeviceSpec) (named before : List (Vec ℕ Global)) (links_at new : Vec ℕ Global) → id < length stack.devices → device ≡ get_or stack.devices id device → id < length named → links_at ≡ get_or named id links_at → links_in named ≡ links stack
     → links_in before ≡ map (store_links_at stack) (range_with_len 0 id) → new.items ≡ store_links_of (may_store device.ro device.lines) id links_at.items → links_in (before ++ new ∷ []) ≡ map (store_links_at stack) (range_with_len 0 (id + 1))
 store_links_next stack id device named before links_at new within is below is_links are earlier made =
-    cc (map-append (λ (v : Vec ℕ Global). v.items) before (new ∷ []), store_links_here stack id device named links_at within is below is_links are, map-range_with_len_more (store_links_at stack) 0 id id (omega arith))
+    let at : slice_get stack.devices id ≡ Some device = slice_get_read stack.devices (length stack.devices) id device refl within is in
+    let links = sym (links_of-at named id links_at below is_links) ∙ ap (λ (g : List (List ℕ)). links_of g id) are in
+    let here : store_links_of (may_store device.ro device.lines) id links_at.items ≡ store_links_at stack id = cc (links, at) in
+    cc (map-append (λ (v : Vec ℕ Global). v.items) before (new ∷ []), here, map-range_with_len_more (store_links_at stack) 0 id id (omega arith))
 
 pub links_length : (stack : Description) (named : List (Vec ℕ Global)) → links_in named ≡ links stack → length named ≡ length stack.devices
 links_length stack named are =

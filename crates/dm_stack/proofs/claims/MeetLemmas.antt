@@ -1,8 +1,8 @@
 -- That two claims meet, as it is computed and as it is defined.
-use Rattle.std.proofs.Common.{◌≡◌, ℕ, Bool, true, false, not, refl, sym, ap, ◌∙◌, arith}
+use Rattle.std.proofs.Common.{◌≡◌, inl, inr, ℕ, true, false, not, refl, sym, ap, ◌∙◌, arith}
 use Rattle.std.specs.Prelude.{max, min, nat_lt}
 use Rattle.std.proofs.Math.Bool.{and_comm}
-use Rattle.std.proofs.lemmas.Bool.{and_from, and_parts, eq-eqb, eqb-true, lt-ltb, ltb-true, not-true, true≢false}
+use Rattle.std.proofs.lemmas.Bool.{and_from, and_parts, cases_Bool, eq-eqb, eqb-true, lt-ltb, ltb-true, not-true, true≢false}
 use Rattle.dm_table.specs.declared.tables.table.Use.{Use}
 use Rattle.dm_table.specs.declared.tables.table.Use.TheVariants.{Own, Reading, Serving}
 use Rattle.dm_stack.specs.declared.claims.claim.Claim.{Claim}
@@ -70,9 +70,5 @@ meet_from one other some =
       rivals = not-true (may_share one.kind other.kind) more.1;
     }
 
-by_test : (one other : Claim) (b : Bool) → meets one other ≡ b → NeverMeet one other → meets one other ≡ false
-by_test one other true some apart = absurd (apart other.to (max one.start other.start) (meet_from one other some))
-by_test one other false none apart = none
-
 pub none_from : (one other : Claim) → NeverMeet one other → meets one other ≡ false
-none_from one other apart = by_test one other (meets one other) refl apart
+none_from one other apart = elim (cases_Bool (meets one other)) [ inl some ↦ absurd (apart other.to (max one.start other.start) (meet_from one other some)) | inr none ↦ none ]

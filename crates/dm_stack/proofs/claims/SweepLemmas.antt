@@ -18,8 +18,7 @@ use Rattle.dm_stack.specs.claims.Claims.{may_share}
 use Rattle.dm_stack.specs.Description.{is_same_lower}
 use Rattle.dm_stack.specs.claims.Sweep.{has_pair, held_end, no_reach, own_end, reach_meets, reach_next, reach_of, reach_with, rival_end, rivals}
 
--- a claim that starts no earlier meets one of these, or the reach of others, exactly if it meets the reach of all
--- and where they may share, which they never meet by, no less
+-- a claim that starts no earlier meets one of these, or the reach of others, exactly if it meets the reach of all; one with which it may share it never meets
 one_meets : (share : Bool) (start first end last reach : ℕ) → first ≤ start
     → ((nat_lt (max first start) (min last end) && not share) || (nat_lt start end && nat_lt start reach)) ≡ (nat_lt start end && nat_lt start (max reach (cond share 0 last)))
 one_meets true start first end last reach le = rw and-false (grind arith)

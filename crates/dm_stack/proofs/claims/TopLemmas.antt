@@ -8,15 +8,14 @@ use Rattle.std.proofs.Math.Seq.{get_or-append_seam}
 use Rattle.std.proofs.lemmas.Bool.{eq-eqb, eqb-true, ltb-false, or_parts, true≢false}
 use Rattle.std.proofs.lemmas.List.{get_or-map, get_or_append_left, length-append, length-map}
 use Rattle.std.proofs.lemmas.List.FromFn.{fill_by_all}
-use Rattle.std.proofs.lemmas.List.Elements.{All-from_recursion}
+use Rattle.std.proofs.lemmas.List.Elements.{All-from_recursion, All-map}
 use Rattle.std.proofs.lemmas.List.Sums.{prefix_len-le-length}
 use Rattle.std.proofs.lemmas.List.Folds.{Any-from_list_any, list_any-append}
-use Rattle.std.proofs.lemmas.Option.{get_or_from_slice_get}
+use Rattle.std.proofs.lemmas.Option.{get_or_from_slice_get, slice_get-get_or}
 use Rattle.dm_table.specs.declared.tables.table.DevRef.{DevRef}
 use Rattle.dm_table.specs.declared.tables.table.DevRef.TheVariants as refs
 use Rattle.dm_table.specs.declared.tables.table.DeviceSpec.{DeviceSpec}
 use Rattle.dm_table.specs.declared.tables.table.Line.{Line}
-use Rattle.dm_table.specs.declared.load.load_fault.LoadKind.TheVariants.{Range}
 use Rattle.dm_stack.specs.declared.claims.claim.Claim.{Claim}
 use Rattle.dm_stack.specs.declared.claims.clash.Clash.{Clash}
 use Rattle.dm_stack.specs.declared.id.Lower.{Lower}
@@ -29,12 +28,12 @@ use Rattle.dm_stack.specs.declared.lines.resolved_table.ResolvedDevice.{Resolved
 use Rattle.dm_stack.specs.Stack.{resolved_device}
 use Rattle.dm_stack.specs.lines.Below.{resolved_line}
 use Rattle.dm_stack.specs.lines.Span as by_id
-use Rattle.dm_stack.specs.checks.Soundness.{IsSound, all_lines, is_past, passes, passes_end}
+use Rattle.dm_stack.specs.checks.Soundness.{IsSound, is_past, passes, passes_end}
 use Rattle.dm_table.specs.tables.Span.{Span, spans}
 use Rattle.dm_stack.specs.claims.Sweep.{IsCounted}
 use Rattle.dm_stack.proofs.checks.HandedOn.{all_each, each_in}
 use Rattle.dm_stack.proofs.checks.OneFault.{same_place}
-use Rattle.dm_stack.proofs.checks.Passes.{all_parts, faults_by_none, passes_all}
+use Rattle.dm_stack.proofs.checks.Passes.{all_changed}
 use Rattle.dm_stack.proofs.claims.PairLemmas.{none_before}
 use Rattle.dm_stack.proofs.lines.SpanLemmas.{any_map, any_same, any_span, past_is}
 use Rattle.dm_stack.proofs.InStack.{device_there, disk_there}
@@ -42,18 +41,12 @@ use Rattle.dm_stack.proofs.SoundLines.{device_sound, lines_there, there}
 
 -- no line of a sound stack passes the end of what it names
 
-inside_by_ids : (stack : Description) (lines : List Line) → AllByRecursion (λ line. passes_end stack line ≡ false) lines → AllByRecursion (λ line. by_id.passes_end stack line ≡ false) (map (resolved_line stack) lines)
-inside_by_ids stack [] inside = tt
-inside_by_ids stack (line ∷ lines) inside = (past_is stack line ∙ inside.0, inside_by_ids stack lines inside.1)
-
 pub none_passes : (stack : Description) → IsSound stack → All (λ device. All (λ line. by_id.passes_end stack line ≡ false) device.table) (map (resolved_device stack) stack.devices)
-none_passes stack sound = All-from_recursion (λ device. All (λ line. by_id.passes_end stack line ≡ false) device.table) (map (resolved_device stack) stack.devices) (each stack.devices (faults_by_none Range (λ line. line.at) (passes_end stack) (all_lines stack.devices) (passes_all stack sound).inside))
-  where
-    each : (devices : List DeviceSpec) → AllByRecursion (λ line. passes_end stack line ≡ false) (all_lines devices) → AllByRecursion (λ device. All (λ line. by_id.passes_end stack line ≡ false) device.table) (map (resolved_device stack) devices)
-    each [] inside = tt
-    each (device ∷ devices) inside =
-        let parts = all_parts (λ line. passes_end stack line ≡ false) device.lines (all_lines devices) inside in
-        (All-from_recursion (λ line. by_id.passes_end stack line ≡ false) (map (resolved_line stack) device.lines) (inside_by_ids stack device.lines parts.0), each devices parts.1)
+none_passes stack sound = All-map (λ device. All (λ line. by_id.passes_end stack line ≡ false) device.table) (resolved_device stack) stack.devices (λ id d within.
+    let device = get_or stack.devices id d in
+    let inside = (device_sound stack id device sound (slice_get-get_or stack.devices id d within)).inside in
+    All-map (λ line. by_id.passes_end stack line ≡ false) (resolved_line stack) device.lines
+    (All-from_recursion (λ line. by_id.passes_end stack (resolved_line stack line) ≡ false) device.lines (all_changed (λ line. passes_end stack line ≡ false) (λ line. by_id.passes_end stack (resolved_line stack line) ≡ false) device.lines (λ line is. past_is stack line ∙ is) inside)))
 
 -- What claims are on has an id of the stack, or the one past the last
 
@@ -119,17 +112,14 @@ top_from stack device none k d within on =
     let free = none_before (λ claim. is_device device claim.to) (claims stack) (named_by_claims stack device ∙ none) k d within in
     true≢false (sym (eq-eqb device device refl) ∙ sym (ap (is_device device) on) ∙ free)
 
-named_from : (stack : Description) (device : ℕ) → is_named stack device ≡ true → IsTop stack device → ⊥
-named_from stack device some top =
-    let claim = Any-from_list_any (λ claim. is_device device claim.to) (claims stack) (named_by_claims stack device ∙ some) in
-    top claim.0 claim.1 claim.2 (cc (device_is device claim.1.to claim.4))
-
-top_by : (stack : Description) (device : ℕ) (b : Bool) → is_named stack device ≡ b → IsTrue (not b) ↔ IsTop stack device
-top_by stack device true is = (λ e. absurd (true≢false (sym e)), λ top. absurd (named_from stack device is top))
-top_by stack device false is = (λ e. top_from stack device is, λ top. refl)
-
 pub top_is : (stack : Description) (device : ℕ) → IsTrue (not (is_named stack device)) ↔ IsTop stack device
-top_is stack device = top_by stack device (is_named stack device) refl
+top_is stack device = by (is_named stack device) refl
+  where
+    by : (b : Bool) → is_named stack device ≡ b → IsTrue (not b) ↔ IsTop stack device
+    by true is =
+        let claim = Any-from_list_any (λ claim. is_device device claim.to) (claims stack) (named_by_claims stack device ∙ is) in
+        (λ e. absurd (true≢false (sym e)), λ top. absurd (top claim.0 claim.1 claim.2 (cc (device_is device claim.1.to claim.4))))
+    by false is = (λ e. top_from stack device is, λ top. refl)
 
 -- the claims that were made are those of the stack
 pub are_claims : (stack described : Description) (slice items : List Claim) → slice ≡ items → items ≡ claims described → described ≡ stack → slice ≡ claims stack
@@ -259,8 +249,9 @@ lower_there : (stack : Description) (lower : Lower) → 0 < lower_len stack lowe
 lower_there stack (Device id) some = device_there stack id 0 some
 lower_there stack (Disk id) some = disk_there stack id 0 some
 
-clash_there : (stack : Description) (clash : Clash) → IsSound stack → IsClash (claims stack) clash → IsThere stack clash
-clash_there stack clash sound is =
+pub found_there : (stack : Description) (found : Option Clash) → IsSound stack → IsFirstClash (claims stack) found → IfSome found (IsThere stack)
+found_there stack None sound is = tt
+found_there stack (Some clash) sound is =
     let all = claims_inside stack sound in
     let s = stands (claims stack) clash is in
     let d = is.earlier in
@@ -274,10 +265,6 @@ clash_there stack clash sound is =
       first = rw (s.of_one d) one.device;
       second = rw (s.of_other d) other.device;
     }
-
-pub found_there : (stack : Description) (found : Option Clash) → IsSound stack → IsFirstClash (claims stack) found → IfSome found (IsThere stack)
-found_there stack None sound is = tt
-found_there stack (Some clash) sound is = clash_there stack clash sound is
 
 -- and so its report is one
 pub one_report : (stack : Description) (text other : List ℕ) → IsReport stack text → IsReport stack other → text ≡ other
