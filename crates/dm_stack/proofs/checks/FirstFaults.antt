@@ -1,6 +1,7 @@
 -- The first fault of a check, by the element at which it is found.
-use Rattle.std.proofs.Common.{◌≡◌, ℕ, zero, suc, ◌+◌, ◌-◌, ◌<◌, ◌≤◌, Bool, true, false, cond, List, [], ◌∷◌, ◌++◌, Option, Some, None, refl, ◌∙◌, arith, length, get_or, drop}
+use Rattle.std.proofs.Common.{◌≡◌, inl, inr, ℕ, zero, suc, ◌+◌, ◌-◌, ◌<◌, ◌≤◌, Bool, List, [], ◌∷◌, ◌++◌, Option, Some, None, refl, ◌∙◌, arith, length, get_or, drop}
 use Rattle.std.specs.Prelude.{slice_get}
+use Rattle.std.proofs.lemmas.Bool.{cases_Bool}
 use Rattle.std.proofs.lemmas.List.{drop_more}
 use Rattle.dm_table.specs.declared.load.place.Place.{Place}
 use Rattle.dm_table.specs.declared.tables.table.Line.{Line}
@@ -22,14 +23,9 @@ pub first_append : (check more : List LoadFault) (later : Option LoadFault) → 
 first_append [] more later = refl
 first_append (fault ∷ faults) more later = refl
 
-by_append_step : (at : LoadFault) (xs ys more : List LoadFault) (b : Bool) → xs ≡ ys ++ more → cond b (at ∷ xs) xs ≡ cond b (at ∷ ys) ys ++ more
-by_append_step at xs ys more true e = rw e
-by_append_step at xs ys more false e = e
-
 pub by_append : {X : Type 0} (kind : LoadKind) (place : X → Place) (bad : X → Bool) (xs ys : List X) → faults_by kind place bad (xs ++ ys) ≡ faults_by kind place bad xs ++ faults_by kind place bad ys
 by_append kind place bad [] ys = refl
-by_append kind place bad (x ∷ xs) ys =
-    by_append_step (fault kind (place x)) (faults_by kind place bad (xs ++ ys)) (faults_by kind place bad xs) (faults_by kind place bad ys) (bad x) (by_append kind place bad xs ys)
+by_append kind place bad (x ∷ xs) ys = let rest = by_append kind place bad xs ys in elim (cases_Bool (bad x)) [ inl is ↦ rw (is, rest) | inr is ↦ rw (is, rest) ]
 
 pub first_past : {X : Type 0} (most : ℕ) (place : X → Place) (xs : List X) (later : Option LoadFault) → first_or (past most place xs) later ≡ at_found Limit place (slice_get xs most) later
 first_past zero place [] later = refl

@@ -41,9 +41,8 @@ numbered_at number (x ∷ xs) zero index d within e = let same : number ≡ inde
 numbered_at number (x ∷ xs) (suc k) index d within e = numbered_at (suc number) xs k index d (omega (arith, within)) (omega (arith, e))
 
 numbered_all : (P : Claim → Type 0) (number : ℕ) (claims : List Claim) → All P claims → All (λ next. P next.claim) (numbered number claims)
-numbered_all P number [] all k d within = absurd (omega (arith, within))
-numbered_all P number (x ∷ xs) all zero d within = all zero x (omega arith)
-numbered_all P number (x ∷ xs) all (suc k) d within = numbered_all P (suc number) xs (λ i e below. all (suc i) e (omega (arith, below))) k d (omega (arith, within))
+numbered_all P number claims all k d within =
+    let below : k < length claims = omega (arith, within, numbered_length number claims) in rw (numbered_at number claims k (number + k) d below refl) (all k d.claim below)
 
 pub counted_kept : (devices disks : ℕ) (claims : List Claim) (order : List Numbered) → IsPermutation (numbered 0 claims) order → All (λ claim. IsCounted devices disks claim.to) claims → All (λ next. IsCounted devices disks next.claim.to) order
 counted_kept devices disks claims order moved counted = All-permutation (λ next. IsCounted devices disks next.claim.to) (numbered 0 claims) order moved (numbered_all (λ claim. IsCounted devices disks claim.to) 0 claims counted)

@@ -1,17 +1,13 @@
-use Rattle.std.proofs.lemmas.Result.{err_from_is_err_and}
-use Rattle.dm_stack.proofs.checks.LoadLemmas.{memory_if, refused_if}
+use Rattle.dm_stack.proofs.checks.LoadLemmas.{handed, memory_if, refused_if}
 use Rattle.dm_stack.proofs.checks.OneFault.{never_both, one_fault}
 use Rattle.dm_stack.proofs.stack.Stack.load.Goals as goal
 
 pub returns-in_err-checked-clause-fault : goal.returns-in_err-checked-clause-fault
 returns-in_err-checked-clause-fault c =
-    let p = err_from_is_err_and c.from_residual.result c.from_residual.ensures.1 in
-    rw (p.1, p.2, ← c.deref.ensures.value, ← c.deref-2.ensures.value) (λ other. refused_if _ _ c.in_err-checked.ensures.fault other)
+    handed _ _ _ c.from_residual.ensures.1 (rw (← c.deref.ensures.value, ← c.deref-2.ensures.value) (λ other. refused_if _ _ c.in_err-checked.ensures.fault other))
 
 pub returns-in_err-checked-clause-memory : goal.returns-in_err-checked-clause-memory
-returns-in_err-checked-clause-memory c =
-    let p = err_from_is_err_and c.from_residual.result c.from_residual.ensures.1 in
-    rw (p.1, p.2) (λ memory. memory_if _ _ c.in_err-checked.ensures.fault memory)
+returns-in_err-checked-clause-memory c = handed _ _ _ c.from_residual.ensures.1 (λ memory. memory_if _ _ c.in_err-checked.ensures.fault memory)
 
 pub returns-in_err-checked-clause-one : goal.returns-in_err-checked-clause-one
 returns-in_err-checked-clause-one c = one_fault
