@@ -6,7 +6,7 @@ use Rattle.std.proofs.lemmas.Bool.{and_parts, or_parts, leb-true, le-leb, ltb-tr
 use Rattle.std.proofs.lemmas.List.{length-map}
 use Rattle.std.proofs.lemmas.List.Folds.{find_at}
 use Rattle.std.proofs.lemmas.List.Sums.{passes_at_first}
-use Rattle.std.proofs.lemmas.Option.{cond_some, get_or_from_slice_get, slice_get_within}
+use Rattle.std.proofs.lemmas.Option.{get_or_from_slice_get, slice_get_within}
 use Rattle.std.proofs.Math.Nat.{div-add-mod, mul_comm}
 use Rattle.dm_table.specs.declared.tables.table.Column.{Column}
 use Rattle.dm_table.specs.declared.tables.table.DevRef.{DevRef}
@@ -29,6 +29,8 @@ use Rattle.dm_table.specs.tables.Span.{column_span, target_spans}
 use Rattle.dm_stack.proofs.checks.HandedOn.{line_within}
 use Rattle.dm_stack.proofs.checks.LayoutLemmas.{AreInRow, in_row}
 use Rattle.dm_stack.proofs.checks.ChunkLemmas.{chunk_within}
+use Rattle.dm_stack.proofs.lines.Members.{found_there, only}
+use Rattle.dm_stack.proofs.lines.StripeLemmas.{at_index}
 use Rattle.dm_stack.proofs.checks.Passes.{append_none, all_parts, faults_by_none, passes_all}
 
 -- A search in a list, and in what its elements become
@@ -67,9 +69,7 @@ pub holds_from : (line : Line) (sector : ℕ) → line.start ≤ sector → sect
 holds_from line sector from before = rw (le-leb line.start sector from, lt-ltb sector (line.start + line.len) before)
 
 passed : (line : Line) (sector : ℕ) → line.start ≤ sector → holds sector line ≡ false → line.start + line.len ≤ sector
-passed line sector from none =
-    let parts : nat_lt sector (line.start + line.len) ≡ false = rw le-leb at none in
-    ltb-false _ _ parts
+passed line sector from none = grind (arith, from, none)
 
 pub held : (end : ℕ) (lines : List Line) (sector : ℕ) → AreInRow end lines → end ≤ sector → sector < end_of lines → IsHeld lines sector
 held end [] sector row from before = absurd (omega (arith, before))
@@ -90,8 +90,7 @@ of_device P (first ∷ devices) (suc id) device h e = of_device P devices id dev
 -- Targets within what they name
 
 pub positive : (n : ℕ) → (n == 0) ≡ false → 0 < n
-positive zero e = absurd cc
-positive (suc n) e = omega arith
+positive n e = grind (arith, e)
 
 share : (n m : ℕ) → (n % m == 0) ≡ true → n ≡ m * (n / m)
 share n m e = let none : n % m ≡ 0 = eqb-true _ _ e in let sum : m * (n / m) + n % m ≡ n = div-add-mod n m in omega (arith, none, sum)
@@ -235,12 +234,11 @@ lines_there stack id device at = ap lines_or_none at
 -- the only line of a device is all of it
 alone : (test : Line → Bool) (lines : List Line) (line : Line) → find test lines ≡ Some line → length lines ≡ 1 → lines ≡ line ∷ []
 alone test [] line e one = absurd (omega (arith, one))
-alone test (first ∷ []) line e one = let same = (cond_some (test first) first line e).1 in rw same
+alone test (first ∷ []) line e one = ap (λ (l : Line). l ∷ []) (only line first (found_there test (first ∷ []) line e).0)
 alone test (first ∷ next ∷ lines) line e one = absurd (omega (arith, one))
 
-whole_line : (stack : Description) (id : ℕ) (test : Line → Bool) (lines : List Line) (line : Line) → lines_at stack id ≡ lines → AreInRow 0 lines → find test lines ≡ Some line → length lines ≡ 1 → IsWhole stack id line
-whole_line stack id test lines line are row e one =
-    let only = alone test lines line e one in
+pub whole_line : (stack : Description) (id : ℕ) (lines : List Line) (line : Line) → lines_at stack id ≡ lines → AreInRow 0 lines → lines ≡ line ∷ [] → IsWhole stack id line
+whole_line stack id lines line are row only =
     let start = (subst (AreInRow 0) only row).0 in
     let end : device_len stack id ≡ line.start + line.len = ap end_of (are ∙ only) in
     record { from = start; len = omega (arith, start, end) }
@@ -277,7 +275,7 @@ sector_found stack id sector sound within inside =
         from = leb-true _ _ parts.0;
         before = ltb-true _ _ parts.1;
         small = line_within h.line a.1;
-        target = target_sound stack id (length d.it.lines) h.line h.line.target sound (whole_line stack id (holds sector) d.it.lines h.line lines s.placed h.is) b.1 c.1 f.1 g.1;
+        target = target_sound stack id (length d.it.lines) h.line h.line.target sound (λ one. whole_line stack id d.it.lines h.line lines s.placed (alone (holds sector) d.it.lines h.line h.is one)) b.1 c.1 f.1 g.1;
       };
     }
 
@@ -296,19 +294,18 @@ filled_lines : (device : DeviceSpec) (lines : List Line) → without_lines devic
 filled_lines device [] e filled = absurd cc
 filled_lines device (line ∷ lines) e filled = end_some line lines filled
 
-pub device_some : (stack : Description) (id : ℕ) → IsSound stack → id < length stack.devices → 0 < device_len stack id
-device_some stack id sound within =
-    let d = there stack.devices id within in
-    let s = device_sound stack id d.it sound d.at in
-    let parts = append_none (without_lines d.it d.it.lines) _ s.filled in
-    rw (lines_there stack id d.it d.at) (filled_lines d.it d.it.lines parts.0 (faults_by_none Empty (λ line. line.at) (λ line. line.len == 0) d.it.lines parts.1))
-
 pub lines_filled : (stack : Description) (id : ℕ) → IsSound stack → id < length stack.devices → AllByRecursion (λ line. (line.len == 0) ≡ false) (lines_at stack id)
 lines_filled stack id sound within =
     let d = there stack.devices id within in
     let s = device_sound stack id d.it sound d.at in
     let parts = append_none (without_lines d.it d.it.lines) _ s.filled in
     rw (lines_there stack id d.it d.at) (faults_by_none Empty (λ line. line.at) (λ line. line.len == 0) d.it.lines parts.1)
+
+pub device_some : (stack : Description) (id : ℕ) → IsSound stack → id < length stack.devices → 0 < device_len stack id
+device_some stack id sound within =
+    let d = there stack.devices id within in
+    let lines = lines_there stack id d.it d.at in
+    rw lines (filled_lines d.it d.it.lines (append_none (without_lines d.it d.it.lines) _ (device_sound stack id d.it sound d.at).filled).0 (rw lines at (lines_filled stack id sound within)))
 
 pub device_small : (stack : Description) (id : ℕ) → IsSound stack → id < length stack.devices → device_len stack id ≤ 2 ^ 50
 device_small stack id sound within =
@@ -320,9 +317,9 @@ device_small stack id sound within =
 pub disk_some : (stack : Description) (id : ℕ) (disk : Disk) → IsSound stack → slice_get stack.disks id ≡ Some disk → 0 < disk.len
 disk_some stack id disk sound at =
     let p = passes_all stack sound in
-    positive disk.len (got (λ d. (d.len == 0) ≡ false) stack.disks id disk (faults_by_none Empty (λ d. d.at) (λ d. d.len == 0) stack.disks (append_none _ _ p.filled).1) at)
+    positive disk.len (at_index (λ d. (d.len == 0) ≡ false) stack.disks id disk (faults_by_none Empty (λ d. d.at) (λ d. d.len == 0) stack.disks (append_none _ _ p.filled).1) at)
 
 pub disk_small : (stack : Description) (id : ℕ) (disk : Disk) → IsSound stack → slice_get stack.disks id ≡ Some disk → disk.len ≤ 2 ^ 50
 disk_small stack id disk sound at =
     let p = passes_all stack sound in
-    ltb-false _ _ (got (λ d. nat_lt (2 ^ 50) d.len ≡ false) stack.disks id disk (faults_by_none Limit (λ d. d.at) (λ d. nat_lt (2 ^ 50) d.len) stack.disks (append_none _ _ p.small).1) at)
+    ltb-false _ _ (at_index (λ d. nat_lt (2 ^ 50) d.len ≡ false) stack.disks id disk (faults_by_none Limit (λ d. d.at) (λ d. nat_lt (2 ^ 50) d.len) stack.disks (append_none _ _ p.small).1) at)

@@ -4,6 +4,7 @@ use Rattle.std.specs.Prelude.{◌&&◌, slice_get}
 use Rattle.std.specs.List.{Contains, flat_map, list_all, range_with_len}
 use Rattle.std.proofs.Math.Bool.{and-false, and-true, and_assoc}
 use Rattle.std.proofs.Math.Dec.{leb-suc-suc}
+use Rattle.std.proofs.Math.Path.{fun_ext}
 use Rattle.std.proofs.lemmas.Bool.{cases_lt, le-leb, lt-leb}
 use Rattle.std.proofs.lemmas.List.{append-nil, get_or_past, length-map, map-append}
 use Rattle.std.proofs.lemmas.List.Elements.{Contains-append_cases}
@@ -33,19 +34,12 @@ all_flat : {X Y : Type 0} (p : Y → Bool) (f : X → List Y) (xs : List X) → 
 all_flat p f [] = refl
 all_flat p f (x ∷ xs) = rw (← all_flat p f xs) (list_all-append p (f x) (flat_map f xs))
 
-both_swapped : (a b c d : Bool) → ((a && b) && (c && d)) ≡ ((a && c) && (b && d))
-both_swapped true true c d = refl
-both_swapped true false true d = refl
-both_swapped true false false d = refl
-both_swapped false b c d = refl
-
 all_both : {X : Type 0} (p q : X → Bool) (xs : List X) → list_all (λ x. p x && q x) xs ≡ (list_all p xs && list_all q xs)
 all_both p q [] = refl
-all_both p q (x ∷ xs) = rw (all_both p q xs) (both_swapped (p x) (q x) (list_all p xs) (list_all q xs))
+all_both p q (x ∷ xs) = rw (all_both p q xs) (grind arith)
 
 all_same : {X : Type 0} (p q : X → Bool) (xs : List X) → ((x : X) → p x ≡ q x) → list_all p xs ≡ list_all q xs
-all_same p q [] same = refl
-all_same p q (x ∷ xs) same = let here = same x in let rest = all_same p q xs same in rw (here, rest)
+all_same p q xs same = ap (λ (test : _ → Bool). list_all test xs) (fun_ext same)
 
 -- What a device names is a store, by its links
 
@@ -108,8 +102,11 @@ barred_at stack (suc levels) device barred = rw (store_step, barred)
 links_there : (stack : Description) (device : ℕ) → device < length stack.devices → links_of (store_links stack) device ≡ store_links_at stack device
 links_there stack device within = get_or-map-range_with_len (store_links_at stack) 0 (length stack.devices) device device [] within (omega arith)
 
+links_count : (stack : Description) → length (store_links stack) ≡ length stack.devices
+links_count stack = length-map-range_with_len (store_links_at stack) 0 (length stack.devices)
+
 links_past : (stack : Description) (device : ℕ) → length stack.devices ≤ device → links_of (store_links stack) device ≡ []
-links_past stack device past = get_or_past (store_links stack) device [] (omega (arith, past, length-map-range_with_len (store_links_at stack) 0 (length stack.devices)))
+links_past stack device past = get_or_past (store_links stack) device [] (omega (arith, past, links_count stack))
 
 -- where a device names itself, it is no store at any level
 all_marked : (stack : Description) (levels device : ℕ) → list_all (is_store_device stack levels) (links_of (store_links stack) device) ≡ (may_store (is_ro_at stack device) (lines_at stack device) && list_all (is_store_device stack levels) (links_of (links stack) device))
@@ -160,13 +157,10 @@ unfolding is_store_to
 shallow_same stack depths (Disk disk) is = refl
 shallow_same stack depths (Device device) is = cc (by_place (cases_lt device (length stack.devices)))
   where
-    count : length (store_links stack) ≡ length stack.devices
-    count = length-map-range_with_len (store_links_at stack) 0 (length stack.devices)
-
     by_place : (device < length stack.devices) ⊎ (length stack.devices ≤ device) → nat_le (get_or (depths_to (store_links stack) 33) device 0) 32 ≡ is_store_device stack 32 device
-    by_place (inl within) = rw (depths_to-at (store_links stack) 33 device (omega (arith, within, count))) (store_depth stack 32 device)
+    by_place (inl within) = rw (depths_to-at (store_links stack) 33 device (omega (arith, within, links_count stack))) (store_depth stack 32 device)
     by_place (inr past) =
-        rw (get_or_past (depths_to (store_links stack) 33) device 0 (omega (arith, past, count, depths_to-length (store_links stack) 33))) (sym (past_store stack device past))
+        rw (get_or_past (depths_to (store_links stack) 33) device 0 (omega (arith, past, links_count stack, depths_to-length (store_links stack) 33))) (sym (past_store stack device past))
 
 -- the store of a snapshot by ids may be none exactly where it is too deep
 pub deep_same : (stack : Description) (depths : List ℕ) (target : Target) → depths ≡ depths_to (store_links stack) 33 → has_deep_store depths (resolved_target stack target) ≡ has_bad_store stack target

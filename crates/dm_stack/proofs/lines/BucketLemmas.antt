@@ -1,34 +1,27 @@
 -- Buckets of sectors, and the line of the first sector of each.
-use Rattle.std.proofs.Common.{◌≡◌, ℕ, zero, suc, ◌+◌, ◌*◌, ◌^◌, ◌<◌, ◌≤◌, ◌⊎◌, List, [], ◌∷◌, ◌++◌, Option, Some, None, length, get_or, length-append, sym, arith, inl, inr}
-use Rattle.std.specs.Prelude.{⊤, MatchOption, slice_get}
+use Rattle.std.proofs.Common.{◌≡◌, ℕ, zero, suc, ◌+◌, ◌*◌, ◌^◌, ◌<◌, ◌≤◌, ◌⊎◌, List, [], ◌∷◌, ◌++◌, length, get_or, length-append, sym, arith, inl, inr}
 use Rattle.std.proofs.lemmas.Bool.{cases_lt}
 use Rattle.std.proofs.lemmas.List.{get_or_append_left, get_or_push}
 use Rattle.std.proofs.Math.Nat.{mul-le-mul_right}
 use Rattle.dm_stack.specs.declared.lines.resolved_line.ResolvedLine.{ResolvedLine}
 use Rattle.dm_stack.specs.lines.LineSearch.{AreFirsts, IsLineOf, IsStartOf, StartsAfter, StartsBy}
 
-by_later : (found : Option ResolvedLine) (sector later : ℕ) → sector ≤ later → MatchOption found ⊥ (λ line. line.start ≤ sector) → MatchOption found ⊥ (λ line. line.start ≤ later)
-by_later (Some line) sector later more from = omega (arith, more, from)
-by_later None sector later more from = absurd from
-
 -- what starts at a sector or before it does so at a later one, too
 pub starts_by_later : (lines : List ResolvedLine) (index sector later : ℕ) → sector ≤ later → StartsBy lines index sector → StartsBy lines index later
-starts_by_later lines index sector later more from = by_later (slice_get lines index) sector later more from
-
-after_start : (found : Option ResolvedLine) (start sector : ℕ) → sector < start → MatchOption found (start + 1 ≡ 2 ^ 64) (λ line. start ≡ line.start) → MatchOption found ⊤ (λ line. sector < line.start)
-after_start (Some line) start sector before is = rw (← is) before
-after_start None start sector before is = tt
+starts_by_later [] index sector later more from = absurd from
+starts_by_later (line ∷ lines) zero sector later more from = omega (arith, more, from)
+starts_by_later (line ∷ lines) (suc index) sector later more from = starts_by_later lines index sector later more from
 
 -- a sector before the start of a line, and one from there on
 pub starts_after_start : (lines : List ResolvedLine) (index start sector : ℕ) → sector < start → IsStartOf lines index start → StartsAfter lines index sector
-starts_after_start lines index start sector before is = after_start (slice_get lines index) start sector before is
-
-by_start : (found : Option ResolvedLine) (start sector : ℕ) → start ≤ sector → sector + 1 < 2 ^ 64 → MatchOption found (start + 1 ≡ 2 ^ 64) (λ line. start ≡ line.start) → MatchOption found ⊥ (λ line. line.start ≤ sector)
-by_start (Some line) start sector from small is = rw (← is) from
-by_start None start sector from small is = absurd (omega (arith, from, small, is))
+starts_after_start [] index start sector before is = tt
+starts_after_start (line ∷ lines) zero start sector before is = rw (← is) before
+starts_after_start (line ∷ lines) (suc index) start sector before is = starts_after_start lines index start sector before is
 
 pub starts_by_start : (lines : List ResolvedLine) (index start sector : ℕ) → start ≤ sector → sector + 1 < 2 ^ 64 → IsStartOf lines index start → StartsBy lines index sector
-starts_by_start lines index start sector from small is = by_start (slice_get lines index) start sector from small is
+starts_by_start [] index start sector from small is = absurd (omega (arith, from, small, is))
+starts_by_start (line ∷ lines) zero start sector from small is = rw (← is) from
+starts_by_start (line ∷ lines) (suc index) start sector from small is = starts_by_start lines index start sector from small is
 
 pub within_start : (lines : List ResolvedLine) (index sector : ℕ) → StartsBy lines index sector → index < length lines
 within_start [] index sector from = absurd from

@@ -1,7 +1,7 @@
 -- Sizes of chunks: powers of two within the limit, and their exponents.
-use Rattle.std.proofs.Common.{◌≡◌, ℕ, ◌+◌, ◌-◌, ◌*◌, ◌/◌, ◌%◌, ◌^◌, ◌<◌, ◌≤◌, inl, inr, false, not, count_ones, nat_lt, bit_and, arith}
+use Rattle.std.proofs.Common.{◌≡◌, ℕ, ◌+◌, ◌-◌, ◌*◌, ◌/◌, ◌%◌, ◌^◌, ◌<◌, ◌≤◌, false, not, count_ones, nat_lt, bit_and, arith}
 use Rattle.std.proofs.Math.Nat.{mul_comm, one-le-pow, pow-le-pow_right}
-use Rattle.std.proofs.lemmas.Bool.{cases_lt, eqb-true, not-false, or_parts}
+use Rattle.std.proofs.lemmas.Bool.{eqb-true, not-false, or_parts}
 use Rattle.std.proofs.lemmas.Nat.{and_mask, one_shl, ones_cat, pow-add, pow_below, zero_from_ones}
 use Rattle.std.specs.Int.{is_power_of_two}
 use Rattle.std.specs.Int.Count.{ones-ones}
@@ -18,10 +18,7 @@ power_of n k one low high =
     omega (arith, low, zero_from_ones rest (omega (arith, one, bits, first)))
 
 small_power : (k : ℕ) → 2 ^ k ≤ 1024 → k ≤ 10
-small_power k within = elim (cases_lt 10 k) [
-  | inl more ↦ absurd (omega (arith, pow_below 10 k more, within))
-  | inr less ↦ less
-]
+small_power k within = grind (arith, within, pow_below 10 k)
 
 -- two to this power is a size of chunks
 pub record IsExponent (chunk k : ℕ) : Type 0 where

@@ -19,13 +19,7 @@ near_above x d b inverse q m some divides whole rest small high =
     let same : (q * b + m) * d ≡ x * inverse * d = rw whole in
     let first : (m + 1) * d ≤ b * d = mul-le-mul_right d rest in
     let second : (x + 1) * d ≤ b * d = mul-le-mul_right d small in
-    let out : (x + 1) * b ≡ x * b + b = omega arith in
-    let into : (q * d + d + d) * b ≡ q * b * d + b * d + b * d = omega arith in
-    let wide : x * (inverse * d + d) ≡ x * inverse * d + x * d = omega arith in
-    let left : (q * b + m) * d ≡ q * b * d + m * d = omega arith in
-    let one : (m + 1) * d ≡ m * d + d = omega arith in
-    let other : (x + 1) * d ≡ x * d + d = omega arith in
-    let most : x * b < (q * d + d + d) * b = omega (arith, up, same, first, second, into, wide, left, one, other, divides) in
+    let most : x * b < (q * d + d + d) * b = grind (arith, up, same, first, second, divides) in
     lt_of_mul-lt-mul_right b most
 
 near_in : (x d b inverse : ℕ) → 0 < b → 0 < d → x < b → inverse * d ≤ b → b ≤ inverse * d + d → IsNear x d (x * inverse / b)

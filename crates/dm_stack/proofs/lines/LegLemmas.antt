@@ -1,7 +1,7 @@
 -- Legs: what a target without a state has below its sectors goes on in a row as far as a leg does, and lies inside what it names.
-use Rattle.std.proofs.Common.{◌≡◌, ℕ, zero, suc, ◌+◌, ◌-◌, ◌^◌, ◌<◌, ◌≤◌, true, false, List, [], ◌∷◌, Option, Some, None, length, get_or, inl, inr, refl, sym, ap, subst, ◌∙◌, arith}
+use Rattle.std.proofs.Common.{◌≡◌, ℕ, ◌+◌, ◌-◌, ◌^◌, ◌<◌, ◌≤◌, true, false, List, Option, Some, None, length, get_or, inl, inr, refl, sym, ap, subst, ◌∙◌, arith}
 use Rattle.std.specs.Prelude.{min, slice_get}
-use Rattle.std.proofs.lemmas.Bool.{and_parts}
+use Rattle.std.proofs.lemmas.List.Sums.{AllPass-from_list_all}
 use Rattle.std.proofs.lemmas.Option.{slice_get_cases}
 use Rattle.dm_stack.specs.declared.lines.resolved_columns.ResolvedColumn.{ResolvedColumn}
 use Rattle.dm_stack.specs.declared.lines.resolved_line.ResolvedTarget.{ResolvedTarget}
@@ -14,16 +14,13 @@ use Rattle.dm_stack.specs.declared.lines.leg.Leg.{Leg}
 use Rattle.dm_stack.specs.declared.lines.stripe_position.StripePosition.{StripePosition}
 use Rattle.dm_stack.specs.lines.Below.{Below, Lies, IsZero, IsError, below_column, below_plain, chunk_at, column_of, in_column, has_state, AreStripes, IsTargetSound}
 use Rattle.dm_stack.specs.Description.{Description, disk_len, lower_len}
-use Rattle.dm_stack.specs.lines.ResolvedColumns.{are_on_disks, is_disk}
+use Rattle.dm_stack.specs.lines.ResolvedColumns.{is_disk}
 use Rattle.dm_stack.specs.lines.Leg.{after_leg, has_disk_columns, AreInside, AreLeft, AreOnDisks, GoesOn, HasSectors, IsBeneath, IsLeg, LegsView, LiesOnDisk}
 use Rattle.dm_stack.specs.lines.StripePosition.{IsStripePosition}
 use Rattle.dm_stack.proofs.InStack.{disk_there, lower_small}
 use Rattle.dm_stack.proofs.lines.StripeLemmas.{below_chunk, column_got, column_inside, in_chunk, other_chunk}
 
 -- Sectors that a line has
-
-later_sectors : (target : ResolvedTarget) (distance m n : ℕ) → m ≤ n → HasSectors target distance n → HasSectors target (distance + m) (n - m)
-later_sectors target distance m n few has = record { stack = has.stack; sound = has.sound; device = has.device; start = has.start; line_len = has.line_len; lies = has.lies; inside = omega (arith, few, has.inside); small = has.small }
 
 pub shorter : (target : ResolvedTarget) (distance m n : ℕ) (row : ℕ → Below) → m ≤ n → GoesOn target distance n row → GoesOn target distance m row
 shorter target distance m n row few on = record { plain = on.plain; below = λ i within. on.below i (omega (arith, few, within)); chunk = λ i within. on.chunk i (omega (arith, few, within)) }
@@ -77,7 +74,7 @@ striped_leg chunk_size distance most n sector columns position column some has a
 pub striped_next : (chunk_size distance most n : ℕ) (columns : List ResolvedColumn) (position next : StripePosition) → n ≤ most → n ≡ min most (chunk_size - position.past) → HasSectors (found.Striped chunk_size columns) distance most
     → IsStripePosition chunk_size (length columns) (distance + (chunk_size - position.past)) next → AreLeft chunk_size columns next (distance + n) (most - n)
 striped_next chunk_size distance most n columns position next within len_is has at = record {
-  there = later_sectors (found.Striped chunk_size columns) distance n most within has;
+  there = record { stack = has.stack; sound = has.sound; device = has.device; start = has.start; line_len = has.line_len; lies = has.lies; inside = omega (arith, within, has.inside); small = has.small };
   at = λ more. let e : chunk_size - position.past ≡ n = omega (arith, len_is, more) in rw e at at;
 }
 
@@ -119,12 +116,6 @@ leg_lies_inside stack device start len distance most target leg is sound inside 
 
 -- Legs on disks
 
-column_disk : (columns : List ResolvedColumn) (i : ℕ) (column : ResolvedColumn) → are_on_disks columns ≡ true → slice_get columns i ≡ Some column → is_disk column.to ≡ true
-column_disk [] i column each e = absurd cc
-column_disk (c ∷ cs) zero column each e =
-    let here = (and_parts (is_disk c.to) (are_on_disks cs) each).0 in let same : c ≡ column = cc in rw same at here
-column_disk (c ∷ cs) (suc i) column each e = column_disk cs i column (and_parts (is_disk c.to) (are_on_disks cs) each).1 e
-
 -- a sector that lies on a disk
 pub record IsOnADisk (below : Below) : Type 0 where
   pub disk : ℕ
@@ -141,7 +132,7 @@ sector_on_disk stack device start len distance (found.Striped chunk_size columns
     let some = sound.some in
     let within : i < length columns = omega (arith, some) in
     elim (slice_get_cases columns i).1 [
-      | inl got ↦ let on = on_a_disk got.0.to (got.0.offset + in_column chunk_size (length columns) distance) (column_disk columns i got.0 each got.2) in rw got.2 on
+      | inl got ↦ let on = on_a_disk got.0.to (got.0.offset + in_column chunk_size (length columns) distance) (rw got.3 at (AllPass-from_list_all (λ (c : ResolvedColumn). is_disk c.to) columns each i got.0 got.1)) in rw got.2 on
       | inr past ↦ absurd (omega (arith, within, past.0))
     ]
 sector_on_disk stack device start len distance target sound each = absurd cc

@@ -1,11 +1,10 @@
 -- Counts of comparisons against binary digits, and the line of a sector by the starts of lines in a row.
-use Rattle.std.proofs.Common.{◌≡◌, ◌⊎◌, inl, inr, ℕ, zero, suc, ◌+◌, ◌*◌, ◌/◌, ◌^◌, ◌<◌, ◌≤◌, Bool, true, false, List, [], ◌∷◌, ◌++◌, Some, drop, length, length-append, get_or, map, refl, sym, ap, subst, ◌∙◌, add-one, arith}
+use Rattle.std.proofs.Common.{◌≡◌, ◌⊎◌, inl, inr, ℕ, zero, suc, ◌+◌, ◌*◌, ◌/◌, ◌^◌, ◌<◌, ◌≤◌, true, false, List, [], ◌∷◌, ◌++◌, Some, drop, length, length-append, get_or, map, refl, sym, ap, subst, add-one, arith}
 use Rattle.std.specs.Prelude.{◌==◌, option_map, slice_get}
 use Rattle.std.specs.List.{AllByRecursion}
 use Rattle.std.proofs.lemmas.Nat.{pow_pos}
 use Rattle.std.proofs.lemmas.List.{length-drop}
-use Rattle.std.proofs.lemmas.List.Elements.{All-from_recursion}
-use Rattle.std.proofs.lemmas.Bool.{eqb-true}
+use Rattle.std.proofs.lemmas.List.Elements.{All-from_recursion, All-map, All-weaker}
 use Rattle.std.proofs.lemmas.Option.{slice_get-get_or}
 use Rattle.std.proofs.Math.Nat.{mul-le-mul_left, pow-succ'}
 use Rattle.dm_table.specs.load.LoadFault.{faults_by}
@@ -26,17 +25,14 @@ use Rattle.dm_stack.proofs.SoundLines.{holds_from, device_small, device_sound, l
 
 -- Binary digits
 
-digits_later : (most number k : ℕ) (b : Bool) → (number == 0) ≡ b → 0 < number → k ≤ digits_to most (number / 2) → suc k ≤ digits_to (suc most) number
-digits_later most number k true none some rest = let zero_number = eqb-true _ _ none in absurd (omega (arith, zero_number, some))
-digits_later most number k false none some rest = rw none (omega (arith, rest))
-
 few_to : (most number k : ℕ) → number ≤ most → 2 ^ k ≤ 2 * number → k ≤ digits_to most number
 few_to zero number k within few = let some = pow_pos k in absurd (omega (arith, within, few, some))
 few_to (suc most) number zero within few = omega arith
-few_to (suc most) number (suc zero) within few = digits_later most number 0 (number == 0) refl (omega (arith, few)) (omega arith)
+few_to (suc most) number (suc zero) within few = grind (arith, few)
 few_to (suc most) number (suc (suc k)) within few =
     let some = pow_pos k in
-    digits_later most number (suc k) (number == 0) refl (omega (arith, few, some)) (few_to most (number / 2) (suc k) (omega (arith, within)) (omega (arith, few)))
+    let rest = few_to most (number / 2) (suc k) (omega (arith, within)) (omega (arith, few)) in
+    grind (arith, few, some, rest)
 
 -- a number whose double a power of two does not exceed has as many binary digits as the power's exponent
 pub few_digits : (number k : ℕ) → 2 ^ k ≤ 2 * number → k ≤ binary_digits number
@@ -46,15 +42,11 @@ digits_none : (most number : ℕ) → number ≡ 0 → digits_to most number ≡
 digits_none zero number none = refl
 digits_none (suc most) number none = rw none
 
-one_more : (most number k : ℕ) (b : Bool) → (number == 0) ≡ b → digits_to most (number / 2) ≤ k → digits_to (suc most) number ≤ suc k
-one_more most number k true none rest = rw none (omega arith)
-one_more most number k false none rest = rw none (omega (arith, rest))
-
 -- a number below a power of two has at most as many binary digits as the power's exponent
 most_to : (most number k : ℕ) → number < 2 ^ k → digits_to most number ≤ k
 most_to most number zero small = omega (arith, digits_none most number (omega (arith, small)))
 most_to zero number (suc k) small = omega arith
-most_to (suc most) number (suc k) small = one_more most number k (number == 0) refl (most_to most (number / 2) k (omega (arith, small)))
+most_to (suc most) number (suc k) small = grind (arith, most_to most (number / 2) k (omega (arith, small)))
 
 pub most_digits : (number k : ℕ) → number < 2 ^ k → binary_digits number ≤ k
 most_digits number k small = most_to number number k small
@@ -64,11 +56,8 @@ most_digits number k small = most_to number number k small
 twice : (k : ℕ) → 2 ^ (k + 1) ≡ 2 * 2 ^ k
 twice k = rw (add-one k) (pow-succ' 2 k)
 
-halved : (power next half all total : ℕ) → next ≡ 2 * power → 2 * half ≤ all → power * all < total → next * half < total
-halved power next half all total is halves within = rw is (omega (arith, within, mul-le-mul_left power halves))
-
 pub more-halved : (k half all total : ℕ) → 2 * half ≤ all → 2 ^ k * all < total → 2 ^ (k + 1) * half < total
-more-halved k half all total halves within = halved (2 ^ k) (2 ^ (k + 1)) half all total (twice k) halves within
+more-halved k half all total halves within = rw (twice k) (omega (arith, within, mul-le-mul_left (2 ^ k) halves))
 
 pub more-few : (k all total : ℕ) → 1 ≤ all → 2 ^ k * all < total → 2 ^ (k + 1) ≤ 2 * total
 more-few k all total some within = rw (twice k) (omega (arith, within, mul-le-mul_left (2 ^ k) some))
@@ -87,27 +76,18 @@ starts_after lines index sector line within before = rw (slice_get-get_or lines 
 past_end : (stack : Description) (end : ℕ) (lines : List Line) (index sector : ℕ) → AreInRow end lines → StartsBy (map (resolved_line stack) lines) index sector → end ≤ sector
 past_end stack end [] index sector row from = absurd from
 past_end stack end (line ∷ lines) zero sector row from = omega (arith, row.0, from)
-past_end stack end (line ∷ lines) (suc index) sector row from =
-    let past = past_end stack (line.start + line.len) lines index sector row.1 from in omega (arith, row.0, past)
-
-held : (stack : Description) (line : Line) (lines : List Line) (sector : ℕ) → line.start ≤ sector → sector < line.start + line.len → Some (resolved_line stack line) ≡ option_map (resolved_line stack) (line_of (line ∷ lines) sector)
-held stack line lines sector from before = rw (holds_from line sector from before)
-
-not_held : (stack : Description) (line : Line) (lines : List Line) (sector : ℕ) → line.start + line.len ≤ sector → option_map (resolved_line stack) (line_of (line ∷ lines) sector) ≡ option_map (resolved_line stack) (line_of lines sector)
-not_held stack line lines sector past = rw (holds_none line sector past)
+past_end stack end (line ∷ lines) (suc index) sector row from = omega (arith, row.0, past_end stack (line.start + line.len) lines index sector row.1 from)
 
 -- the line that starts at a sector or before it, where the next one starts after it, has the sector
 in_row_held : (stack : Description) (end : ℕ) (lines : List Line) (index sector : ℕ) → AreInRow end lines → sector < end_of lines
     → StartsBy (map (resolved_line stack) lines) index sector → StartsAfter (map (resolved_line stack) lines) (suc index) sector
     → slice_get (map (resolved_line stack) lines) index ≡ option_map (resolved_line stack) (line_of lines sector)
 in_row_held stack end [] index sector row inside from next = absurd from
-in_row_held stack end (line ∷ []) zero sector row inside from next = held stack line [] sector from inside
+in_row_held stack end (line ∷ []) zero sector row inside from next = rw (holds_from line sector from inside)
 in_row_held stack end (line ∷ []) (suc index) sector row inside from next = absurd from
-in_row_held stack end (line ∷ other ∷ lines) zero sector row inside from next =
-    held stack line (other ∷ lines) sector from (omega (arith, row.1.0, next))
+in_row_held stack end (line ∷ other ∷ lines) zero sector row inside from next = rw (holds_from line sector from (omega (arith, row.1.0, next)))
 in_row_held stack end (line ∷ other ∷ lines) (suc index) sector row inside from next =
-    in_row_held stack (line.start + line.len) (other ∷ lines) index sector row.1 inside from next
-    ∙ sym (not_held stack line (other ∷ lines) sector (past_end stack (line.start + line.len) (other ∷ lines) index sector row.1 from))
+    rw (holds_none line sector (past_end stack (line.start + line.len) (other ∷ lines) index sector row.1 from)) (in_row_held stack (line.start + line.len) (other ∷ lines) index sector row.1 inside from next)
 
 -- what comes right after a line is in the next one
 in_row_next : (stack : Description) (end : ℕ) (lines : List Line) (index sector : ℕ) → AreInRow end lines → AllByRecursion (λ line. (line.len == 0) ≡ false) lines → sector < end_of lines
@@ -161,36 +141,27 @@ few_halvings stack id comparisons sound within few =
     let digits = most_digits (length (lines_at stack id)) 17 (omega (arith, lines)) in
     omega (arith, few, digits)
 
+row_there : (stack : Description) (id : ℕ) → IsSound stack → id < length stack.devices → AreInRow 0 (lines_at stack id)
+row_there stack id sound within =
+    let d = there stack.devices id within in
+    subst (AreInRow 0) (sym (lines_there stack id d.it d.at)) (device_sound stack id d.it sound d.at).placed
+
 first_from : (stack : Description) (lines : List Line) (sector : ℕ) → AreInRow 0 lines → sector < end_of lines → StartsBy (map (resolved_line stack) lines) 0 sector
 first_from stack [] sector row inside = absurd (omega (arith, inside))
 first_from stack (line ∷ lines) sector row inside = omega (arith, row.0)
 
 pub first_starts : (stack : Description) (id sector : ℕ) → IsSound stack → id < length stack.devices → sector < device_len stack id → StartsBy (resolved_lines stack id) 0 sector
-first_starts stack id sector sound within inside =
-    let d = there stack.devices id within in
-    let same = sym (lines_there stack id d.it d.at) in
-    first_from stack (lines_at stack id) sector
-    (subst (λ (ls : List Line). AreInRow 0 ls) same (device_sound stack id d.it sound d.at).placed)
-    inside
+first_starts stack id sector sound within inside = first_from stack (lines_at stack id) sector (row_there stack id sound within) inside
 
 pub line_there : (stack : Description) (id index sector : ℕ) → IsSound stack → id < length stack.devices → sector < device_len stack id
     → StartsBy (resolved_lines stack id) index sector → StartsAfter (resolved_lines stack id) (suc index) sector → slice_get (resolved_lines stack id) index ≡ found_at stack id sector
-line_there stack id index sector sound within inside from next =
-    let d = there stack.devices id within in
-    let same = sym (lines_there stack id d.it d.at) in
-    in_row_held stack 0 (lines_at stack id) index sector
-    (subst (λ (ls : List Line). AreInRow 0 ls) same (device_sound stack id d.it sound d.at).placed)
-    inside from next
+line_there stack id index sector sound within inside from next = in_row_held stack 0 (lines_at stack id) index sector (row_there stack id sound within) inside from next
 
 -- a sector at the end of the line of an index is in the next one
 next_there : (stack : Description) (id index sector : ℕ) → IsSound stack → id < length stack.devices → sector < device_len stack id → EndsAt (resolved_lines stack id) index sector
     → StartsBy (resolved_lines stack id) (suc index) sector × StartsAfter (resolved_lines stack id) (suc (suc index)) sector
 next_there stack id index sector sound within inside ends =
-    let d = there stack.devices id within in
-    let same = sym (lines_there stack id d.it d.at) in
-    in_row_next stack 0 (lines_at stack id) index sector
-    (subst (λ (ls : List Line). AreInRow 0 ls) same (device_sound stack id d.it sound d.at).placed)
-    (lines_filled stack id sound within) inside ends
+    in_row_next stack 0 (lines_at stack id) index sector (row_there stack id sound within) (lines_filled stack id sound within) inside ends
 
 pub next_after : (stack : Description) (last : LastLine) (id sector : ℕ) → IsSound stack → id < length stack.devices → sector < device_len stack id → IsLast stack last → last.device ≡ id → last.end ≡ sector
     → StartsBy (resolved_lines stack id) (last.index + 1) sector × StartsAfter (resolved_lines stack id) (last.index + 2) sector
@@ -208,14 +179,10 @@ pub last_kept : (stack : Description) (id : ℕ) (old new : LastLine) → IsLast
 last_kept stack id old new is (inl same) = rw same is
 last_kept stack id old new is (inr found) = λ small. rw found.0 found.1
 
-small_found : (stack : Description) (lines : List Line) → AllByRecursion (λ line. is_large line ≡ false) lines → AllByRecursion (λ line. line.start + line.len ≤ 2 ^ 50) (map (resolved_line stack) lines)
-small_found stack [] small = tt
-small_found stack (line ∷ lines) small = (line_within line small.0, small_found stack lines small.1)
-
 -- no line ends beyond the greatest length
 pub small_there : (stack : Description) (id : ℕ) → IsSound stack → id < length stack.devices → EndsAreSmall (resolved_lines stack id)
 small_there stack id sound within =
     let d = there stack.devices id within in
-    All-from_recursion (λ line. line.start + line.len ≤ 2 ^ 50) (resolved_lines stack id)
-    (small_found stack (lines_at stack id)
-    (subst (λ (ls : List Line). AllByRecursion (λ line. is_large line ≡ false) ls) (sym (lines_there stack id d.it d.at)) (device_sound stack id d.it sound d.at).small))
+    let small = subst (AllByRecursion (λ line. is_large line ≡ false)) (sym (lines_there stack id d.it d.at)) (device_sound stack id d.it sound d.at).small in
+    All-map (λ line. line.start + line.len ≤ 2 ^ 50) (resolved_line stack) (lines_at stack id)
+    (All-weaker (λ line. is_large line ≡ false) (λ line. line.start + line.len ≤ 2 ^ 50) line_within (lines_at stack id) (All-from_recursion _ (lines_at stack id) small))

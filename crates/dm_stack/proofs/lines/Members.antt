@@ -1,8 +1,12 @@
 -- The elements of a list that is filtered, and of lists that are put together.
-use Rattle.std.proofs.Common.{◌≡◌, ℕ, zero, suc, ◌<◌, Bool, true, false, cond, inl, inr, ◌⊎◌, List, [], ◌∷◌, arith, refl, sym, ap, ◌∙◌}
-use Rattle.std.specs.Prelude.{filter}
-use Rattle.std.specs.List.{Contains, flat_map, range_with_len}
-use Rattle.std.proofs.lemmas.List.Elements.{Contains-append_cases, Contains-append_left, Contains-append_right}
+use Rattle.std.proofs.Common.{◌≡◌, ℕ, zero, suc, ◌<◌, Bool, true, false, cond, inl, inr, List, [], ◌∷◌, Some, arith, refl, sym, ap, ◌∙◌}
+use Rattle.std.specs.Prelude.{filter, find, not}
+use Rattle.std.specs.List.{Contains, flat_map, list_any, position_or_len, range_with_len}
+use Rattle.std.proofs.lemmas.List.Elements.{All-contains, All-contains_itself, All-filter, Contains-append_cases, Contains-append_left, Contains-append_right, filter_passes}
+use Rattle.std.proofs.lemmas.Bool.{not-false}
+use Rattle.std.proofs.lemmas.List.Sums.{prefix_len_stops}
+use Rattle.std.proofs.lemmas.List.Folds.{find_at, list_any-from_Any}
+use Rattle.std.proofs.lemmas.Option.{get_or_from_slice_get, slice_get_within}
 use Rattle.std.proofs.lemmas.List.FromFn.{get_or-range_with_len, length-range_with_len}
 
 pub only : {X : Type 0} (x y : X) → Contains (y ∷ []) x → y ≡ x
@@ -23,29 +27,26 @@ kept_by x y rest false named = named
 
 pub kept : {X : Type 0} (p : X → Bool) (xs : List X) (x : X) → p x ≡ true → Contains xs x → Contains (filter p xs) x
 kept p [] x passes named = absurd (none_there x named)
-kept {X} p (y ∷ ys) x passes named = by_part (kept p ys x passes) (Contains-append_cases (y ∷ []) ys x named)
-  where
-    by_part : (Contains ys x → Contains (filter p ys) x) → Contains (y ∷ []) x ⊎ Contains ys x → Contains (filter p (y ∷ ys)) x
-    by_part more (inl here) =
-        let same = only x y here in
-        let yes : p y ≡ true = ap p same ∙ passes in
-        rw yes (Contains-append_left (y ∷ []) (filter p ys) x here)
-    by_part more (inr later) = kept_by x y (filter p ys) (p y) (more later)
+kept p (y ∷ ys) x passes (zero, below, is) = let yes : p y ≡ true = ap p is ∙ passes in rw yes (zero, omega arith, is)
+kept p (y ∷ ys) x passes (suc k, below, is) = kept_by x y (filter p ys) (p y) (kept p ys x passes (k, omega (arith, below), is))
 
 pub kept_parts : {X : Type 0} (p : X → Bool) (xs : List X) (x : X) → Contains (filter p xs) x → Contains xs x × (p x ≡ true)
-kept_parts p [] x named = absurd (none_there x named)
-kept_parts {X} p (y ∷ ys) x named = by_test (kept_parts p ys x) (p y) refl named
-  where
-    later_part : Contains ys x × (p x ≡ true) → Contains (y ∷ ys) x × (p x ≡ true)
-    later_part rest = (Contains-append_right (y ∷ []) ys x rest.0, rest.1)
+kept_parts p xs x named = (
+  All-contains (Contains xs) (filter p xs) x (All-filter p (Contains xs) xs (All-contains_itself xs)) named,
+  All-contains (λ y. p y ≡ true) (filter p xs) x (filter_passes p xs) named,
+)
 
-    by_part : (Contains (filter p ys) x → Contains ys x × (p x ≡ true)) → p y ≡ true → Contains (y ∷ []) x ⊎ Contains (filter p ys) x → Contains (y ∷ ys) x × (p x ≡ true)
-    by_part more passes (inl here) = (Contains-append_left (y ∷ []) ys x here, ap p (sym (only x y here)) ∙ passes)
-    by_part more passes (inr later) = later_part (more later)
+-- what is found is one of them, and passes
+pub found_there : {X : Type 0} (p : X → Bool) (xs : List X) (x : X) → find p xs ≡ Some x → Contains xs x × (p x ≡ true)
+found_there p xs x is =
+    let at = sym (find_at p xs) ∙ is in
+    let within = slice_get_within xs _ x at in
+    let same = get_or_from_slice_get xs _ x x at in
+    ((position_or_len p xs, within, same), rw same at (not-false _ (prefix_len_stops (λ y. not (p y)) xs x within)))
 
-    by_test : (Contains (filter p ys) x → Contains ys x × (p x ≡ true)) → (b : Bool) → p y ≡ b → Contains (cond b (y ∷ filter p ys) (filter p ys)) x → Contains (y ∷ ys) x × (p x ≡ true)
-    by_test more true passes named = by_part more passes (Contains-append_cases (y ∷ []) (filter p ys) x named)
-    by_test more false fails named = later_part (more named)
+-- one of them passes where this does
+pub any_there : {X : Type 0} (p : X → Bool) (xs : List X) (x : X) → Contains xs x → p x ≡ true → list_any p xs ≡ true
+any_there p xs x named passes = list_any-from_Any p xs (named.0, x, named.1, named.2, passes)
 
 -- Those that each element of another list gives
 
@@ -56,19 +57,15 @@ pub record IsGiven {X Y : Type 0} (give : X → List Y) (xs : List X) (y : Y) : 
 
 pub flat_part : {X Y : Type 0} (give : X → List Y) (xs : List X) (y : Y) → Contains (flat_map give xs) y → IsGiven give xs y
 flat_part give [] y named = absurd (none_there y named)
-flat_part {X} {Y} give (x ∷ xs) y named = by_part (flat_part give xs y) (Contains-append_cases (give x) (flat_map give xs) y named)
-  where
-    by_part : (Contains (flat_map give xs) y → IsGiven give xs y) → Contains (give x) y ⊎ Contains (flat_map give xs) y → IsGiven give (x ∷ xs) y
-    by_part more (inl here) = record { by = x; there = Contains-append_left (x ∷ []) xs x (only_there x x refl); given = here }
-    by_part more (inr later) = let rest = more later in record { by = rest.by; there = Contains-append_right (x ∷ []) xs rest.by rest.there; given = rest.given }
+flat_part give (x ∷ xs) y named = elim (Contains-append_cases (give x) (flat_map give xs) y named) [
+  | inl here ↦ record { by = x; there = (zero, omega arith, refl); given = here }
+  | inr later ↦ let rest = flat_part give xs y later in record { by = rest.by; there = Contains-append_right (x ∷ []) xs rest.by rest.there; given = rest.given }
+]
 
 pub flat_there : {X Y : Type 0} (give : X → List Y) (xs : List X) (x : X) (y : Y) → Contains xs x → Contains (give x) y → Contains (flat_map give xs) y
 flat_there give [] x y named given = absurd (none_there x named)
-flat_there {X} {Y} give (first ∷ xs) x y named given = by_part (flat_there give xs x y) (Contains-append_cases (first ∷ []) xs x named)
-  where
-    by_part : (Contains xs x → Contains (give x) y → Contains (flat_map give xs) y) → Contains (first ∷ []) x ⊎ Contains xs x → Contains (flat_map give (first ∷ xs)) y
-    by_part more (inl here) = Contains-append_left (give first) (flat_map give xs) y (rw (only x first here) given)
-    by_part more (inr later) = Contains-append_right (give first) (flat_map give xs) y (more later given)
+flat_there give (first ∷ xs) x y (zero, below, is) given = Contains-append_left (give first) (flat_map give xs) y (rw is given)
+flat_there give (first ∷ xs) x y (suc k, below, is) given = Contains-append_right (give first) (flat_map give xs) y (flat_there give xs x y (k, omega (arith, below), is) given)
 
 -- Numbers from 0 on
 

@@ -1,10 +1,8 @@
 -- The snapshots of an origin: each of them is all of its device, and has that origin; and each such snapshot is among them.
-use Rattle.std.proofs.Common.{◌≡◌, ℕ, ◌<◌, Bool, true, false, cond, inl, inr, ◌⊎◌, List, [], ◌∷◌, Some, refl, sym, ◌∙◌, length}
+use Rattle.std.proofs.Common.{◌≡◌, ℕ, ◌<◌, Bool, true, false, cond, List, [], Some, refl, sym, ◌∙◌, length, ap}
 use Rattle.std.specs.Prelude.{filter, find, option_map}
 use Rattle.std.specs.List.{Contains, flat_map, list_any, range_with_len}
-use Rattle.std.proofs.lemmas.Bool.{or_left, or_right}
 use Rattle.std.proofs.lemmas.List.{append-nil}
-use Rattle.std.proofs.lemmas.List.Elements.{Contains-append_cases, Contains-append_left, Contains-append_right}
 use Rattle.dm_table.specs.declared.tables.table.DevRef.{DevRef}
 use Rattle.dm_table.specs.declared.tables.table.Line.{Line}
 use Rattle.dm_table.specs.declared.tables.table.Target.{Target}
@@ -20,7 +18,8 @@ use Rattle.dm_stack.specs.checks.Snapshots.{has_snapshot, is_snapshot}
 use Rattle.dm_stack.specs.lines.Over.{all_over, copied, device_over, has_crowd, origin_over, over_of, resolved_snapshot, snapshots_over}
 use Rattle.dm_stack.specs.checks.Soundness.{IsSound}
 use Rattle.dm_stack.proofs.claims.MeetLemmas.{same_is, self_same}
-use Rattle.dm_stack.proofs.lines.Members.{flat_part, flat_there, in_range, kept, kept_parts, none_there, only, only_there, range_within}
+use Rattle.dm_stack.proofs.lines.Members.{any_there, flat_part, flat_there, found_there, in_range, kept, kept_parts, none_there, only, only_there, range_within}
+use Rattle.dm_stack.proofs.lines.SameLine.{mapped}
 use Rattle.dm_stack.proofs.SnapshotRule.{any_found, lines_within, snapshot_line}
 
 -- What the lists are
@@ -67,13 +66,9 @@ target_one stack device (targets.Snapshot origin store kind chunk) one named =
 target_one stack device _ one named = absurd (none_there one named)
 
 has_one : (stack : Description) (device : ℕ) (lines : List Line) (one : ResolvedOver) → Contains (flat_map (λ line. over_of stack device line.target) lines) one → has_snapshot lines ≡ true
-has_one stack device [] one named = absurd (none_there one named)
-has_one stack device (line ∷ lines) one named = by_part (has_one stack device lines one) (Contains-append_cases (over_of stack device line.target) (flat_map (λ line. over_of stack device line.target) lines) one named)
-  where
-    by_part : (Contains (flat_map (λ line. over_of stack device line.target) lines) one → has_snapshot lines ≡ true)
-        → Contains (over_of stack device line.target) one ⊎ Contains (flat_map (λ line. over_of stack device line.target) lines) one → has_snapshot (line ∷ lines) ≡ true
-    by_part more (inl here) = or_left (is_snapshot line.target) (has_snapshot lines) (target_one stack device line.target one here).over
-    by_part more (inr later) = or_right (is_snapshot line.target) (has_snapshot lines) (more later)
+has_one stack device lines one named =
+    let by = flat_part (λ (line : Line). over_of stack device line.target) lines one named in
+    any_there (λ (line : Line). is_snapshot line.target) lines by.by by.there (target_one stack device by.by.target one by.given).over
 
 -- a device that is this snapshot, all of it
 pub record IsSnapshotDevice (stack : Description) (one : ResolvedOver) : Type 0 where
@@ -109,18 +104,10 @@ target_all stack device _ snapshot is = absurd cc
 
 resolved_over : (stack : Description) (device : ℕ) (test : Line → Bool) (lines : List Line) (line : ResolvedLine) (snapshot : ResolvedSnapshot) → option_map (resolved_line stack) (find test lines) ≡ Some line → line.target ≡ found.Snapshot snapshot
     → Contains (flat_map (λ l. over_of stack device l.target) lines) (record { device = device; snapshot = snapshot })
-resolved_over stack device test [] line snapshot at is = absurd cc
-resolved_over stack device test (first ∷ lines) line snapshot at is = by_test (λ e. resolved_over stack device test lines line snapshot e is) (test first) at
-  where
-    one : ResolvedOver
-    one = record { device = device; snapshot = snapshot }
-
-    by_test : (option_map (resolved_line stack) (find test lines) ≡ Some line → Contains (flat_map (λ l. over_of stack device l.target) lines) one) → (b : Bool) → option_map (resolved_line stack) (cond b (Some first) (find test lines)) ≡ Some line
-        → Contains (flat_map (λ l. over_of stack device l.target) (first ∷ lines)) one
-    by_test more true e =
-        let same : resolved_target stack first.target ≡ line.target = cc in
-        Contains-append_left (over_of stack device first.target) (flat_map (λ l. over_of stack device l.target) lines) one (target_all stack device first.target snapshot (same ∙ is))
-    by_test more false e = Contains-append_right (over_of stack device first.target) (flat_map (λ l. over_of stack device l.target) lines) one (more e)
+resolved_over stack device test lines line snapshot at is =
+    let first = mapped (resolved_line stack) (find test lines) line at in
+    let same : resolved_target stack first.x.target ≡ line.target = ap (λ (l : ResolvedLine). l.target) first.value in
+    flat_there (λ (l : Line). over_of stack device l.target) lines first.x _ (found_there test lines first.x first.is).0 (target_all stack device first.x.target snapshot (same ∙ is))
 
 -- a snapshot is among those of its origin
 pub over_all : (stack : Description) (device : ℕ) (line : ResolvedLine) (snapshot : ResolvedSnapshot) → found_at stack device 0 ≡ Some line → line.target ≡ found.Snapshot snapshot → Contains (snapshots_over stack snapshot.origin) (record { device = device; snapshot = snapshot })

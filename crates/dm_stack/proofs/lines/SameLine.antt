@@ -1,60 +1,41 @@
 -- The line of a sector is also that of each other sector that it holds.
-use Rattle.std.proofs.Common.{◌≡◌, ℕ, ◌+◌, ◌<◌, ◌≤◌, Bool, true, false, cond, List, [], ◌∷◌, length, Option, Some, None, refl, ap, arith}
-use Rattle.std.specs.Prelude.{◌&&◌, nat_le, option_map}
+use Rattle.std.proofs.Common.{◌≡◌, ℕ, ◌+◌, ◌<◌, ◌≤◌, false, List, [], ◌∷◌, length, Option, Some, None, refl, arith}
+use Rattle.std.specs.Prelude.{nat_le, option_map}
 use Rattle.std.proofs.lemmas.Bool.{le-ltb}
+use Rattle.std.proofs.Math.Bool.{and-false}
 use Rattle.dm_table.specs.declared.tables.table.Line.{Line}
 use Rattle.dm_stack.specs.declared.lines.resolved_line.ResolvedLine.{ResolvedLine}
 use Rattle.dm_stack.specs.Description.{Description, lines_at}
 use Rattle.dm_stack.specs.lines.Below.{holds, line_of, resolved_line, found_at, IsLineOf}
 use Rattle.dm_stack.specs.checks.Soundness.{IsSound}
 use Rattle.dm_stack.proofs.checks.LayoutLemmas.{AreInRow}
-use Rattle.dm_stack.proofs.SoundLines.{HoldsSoundly, holds_from, there, device_sound, lines_there}
+use Rattle.dm_stack.proofs.SoundLines.{HoldsSoundly, there, device_sound, lines_there}
 
 -- Lines that start where the one before ends
-
-starts_here : (end sector : ℕ) (first line : Line) (lines : List Line) (b : Bool) → first.start ≡ end → (line_of lines sector ≡ Some line → first.start + first.len ≤ line.start) → cond b (Some first) (line_of lines sector) ≡ Some line → end ≤ line.start
-starts_here end sector first line lines true start later is = let same : first ≡ line = cc in let starts = ap (λ (l : Line). l.start) same in omega arith
-starts_here end sector first line lines false start later is = let after = later is in omega arith
 
 -- a line that was found starts after the end of those before it
 starts_after : (end : ℕ) (lines : List Line) (sector : ℕ) (line : Line) → AreInRow end lines → line_of lines sector ≡ Some line → end ≤ line.start
 starts_after end [] sector line e is = absurd cc
-starts_after end (first ∷ lines) sector line e is =
-    starts_here end sector first line lines (holds sector first) e.0 (λ later. starts_after (first.start + first.len) lines sector line e.1 later) is
-
-and_none : (b : Bool) → (b && false) ≡ false
-and_none true = refl
-and_none false = refl
+starts_after end (first ∷ lines) sector line e is = grind (arith, is, e.0, starts_after (first.start + first.len) lines sector line e.1)
 
 pub holds_none : (line : Line) (sector : ℕ) → line.start + line.len ≤ sector → holds sector line ≡ false
-holds_none line sector past = rw (le-ltb sector (line.start + line.len) past) (and_none (nat_le line.start sector))
-
-same_here : (sector other : ℕ) (first line : Line) (lines : List Line) (b : Bool) → line.start ≤ other → other < line.start + line.len
-    → (line_of lines sector ≡ Some line → first.start + first.len ≤ line.start) → (line_of lines sector ≡ Some line → line_of lines other ≡ Some line)
-    → cond b (Some first) (line_of lines sector) ≡ Some line → line_of (first ∷ lines) other ≡ Some line
-same_here sector other first line lines true from before after later is =
-    let same : first ≡ line = cc in
-    let held : holds other first ≡ true = rw same (holds_from line other from before) in
-    rw held (ap Some same)
-same_here sector other first line lines false from before after later is =
-    let past = after is in
-    rw (holds_none first other (omega (arith, past, from))) (later is)
+holds_none line sector past = rw (le-ltb sector (line.start + line.len) past) (and-false (nat_le line.start sector))
 
 same_line : (end : ℕ) (lines : List Line) (sector other : ℕ) (line : Line) → AreInRow end lines → line_of lines sector ≡ Some line → line.start ≤ other → other < line.start + line.len → line_of lines other ≡ Some line
 same_line end [] sector other line e is from before = absurd cc
 same_line end (first ∷ lines) sector other line e is from before =
-    same_here sector other first line lines (holds sector first) from before
-    (λ later. starts_after (first.start + first.len) lines sector line e.1 later)
-    (λ later. same_line (first.start + first.len) lines sector other line e.1 later from before) is
+    let after = starts_after (first.start + first.len) lines sector line e.1 in
+    let later : line_of lines sector ≡ Some line → line_of lines other ≡ Some line = λ there. same_line (first.start + first.len) lines sector other line e.1 there from before in
+    grind (arith, is, from, before, after, later)
 
 -- The lines of a device
 
-record IsMapped {X Y : Type 0} (f : X → Y) (o : Option X) (y : Y) : Type 0 where
-  x : X
-  is : o ≡ Some x
-  value : f x ≡ y
+pub record IsMapped {X Y : Type 0} (f : X → Y) (o : Option X) (y : Y) : Type 0 where
+  pub x : X
+  pub is : o ≡ Some x
+  pub value : f x ≡ y
 
-mapped : {X Y : Type 0} (f : X → Y) (o : Option X) (y : Y) → option_map f o ≡ Some y → IsMapped f o y
+pub mapped : {X Y : Type 0} (f : X → Y) (o : Option X) (y : Y) → option_map f o ≡ Some y → IsMapped f o y
 mapped f (Some x) y is = record { x = x; is = refl; value = cc }
 mapped f None y is = absurd cc
 

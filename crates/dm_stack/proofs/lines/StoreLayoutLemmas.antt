@@ -1,27 +1,25 @@
 -- The layout of a store, of each kind: which places it has, that they are apart, and how far it is used.
-use Rattle.std.proofs.Common.{◌≡◌, ℕ, zero, suc, ◌+◌, ◌-◌, ◌*◌, ◌/◌, ◌%◌, ◌<◌, ◌≤◌, false, arith, refl, inl, inr, ◌⊎◌}
-use Rattle.std.specs.Prelude.{◌↔◌, ◌==◌}
-use Rattle.std.proofs.lemmas.Nat.{div-add-mod', div-mul-add, mod-mul-add}
-use Rattle.std.proofs.Math.Nat.{mod-lt, mul-le-mul_right, le-div_iff_mul-le}
-use Rattle.std.proofs.lemmas.Bool.{cases_lt, cases_order, ne_eqb}
+use Rattle.std.proofs.Common.{◌≡◌, ℕ, zero, suc, ◌+◌, ◌-◌, ◌*◌, ◌/◌, ◌%◌, ◌<◌, ◌≤◌, false, arith, refl, inl, inr}
+use Rattle.std.specs.Prelude.{◌↔◌}
+use Rattle.std.proofs.lemmas.Nat.{div-add-mod', mod-mul-add}
+use Rattle.std.proofs.Math.Nat.{mod-lt, mul-le-mul_left, mul-le-mul_right, le-div_iff_mul-le}
+use Rattle.std.proofs.lemmas.Bool.{cases_lt, cases_order}
 use Rattle.dm_table.specs.declared.tables.table.StoreKind.{StoreKind}
-use Rattle.dm_table.specs.declared.tables.table.StoreKind.TheVariants.{Persistent, Transient, Keeping}
+use Rattle.dm_table.specs.declared.tables.table.StoreKind.TheVariants.{Persistent, Transient}
 use Rattle.dm_stack.specs.lines.StoreLayout.{allocated, is_metadata, metadata, place, place_count, places_in}
 
 -- the chunks of data and of areas up to that of a number, and the numbers below that
 within : (most rest number q a r b : ℕ) → r < most → b < most + 1 → q * most + r ≡ number → a * (most + 1) + b ≡ rest → number < rest - a → number + q < rest
-within most rest number q a r b small_r small_b is_number is_rest below = within_by (cases_lt a q)
-  where
-    within_by : (a < q) ⊎ (q ≤ a) → number + q < rest
-    within_by (inl more) = let m : (a + 1) * most ≤ q * most = mul-le-mul_right most (omega (arith, more)) in absurd (omega (arith, m, small_r, small_b, is_number, is_rest, below))
-    within_by (inr less) = omega (arith, less, below)
+within most rest number q a r b small_r small_b is_number is_rest below = elim (cases_lt a q) [
+  | inl more ↦ let m : (a + 1) * most ≤ q * most = mul-le-mul_right most (omega (arith, more)) in absurd (omega (arith, m, small_r, small_b, is_number, is_rest, below))
+  | inr less ↦ omega (arith, less, below)
+]
 
 back : (most rest number q a r b : ℕ) → r < most → b < most + 1 → q * most + r ≡ number → a * (most + 1) + b ≡ rest → number + q < rest → number < rest - a
-back most rest number q a r b small_r small_b is_number is_rest ends = back_by (cases_lt q a)
-  where
-    back_by : (q < a) ⊎ (a ≤ q) → number < rest - a
-    back_by (inl less) = let m : (q + 1) * most ≤ a * most = mul-le-mul_right most (omega (arith, less)) in omega (arith, m, small_r, small_b, is_number, is_rest)
-    back_by (inr more) = omega (arith, more, ends)
+back most rest number q a r b small_r small_b is_number is_rest ends = elim (cases_lt q a) [
+  | inl less ↦ let m : (q + 1) * most ≤ a * most = mul-le-mul_right most (omega (arith, less)) in omega (arith, m, small_r, small_b, is_number, is_rest)
+  | inr more ↦ omega (arith, more, ends)
+]
 
 numbered : (most rest number : ℕ) → 0 < most → (number < places_in most rest) ↔ (number + number / most < rest)
 numbered most rest number some =
@@ -37,31 +35,22 @@ ends_at at chunks chunk store_len number some is =
     let whole = le-div_iff_mul-le {x = at + 1} {y = store_len} some in
     (λ below. whole.0 (let ends = is.0 below in omega (arith, ends)), λ ends. is.1 (let inside = whole.1 ends in omega (arith, inside)))
 
--- between areas
-has_place_apart : (chunk store_len number : ℕ) → 0 < chunk → (number < place_count Persistent chunk store_len) ↔ ((place Persistent chunk number + 1) * chunk ≤ store_len)
-has_place_apart chunk store_len number some =
+-- a chunk of a store has a place exactly where its number is below how many there are
+pub has_place : (kind : StoreKind) (chunk store_len number : ℕ) → 0 < chunk → (number < place_count kind chunk store_len) ↔ ((place kind chunk number + 1) * chunk ≤ store_len)
+has_place Transient chunk store_len number some = ends_at number (store_len / chunk) chunk store_len number some (λ below. below, λ at. at)
+has_place _ chunk store_len number some =
     let n = numbered (32 * chunk) (store_len / chunk - 2) number (omega (arith, some)) in
     ends_at (place Persistent chunk number) (place_count Persistent chunk store_len) chunk store_len number some
     (λ below. (let ends = n.0 below in omega (arith, ends)), λ at. n.1 (omega (arith, at)))
-
--- a chunk of a store has a place exactly where its number is below how many there are
-pub has_place : (kind : StoreKind) (chunk store_len number : ℕ) → 0 < chunk → (number < place_count kind chunk store_len) ↔ ((place kind chunk number + 1) * chunk ≤ store_len)
-has_place Persistent chunk store_len number some = has_place_apart chunk store_len number some
-has_place Transient chunk store_len number some = ends_at number (store_len / chunk) chunk store_len number some (λ below. below, λ at. at)
-has_place Keeping chunk store_len number some = has_place_apart chunk store_len number some
 
 -- Places are apart
 
 quotient_le : (i j e : ℕ) → i ≤ j → i / e ≤ j / e
 quotient_le i j e le = grind (arith, le)
 
-less_apart : (chunk i j : ℕ) → i < j → place Persistent chunk i < place Persistent chunk j
-less_apart chunk i j less = let q = quotient_le i j (32 * chunk) (omega (arith, less)) in omega (arith, less, q)
-
 pub place_less : (kind : StoreKind) (chunk i j : ℕ) → i < j → place kind chunk i < place kind chunk j
-place_less Persistent chunk i j less = less_apart chunk i j less
 place_less Transient chunk i j less = less
-place_less Keeping chunk i j less = less_apart chunk i j less
+place_less _ chunk i j less = let q = quotient_le i j (32 * chunk) (omega (arith, less)) in omega (arith, less, q)
 
 -- a place is that of one number
 pub place_one : (kind : StoreKind) (chunk i j : ℕ) → place kind chunk i ≡ place kind chunk j → i ≡ j
@@ -72,58 +61,37 @@ place_one kind chunk i j e = elim (cases_order i j) [
 ]
 
 -- a place is after the header, and what is left of it after whole areas with their data is after the area
-data_apart : (chunk i : ℕ) → 0 < chunk → is_metadata Persistent chunk (place Persistent chunk i) ≡ false
-data_apart chunk i some =
+pub place_data : (kind : StoreKind) (chunk i : ℕ) → 0 < chunk → is_metadata kind chunk (place kind chunk i) ≡ false
+place_data Transient chunk i some = refl
+place_data _ chunk i some =
     let e = 32 * chunk in
     let at = place Persistent chunk i in
     let whole : i / e * e + i % e ≡ i = div-add-mod' i e in
     let small : i % e < e = omega (arith, some) in
-    let parts : (i / e) * (e + 1) ≡ i / e * e + i / e = grind arith in
-    let sum : at - 1 ≡ (i / e) * (e + 1) + (i % e + 1) = omega (arith, whole, parts) in
+    let sum : at - 1 ≡ (i / e) * (e + 1) + (i % e + 1) = grind (arith, whole) in
     let rest : (at - 1) % (e + 1) ≡ i % e + 1 = rw sum (mod-mul-add (i / e) (e + 1) (i % e + 1) (omega (arith, small))) in
-    let first : (at == 0) ≡ false = ne_eqb at 0 (λ is. omega (arith, is)) in
-    let later : ((at - 1) % (32 * chunk + 1) == 0) ≡ false = ne_eqb ((at - 1) % (e + 1)) 0 (λ is. omega (arith, is, rest)) in
-    rw (first, later)
-
-pub place_data : (kind : StoreKind) (chunk i : ℕ) → 0 < chunk → is_metadata kind chunk (place kind chunk i) ≡ false
-place_data Persistent chunk i some = data_apart chunk i some
-place_data Transient chunk i some = refl
-place_data Keeping chunk i some = data_apart chunk i some
+    grind (arith, rest)
 
 -- How far a store is used
 
 -- the next place is the next chunk, or the one after an area
 quotient_next : (i e : ℕ) → 0 < e → suc i / e ≤ i / e + 1
-quotient_next i e some =
-    let whole : i / e * e + i % e ≡ i = div-add-mod' i e in
-    let small : i % e < e = omega (arith, some) in
-    let at : i + e ≡ (i / e + 1) * e + i % e = omega (arith, whole) in
-    let next : (i + e) / e ≡ i / e + 1 = rw at (div-mul-add (i / e + 1) e (i % e) small) in
-    let low = quotient_le (suc i) (i + e) e (omega (arith, some)) in
-    omega (arith, low, next)
-
-next_apart : (chunk i : ℕ) → 0 < chunk → place Persistent chunk (suc i) ≤ place Persistent chunk i + 1 + 1
-next_apart chunk i some = let q = quotient_next i (32 * chunk) (omega (arith, some)) in omega (arith, q)
+quotient_next i e some = grind (arith, some)
 
 place_next : (kind : StoreKind) (chunk i : ℕ) → 0 < chunk → place kind chunk (suc i) ≤ place kind chunk i + 1 + 1
-place_next Persistent chunk i some = next_apart chunk i some
 place_next Transient chunk i some = omega arith
-place_next Keeping chunk i some = next_apart chunk i some
+place_next _ chunk i some = let q = quotient_next i (32 * chunk) (omega (arith, some)) in omega (arith, q)
 
 place_first : (kind : StoreKind) (chunk : ℕ) → place kind chunk 0 ≤ 2
-place_first Persistent chunk = let none : 0 / (32 * chunk) ≡ 0 = grind arith in omega (arith, none)
 place_first Transient chunk = omega arith
-place_first Keeping chunk = let none : 0 / (32 * chunk) ≡ 0 = grind arith in omega (arith, none)
+place_first _ chunk = let none : 0 / (32 * chunk) ≡ 0 = grind arith in omega (arith, none)
 
 -- the products are by one number
 two_more : (here next chunk most : ℕ) → next ≤ here + 1 + 1 → (here + 1) * chunk ≤ most → next * chunk ≤ most + 2 * chunk
-two_more here next chunk most near fits =
-    let wide : next * chunk ≤ (here + 1 + 1) * chunk = mul-le-mul_right chunk near in
-    let sum : (here + 1 + 1) * chunk ≡ (here + 1) * chunk + chunk = grind arith in
-    omega (arith, wide, sum, fits)
+two_more here next chunk most near fits = grind (arith, mul-le-mul_right chunk near, fits)
 
 two_at_most : (first chunk most : ℕ) → first ≤ 2 → first * chunk ≤ most + 2 * chunk
-two_at_most first chunk most few = let wide : first * chunk ≤ 2 * chunk = mul-le-mul_right chunk few in omega (arith, wide)
+two_at_most first chunk most few = omega (arith, mul-le-mul_right chunk few)
 
 -- so a store is used up to a chunk after its last place, where each number below has one
 pub allocated_small : (kind : StoreKind) (chunk taken most : ℕ) → 0 < chunk → ((number : ℕ) → number < taken → (place kind chunk number + 1) * chunk ≤ most) → allocated kind chunk taken ≤ most + 2 * chunk
@@ -131,31 +99,20 @@ allocated_small kind chunk zero most some fits = two_at_most (place kind chunk 0
 allocated_small kind chunk (suc i) most some fits = two_more (place kind chunk i) (place kind chunk (suc i)) chunk most (place_next kind chunk i some) (fits i (omega arith))
 
 pub place_within : (kind : StoreKind) (chunk number : ℕ) → 0 < chunk → place kind chunk number ≤ allocated kind chunk number
-place_within kind chunk number some = more_times (place kind chunk number) chunk some
-  where
-    more_times : (n m : ℕ) → 0 < m → n ≤ n * m
-    more_times n m some =
-        let wide : 1 * n ≤ m * n = mul-le-mul_right n (omega (arith, some)) in
-        let same : m * n ≡ n * m = grind arith in
-        omega (arith, wide, same)
+place_within kind chunk number some = omega (arith, mul-le-mul_left (place kind chunk number) some)
 
 -- what lies before a place and is no taken chunk
 
 pub number_within : (kind : StoreKind) (chunk number : ℕ) → number ≤ place kind chunk number
-number_within Persistent chunk number = omega arith
 number_within Transient chunk number = omega arith
-number_within Keeping chunk number = omega arith
+number_within _ chunk number = omega arith
 
 pub metadata_within : (kind : StoreKind) (chunk taken : ℕ) → (place kind chunk taken - taken) * chunk ≤ allocated kind chunk taken
 metadata_within kind chunk taken = mul-le-mul_right chunk (omega arith)
 
-metadata_apart : (chunk taken : ℕ) → (place Persistent chunk taken - taken) * chunk ≡ metadata Persistent chunk taken
-metadata_apart chunk taken = let left : place Persistent chunk taken - taken ≡ taken / (32 * chunk) + 2 = omega arith in rw left
-
 pub metadata_is : (kind : StoreKind) (chunk taken : ℕ) → (place kind chunk taken - taken) * chunk ≡ metadata kind chunk taken
-metadata_is Persistent chunk taken = metadata_apart chunk taken
 metadata_is Transient chunk taken = let none : taken - taken ≡ 0 = omega arith in rw none (omega arith)
-metadata_is Keeping chunk taken = metadata_apart chunk taken
+metadata_is _ chunk taken = let left : place Persistent chunk taken - taken ≡ taken / (32 * chunk) + 2 = omega arith in rw left
 
 -- the sectors of a store that are used, and those of them that are no data
 pub ruleset used_parts = (place_within, number_within, metadata_within, metadata_is)

@@ -1,9 +1,8 @@
 -- Stripes: the column of a sector is one of the line's, its sector there is one of the column's share, and the next chunk is on the next column.
 use Rattle.std.proofs.Common.{◌≡◌, ℕ, zero, suc, false, ◌+◌, ◌-◌, ◌*◌, ◌/◌, ◌%◌, ◌<◌, ◌≤◌, List, [], ◌∷◌, Some, length, get_or, refl, sym, ap, arith}
 use Rattle.std.specs.Prelude.{◌==◌, slice_get}
-use Rattle.std.proofs.lemmas.Bool.{ne_eqb}
 use Rattle.std.specs.List.{AllByRecursion}
-use Rattle.std.proofs.lemmas.Nat.{div-add-mod', div-mul-add, mod-mul-add, row_fits}
+use Rattle.std.proofs.lemmas.Nat.{row_fits}
 use Rattle.std.proofs.lemmas.Option.{slice_get_read}
 use Rattle.std.proofs.Math.Nat.{div-lt_iff_lt-mul}
 use Rattle.dm_stack.specs.declared.lines.resolved_columns.ResolvedColumn.{ResolvedColumn}
@@ -28,14 +27,7 @@ pub record IsInChunk (chunk_size distance i : ℕ) : Type 0 where
   pub position : (distance + i) % chunk_size ≡ distance % chunk_size + i
 
 pub in_chunk : (chunk_size distance i : ℕ) → 0 < chunk_size → i < chunk_size - distance % chunk_size → IsInChunk chunk_size distance i
-in_chunk chunk_size distance i some within =
-    let whole : distance / chunk_size * chunk_size + distance % chunk_size ≡ distance = div-add-mod' distance chunk_size in
-    let at : distance + i ≡ distance / chunk_size * chunk_size + (distance % chunk_size + i) = omega (arith, whole) in
-    let small : distance % chunk_size + i < chunk_size = omega (arith, within) in
-    record {
-      number = rw at (div-mul-add (distance / chunk_size) chunk_size (distance % chunk_size + i) small);
-      position = rw at (mod-mul-add (distance / chunk_size) chunk_size (distance % chunk_size + i) small);
-    }
+in_chunk chunk_size distance i some within = record { number = grind (arith, some, within); position = grind (arith, some, within) }
 
 -- what holds of each element holds of one
 pub at_index : {X : Type 0} (P : X → Type 0) (xs : List X) (i : ℕ) (x : X) → AllByRecursion P xs → slice_get xs i ≡ Some x → P x
@@ -75,35 +67,20 @@ pub record IsAfter (chunk_size distance : ℕ) : Type 0 where
   pub past : (distance + (chunk_size - distance % chunk_size)) % chunk_size ≡ 0
 
 pub after_chunk : (chunk_size distance : ℕ) → 0 < chunk_size → IsAfter chunk_size distance
-after_chunk chunk_size distance some =
-    let whole : distance / chunk_size * chunk_size + distance % chunk_size ≡ distance = div-add-mod' distance chunk_size in
-    let small : distance % chunk_size < chunk_size = omega arith in
-    let at : distance + (chunk_size - distance % chunk_size) ≡ (distance / chunk_size + 1) * chunk_size + 0 = omega (arith, whole, small) in
-    record {
-      number = rw at (div-mul-add (distance / chunk_size + 1) chunk_size 0 some);
-      past = rw at (mod-mul-add (distance / chunk_size + 1) chunk_size 0 some);
-    }
+after_chunk chunk_size distance some = record { number = grind (arith, some); past = grind (arith, some) }
 
 -- the first sector after a chunk is in another one
 pub other_chunk : (chunk_size at n : ℕ) → 0 < chunk_size → n ≡ chunk_size - at % chunk_size → ((at + n - 1) / chunk_size == (at + n) / chunk_size) ≡ false
-other_chunk chunk_size at n some is =
-    let next = (after_chunk chunk_size at some).number in
-    let last = (in_chunk chunk_size at (n - 1) some (omega (arith, is))).number in
-    let e : at + n - 1 ≡ at + (n - 1) = omega (arith, is) in
-    let here : (at + n) / chunk_size ≡ at / chunk_size + 1 = rw is next in
-    let before : (at + n - 1) / chunk_size ≡ at / chunk_size = rw e last in
-    ne_eqb ((at + n - 1) / chunk_size) ((at + n) / chunk_size) (λ same. omega (arith, here, before, same))
+other_chunk chunk_size at n some is = grind (arith, some, is)
 
 -- on the next column
 pub position_within : (chunk_size count distance : ℕ) (position : StripePosition) → 0 < chunk_size → IsStripePosition chunk_size count distance position → position.column + 1 < count
     → IsStripePosition chunk_size count (distance + (chunk_size - position.past)) (record { column = position.column + 1; chunk_start = position.chunk_start; past = 0 })
 position_within chunk_size count distance position some at within =
     let next = after_chunk chunk_size distance some in
-    let whole : distance / chunk_size / count * count + distance / chunk_size % count ≡ distance / chunk_size = div-add-mod' (distance / chunk_size) count in
-    let on : distance / chunk_size + 1 ≡ distance / chunk_size / count * count + (distance / chunk_size % count + 1) = omega (arith, whole) in
     let small : distance / chunk_size % count + 1 < count = omega (arith, within, at.column) in
-    let quotient : (distance / chunk_size + 1) / count ≡ distance / chunk_size / count = rw on (div-mul-add (distance / chunk_size / count) count _ small) in
-    let rest : (distance / chunk_size + 1) % count ≡ distance / chunk_size % count + 1 = rw on (mod-mul-add (distance / chunk_size / count) count _ small) in
+    let quotient : (distance / chunk_size + 1) / count ≡ distance / chunk_size / count = grind (arith, small) in
+    let rest : (distance / chunk_size + 1) % count ≡ distance / chunk_size % count + 1 = grind (arith, small) in
     rw at.past (record {
       column = rw (next.number, rest) (cc);
       chunk_start = rw (next.number, quotient) at.chunk_start;
@@ -115,11 +92,9 @@ pub position_after : (chunk_size count distance : ℕ) (position : StripePositio
     → IsStripePosition chunk_size count (distance + (chunk_size - position.past)) (record { column = 0; chunk_start = position.chunk_start + chunk_size; past = 0 })
 position_after chunk_size count distance position some at last =
     let next = after_chunk chunk_size distance some in
-    let whole : distance / chunk_size / count * count + distance / chunk_size % count ≡ distance / chunk_size = div-add-mod' (distance / chunk_size) count in
-    let on : distance / chunk_size + 1 ≡ (distance / chunk_size / count + 1) * count + 0 = omega (arith, whole, last, at.column) in
-    let some_columns : 0 < count = omega (arith, last) in
-    let quotient : (distance / chunk_size + 1) / count ≡ distance / chunk_size / count + 1 = rw on (div-mul-add (distance / chunk_size / count + 1) count 0 some_columns) in
-    let rest : (distance / chunk_size + 1) % count ≡ 0 = rw on (mod-mul-add (distance / chunk_size / count + 1) count 0 some_columns) in
+    let filled : distance / chunk_size % count + 1 ≡ count = omega (arith, last, at.column) in
+    let quotient : (distance / chunk_size + 1) / count ≡ distance / chunk_size / count + 1 = grind (arith, filled) in
+    let rest : (distance / chunk_size + 1) % count ≡ 0 = grind (arith, filled) in
     rw at.past (record {
       column = rw (next.number, rest);
       chunk_start = rw (next.number, quotient) (omega (arith, at.chunk_start));

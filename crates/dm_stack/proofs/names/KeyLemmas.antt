@@ -1,7 +1,8 @@
 -- Keys of names: what is kept of sixteen bytes, and that a key is of one name.
-use Rattle.std.proofs.Common.{◌≡◌, ℕ, zero, suc, ◌+◌, ◌-◌, ◌%◌, ◌^◌, ◌<◌, not, cond, Bool, true, false, List, [], ◌∷◌, ◌++◌, Some, get_or, length, map, take, drop, replicate, refl, sym, ap, ◌∙◌, arith, bit_and}
+use Rattle.std.proofs.Common.{◌≡◌, ℕ, zero, suc, ◌+◌, ◌-◌, ◌<◌, not, cond, Bool, true, List, [], ◌∷◌, ◌++◌, Some, get_or, length, map, take, drop, replicate, refl, sym, ap, ◌∙◌, arith, bit_and}
 use Rattle.std.specs.List.{All, list_any, prefix_len, slice_get, slice_range}
 use Rattle.std.proofs.Math.Seq.{take-append_seam}
+use Rattle.std.proofs.lemmas.Bool.{not-true}
 use Rattle.std.proofs.lemmas.List.{drop_more, take-append-drop}
 use Rattle.std.proofs.lemmas.List.Elements.{All-drop, All-same, All-take, All-weaker}
 use Rattle.std.proofs.lemmas.Nat.{and_le_r, and_mask}
@@ -12,35 +13,23 @@ use Rattle.dm_stack.specs.declared.names.name_key.NameKey.{NameKey}
 
 -- What is kept
 
-kept_byte : (byte : ℕ) → byte < 256 → bit_and byte 255 ≡ byte
-kept_byte byte within = let low : bit_and byte 255 ≡ byte % 2 ^ 8 = and_mask byte 8 in omega (arith, low)
-
-no_byte : (byte : ℕ) → bit_and byte 0 ≡ 0
-no_byte byte = omega (arith, and_le_r byte 0)
-
 pub and_kept : (bytes : List ℕ) (some none : ℕ) → length bytes ≡ some + none → ((i : ℕ) → get_or bytes i 0 < 256) → zip2 (λ a b. bit_and a b) bytes (replicate some 255 ++ replicate none 0) ≡ take some bytes ++ replicate none 0
-and_kept [] zero zero long within = refl
-and_kept [] (suc some) none long within = absurd (omega (arith, long))
-and_kept [] zero (suc none) long within = absurd (omega (arith, long))
+and_kept [] some none long within = let no : some ≡ 0 = omega (arith, long) in let end : none ≡ 0 = omega (arith, long) in rw (no, end)
 and_kept (byte ∷ bytes) (suc some) none long within =
     let rest = and_kept bytes some none (omega (arith, long)) (λ i. within (suc i)) in
-    rw (kept_byte byte (within 0), rest)
+    let same : bit_and byte 255 ≡ byte = omega (arith, and_mask byte 8, within 0) in
+    rw (same, rest)
 and_kept (byte ∷ bytes) zero (suc none) long within =
     let rest = and_kept bytes zero none (omega (arith, long)) (λ i. within (suc i)) in
-    rw (no_byte byte, rest)
+    let no : bit_and byte 0 ≡ 0 = omega (arith, and_le_r byte 0) in
+    rw (no, rest)
 and_kept (byte ∷ bytes) zero zero long within = absurd (omega (arith, long))
 
 -- The first lane of some
 
-by_lane : {X : Type 0} (p : X → Bool) (x : X) (xs : List X) (b : Bool) → p x ≡ b → 0 < mask_l (p x ∷ map p xs) → (0 < mask_l (map p xs) → prefix_len (λ y. not (p y)) xs < length xs) → prefix_len (λ y. not (p y)) (x ∷ xs) < length (x ∷ xs)
-by_lane p x xs true is some later = rw is (omega arith)
-by_lane p x xs false is some later =
-    let rest : 0 < mask_l (map p xs) = omega (arith, rw is at some) in
-    rw is (omega (arith, later rest))
-
 pub some_lane : {X : Type 0} (p : X → Bool) (xs : List X) → 0 < mask_l (map p xs) → prefix_len (λ x. not (p x)) xs < length xs
 some_lane p [] some = absurd (omega (arith, some))
-some_lane p (x ∷ xs) some = by_lane p x xs (p x) refl some (some_lane p xs)
+some_lane p (x ∷ xs) some = grind (arith, some, some_lane p xs)
 
 -- One name
 
@@ -86,7 +75,4 @@ last_of (first ∷ names) name = last_of names name
 
 -- the keys of a set after one is added that was not there
 pub key_added : {X : Type 0} (eq : X → X → Bool) (keys after : List X) (key : X) (new : Bool) → new ≡ true → new ≡ not (list_any (eq key) keys) → after ≡ cond (list_any (eq key) keys) keys (keys ++ key ∷ []) → after ≡ keys ++ key ∷ []
-key_added eq keys after key new is added e = by_test (list_any (eq key) keys) (sym is ∙ added) e where
-  by_test : (there : Bool) → true ≡ not there → after ≡ cond there keys (keys ++ key ∷ []) → after ≡ keys ++ key ∷ []
-  by_test true added e = absurd cc
-  by_test false added e = e
+key_added eq keys after key new is added e = rw (not-true _ (sym added ∙ is)) at e

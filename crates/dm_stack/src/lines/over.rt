@@ -82,29 +82,16 @@ fn add_lines(
         ≡ over.old.items ++ flat_map (λ line. over_of stack.now device line.target) lines.now) }
 {
     for line in lines {
-        add_line(over, stack, device, &line.target)?;
-    }
-    Ok(())
-}
-
-/// Adds a device to the snapshots of their origins, if its line is that of a snapshot.
-fn add_line(
-    over: &mut Vec<ResolvedOver>,
-    stack: &Indexed,
-    device: DeviceId,
-    target: &Target,
-) -> Result<(), AllocError>
-    ensures { OnOk result (over.new.items ≡ over.old.items ++ over_of stack.now device target.now) }
-{
-    if let Target::Snapshot {
-        origin,
-        store,
-        kind,
-        chunk,
-    } = target
-    {
-        let snapshot = resolved_snapshot(stack, origin, store, *kind, *chunk);
-        over.push(ResolvedOver { device, snapshot })?;
+        if let Target::Snapshot {
+            origin,
+            store,
+            kind,
+            chunk,
+        } = &line.target
+        {
+            let snapshot = resolved_snapshot(stack, origin, store, *kind, *chunk);
+            over.push(ResolvedOver { device, snapshot })?;
+        }
     }
     Ok(())
 }

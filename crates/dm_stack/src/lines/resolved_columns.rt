@@ -96,10 +96,7 @@ impl ResolvedColumns {
 fn are_on_disks(columns: &[ResolvedColumn]) -> bool
     ensures { result ≡ are_on_disks columns.now }
 {
-    for column in columns {
-        if !matches!(column.to, Lower::Disk(_)) {
-            return false;
-        }
-    }
-    true
+    columns
+        .iter()
+        .all(|column| matches!(column.to, Lower::Disk(_)))
 }

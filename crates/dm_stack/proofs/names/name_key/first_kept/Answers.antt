@@ -1,27 +1,24 @@
-use Rattle.std.proofs.Common.{◌≡◌, ℕ, zero, suc, ◌-◌, ◌<◌, ◌++◌, replicate, refl, ◌∙◌, arith}
+use Rattle.std.proofs.Common.{◌≡◌, ℕ, ◌-◌, ◌<◌, ◌++◌, Bool, true, get_or, replicate, refl, subst, ◌∙◌, arith}
 use Rattle.std.specs.Prelude.{slice_range}
+use Rattle.std.specs.List.{list_all, range_with_len}
+use Rattle.std.specs.Str.{bytes_eq}
+use Rattle.std.proofs.lemmas.List.FromFn.{get_or-range_with_len}
+use Rattle.std.proofs.lemmas.List.Sums.{AllPass-from_list_all}
+use Rattle.std.proofs.lemmas.Slice.Eq.{bytes_eq-Decides}
 use Rattle.dm_stack.specs.declared.names.name_key.TheConstants.{KEPT}
 use Rattle.dm_stack.proofs.names.KeyLemmas.{and_kept}
 use Rattle.dm_stack.proofs.names.name_key.first_kept.Goals as goal
 
+-- so it is of each length
+abbrev is_kept : ℕ → Bool
+is_kept len = bytes_eq (slice_range KEPT (16 - len) (32 - len)) (replicate len 255 ++ replicate (16 - len) 0)
+
 kept_are : (len : ℕ) → len < 16 → slice_range KEPT (16 - len) (32 - len) ≡ replicate len 255 ++ replicate (16 - len) 0
-kept_are zero few = refl
-kept_are (suc zero) few = refl
-kept_are (suc (suc zero)) few = refl
-kept_are (suc (suc (suc zero))) few = refl
-kept_are (suc (suc (suc (suc zero)))) few = refl
-kept_are (suc (suc (suc (suc (suc zero))))) few = refl
-kept_are (suc (suc (suc (suc (suc (suc zero)))))) few = refl
-kept_are (suc (suc (suc (suc (suc (suc (suc zero))))))) few = refl
-kept_are (suc (suc (suc (suc (suc (suc (suc (suc zero)))))))) few = refl
-kept_are (suc (suc (suc (suc (suc (suc (suc (suc (suc zero))))))))) few = refl
-kept_are (suc (suc (suc (suc (suc (suc (suc (suc (suc (suc zero)))))))))) few = refl
-kept_are (suc (suc (suc (suc (suc (suc (suc (suc (suc (suc (suc zero))))))))))) few = refl
-kept_are (suc (suc (suc (suc (suc (suc (suc (suc (suc (suc (suc (suc zero)))))))))))) few = refl
-kept_are (suc (suc (suc (suc (suc (suc (suc (suc (suc (suc (suc (suc (suc zero))))))))))))) few = refl
-kept_are (suc (suc (suc (suc (suc (suc (suc (suc (suc (suc (suc (suc (suc (suc zero)))))))))))))) few = refl
-kept_are (suc (suc (suc (suc (suc (suc (suc (suc (suc (suc (suc (suc (suc (suc (suc zero))))))))))))))) few = refl
-kept_are (suc (suc (suc (suc (suc (suc (suc (suc (suc (suc (suc (suc (suc (suc (suc (suc len)))))))))))))))) few = absurd (omega arith)
+kept_are len few =
+    let each : list_all is_kept (range_with_len 0 16) ≡ true = refl in
+    let at : get_or (range_with_len 0 16) len 0 ≡ len = get_or-range_with_len 0 16 len 0 few ∙ omega arith in
+    let is : is_kept len ≡ true = subst (λ n. is_kept n ≡ true) at (AllPass-from_list_all is_kept (range_with_len 0 16) each len 0 few) in
+    (bytes_eq-Decides _ _).0 is
 
 pub returns : goal.returns
 returns c =
