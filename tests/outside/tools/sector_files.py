@@ -123,7 +123,9 @@ def asked_of(image, request):
 KINDS = [("-t", "ext2", "-b", "1024"), ("-t", "ext3", "-b", "2048"), ("-t", "ext4", "-b", "4096"),
          ("-t", "ext4", "-b", "1024", "-g", "1024"), ("-t", "ext4", "-O", "^sparse_super,^resize_inode", "-b", "1024", "-g", "2048"),
          ("-t", "ext4", "-O", "sparse_super2,^resize_inode", "-b", "1024", "-g", "2048"), ("-t", "ext4", "-O", "bigalloc", "-b", "1024"),
-         ("-t", "ext4", "-O", "meta_bg,^resize_inode", "-b", "1024", "-g", "1024"), ("-t", "ext4", "-I", "1024", "-N", "64")]
+         ("-t", "ext4", "-O", "meta_bg,^resize_inode", "-b", "1024", "-g", "1024"), ("-t", "ext4", "-I", "1024", "-N", "64"),
+         # A label of what str.isdigit takes for digits, and int doesn't.
+         ("-t", "ext4", "-b", "1024", "-L", "²²")]
 
 
 def check_whole(tally, program, top):
