@@ -1,4 +1,4 @@
-//! Lines by ids: what each names is looked up once, while a stack is loaded.
+//! Lines by ids: what each names is looked up while a stack is loaded, once, and for a snapshot's line twice.
 //!
 //! They are made right after the check of how lines follow one another, and ask for nothing: a name that is not
 //! there has an id past the last, which `check_references` finds. The checks from there on look no name up. A new
