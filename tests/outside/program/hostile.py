@@ -68,6 +68,10 @@ NAMED = "d%d: 0 8 linear /dev/mapper/d1023 0\n"
 
 # The format, FILE, DISKS, and the message of the refusal without its beginning `dmremap: `.
 REFUSED = [
+    # Each line of an origin has a copy of its snapshots, of which there may be as many as lines.
+    ("12,000 origins in a table, and 12,000 snapshots", "table",
+     "".join("o: %d 1 snapshot-origin base\n" % it for it in range(12000))
+     + "".join("s: %d 1 snapshot base cow P 8\n" % it for it in range(12000)), "base 100000\ncow 100000\n", "source: snapshot at 1"),
     ("65,537 lines", "table", ZERO_LINES, "", "source: limit at 65537"),
     ("1,025 devices", "table", "".join("d%d: 0 1 zero\n" % it for it in range(1025)), "", "source: limit at 1025"),
     ("a ring of 1,024 devices", "table", row(1024, "/dev/mapper/d1", LINE), "", "source: cycle at 1"),
