@@ -69,6 +69,9 @@ pub(crate) fn map_range<S: Sink, T: Taken>(
 
 /// Hands over the units of sectors of a request's device, through as many levels as there may be. Where the
 /// sectors lie in a row on a disk, below one line, as mostly, nothing is handed over, and this is returned.
+///
+/// Of the walk, only the way to a snapshot is inlined here: a function that would grow very large isn't inlined,
+/// whatever it asks for, and that would hit `write_joined` of `dm_stream`, which calls this once a request.
 #[inline(always)]
 pub(crate) fn map_top<S: Sink, T: Taken>(
     walker: &mut Walker<'_, T>,
@@ -86,23 +89,17 @@ pub(crate) fn map_top<S: Sink, T: Taken>(
         return handed(fail(len, sink));
     }
     let line = walker.look(device, sector);
-    if len <= line.len - (sector - line.start) {
+    let distance = sector - line.start;
+    if len <= line.len - distance {
         if let Some(home) = home_in(walker, device, line, sector, len) {
             return Ok(Some(home));
         }
-        if is_snapshot(line) {
-            // It is inlined here, where the line is known to be a snapshot's: the call of `read_snapshot` or
-            // `write_snapshot` is left.
-            return handed(map_line(walker, op, MOST_DEPTH, device, line, sector, len, sink));
+        if let ResolvedTarget::Snapshot(snapshot) = &line.target {
+            let levels = MOST_DEPTH - 1;
+            return handed(map_snapshot(walker, op, levels, device, snapshot, distance, len, sink));
         }
     }
     handed(map_lines(walker, op, MOST_DEPTH, device, line, sector, len, sink))
-}
-
-/// Whether a line is that of a snapshot.
-#[inline(always)]
-fn is_snapshot(line: &ResolvedLine) -> bool {
-    matches!(line.target, ResolvedTarget::Snapshot(_))
 }
 
 /// Hands over the units of sectors of a device. A read-only device fails a write of all of them.

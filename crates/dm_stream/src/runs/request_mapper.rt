@@ -23,6 +23,9 @@ use dm_table::{InFault, OutFault, Output, Request};
 use std::marker::PhantomData;
 
 /// Joins the units of a request of a device of the stack, and writes them. Nothing is held before.
+///
+/// It is inlined as long as all that is inlined into it isn't very large: RESULTS.md has the gain as *what writes an
+/// answer is inlined*. Measure small requests after a change of what it calls.
 #[inline(always)]
 fn write_joined<T: Taken, W: Output>(
     mapper: &mut Mapper<'_, T>,

@@ -1,12 +1,15 @@
-use Rattle.std.proofs.Common.{◌≡◌, false, refl, sym, ap, subst, ◌∙◌, arith}
+use Rattle.std.proofs.Common.{◌≡◌, ◌-◌, false, refl, sym, ap, subst, ◌∙◌, arith}
+use Rattle.dm_stack.specs.declared.lines.resolved_line.ResolvedTarget.{ResolvedTarget}
+use Rattle.dm_stack.specs.declared.lines.resolved_line.ResolvedTarget.TheVariants.{Snapshot}
 use Rattle.dm_stack.specs.declared.checks.graph.TheConstants.{MOST_DEPTH}
 use Rattle.dm_stack.specs.declared.id.Lower.TheVariants.{Device}
 use Rattle.dm_stack.specs.Description.{Description}
-use Rattle.dm_stack.specs.lines.Below.{IsLineOf}
+use Rattle.dm_stack.specs.lines.Below.{IsLineOf, IsSnapshotSound, IsTargetSound}
 use Rattle.dm_stack.proofs.InStack.{device_there}
 use Rattle.dm_map.specs.state.Walker.{StackState}
 use Rattle.dm_map.specs.walk.Bound.{range_mapping}
 use Rattle.dm_map.specs.walk.Range.{AreAsked, HasRoomFor, IsAtLine, refuses}
+use Rattle.dm_map.proofs.walk.Bounds.{mapped_line, mapped_target}
 use Rattle.dm_map.proofs.walk.HomeLemmas.{home_mapped, mapped_over}
 use Rattle.dm_map.proofs.walk.Ranges.{range_refused}
 use Rattle.dm_map.proofs.walk.WalkedOn.{mapped_after_look, mapped_handed}
@@ -32,10 +35,6 @@ map_lines-requires g c =
       asked = subst (λ (s : Description). AreAsked g.S.Sink.past a.sink.now s (Device a.device) a.sector a.len) (sym stack) c.requires;
     }
 
-pub returns-then-is_snapshot : goal.returns-then-is_snapshot
-returns-then-is_snapshot g c =
-    let a = c.args in let look = c.look-line.ensures in mapped_over a.walker.now.stack a.op a.len c.handed-then-is_snapshot.ensures (mapped_after_look (range_mapping a.op MOST_DEPTH (Device a.device)) refl look.same look.looked look.one c.map_line.ensures)
-
 pub returns-in-Some : goal.returns-in-Some
 returns-in-Some g c =
     let a = c.args in let look = c.look-line.ensures in let line = c.look-line.result.now in let w = c.look-line.new.self in
@@ -46,16 +45,18 @@ returns-in-Some g c =
     (subst (λ (s : Description). IsLineOf s a.device line a.sector) (sym stack) look.line) c.requires.some
     (omega (arith, c.if-len-line.true, look.line.from, look.line.before)) c.in-Some.ensures)
 
-pub map_line-requires : goal.map_line-requires
-map_line-requires g c =
-    let a = c.args in let look = c.look-line.ensures in let line = c.look-line.result.now in
-    let stack : c.look-line.new.self.stack ≡ a.walker.now.stack = ap (λ (v : StackState). v.stack) look.same in
-    record {
-      at = subst (λ (v : StackState). IsAtLine v.stack a.op MOST_DEPTH a.device line a.sector) (sym look.same) (record { deep = omega arith; passes = sym c.refuses.ensures ∙ c.if-refuses.false; of = look.line });
-      some = c.requires.some;
-      inside = omega (arith, c.if-len-line.true, look.line.from, look.line.before);
-      sink = subst (λ (s : Description). HasRoomFor g.S.Sink.past a.sink.now s a.len) (sym stack) c.requires.sink;
-    }
+pub returns-in-Snapshot : goal.returns-in-Snapshot
+returns-in-Snapshot g c =
+    let a = c.args in let look = c.look-line.ensures in let line = c.look-line.result.now in let w = c.look-line.new.self in let snapshot = c.in-Snapshot.snapshot in
+    let stack : w.stack ≡ a.walker.now.stack = ap (λ (v : StackState). v.stack) look.same in
+    let of : IsLineOf w.stack a.device line a.sector = subst (λ (s : Description). IsLineOf s a.device line a.sector) (sym stack) look.line in
+    let sound : IsSnapshotSound w.stack a.device line.start line.len snapshot = subst (λ (t : ResolvedTarget). IsTargetSound w.stack a.device line.start line.len t) c.in-Snapshot.is of.is.target in
+    mapped_over a.walker.now.stack a.op a.len c.handed-in-Snapshot.ensures
+    (mapped_after_look (range_mapping a.op MOST_DEPTH (Device a.device)) refl look.same look.looked look.one
+    (mapped_line a.op MOST_DEPTH (MOST_DEPTH - 1) a.device a.sector a.len line (omega arith)
+    (subst (λ (s : Description). refuses s a.op a.device ≡ false) (sym stack) (sym c.refuses.ensures ∙ c.if-refuses.false))
+    of c.requires.some (omega (arith, c.if-len-line.true, look.line.from, look.line.before))
+    (mapped_target a.op (MOST_DEPTH - 1) a.device line.start 0 line.target (Snapshot snapshot) sound.from c.in-Snapshot.is c.map_snapshot.ensures)))
 
 pub returns : goal.returns
 returns g c =
