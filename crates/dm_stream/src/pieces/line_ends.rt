@@ -6,8 +6,9 @@
 //! This is here for speed alone: RESULTS.md has its gain as *texts kept ready*. It rests on the table that `new`
 //! makes. Change it only if you measure small requests, and large ones over 16 columns, before and after.
 
-ghost use Rattle.std.specs.Prelude.{◌≡◌, ◌+◌, ◌<◌, ◌≤◌, length};
+ghost use Rattle.std.specs.Prelude.{◌≡◌, ◌+◌, ◌++◌, ◌∷◌, ◌<◌, ◌≤◌, [], decimal, length};
 ghost use Rattle.dm_table.specs.io.Block.{IsPut};
+ghost use Rattle.dm_table.specs.words.Bytes.{code};
 ghost use Rattle.dm_stream.specs.pieces.LineEnds.{AreMade, IsLineEnd, line_end};
 ghost use Rattle.dm_stream.specs.declared.pieces.line_ends.TheConstants.{LENGTHS, LONGEST, ROOM};
 
@@ -53,6 +54,19 @@ impl LineEnds {
         }
         let at = put_digits(block, at, len);
         put_bytes(block, at, b"\n")
+    }
+
+    /// Puts a length and the space that follows it inside of a line at an offset in a block, and returns where they
+    /// end.
+    #[inline(always)]
+    pub(crate) fn put_inside(&self, block: &mut [u8], at: usize, len: u64) -> usize
+        requires { at + LONGEST ≤ length block.old }
+        ensures put { IsPut (decimal len ++ code " " ∷ []) at block.old block.new result }
+        ensures few { result ≤ at + LONGEST }
+    {
+        let end = self.put_into(block, at, len);
+        // In the place of the newline.
+        put_bytes(block, end - 1, b" ")
     }
 
     /// Puts the end of a line of a short length, which was made before.

@@ -103,6 +103,7 @@ impl<'a> Text for PlainLine<'a> {
 #[derive(Drop)]
 struct RareLine<'a> {
     prefix: &'a NumberPrefix,
+    ends: &'a LineEnds,
     disks: &'a DiskTexts<'a>,
     piece: &'a Piece,
 }
@@ -126,7 +127,7 @@ impl<'a> Text for RareLine<'a> {
     #[inline(always)]
     fn put_into(&self, block: &mut [u8], at: usize) -> usize {
         let at = self.prefix.put_into(block, at);
-        put_rare(block, at, self.disks, self.piece)
+        put_rare(block, at, self.ends, self.disks, self.piece)
     }
 }
 
@@ -181,6 +182,7 @@ pub(crate) fn put_other<W: Output>(
         }
         _ => writer.put(&RareLine {
             prefix,
+            ends,
             disks,
             piece,
         }),
@@ -191,7 +193,13 @@ pub(crate) fn put_other<W: Output>(
 /// never inlined, since these are rare.
 #[cold]
 #[inline(never)]
-fn put_rare(block: &mut [u8], at: usize, disks: &DiskTexts<'_>, piece: &Piece) -> usize
+fn put_rare(
+    block: &mut [u8],
+    at: usize,
+    ends: &LineEnds,
+    disks: &DiskTexts<'_>,
+    piece: &Piece,
+) -> usize
     requires room { at + 800 ≤ length block.old }
     requires lies { IsOnDisks disks.now piece.now }
     requires other { IsOther piece.now }
@@ -206,8 +214,8 @@ fn put_rare(block: &mut [u8], at: usize, disks: &DiskTexts<'_>, piece: &Piece) -
             len,
             to,
             to_start,
-        } => put_copy(block, at, disks, disk, start, len, to, to_start),
-        Piece::Fill { len, disk, start } => put_fill(block, at, disks, disk, start, len),
+        } => put_copy(block, at, ends, disks, disk, start, len, to, to_start),
+        Piece::Fill { len, disk, start } => put_fill(block, at, ends, disks, disk, start, len),
         _ => unreachable!(),
     }
 }
@@ -216,6 +224,7 @@ fn put_rare(block: &mut [u8], at: usize, disks: &DiskTexts<'_>, piece: &Piece) -
 fn put_copy(
     block: &mut [u8],
     at: usize,
+    ends: &LineEnds,
     disks: &DiskTexts<'_>,
     disk: DiskId,
     start: u64,
@@ -233,8 +242,7 @@ fn put_copy(
     let at = put_bytes(block, at, b"copy ");
     let at = put_sector(block, at, disks, disk, start);
     let at = put_bytes(block, at, b" ");
-    let at = put_digits(block, at, len);
-    let at = put_bytes(block, at, b" ");
+    let at = ends.put_inside(block, at, len);
     let at = put_sector(block, at, disks, to, to_start);
     put_bytes(block, at, b"\n")
 }
@@ -243,6 +251,7 @@ fn put_copy(
 fn put_fill(
     block: &mut [u8],
     at: usize,
+    ends: &LineEnds,
     disks: &DiskTexts<'_>,
     disk: DiskId,
     start: u64,
@@ -255,8 +264,7 @@ fn put_fill(
     ensures few { result ≤ at + 400 }
 {
     let at = put_bytes(block, at, b"fill ");
-    let at = put_digits(block, at, len);
-    let at = put_bytes(block, at, b" ");
+    let at = ends.put_inside(block, at, len);
     let at = put_sector(block, at, disks, disk, start);
     put_bytes(block, at, b"\n")
 }
