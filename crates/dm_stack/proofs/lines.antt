@@ -8,6 +8,7 @@ pub mod LegLemmas
 pub mod LineSearchLemmas
 pub mod Members
 pub mod OverLemmas
+pub mod OwnSnapshot
 pub mod SameLine
 pub mod SpanLemmas
 pub mod StoreLayoutLemmas

@@ -54,12 +54,12 @@ origin_is stack origin to all over at are is =
 -- From the list to the devices
 
 -- the target of a line that is this snapshot
-record IsTargetOf (stack : Description) (device : ℕ) (target : Target) (one : ResolvedOver) : Type 0 where
-  here : one.device ≡ device
-  over : is_snapshot target ≡ true
-  is : resolved_target stack target ≡ found.Snapshot one.snapshot
+pub record IsTargetOf (stack : Description) (device : ℕ) (target : Target) (one : ResolvedOver) : Type 0 where
+  pub here : one.device ≡ device
+  pub over : is_snapshot target ≡ true
+  pub is : resolved_target stack target ≡ found.Snapshot one.snapshot
 
-target_one : (stack : Description) (device : ℕ) (target : Target) (one : ResolvedOver) → Contains (over_of stack device target) one → IsTargetOf stack device target one
+pub target_one : (stack : Description) (device : ℕ) (target : Target) (one : ResolvedOver) → Contains (over_of stack device target) one → IsTargetOf stack device target one
 target_one stack device (targets.Snapshot origin store kind chunk) one named =
     let same = only one (record { device = device; snapshot = resolved_snapshot stack origin store kind chunk }) named in
     record { here = cc; over = refl; is = cc (same) }

@@ -1,5 +1,5 @@
 -- The snapshots of an origin (the kernel's admin guide, device-mapper/snapshot).
-use Rattle.std.specs.Prelude.{ℕ, ◌==◌, ◌&&◌, Bool, true, false, List, [], ◌∷◌, filter, length, not, if◌then◌else◌}
+use Rattle.std.specs.Prelude.{◌≡◌, ℕ, ◌==◌, ◌&&◌, Bool, true, false, List, [], ◌∷◌, filter, length, not, if◌then◌else◌}
 use Rattle.std.specs.List.{flat_map, list_any, range_with_len}
 use Rattle.dm_table.specs.declared.tables.table.DevRef.{DevRef}
 use Rattle.dm_table.specs.declared.tables.table.DeviceSpec.{DeviceSpec}
@@ -19,6 +19,11 @@ fit_chunk chunk = if is_bad_chunk chunk then 1 else chunk
 -- what a snapshot's line says, with ids for names
 abbrev pub resolved_snapshot : Description → (origin store : DevRef) → StoreKind → (chunk : ℕ) → ResolvedSnapshot
 resolved_snapshot stack origin store kind chunk = record { origin = lower_of stack origin; store = lower_of stack store; kind = kind; chunk = fit_chunk chunk }
+
+-- a snapshot is what a line with this target says, if that is a snapshot's
+abbrev pub IsSnapshotOf : Description → ResolvedSnapshot → Target → Type 0
+IsSnapshotOf stack snapshot (targets.Snapshot origin store kind chunk) = snapshot ≡ resolved_snapshot stack origin store kind chunk
+IsSnapshotOf stack snapshot _ = Unit {0}
 
 -- the snapshot that a line of a device with this target is; one of any other target is none
 abbrev pub over_of : Description → (device : ℕ) → Target → List ResolvedOver

@@ -1,10 +1,10 @@
 //! The snapshots of an origin, which its line has.
 //!
-//! All snapshots of a stack are collected once a load, and each line of an origin has a copy of its
-//! own, so that a write to one neither goes over the devices nor searches their lines.
+//! All snapshots of a stack are collected once a load. Each line of an origin has a copy of its own, so that a write
+//! to one neither goes over the devices nor searches their lines; the line of a snapshot has what was collected of it.
 
-ghost use Rattle.std.specs.Prelude.{◌≡◌, ◌++◌, IfOk, OnOk, filter};
-ghost use Rattle.std.specs.List.{flat_map, list_any};
+ghost use Rattle.std.specs.Prelude.{◌≡◌, ◌++◌, IfOk, IfSome, OnOk, filter};
+ghost use Rattle.std.specs.List.{Contains, flat_map, list_any};
 ghost use Rattle.dm_stack.specs.Description.{is_same_lower};
 ghost use Rattle.dm_stack.specs.lines.Over.{all_over, copied, has_crowd, is_whole, over_of, resolved_snapshot};
 
@@ -112,6 +112,24 @@ pub(crate) fn resolved_snapshot(
         kind,
         chunk: ChunkSize::new(chunk),
     }
+}
+
+/// The snapshot that a device is, where it is the next one of some in the order of their devices. Then the one after
+/// it is next.
+pub(crate) fn next_over<'a>(
+    over: &'a [ResolvedOver],
+    next: &mut usize,
+    device: DeviceId,
+) -> Option<&'a ResolvedSnapshot>
+    ensures { IfSome result
+        (λ found. Contains over.now (record { device = device; snapshot = found.now })) }
+{
+    let one = over.get(*next)?;
+    if one.device != device {
+        return None;
+    }
+    *next += 1;
+    Some(&one.snapshot)
 }
 
 /// Those of some snapshots whose origin is a device or a disk.

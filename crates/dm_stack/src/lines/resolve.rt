@@ -1,19 +1,23 @@
-//! Lines by ids: what each names is looked up while a stack is loaded, once, and for a snapshot's line twice.
+//! Lines by ids: what each names is looked up while a stack is loaded: once, unless the load is refused later on.
 //!
 //! They are made right after the check of how lines follow one another, and ask for nothing: a name that is not
 //! there has an id past the last, which `check_references` finds. The checks from there on look no name up. A new
 //! target is an arm of `target` here and of `resolved_target` in the specs.
 
-ghost use Rattle.std.specs.Prelude.{◌≡◌, IfOk, map};
+ghost use Rattle.std.specs.Prelude.{◌≡◌, IfOk, IfSome, map};
+ghost use Rattle.std.specs.List.{All};
 ghost use Rattle.dm_stack.specs.lines.Below.{resolved_columns, resolved_line, resolved_target};
 ghost use Rattle.dm_stack.specs.Stack.{resolved_device};
-ghost use Rattle.dm_stack.specs.lines.Over.{copied};
+ghost use Rattle.dm_stack.specs.lines.Over.{IsSnapshotOf, copied};
 
 use crate::checks::layout::end_of;
+use crate::id::DeviceId;
 use crate::lines::divisor::Divisor;
-use crate::lines::over::{copied, resolved_snapshot, snapshots_over};
+use crate::lines::over::{copied, next_over, resolved_snapshot, snapshots_over};
 use crate::lines::resolved_columns::{ResolvedColumn, ResolvedColumns};
-use crate::lines::resolved_line::{ResolvedLine, ResolvedOrigin, ResolvedOver, ResolvedTarget};
+use crate::lines::resolved_line::{
+    ResolvedLine, ResolvedOrigin, ResolvedOver, ResolvedSnapshot, ResolvedTarget,
+};
 use crate::lines::resolved_table::{ResolvedDevice, ResolvedTable};
 use crate::names::indexed::Indexed;
 use dm_table::{Column, Line, Target};
@@ -32,30 +36,35 @@ pub(crate) fn resolved_devices(
     let over = copied(alloc, stack)?;
     let devices = stack.devices();
     let mut found = Vec::with_capacity(alloc, devices.len())?;
-    for device in devices {
+    let mut next = 0;
+    for (id, device) in devices.iter().enumerate() {
         let lines = device.lines.as_slice();
+        let own = next_over(&over, &mut next, DeviceId::new(id));
         found.push(ResolvedDevice {
             end: end_of(lines),
             ro: device.ro,
-            table: table(alloc, stack, &over, lines)?,
+            table: table(alloc, stack, &over, own, lines)?,
         })?;
     }
     Ok(found)
 }
 
-/// The lines of a device by ids, where these are all snapshots of the stack.
+/// The lines of a device by ids, where these are all snapshots of the stack, and that is the device's own.
 fn table(
     alloc: Global,
     stack: &Indexed,
     over: &[ResolvedOver],
+    own: Option<&ResolvedSnapshot>,
     lines: &[Line],
 ) -> Result<ResolvedTable, AllocError>
-    requires { over.now ≡ copied stack.now }
+    requires over { over.now ≡ copied stack.now }
+    requires own { IfSome own
+        (λ found. All (λ line. IsSnapshotOf stack.now found.now line.target) lines.now) }
     ensures { IfOk result (λ table. table ≡ map (resolved_line stack.now) lines.now) }
 {
     let mut by_ids = Vec::with_capacity(alloc, lines.len())?;
     for line in lines {
-        let target = target(alloc, stack, over, &line.target)?;
+        let target = target(alloc, stack, over, own, &line.target)?;
         by_ids.push(ResolvedLine {
             start: line.start,
             len: line.len,
@@ -65,14 +74,16 @@ fn table(
     ResolvedTable::from_vec(alloc, by_ids)
 }
 
-/// A target by ids.
+/// A target by ids. That of a snapshot is the device's own, where that was collected.
 fn target(
     alloc: Global,
     stack: &Indexed,
     over: &[ResolvedOver],
+    own: Option<&ResolvedSnapshot>,
     target: &Target,
 ) -> Result<ResolvedTarget, AllocError>
-    requires { over.now ≡ copied stack.now }
+    requires over { over.now ≡ copied stack.now }
+    requires own { IfSome own (λ found. IsSnapshotOf stack.now found.now target.now) }
     ensures { IfOk result (λ by_ids. by_ids ≡ resolved_target stack.now target.now) }
 {
     match target {
@@ -91,7 +102,10 @@ fn target(
             store,
             kind,
             chunk,
-        } => Ok(ResolvedTarget::Snapshot(resolved_snapshot(stack, origin, store, *kind, *chunk))),
+        } => Ok(ResolvedTarget::Snapshot(match own {
+            Some(own) => *own,
+            None => resolved_snapshot(stack, origin, store, *kind, *chunk),
+        })),
         Target::Origin { origin } => {
             let to = stack.lower_of(origin);
             let over = snapshots_over(alloc, over, to)?;

@@ -2,5 +2,5 @@ use Rattle.std.proofs.Common.{◌≡◌, map, take}
 use Rattle.dm_stack.specs.Stack.{resolved_device}
 use Rattle.dm_stack.proofs.lines.resolve.resolved_devices.Given as goal
 
-abbrev pub invariant-loop-device : goal.invariant-loop-device
-invariant-loop-device l = l.found.items ≡ map (resolved_device l.stack) (take l.device-index l.stack.devices)
+abbrev pub invariant-loop-id : goal.invariant-loop-id
+invariant-loop-id l = l.found.items ≡ map (resolved_device l.stack) (take l.id l.stack.devices)
