@@ -20,7 +20,6 @@ pub use id::{DeviceId, DiskId, Lower};
 pub use lines::chunk_size::ChunkSize;
 pub use lines::leg::{Beneath, Leg};
 pub use lines::legs::Legs;
-pub use lines::prefetched::Prefetched;
 pub use lines::resolved_line::{
     Found, ResolvedLine, ResolvedOrigin, ResolvedOver, ResolvedSnapshot, ResolvedTarget,
 };

@@ -6,7 +6,6 @@ pub mod leg;
 pub mod legs;
 pub mod line_search;
 pub mod over;
-pub mod prefetched;
 pub mod resolve;
 pub mod resolved;
 pub mod resolved_columns;

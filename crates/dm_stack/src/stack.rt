@@ -36,7 +36,6 @@ use crate::claims::clash::Clash;
 use crate::claims::tidy::first_clash;
 use crate::id::{DeviceId, DiskId};
 use crate::lines::line_search::{LastLine, find};
-use crate::lines::prefetched::Prefetched;
 use crate::lines::resolved::Resolved;
 use crate::lines::resolved_line::Found;
 use crate::lines::resolved_table::ResolvedDevice;
@@ -185,29 +184,39 @@ impl Stack {
         Some((DeviceId::new(index), len))
     }
 
-    /// Whether `prefetch` is worth its time for some device: one that is a snapshot, or has more than three
-    /// lines. Cost: linear in the devices.
-    pub fn gains_by_prefetch(&self) -> bool {
-        !self.snapshots().is_empty()
-            || self
-                .found
-                .as_slice()
-                .iter()
-                .any(|device| device.table.has_buckets())
+    /// Whether the lines of some device are in buckets, as more than three are: then `starts_ahead` reads some of
+    /// them. It says nothing of the stack. Cost: linear in the devices.
+    pub fn has_buckets(&self) -> bool {
+        self.found
+            .as_slice()
+            .iter()
+            .any(|device| device.table.has_buckets())
     }
 
-    /// Reads what a look-up of a sector reads first, so that it is in the cache by then: of a device in long
-    /// tables a look-up waits most of its time for memory, and waits that are begun together overlap.
+    /// A number made of the starts of the lines with which a look-up of a sector begins, where the lines of the
+    /// device are in buckets. Whoever asks for it has read what the look-up reads first.
     ///
-    /// It says nothing of the stack. What it read is returned, since a read of which nothing comes is left out.
-    /// That is at most two reads: of the index of a bucket's first line, or of a snapshot's only line, and of
-    /// the lines there. They compare nothing, and are counted nowhere. No memory is taken.
+    /// It says nothing of the stack. It reads the index of a bucket's first line, and up to four lines from there
+    /// on, compares none of them, and is counted nowhere. No memory is taken.
     #[inline(always)]
-    pub fn prefetch(&self, device: DeviceId, sector: u64) -> Prefetched {
-        match self.found.as_slice().get(device.index()) {
-            Some(found) => found.table.prefetch(sector),
-            None => Prefetched::Nothing,
-        }
+    pub fn starts_ahead(&self, device: DeviceId, sector: u64) -> Option<u64> {
+        self.found
+            .as_slice()
+            .get(device.index())?
+            .table
+            .starts_ahead(sector)
+    }
+
+    /// The chunk of a sector, where the device is a snapshot.
+    ///
+    /// It says nothing of the stack, reads the device's only line, and is counted nowhere. No memory is taken.
+    #[inline(always)]
+    pub fn chunk_ahead(&self, device: DeviceId, sector: u64) -> Option<u64> {
+        self.found
+            .as_slice()
+            .get(device.index())?
+            .table
+            .chunk_ahead(sector)
     }
 
     /// The length of a device of the stack in sectors, from 1 to 2^50: the end of its last line.

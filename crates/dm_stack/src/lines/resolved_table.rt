@@ -15,7 +15,6 @@ ghost use Rattle.std.specs.Prelude.{◌≡◌, ◌+◌, ◌^◌, ◌<◌, ◌≤
 ghost use Rattle.dm_stack.specs.lines.LineSearch.{AreFirsts, IsStartOf, StartsAfter, StartsBy};
 
 use crate::checks::limits::{MOST_LENGTH, MOST_LINES};
-use crate::lines::prefetched::Prefetched;
 use crate::lines::resolved_line::{ResolvedLine, ResolvedTarget};
 use dm_table::{Listed, Reserved};
 use std::alloc::{AllocError, Global};
@@ -106,21 +105,20 @@ impl ResolvedTable {
         !self.firsts.as_slice().is_empty()
     }
 
-    /// Reads the lines with which a search for a sector begins, if the lines are in buckets; else finds the
-    /// sector's chunk in a snapshot's only line.
+    /// A number made of the starts of the lines with which a search for a sector begins, if they are in buckets.
     #[inline(always)]
-    pub(crate) fn prefetch(&self, sector: u64) -> Prefetched {
-        let lines = self.lines.as_slice();
-        if let Some(first) = self
-            .firsts
-            .as_slice()
-            .get(sector.wrapping_shr(self.shift) as usize)
-        {
-            return Prefetched::Lines(starts_from(lines, *first as usize));
-        }
-        match lines.first() {
-            Some(line) => chunk_in(line, sector),
-            None => Prefetched::Nothing,
+    pub(crate) fn starts_ahead(&self, sector: u64) -> Option<u64> {
+        let bucket = sector.wrapping_shr(self.shift) as usize;
+        let first = self.firsts.as_slice().get(bucket)?;
+        Some(starts_from(self.lines.as_slice(), *first as usize))
+    }
+
+    /// The chunk of a sector, where the first line is that of a snapshot.
+    #[inline(always)]
+    pub(crate) fn chunk_ahead(&self, sector: u64) -> Option<u64> {
+        match &self.lines.as_slice().first()?.target {
+            ResolvedTarget::Snapshot(snapshot) => Some(snapshot.chunk.chunk_of(sector)),
+            _ => None,
         }
     }
 }
@@ -134,14 +132,6 @@ fn starts_from(lines: &[ResolvedLine], first: usize) -> u64 {
             line.start ^ second.start ^ third.start ^ fourth.start
         }
         _ => 0,
-    }
-}
-
-/// The chunk of a sector, where this is the line of a snapshot.
-fn chunk_in(line: &ResolvedLine, sector: u64) -> Prefetched {
-    match &line.target {
-        ResolvedTarget::Snapshot(snapshot) => Prefetched::Chunk(snapshot.chunk.chunk_of(sector)),
-        _ => Prefetched::Nothing,
     }
 }
 

@@ -13,7 +13,7 @@ ghost use Rattle.dm_table.specs.io.DeviceIo.{delivery};
 use crate::requests::handler::{Handler, HandlesFrom, ReadsFrom};
 use crate::requests::handling::handle_requests;
 use crate::runs::ending::{Ending, RequestWord};
-use crate::runs::request_mapper::read_ahead;
+use crate::runs::request_mapper::{gains_by_reading_ahead, read_ahead};
 use dm_map::{Discard, MapFault, Mapper, Taken};
 use dm_stack::{DeviceId, Stack};
 use dm_table::{InFault, Input, Request};
@@ -82,7 +82,7 @@ impl<'s, T: Taken> Handler for EarlierPlayer<'s, T> {
     }
 
     fn gathers(&self, stack: &Stack) -> bool {
-        stack.gains_by_prefetch()
+        gains_by_reading_ahead(stack)
     }
 
     #[inline(always)]

@@ -18,7 +18,7 @@ use crate::requests::exchange::Exchange;
 use crate::requests::handler::{Handler, HandlesFrom, ReadsFrom};
 use crate::runs::ending::NotMapped;
 use dm_map::{MapFault, Mapper, Taken};
-use dm_stack::{DeviceId, Prefetched, Stack};
+use dm_stack::{DeviceId, Stack};
 use dm_table::{InFault, OutFault, Output, Request};
 use std::marker::PhantomData;
 
@@ -57,6 +57,12 @@ fn write_joined<T: Taken, W: Output>(
     }
 }
 
+/// Whether it pays to read ahead: where the line of a sector is one of many, or a chunk may be one of many that a
+/// snapshot took. Then an answer waits most of its time for memory, and waits that are begun together overlap.
+pub(crate) fn gains_by_reading_ahead(stack: &Stack) -> bool {
+    !stack.snapshots().is_empty() || stack.has_buckets()
+}
+
 /// Reads what the answer to a request of this device from this sector on reads first, so that it is in the cache by
 /// then. What it read is returned, since a read of which nothing comes is left out.
 #[inline(always)]
@@ -66,10 +72,12 @@ pub(crate) fn read_ahead<T: Taken>(
     device: DeviceId,
     start: u64,
 ) -> u64 {
-    match stack.prefetch(device, start) {
-        Prefetched::Lines(starts) => starts,
-        Prefetched::Chunk(chunk) => mapper.prefetch(device, chunk),
-        Prefetched::Nothing => 0,
+    if let Some(starts) = stack.starts_ahead(device, start) {
+        return starts;
+    }
+    match stack.chunk_ahead(device, start) {
+        Some(chunk) => mapper.prefetch(device, chunk),
+        None => 0,
     }
 }
 
@@ -142,7 +150,7 @@ impl<'s, T: Taken, W: Output> Handler for RequestMapper<'_, 's, T, W> {
     }
 
     fn gathers(&self, stack: &Stack) -> bool {
-        stack.gains_by_prefetch()
+        gains_by_reading_ahead(stack)
     }
 
     #[inline(always)]
