@@ -171,7 +171,7 @@ impl Stack {
     ///
     /// No memory is taken. Cost: about the same at any number of devices, and for any name of up to 15 bytes.
     #[inline(always)]
-    pub fn front(&self, text: &[u8]) -> Option<(DeviceId, usize)>
+    pub fn device_at_front(&self, text: &[u8]) -> Option<(DeviceId, usize)>
         ensures device { IfSome result (λ found.
             position (λ device. is_same device.name (take found.1 text.now)) self.now.devices ≡ Some found.0) }
         ensures name { IfSome result (λ found. is_device_name (take found.1 text.now) ≡ true) }

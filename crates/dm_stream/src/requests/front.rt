@@ -60,7 +60,7 @@ pub(crate) fn front_of<'a>(stack: &Stack, held: &'a [u8], number: u64) -> Option
         return None;
     }
     let (op, rest) = first_op(held)?;
-    let (device, name) = stack.front(rest)?;
+    let (device, name) = stack.device_at_front(rest)?;
     let (request, len) = front_request(held, op, &rest[..name], &rest[name + 1..], number)?;
     Some(Front {
         request,

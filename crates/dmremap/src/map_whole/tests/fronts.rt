@@ -41,7 +41,7 @@ fn check_fronts(rt: &impl Abort, alloc: Global, names: &[&str]) {
         let text = format!(in alloc; "{name}{REST}").expect(rt, "a text");
         let device = stack.device(name).expect(rt, "a device");
         assert_eq!(rt;
-            stack.front(text.as_bytes()),
+            stack.device_at_front(text.as_bytes()),
             Some((device, name.len())),
             "{name}"
         );

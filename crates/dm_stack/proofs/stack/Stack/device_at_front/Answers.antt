@@ -6,8 +6,8 @@ use Rattle.std.proofs.lemmas.Slice.Eq.{bytes_eq-Decides}
 use Rattle.dm_table.specs.words.Name.{is_device_name}
 use Rattle.dm_stack.specs.Description.{is_same}
 use Rattle.dm_stack.proofs.SoundLines.{position-map}
-use Rattle.dm_stack.proofs.stack.Stack.front.Goals as goal
-use Rattle.dm_stack.proofs.stack.Stack.front.Goals.{In_ok-index}
+use Rattle.dm_stack.proofs.stack.Stack.device_at_front.Goals as goal
+use Rattle.dm_stack.proofs.stack.Stack.device_at_front.Goals.{In_ok-index}
 
 -- the device that was found
 device_is : (c : In_ok-index) → position (λ device. is_same device.name (take c.in_ok-index.len c.args.text.now)) c.self.inside.devices ≡ Some c.in_ok-index.index
