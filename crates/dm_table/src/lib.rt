@@ -40,6 +40,6 @@ pub use tables::table_text::parse_table;
 pub use words::device_name::Name;
 pub use words::disk_name::DiskName;
 pub use words::name::CheckFault;
-pub use words::number_text::{MOST_DIGITS, append, append_number};
+pub use words::number_text::{append, append_number};
 pub use words::room::as_room;
 pub use words::same_bytes::are_same;

@@ -143,7 +143,7 @@ impl Model for ReservedText {
 
 impl ReservedText {
     /// A text as it is, with no memory taken.
-    pub fn from_string(text: String) -> ReservedText
+    pub(crate) fn from_string(text: String) -> ReservedText
         ensures { result ≡ string_bytes text }
     {
         ReservedText { text }

@@ -105,7 +105,7 @@ impl<'s, W: Output> Join<'s, W> {
 
     /// Ends the join, after its last request was finished, and gives its writer back as it is:
     /// nothing is written or flushed.
-    pub fn end(self) -> &'s mut W
+    pub(crate) fn end(self) -> &'s mut W
         requires { self.held.piece ≡ None }
         ensures writer { result.now ≡ self.entry.writer.now }
         ensures same_reference { IsSameReference self.entry.writer result }
