@@ -7,7 +7,7 @@ use Rattle.dm_stack.specs.Description.{Description, is_same}
 use Rattle.dm_stack.specs.checks.Soundness.{HaveSmallEnds}
 use Rattle.dm_stack.specs.declared.names.name_index.Place.{Place}
 use Rattle.dm_stack.specs.declared.names.name_key.NameKey.{NameKey}
-use Rattle.dm_stack.specs.declared.names.name_key.TheConstants.{ROOM}
+use Rattle.dm_stack.specs.declared.names.name_key.TheConstants.{KEY_BYTES}
 
 -- the names of an index, in the order in which they were added
 abbrev pub names_in : {A S : Type 0} → IndexSet (String A) S → List (List ℕ)
@@ -30,7 +30,7 @@ pub record IsPlaceOf (names : List (List ℕ)) (place : Place) : Type 0 where
 
 -- so it is of each place with a short name
 abbrev pub ArePlaces : List (List ℕ) → List Place → Type 0
-ArePlaces names places = All (λ place. place.key.len < ROOM → IsPlaceOf names place) places
+ArePlaces names places = All (λ place. place.key.len < KEY_BYTES → IsPlaceOf names place) places
 
 -- different names, and their places
 pub record IsIndex {A S : Type 0} (index : IndexSet (String A) S) (by_keys : List Place) : Type 0 where

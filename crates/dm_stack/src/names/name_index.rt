@@ -17,9 +17,9 @@ ghost use Rattle.std.specs.List.{list_any};
 ghost use Rattle.dm_table.specs.words.Bytes.{code};
 ghost use Rattle.dm_stack.specs.Description.{is_same};
 ghost use Rattle.dm_stack.specs.names.NameIndex.{ArePlaces, IsKeyOf, IsPlaceOf};
-ghost use Rattle.dm_stack.specs.declared.names.name_key.TheConstants.{ROOM};
+ghost use Rattle.dm_stack.specs.declared.names.name_key.TheConstants.{KEY_BYTES};
 
-use crate::names::name_key::{NameKey, ROOM, first_space};
+use crate::names::name_key::{NameKey, KEY_BYTES, first_space};
 use dm_table::are_same;
 use indexmap::IndexSet;
 use std::alloc::{AllocError, Global};
@@ -135,11 +135,11 @@ impl NameIndex {
         ensures space { IfSome result
             (λ found. text.now ≡ take found.1 text.now ++ code " " ∷ drop (found.1 + 1) text.now) }
     {
-        let room = text.first_chunk::<ROOM>()?;
-        let Some(len) = first_space(room) else {
+        let array = text.first_chunk::<KEY_BYTES>()?;
+        let Some(len) = first_space(array) else {
             return self.find_long(text);
         };
-        let number = self.find_key(&NameKey::short(room, len))?;
+        let number = self.find_key(&NameKey::short(array, len))?;
         Some((number, len))
     }
 
@@ -161,7 +161,7 @@ impl NameIndex {
         ensures { IfSome result (λ number. position (λ other. is_same other name.now) self.now ≡ Some number) }
     {
         let number = self.find_key(&NameKey::of(name))?;
-        if name.len() < ROOM {
+        if name.len() < KEY_BYTES {
             return Some(number);
         }
         // Other names may have the key of a long one.
@@ -175,7 +175,7 @@ impl NameIndex {
     /// The number at a place that has a key.
     #[inline(always)]
     fn find_key(&self, key: &NameKey) -> Option<usize>
-        ensures { (name : List ℕ) → length name < ROOM → IsKeyOf name key.now
+        ensures { (name : List ℕ) → length name < KEY_BYTES → IsKeyOf name key.now
             → IfSome result (λ number. position (λ other. is_same other name) self.now ≡ Some number) }
     {
         let ahead = self.places.get(first_place(key, self.shift)..)?;
@@ -229,7 +229,7 @@ fn place_digits(names: usize) -> u32
 
 /// A place that has no name.
 fn empty_place() -> Place
-    ensures { ROOM ≤ result.key.len }
+    ensures { KEY_BYTES ≤ result.key.len }
 {
     Place {
         key: NameKey {
@@ -254,7 +254,7 @@ fn first_place(key: &NameKey, shift: u32) -> usize {
 /// Puts a place at the first empty one from an index on, unless all are taken.
 fn put(places: &mut Vec<Place>, from: usize, place: Place)
     ensures { (names : List (List ℕ)) → ArePlaces names places.old.items
-        → (place.key.len < ROOM → IsPlaceOf names place) → ArePlaces names places.new.items }
+        → (place.key.len < KEY_BYTES → IsPlaceOf names place) → ArePlaces names places.new.items }
 {
     let end = places.len().min(from.saturating_add(TRIES));
     let mut at = from;
@@ -273,12 +273,12 @@ fn space_ahead(text: &[u8]) -> Option<usize>
     ensures space { IfSome result (λ len. get_or text.now len 0 ≡ code " ") }
 {
     let mut from = 0;
-    'rooms: while from < LONGEST {
-        let room = text.get(from..)?.first_chunk::<ROOM>()?;
-        if let Some(at) = first_space(room) {
+    'steps: while from < LONGEST {
+        let array = text.get(from..)?.first_chunk::<KEY_BYTES>()?;
+        if let Some(at) = first_space(array) {
             return Some(from + at);
         }
-        from += ROOM;
+        from += KEY_BYTES;
     }
     None
 }

@@ -11,13 +11,13 @@ ghost use Rattle.std.specs.Prelude.{◌≡◌, ◌-◌, ◌<◌, ◌≤◌, ◌+
 ghost use Rattle.std.specs.Int.{to_le_bytes, w64};
 ghost use Rattle.dm_table.specs.words.Bytes.{code};
 ghost use Rattle.dm_stack.specs.names.NameIndex.{IsKeyOf};
-ghost use Rattle.dm_stack.specs.declared.names.name_key.TheConstants.{ROOM};
+ghost use Rattle.dm_stack.specs.declared.names.name_key.TheConstants.{KEY_BYTES};
 
-use dm_table::{as_room, put_bytes};
+use dm_table::{as_array, put_bytes};
 use std::simd::prelude::*;
 
 /// How many bytes are read together: one more than a short name has.
-pub(crate) const ROOM: usize = 16;
+pub(crate) const KEY_BYTES: usize = 16;
 
 /// A name as two words, and its length.
 #[derive(Clone, Copy)]
@@ -31,24 +31,24 @@ impl NameKey {
     /// The key of a name.
     pub(crate) fn of(name: &[u8]) -> NameKey
         ensures len { result.len ≡ length name.now }
-        ensures key { length name.now < ROOM → IsKeyOf name.now result }
+        ensures key { length name.now < KEY_BYTES → IsKeyOf name.now result }
     {
         let len = name.len();
-        if len >= ROOM {
+        if len >= KEY_BYTES {
             return NameKey::long(name);
         }
-        let mut room = [0; ROOM];
-        let _end = put_bytes(&mut room, 0, name);
-        NameKey::short(&room, len)
+        let mut array = [0; KEY_BYTES];
+        let _end = put_bytes(&mut array, 0, name);
+        NameKey::short(&array, len)
     }
 
-    /// The key of a short name, the first bytes of a room.
+    /// The key of a short name, the first bytes of an array.
     #[inline(always)]
-    pub(crate) fn short(room: &[u8; ROOM], len: usize) -> NameKey
-        requires { len < ROOM }
-        ensures { IsKeyOf (take len room.now) result }
+    pub(crate) fn short(array: &[u8; KEY_BYTES], len: usize) -> NameKey
+        requires { len < KEY_BYTES }
+        ensures { IsKeyOf (take len array.now) result }
     {
-        let kept = first_kept(room, len);
+        let kept = first_kept(array, len);
         NameKey {
             first: word_of(&kept[..8]),
             last: word_of(&kept[8..]),
@@ -58,7 +58,7 @@ impl NameKey {
 
     /// The key of a long name.
     fn long(name: &[u8]) -> NameKey
-        requires { ROOM ≤ length name.now }
+        requires { KEY_BYTES ≤ length name.now }
         ensures { result.len ≡ length name.now }
     {
         let len = name.len();
@@ -77,19 +77,19 @@ impl NameKey {
 }
 
 /// As many bytes that keep a byte as bytes that don't.
-static KEPT: [u8; 2 * ROOM] = [
+static KEPT: [u8; 2 * KEY_BYTES] = [
     255, 255, 255, 255, 255, 255, 255, 255, 255, 255, 255, 255, 255, 255, 255, 255, 0, 0, 0, 0, 0,
     0, 0, 0, 0, 0, 0, 0, 0, 0, 0, 0,
 ];
 
-/// The first bytes of a room, and zeros for the others.
+/// The first bytes of an array, and zeros for the others.
 #[inline(always)]
-fn first_kept(room: &[u8; ROOM], len: usize) -> [u8; ROOM]
-    requires { len < ROOM }
-    ensures { result ≡ take len room.now ++ replicate (16 - len) 0 }
+fn first_kept(array: &[u8; KEY_BYTES], len: usize) -> [u8; KEY_BYTES]
+    requires { len < KEY_BYTES }
+    ensures { result ≡ take len array.now ++ replicate (16 - len) 0 }
 {
-    let kept = as_room::<ROOM>(&KEPT[ROOM - len..2 * ROOM - len]);
-    (u8x16::from_array(*room) & u8x16::from_array(*kept)).to_array()
+    let kept = as_array::<KEY_BYTES>(&KEPT[KEY_BYTES - len..2 * KEY_BYTES - len]);
+    (u8x16::from_array(*array) & u8x16::from_array(*kept)).to_array()
 }
 
 /// Eight bytes as a word.
@@ -98,16 +98,16 @@ fn word_of(bytes: &[u8]) -> u64
     requires { length bytes.now ≡ 8 }
     ensures { to_le_bytes w64 result ≡ bytes.now }
 {
-    u64::from_le_bytes(*as_room::<8>(bytes))
+    u64::from_le_bytes(*as_array::<8>(bytes))
 }
 
-/// Where the first space of a room stands.
+/// Where the first space of an array stands.
 #[inline(always)]
-pub(crate) fn first_space(room: &[u8; ROOM]) -> Option<usize>
-    ensures within { IfSome result (λ at. at < ROOM) }
-    ensures space { IfSome result (λ at. get_or room.now at 0 ≡ code " ") }
+pub(crate) fn first_space(array: &[u8; KEY_BYTES]) -> Option<usize>
+    ensures within { IfSome result (λ at. at < KEY_BYTES) }
+    ensures space { IfSome result (λ at. get_or array.now at 0 ≡ code " ") }
 {
-    let spaces = u8x16::from_array(*room)
+    let spaces = u8x16::from_array(*array)
         .simd_eq(u8x16::splat(b' '))
         .to_bitmask();
     if spaces == 0 {

@@ -24,7 +24,7 @@ tens_and_last n fits = elim (cases_lt n 10) [
       cc (decimal_step n large fits, some_tens (n / 10) some)
 ]
 
--- the prefix at the front of some room, with the last digit set
+-- the prefix at the front of some array, with the last digit set
 pub last_digit_set : (text : List ℕ) (end old new : ℕ) → 2 ≤ end → end ≤ length text → old < 2 ^ 64 → new < 2 ^ 64 → new / 10 ≡ old / 10 → take end text ≡ number_prefix old → take end (set text (end - 2) (48 + new % 10)) ≡ number_prefix new
 last_digit_set text end old new some within old_fits new_fits tens is =
     let first = tens_text (old / 10) in

@@ -15,7 +15,7 @@ letter_for false = 82
 abbrev pub line_head : (is_write : Bool) (text : List ℕ) → List ℕ
 line_head is_write text = letter_for is_write ∷ code " " ∷ text
 
--- rooms that begin with these, for reads and for writes
+-- arrays that begin with these, for reads and for writes
 pub record AreHeads (heads : List (List ℕ)) (text : List ℕ) : Type 0 where
   pub reads : take (length text + 2) (get_or heads 0 []) ≡ line_head false text
   pub writes : take (length text + 2) (get_or heads 1 []) ≡ line_head true text

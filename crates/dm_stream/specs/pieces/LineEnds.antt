@@ -6,9 +6,9 @@ use Rattle.dm_table.specs.words.Bytes.{code}
 abbrev pub line_end : ℕ → List ℕ
 line_end len = decimal len ++ code "\n" ∷ []
 
--- a room of eight bytes begins with that, and says as the last of them how many bytes it is
+-- an array of eight bytes begins with that, and says as the last of them how many bytes it is
 abbrev pub IsLineEnd : ℕ → List ℕ → Type 0
-IsLineEnd len room = (length room ≡ 8) × (get_or room 7 0 ≤ 8) × (take (get_or room 7 0) room ≡ line_end len)
+IsLineEnd len array = (length array ≡ 8) × (get_or array 7 0 ≤ 8) × (take (get_or array 7 0) array ≡ line_end len)
 
 -- each length below a bound has one
 abbrev pub AreMade : ℕ → List (List ℕ) → Type 0

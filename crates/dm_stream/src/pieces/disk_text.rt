@@ -1,10 +1,10 @@
 //! The name of a disk as lines have it: with a space after it, and in lines of reads and writes a letter and a
 //! space before it.
 //!
-//! A name is mostly short, and then a room of a fixed size is copied, past the end of its text.
+//! A name is mostly short, and then an array of a fixed size is copied, past the end of its text.
 //!
-//! This is here for speed alone: RESULTS.md has its gain as *letter and disk's name in one room* and *texts kept
-//! ready*. It rests on a room that is longer than a short text, and on a block with space after it. Change it only
+//! This is here for speed alone: RESULTS.md has its gain as *letter and disk's name in one array* and *texts kept
+//! ready*. It rests on an array that is longer than a short text, and on a block with space after it. Change it only
 //! if you measure small requests, and large ones over 16 columns, before and after.
 
 ghost use Rattle.std.specs.Prelude.{◌≡◌, ◌∷◌, ◌+◌, ◌≤◌, length, take};
@@ -13,11 +13,11 @@ ghost use Rattle.dm_table.specs.words.Bytes.{code};
 ghost use Rattle.dm_stream.specs.pieces.DiskText.{disk_text, line_head};
 
 use crate::pieces::letter::Letter;
-use dm_table::{DiskName, put_bytes, put_room};
+use dm_table::{DiskName, put_bytes, put_array};
 use std::marker::Model;
 
 /// The bytes of the longest text: those of a name, and a space.
-const ROOM: usize = 256;
+const TEXT_BYTES: usize = 256;
 
 /// The bytes that are copied of a short text.
 const SHORT: usize = 32;
@@ -31,7 +31,7 @@ pub(crate) struct DiskText {
     len: usize,
     /// What lines of reads and of writes have of it, if it is short.
     heads: [[u8; SHORT]; 2],
-    text: [u8; ROOM],
+    text: [u8; TEXT_BYTES],
 }
 
 impl Model for DiskText {
@@ -51,7 +51,7 @@ impl DiskText {
     pub(crate) fn new(name: &DiskName) -> DiskText
         ensures { result ≡ disk_text name.now }
     {
-        let mut text = [b' '; ROOM];
+        let mut text = [b' '; TEXT_BYTES];
         let end = put_bytes(&mut text, 0, name.as_str().as_bytes());
         let len = put_bytes(&mut text, end, b" ");
         let heads = [
@@ -65,35 +65,35 @@ impl DiskText {
     /// 256 bytes from there on.
     #[inline(always)]
     pub(crate) fn put_into(&self, block: &mut [u8], at: usize) -> usize
-        requires { at + ROOM ≤ length block.old }
+        requires { at + TEXT_BYTES ≤ length block.old }
         ensures put { IsPut self.now at block.old block.new result }
-        ensures few { result ≤ at + ROOM }
+        ensures few { result ≤ at + TEXT_BYTES }
     {
         if self.len > SHORT {
             return put_long(block, at, &self.text, self.len);
         }
-        let Some(room) = self.text.first_chunk::<SHORT>() else {
+        let Some(array) = self.text.first_chunk::<SHORT>() else {
             unreachable!()
         };
-        put_room(block, at, room, self.len)
+        put_array(block, at, array, self.len)
     }
 
     /// Puts what lines of reads or of writes have of it, a letter and a space before the name, at an
     /// offset of a block, and returns where they end. The block has 258 bytes from there on.
     #[inline(always)]
     pub(crate) fn put_head(&self, block: &mut [u8], at: usize, letter: Letter) -> usize
-        requires { at + ROOM + 2 ≤ length block.old }
+        requires { at + TEXT_BYTES + 2 ≤ length block.old }
         ensures put { IsPut (line_head letter self.now) at block.old block.new result }
-        ensures few { result ≤ at + ROOM + 2 }
+        ensures few { result ≤ at + TEXT_BYTES + 2 }
     {
         if self.len > SHORT - 2 {
             return put_long_head(block, at, letter, &self.text, self.len);
         }
-        put_room(block, at, &self.heads[letter.index()], self.len + 2)
+        put_array(block, at, &self.heads[letter.index()], self.len + 2)
     }
 }
 
-/// A letter, a space and a text at the front of a room, if they fit.
+/// A letter, a space and a text at the front of an array, if they fit.
 fn short_head(letter: u8, text: &[u8]) -> [u8; SHORT]
     ensures { length text.now ≤ 30
         → take (length text.now + 2) result ≡ letter ∷ code " " ∷ text.now }

@@ -1,7 +1,7 @@
 //! The letters of reads and writes.
 //!
 //! They are here for speed alone, as an `Op` says the same: RESULTS.md has the gain as *letter and disk's name in
-//! one room*. Measure small requests before and after a change.
+//! one array*. Measure small requests before and after a change.
 
 ghost use Rattle.std.specs.Prelude.{◌≡◌, if◌then◌else◌, not};
 

@@ -10,7 +10,7 @@ ghost use Rattle.std.specs.Prelude.{◌≡◌, ◌+◌, ◌++◌, ◌∷◌, ◌
 ghost use Rattle.dm_table.specs.io.Block.{IsPut};
 ghost use Rattle.dm_table.specs.words.Bytes.{code};
 ghost use Rattle.dm_stream.specs.pieces.LineEnds.{AreMade, IsLineEnd, line_end};
-ghost use Rattle.dm_stream.specs.declared.pieces.line_ends.TheConstants.{LENGTHS, LONGEST, ROOM};
+ghost use Rattle.dm_stream.specs.declared.pieces.line_ends.TheConstants.{LENGTHS, LONGEST, END_BYTES};
 
 use dm_table::{put_bytes, put_digits};
 
@@ -20,20 +20,20 @@ const LONGEST: usize = 21;
 /// How many lengths have a text.
 const LENGTHS: usize = 1000;
 
-/// The room in bytes: three digits, a newline, and how many bytes these are as the last.
-const ROOM: usize = 8;
+/// The bytes of an end: three digits, a newline, and how many bytes these are as the last.
+const END_BYTES: usize = 8;
 
 /// The ends of lines of each length below 1,000.
 #[derive(Drop)]
 pub(crate) struct LineEnds {
-    ends: [[u8; ROOM]; LENGTHS],
+    ends: [[u8; END_BYTES]; LENGTHS],
     ghost made: { AreMade 1000 ends },
 }
 
 impl LineEnds {
     /// Each as text.
     pub(crate) fn new() -> LineEnds {
-        let mut ends = [[b' '; ROOM]; LENGTHS];
+        let mut ends = [[b' '; END_BYTES]; LENGTHS];
         let mut len = 0;
         'lengths: while len < LENGTHS {
             ends[len] = line_end(len);
@@ -73,28 +73,28 @@ impl LineEnds {
     #[inline(always)]
     fn put_short(&self, block: &mut [u8], at: usize, len: u64) -> usize
         requires short { len < LENGTHS }
-        requires room { at + ROOM ≤ length block.old }
+        requires room { at + END_BYTES ≤ length block.old }
         ensures put { IsPut (line_end len) at block.old block.new result }
-        ensures few { result ≤ at + ROOM }
+        ensures few { result ≤ at + END_BYTES }
     {
         let end = self.ends[len as usize];
         let _whole = put_bytes(block, at, &end);
-        at + usize::from(end[ROOM - 1])
+        at + usize::from(end[END_BYTES - 1])
     }
 }
 
-/// The end of a line of this length, at the front of its room.
-fn line_end(len: usize) -> [u8; ROOM]
+/// The end of a line of this length, at the front of its array.
+fn line_end(len: usize) -> [u8; END_BYTES]
     requires { len < LENGTHS }
     ensures { IsLineEnd len result }
 {
     let mut text = [b'\n'; 24];
     let end = put_digits(&mut text, 0, len as u64);
     let end = put_bytes(&mut text, end, b"\n");
-    let Some(front) = text.first_chunk::<ROOM>() else {
+    let Some(front) = text.first_chunk::<END_BYTES>() else {
         unreachable!()
     };
-    let mut room = *front;
-    room[ROOM - 1] = end as u8;
-    room
+    let mut end_of_line = *front;
+    end_of_line[END_BYTES - 1] = end as u8;
+    end_of_line
 }

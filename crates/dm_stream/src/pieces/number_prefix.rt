@@ -1,28 +1,28 @@
 //! What each line of a request begins with: its number and a space.
 //!
 //! The numbers of requests mostly rise by one, so if only the last digit differs it is changed in
-//! place. The room is copied whole.
+//! place. The array is copied whole.
 //!
-//! This is here for speed alone: RESULTS.md has its gain as *texts kept ready*. It rests on the room always having
+//! This is here for speed alone: RESULTS.md has its gain as *texts kept ready*. It rests on the array always having
 //! the text of its number. Change it only if you measure small requests before and after.
 
 ghost use Rattle.std.specs.Prelude.{◌≡◌, ◌+◌, ◌≤◌, length, take};
 ghost use Rattle.dm_table.specs.io.Block.{IsPut};
 ghost use Rattle.dm_stream.specs.pieces.NumberPrefix.{number_prefix};
 
-use dm_table::{put_bytes, put_digits, put_room};
+use dm_table::{put_bytes, put_digits, put_array};
 use std::marker::Model;
 
-/// The room in bytes: the digits of a number, a space, and what makes the copy cheap.
-pub(crate) const ROOM: usize = 32;
+/// The bytes of a prefix: the digits of a number, a space, and what makes the copy cheap.
+pub(crate) const PREFIX_BYTES: usize = 32;
 
-/// A number and a space as text, at the front of the room.
+/// A number and a space as text, at the front of the array.
 #[derive(Drop)]
 pub(crate) struct NumberPrefix {
     number: u64,
     /// The number with 0 for its last digit.
     tens: u64,
-    text: [u8; ROOM],
+    text: [u8; PREFIX_BYTES],
     /// Where the text ends, two bytes after its last digit.
     end: usize,
 }
@@ -46,7 +46,7 @@ impl NumberPrefix {
     pub(crate) fn new() -> NumberPrefix
         ensures { result ≡ 0 }
     {
-        let mut text = [b' '; ROOM];
+        let mut text = [b' '; PREFIX_BYTES];
         let end = put_prefix(&mut text, 0);
         NumberPrefix {
             number: 0,
@@ -73,22 +73,22 @@ impl NumberPrefix {
     /// Puts the number and a space at an offset in a block, and returns where they end.
     #[inline(always)]
     pub(crate) fn put_into(&self, block: &mut [u8], at: usize) -> usize
-        requires { at + ROOM ≤ length block.old }
+        requires { at + PREFIX_BYTES ≤ length block.old }
         ensures put { IsPut (number_prefix self.now) at block.old block.new result }
         ensures some { at + 2 ≤ result }
-        ensures few { result ≤ at + ROOM }
+        ensures few { result ≤ at + PREFIX_BYTES }
     {
-        put_room(block, at, &self.text, self.end)
+        put_array(block, at, &self.text, self.end)
     }
 }
 
-/// Puts a number and a space at the front of a room, and returns where they end.
+/// Puts a number and a space at the front of an array, and returns where they end.
 #[cold]
 #[inline(never)]
 fn put_prefix(text: &mut [u8], number: u64) -> usize
-    requires { length text.old ≡ ROOM }
+    requires { length text.old ≡ PREFIX_BYTES }
     ensures some { 2 ≤ result }
-    ensures within { result ≤ ROOM }
+    ensures within { result ≤ PREFIX_BYTES }
     ensures text { take result text.new ≡ number_prefix number }
 {
     let end = put_digits(text, 0, number);

@@ -4,7 +4,7 @@
 //! through a function of their own. A new kind of piece is an arm of `put_other` or `put_rare` here and of
 //! `unit_text` in `specs/pieces/PieceText`.
 //!
-//! That is for speed alone, with the rooms that lines are copied from: RESULTS.md has the gain as *texts kept ready*.
+//! That is for speed alone, with the arrays that lines are copied from: RESULTS.md has the gain as *texts kept ready*.
 //! It rests on no line being longer than `TEXT_ROOM`. Change it only if you measure small requests, and large ones
 //! over 16 columns, before and after.
 

@@ -1,5 +1,5 @@
 //! What the lines of pieces without a disk begin with after the number: a word and a space, which are
-//! copied as one room, as *texts kept ready* of RESULTS.md are.
+//! copied as one array, as *texts kept ready* of RESULTS.md are.
 
 ghost use Rattle.std.specs.Prelude.{◌≡◌, ◌+◌, ◌≤◌, length};
 ghost use Rattle.dm_table.specs.io.Block.{IsPut};
@@ -10,13 +10,13 @@ use dm_map::Piece;
 use dm_table::put_bytes;
 use std::marker::Model;
 
-/// The room in bytes: the longest word, a space, and what makes the copy cheap.
-const ROOM: usize = 8;
+/// The bytes of one: the longest word, a space, and what makes the copy cheap.
+const WORD_BYTES: usize = 8;
 
-/// A word and a space, at the front of the room. A clause sees these bytes.
+/// A word and a space, at the front of an array. A clause sees these bytes.
 #[derive(Drop)]
 pub(crate) struct PlainWord {
-    room: [u8; ROOM],
+    bytes: [u8; WORD_BYTES],
     len: usize,
 }
 
@@ -25,7 +25,7 @@ impl Model for PlainWord {
 
     ghost Value = { List ℕ };
 
-    ghost view = { λ word. take word.len word.room };
+    ghost view = { λ word. take word.len word.bytes };
 
     ghost invariant = { λ word. (4 ≤ word.len) × (word.len ≤ 8) };
 }
@@ -39,15 +39,15 @@ impl PlainWord {
     {
         match *piece {
             Piece::Zero { .. } => PlainWord {
-                room: *b"zero    ",
+                bytes: *b"zero    ",
                 len: 5,
             },
             Piece::Drop { .. } => PlainWord {
-                room: *b"drop    ",
+                bytes: *b"drop    ",
                 len: 5,
             },
             _ => PlainWord {
-                room: *b"error   ",
+                bytes: *b"error   ",
                 len: 6,
             },
         }
@@ -56,12 +56,12 @@ impl PlainWord {
     /// Puts the word and the space at an offset in a block, and returns where they end.
     #[inline(always)]
     pub(crate) fn put_into(&self, block: &mut [u8], at: usize) -> usize
-        requires { at + ROOM ≤ length block.old }
+        requires { at + WORD_BYTES ≤ length block.old }
         ensures put { IsPut self.now at block.old block.new result }
         ensures some { at + 4 ≤ result }
-        ensures few { result ≤ at + ROOM }
+        ensures few { result ≤ at + WORD_BYTES }
     {
-        let _whole = put_bytes(block, at, &self.room);
+        let _whole = put_bytes(block, at, &self.bytes);
         at + self.len
     }
 }

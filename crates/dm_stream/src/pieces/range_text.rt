@@ -13,18 +13,18 @@ ghost use Rattle.dm_table.specs.io.Block.{IsPut};
 ghost use Rattle.dm_stream.specs.pieces.RangeText.{range_text, IsKept};
 
 use crate::pieces::line_ends::LineEnds;
-use dm_table::{put_bytes, put_digits, put_room};
+use dm_table::{put_bytes, put_digits, put_array};
 use std::marker::Model;
 
-/// The room in bytes: two numbers, a space and a newline, and what makes the copy cheap.
-const ROOM: usize = 48;
+/// The bytes of a range: two numbers, a space and a newline, and what makes the copy cheap.
+const RANGE_BYTES: usize = 48;
 
 /// The range that came last, and its text if it came twice or is likely to.
 #[derive(Drop)]
 pub(crate) struct RangeText {
     start: u64,
     len: u64,
-    text: [u8; ROOM],
+    text: [u8; RANGE_BYTES],
     /// Where the text ends: 0 if none is kept.
     end: usize,
     /// Whether the range came more than once.
@@ -52,7 +52,7 @@ impl RangeText {
         RangeText {
             start: 0,
             len: 0,
-            text: [b' '; ROOM],
+            text: [b' '; RANGE_BYTES],
             end: 0,
             came_again: false,
         }
@@ -99,13 +99,13 @@ impl RangeText {
         start: u64,
         len: u64,
     ) -> usize
-        requires room { at + ROOM ≤ length block.old }
+        requires room { at + RANGE_BYTES ≤ length block.old }
         requires kept { IsKept self.now start len }
         ensures put { IsPut (range_text start len) at block.old block.new result }
-        ensures few { result ≤ at + ROOM }
+        ensures few { result ≤ at + RANGE_BYTES }
     {
         if self.end > 0 {
-            return put_room(block, at, &self.text, self.end);
+            return put_array(block, at, &self.text, self.end);
         }
         put_next_range(ends, block, at, start, len)
     }
@@ -115,7 +115,7 @@ impl RangeText {
 /// short line is copied.
 #[inline(never)]
 fn put_next_range(ends: &LineEnds, block: &mut [u8], at: usize, start: u64, len: u64) -> usize
-    requires { at + ROOM ≤ length block.old }
+    requires { at + RANGE_BYTES ≤ length block.old }
     ensures put { IsPut (range_text start len) at block.old block.new result }
     ensures few { result ≤ at + 43 }
 {
@@ -127,7 +127,7 @@ fn put_next_range(ends: &LineEnds, block: &mut [u8], at: usize, start: u64, len:
 /// The same without ends that were made before.
 #[inline(never)]
 fn put_range(block: &mut [u8], at: usize, start: u64, len: u64) -> usize
-    requires { at + ROOM ≤ length block.old }
+    requires { at + RANGE_BYTES ≤ length block.old }
     ensures put { IsPut (range_text start len) at block.old block.new result }
     ensures few { result ≤ at + 43 }
 {

@@ -18,7 +18,7 @@ use std::marker::Model;
 pub const MOST_LINE_BYTES: usize = 4096;
 
 /// How many bytes the buffer has.
-const ROOM: usize = 65536;
+const BUFFER_BYTES: usize = 65536;
 
 /// What comes next.
 #[derive(Clone, Copy, Debug, PartialEq, Eq)]
@@ -47,20 +47,20 @@ enum NextHeld {
 /// Lines of an input. Clauses see the bytes that were read and not yet returned.
 #[derive(Drop)]
 pub struct Lines {
-    buffer: [u8; ROOM],
+    buffer: [u8; BUFFER_BYTES],
     start: usize,
     end: usize,
 }
 
 impl Model for Lines {
     ghost use Rattle.std.specs.Prelude.{◌≤◌, List, ℕ, slice_range};
-    ghost use Rattle.dm_stream.specs.declared.requests.lines.TheConstants.{ROOM};
+    ghost use Rattle.dm_stream.specs.declared.requests.lines.TheConstants.{BUFFER_BYTES};
 
     ghost Value = { List ℕ };
 
     ghost view = { λ lines. slice_range lines.buffer lines.start lines.end };
 
-    ghost invariant = { λ lines. (lines.start ≤ lines.end) × (lines.end ≤ ROOM) };
+    ghost invariant = { λ lines. (lines.start ≤ lines.end) × (lines.end ≤ BUFFER_BYTES) };
 }
 
 impl Lines {
@@ -73,7 +73,7 @@ impl Lines {
         ensures { result ≡ [] }
     {
         Lines {
-            buffer: [0; ROOM],
+            buffer: [0; BUFFER_BYTES],
             start: 0,
             end: 0,
         }
@@ -143,7 +143,7 @@ impl Lines {
         ensures count { IfOk result (λ n. length self.new ≡ length self.old + n) }
         ensures none { IfOk result (λ n. n ≡ 0 → self.new ≡ self.old) }
         ensures err { OnErr result (self.new ≡ self.old) }
-        ensures room { length self.new ≤ ROOM }
+        ensures room { length self.new ≤ BUFFER_BYTES }
     {
         let held = self.end - self.start;
         self.start = make_room(&mut self.buffer, self.start, self.end, MOST_LINE_BYTES);

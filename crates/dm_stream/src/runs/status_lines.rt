@@ -1,6 +1,6 @@
 //! The status lines of snapshots: how much of each store is used.
 //!
-//! They come once a run, after its last answer, so each is put together in a room of its own and
+//! They come once a run, after its last answer, so each is put together in an array of its own and
 //! written by plain calls. What they say is in `specs/runs/StatusLines.antt`.
 
 ghost use Rattle.std.specs.Prelude.{◌≡◌, ◌++◌, ◌<◌, ◌≤◌, ◌∷◌, [], length};
@@ -16,7 +16,7 @@ use dm_stack::{DeviceId, Stack};
 use dm_table::{OutFault, Output, append, append_number, write_all};
 
 /// The most bytes after the name: four numbers of 20 digits, and what stands around them.
-const ROOM: usize = 128;
+const REST_BYTES: usize = 128;
 
 /// Writes the status line of each snapshot of a mapper's stack, in the order of the devices.
 ///
@@ -55,7 +55,7 @@ fn write_line<W: Output>(
 }
 
 /// What stands after the name in the line of a snapshot of this length.
-fn after_name(len: u64, usage: Usage) -> ArrayVec<u8, ROOM>
+fn after_name(len: u64, usage: Usage) -> ArrayVec<u8, REST_BYTES>
     ensures { result.items ≡ after_name len usage }
 {
     let mut text = ArrayVec::new();
@@ -67,7 +67,7 @@ fn after_name(len: u64, usage: Usage) -> ArrayVec<u8, ROOM>
 }
 
 /// Appends how much of a store is used, in sectors, or that its snapshot is not valid, and ends the line.
-fn put_usage(text: &mut ArrayVec<u8, ROOM>, usage: Usage)
+fn put_usage(text: &mut ArrayVec<u8, REST_BYTES>, usage: Usage)
     requires { length text.old.items ≤ 40 }
     ensures { text.new.items ≡ text.old.items ++ usage_text usage ++ code "\n" ∷ [] }
 {

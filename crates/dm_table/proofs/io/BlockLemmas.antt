@@ -3,15 +3,15 @@ use Rattle.std.proofs.Common.{◌≡◌, ℕ, ◌+◌, ◌-◌, ◌≤◌, ◌++
 use Rattle.std.proofs.Math.Seq.{take-add, take-append-add, take-append_seam}
 use Rattle.std.proofs.lemmas.List.{take-take}
 
--- what was put after a front and a part of a room, where that is the next part
-pub next_part : (at end from to : ℕ) (new old front part room : List ℕ) → from ≤ to → take at old ≡ front ++ take from room → take end new ≡ take at old ++ part → part ≡ slice_range room from to → take end new ≡ front ++ take to room
-next_part at end from to new old front part room ordered before after is =
+-- what was put after a front and a part of an array, where that is the next part
+pub next_part : (at end from to : ℕ) (new old front part array : List ℕ) → from ≤ to → take at old ≡ front ++ take from array → take end new ≡ take at old ++ part → part ≡ slice_range array from to → take end new ≡ front ++ take to array
+next_part at end from to new old front part array ordered before after is =
     let all : from + (to - from) ≡ to = omega arith in
     rw (after, before, append_assoc, is, ← take-add, all)
 
--- a text at the front of a room that was put whole
-pub room_text : (at end all len : ℕ) (new front room : List ℕ) → length front ≡ at → end ≡ at + all → len ≤ all → take end new ≡ front ++ take all room → take (at + len) new ≡ front ++ take len room
-room_text at end all len new front room is ends fits put =
+-- a text at the front of an array that was put whole
+pub array_text : (at end all len : ℕ) (new front array : List ℕ) → length front ≡ at → end ≡ at + all → len ≤ all → take end new ≡ front ++ take all array → take (at + len) new ≡ front ++ take len array
+array_text at end all len new front array is ends fits put =
     let cut = sym (take-take (at + len) end new (omega (arith, ends, fits))) in
     let place : at + len ≡ length front + len = omega (arith, is) in
     rw (cut, put, place, take-append-add, take-take)

@@ -1,7 +1,7 @@
 //! Parts of a text put into a block of bytes, one after the other.
 //!
 //! Each says what the block holds up to its end, so the parts of a line add up. What stands after
-//! the end is free: a room of a fixed size is copied whole, past the end of its text, since such a
+//! the end is free: an array of a fixed size is copied whole, past the end of its text, since such a
 //! copy is the cheapest.
 //!
 //! Rooms, and copies of a known length, are here for speed alone: RESULTS.md has their gain as *texts kept
@@ -11,8 +11,8 @@
 ghost use Rattle.std.specs.Prelude.{◌≡◌, ◌++◌, ◌+◌, ◌≤◌, length, take, drop, decimal};
 ghost use Rattle.dm_table.specs.io.Block.{IsPut};
 
+use crate::words::array::as_array;
 use crate::words::number_text::MOST_DIGITS;
-use crate::words::room::as_room;
 
 /// Copies bytes to an offset in a block.
 #[inline(always)]
@@ -24,45 +24,45 @@ fn copy_to(block: &mut [u8], at: usize, bytes: &[u8])
     block[at..at + bytes.len()].copy_from_slice(bytes);
 }
 
-/// Sets a slice to a room, as one value: a copy from one slice to another asks first whether they
+/// Sets a slice to an array, as one value: a copy from one slice to another asks first whether they
 /// overlap.
 #[inline(always)]
-fn set_room<const ROOM: usize>(place: &mut [u8], room: &[u8; ROOM])
-    requires { length place.old ≡ ROOM }
-    ensures { place.new ≡ room.now }
+fn set_array<const LEN: usize>(place: &mut [u8], array: &[u8; LEN])
+    requires { length place.old ≡ LEN }
+    ensures { place.new ≡ array.now }
 {
-    let Some(whole) = place.first_chunk_mut::<ROOM>() else {
+    let Some(whole) = place.first_chunk_mut::<LEN>() else {
         unreachable!()
     };
-    *whole = *room;
+    *whole = *array;
 }
 
-/// Copies a room to an offset in a block, and returns where the text ends that the room begins with.
+/// Copies an array to an offset in a block, and returns where the text ends that the array begins with.
 ///
-/// It goes by 16 bytes, which are read before they are written: a room that is copied as one value is
+/// It goes by 16 bytes, which are read before they are written: an array that is copied as one value is
 /// stored aside first, where this is put into a long function.
 #[inline(always)]
-pub fn put_room<const ROOM: usize>(
+pub fn put_array<const LEN: usize>(
     block: &mut [u8],
     at: usize,
-    room: &[u8; ROOM],
+    array: &[u8; LEN],
     len: usize,
 ) -> usize
-    requires within { at + ROOM ≤ length block.old }
-    requires text { len ≤ ROOM }
+    requires within { at + LEN ≤ length block.old }
+    requires text { len ≤ LEN }
     ensures end { result ≡ at + len }
-    ensures put { IsPut (take len room.now) at block.old block.new result }
+    ensures put { IsPut (take len array.now) at block.old block.new result }
 {
-    let bytes = room.as_slice();
+    let bytes = array.as_slice();
     let mut done = 0;
-    'sixteens: while ROOM - done >= 16 {
-        let first = *as_room::<8>(&bytes[done..done + 8]);
-        let second = *as_room::<8>(&bytes[done + 8..done + 16]);
+    'sixteens: while LEN - done >= 16 {
+        let first = *as_array::<8>(&bytes[done..done + 8]);
+        let second = *as_array::<8>(&bytes[done + 8..done + 16]);
         let middle = put_known::<8>(block, at + done, &first);
         let _end = put_known::<8>(block, middle, &second);
         done += 16;
     }
-    let _end = put_any(block, at + done, &bytes[done..ROOM]);
+    let _end = put_any(block, at + done, &bytes[done..LEN]);
     at + len
 }
 
@@ -96,7 +96,7 @@ fn put_known<const LEN: usize>(block: &mut [u8], at: usize, bytes: &[u8]) -> usi
     requires within { at + length bytes.now ≤ length block.old }
     ensures { IsPut bytes.now at block.old block.new result }
 {
-    set_room(&mut block[at..at + LEN], as_room::<LEN>(bytes));
+    set_array(&mut block[at..at + LEN], as_array::<LEN>(bytes));
     at + bytes.len()
 }
 

@@ -57,9 +57,9 @@ pub trait Output {
         requires { 0 < length (T.text text.now) }
         ensures { Wrote (past self.old) (past self.new) result (T.text text.now) }
     {
-        let mut room = [0; TEXT_ROOM];
-        let len = text.put_into(&mut room, 0);
-        let mut rest = &room[..len];
+        let mut bytes = [0; TEXT_ROOM];
+        let len = text.put_into(&mut bytes, 0);
+        let mut rest = &bytes[..len];
         'rest: while !rest.is_empty() {
             let taken = self.write(rest)?;
             rest = &rest[taken..];

@@ -20,7 +20,7 @@ use std::marker::Model;
 const FULL: usize = 65536;
 
 /// The bytes of the block.
-const ROOM: usize = FULL + TEXT_ROOM;
+const BLOCK_BYTES: usize = FULL + TEXT_ROOM;
 
 /// An output in front of another one, which it gathers bytes for.
 ///
@@ -31,7 +31,7 @@ const ROOM: usize = FULL + TEXT_ROOM;
 #[derive(Drop)]
 pub struct Gathered<W: Output> {
     output: W,
-    block: [u8; ROOM],
+    block: [u8; BLOCK_BYTES],
     len: usize,
     /// Where as many bytes as this are gathered, they are passed on before the next text. It is 0
     /// once the other output failed.
@@ -42,7 +42,7 @@ pub struct Gathered<W: Output> {
 
 impl<W: Output> Model for Gathered<W> {
     ghost use Rattle.std.specs.Prelude.{◌≤◌, ◌==◌, take};
-    ghost use Rattle.dm_table.specs.declared.io.gathered.TheConstants.{FULL, ROOM};
+    ghost use Rattle.dm_table.specs.declared.io.gathered.TheConstants.{FULL, BLOCK_BYTES};
     ghost use Rattle.dm_table.specs.io.Gathered.{Gathering};
 
     ghost Value = { Gathering };
@@ -55,7 +55,7 @@ impl<W: Output> Model for Gathered<W> {
       flushes = g.flushes;
     } };
 
-    ghost invariant = { λ g. (g.len ≤ ROOM) × (g.limit ≤ FULL) };
+    ghost invariant = { λ g. (g.len ≤ BLOCK_BYTES) × (g.limit ≤ FULL) };
 }
 
 impl<W: Output> Gathered<W> {
@@ -73,7 +73,7 @@ impl<W: Output> Gathered<W> {
     {
         Gathered {
             output,
-            block: [0; ROOM],
+            block: [0; BLOCK_BYTES],
             len: 0,
             limit: FULL,
             faults: Tally::new(),
@@ -81,32 +81,16 @@ impl<W: Output> Gathered<W> {
         }
     }
 
-    /// Passes on what is gathered, up to a fault of the output; the rest stays gathered. Nothing is
-    /// passed on after a fault.
-    fn pass_on(&mut self)
-        ensures past { past_of self.new ≡ past_of self.old }
-        ensures minds { MindsFaults self.old self.new }
-        ensures all { self.new.broken ≡ false → self.new.held ≡ [] }
-    {
-        if self.limit == 0 {
-            return;
-        }
-        let sent = write_front(&mut self.output, &self.block, self.len);
-        move_to_front(&mut self.block, sent, self.len);
-        self.len -= sent;
-        self.limit = if self.len == 0 { FULL } else { 0 };
-    }
-
     /// Passes on all that is gathered, and counts a fault of the output as one of its own.
     #[cold]
     #[inline(never)]
-    fn empty(&mut self) -> Result<(), OutFault>
+    fn try_drain(&mut self) -> Result<(), OutFault>
         ensures past { past_of self.new ≡ with_fault (past_of self.old) result }
         ensures minds { MindsFaults self.old self.new }
         ensures fails { IsErr result ↔ (self.new.broken ≡ true) }
         ensures all { OnOk result (self.new.held ≡ []) }
     {
-        self.pass_on();
+        self.drain();
         if self.limit == 0 {
             self.faults.raise();
             return Err(OutFault);
@@ -114,16 +98,16 @@ impl<W: Output> Gathered<W> {
         Ok(())
     }
 
-    /// Makes room for a text, unless the output failed.
+    /// Drains a block that has no room for a text, unless the output failed.
     #[inline(always)]
-    fn make_room(&mut self) -> Result<(), OutFault>
+    fn drain_if_full(&mut self) -> Result<(), OutFault>
         ensures past { past_of self.new ≡ with_fault (past_of self.old) result }
         ensures minds { MindsFaults self.old self.new }
         ensures fails { IsErr result ↔ (self.new.broken ≡ true) }
         ensures room { OnOk result (length self.new.held ≤ FULL) }
     {
         if self.len >= self.limit {
-            return self.empty();
+            return self.try_drain();
         }
         Ok(())
     }
@@ -170,8 +154,8 @@ impl<W: Output> Output for Gathered<W> {
         ensures minds { MindsFaults self.old self.new }
         ensures fails { IsErr result ↔ (self.new.broken ≡ true) }
     {
-        self.make_room()?;
-        let n = bytes.len().min(ROOM - self.len);
+        self.drain_if_full()?;
+        let n = bytes.len().min(BLOCK_BYTES - self.len);
         self.len = put_bytes(&mut self.block, self.len, &bytes[..n]);
         Ok(n)
     }
@@ -182,7 +166,7 @@ impl<W: Output> Output for Gathered<W> {
         ensures fails { IsErr result ↔ (self.new.broken ≡ true) }
     {
         self.flushes.raise();
-        self.empty()?;
+        self.try_drain()?;
         match self.output.flush() {
             Ok(()) => Ok(()),
             Err(OutFault) => {
@@ -200,17 +184,24 @@ impl<W: Output> Output for Gathered<W> {
         ensures minds { MindsFaults self.old self.new }
         ensures fails { IsErr result ↔ (self.new.broken ≡ true) }
     {
-        self.make_room()?;
+        self.drain_if_full()?;
         self.len = text.put_into(&mut self.block, self.len);
         Ok(())
     }
 
-    /// A fault is left to the next write, `put` or flush, which fails.
+    /// What follows a fault of the output stays gathered, and nothing is passed on after it. It is left to the next
+    /// write, `put` or flush, which fails.
     fn drain(&mut self)
         ensures past { past_of self.new ≡ past_of self.old }
         ensures minds { MindsFaults self.old self.new }
         ensures all { self.new.broken ≡ false → self.new.held ≡ [] }
     {
-        self.pass_on();
+        if self.limit == 0 {
+            return;
+        }
+        let sent = write_front(&mut self.output, &self.block, self.len);
+        move_to_front(&mut self.block, sent, self.len);
+        self.len -= sent;
+        self.limit = if self.len == 0 { FULL } else { 0 };
     }
 }

@@ -1,6 +1,6 @@
 //! Texts that put themselves into a block of bytes.
 //!
-//! An output that gathers has a text put where it gathers, so no byte of it is copied twice. A room
+//! An output that gathers has a text put where it gathers, so no byte of it is copied twice. An array
 //! of a fixed size is copied whole, past the end of its text: the cheapest copy, and what stands
 //! after a text in a block is never read.
 

@@ -12,7 +12,7 @@ ghost use Rattle.dm_table.specs.declared.words.front_digits.TheConstants.{FRONT}
 ghost use Rattle.dm_table.specs.words.Number.{number_of};
 ghost use lib.Lanes.{Each1};
 
-use crate::words::room::as_room;
+use crate::words::array::as_array;
 use std::simd::prelude::*;
 
 /// How many bytes are read together.
@@ -26,7 +26,7 @@ pub(crate) fn read_front(text: &[u8]) -> Option<(u64, usize)>
     ensures within { IfSome result (λ read. read.1 < FRONT) }
     ensures number { IfSome result (λ read. number_of (take read.1 text.now) ≡ Some read.0) }
 {
-    let front = as_room::<FRONT>(&text[..FRONT]);
+    let front = as_array::<FRONT>(&text[..FRONT]);
     let digits = less_zero(front);
     let len = digits_ahead(digits)?;
     if len == 0 || (front[0] == b'0' && len != 1) {
@@ -65,12 +65,12 @@ fn number_ahead(digits: &[u8; FRONT], len: usize) -> u64
     requires digits { Each1 (λ digit. digit < 10) (take len digits.now) }
     ensures { result ≡ number_from_digits 10 (take len digits.now) }
 {
-    let first = as_room::<8>(&digits[..8]);
+    let first = as_array::<8>(&digits[..8]);
     if len <= 8 {
         return number_in_word(first, len);
     }
     let more = len - 8;
-    let last = as_room::<8>(&digits[8..FRONT]);
+    let last = as_array::<8>(&digits[8..FRONT]);
     number_in_word(first, 8) * POWERS[more] + number_in_word(last, more)
 }
 

@@ -9,7 +9,7 @@ ghost use Rattle.std.specs.Prelude.{◌≡◌, ◌-◌, ◌*◌, ◌<◌, ◌≤
 ghost use Rattle.dm_table.specs.words.Marks.{marks_of};
 ghost use lib.Lanes.{mask_l};
 
-use crate::words::room::as_room;
+use crate::words::array::as_array;
 use std::simd::prelude::*;
 
 /// The places of a byte in a text of 8 to 64 bytes.
@@ -52,7 +52,7 @@ fn marks_of_8(of: u8, text: &[u8]) -> u64
     requires { length text.now ≡ 8 }
     ensures { result ≡ marks_of of text.now }
 {
-    u8x8::from_array(*as_room::<8>(text))
+    u8x8::from_array(*as_array::<8>(text))
         .simd_eq(u8x8::splat(of))
         .to_bitmask()
 }
@@ -63,7 +63,7 @@ fn marks_of_16(of: u8, text: &[u8]) -> u64
     requires { length text.now ≡ 16 }
     ensures { result ≡ marks_of of text.now }
 {
-    u8x16::from_array(*as_room::<16>(text))
+    u8x16::from_array(*as_array::<16>(text))
         .simd_eq(u8x16::splat(of))
         .to_bitmask()
 }
@@ -74,7 +74,7 @@ fn marks_of_32(of: u8, text: &[u8]) -> u64
     requires { length text.now ≡ 32 }
     ensures { result ≡ marks_of of text.now }
 {
-    u8x32::from_array(*as_room::<32>(text))
+    u8x32::from_array(*as_array::<32>(text))
         .simd_eq(u8x32::splat(of))
         .to_bitmask()
 }

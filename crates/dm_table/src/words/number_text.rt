@@ -11,8 +11,8 @@ use arrayvec::ArrayVec;
 pub(crate) const MOST_DIGITS: usize = 20;
 
 /// Appends bytes to a text that has room for them.
-pub fn append<const ROOM: usize>(text: &mut ArrayVec<u8, ROOM>, bytes: &[u8])
-    requires { length text.old.items + length bytes.now ≤ ROOM }
+pub fn append<const CAPACITY: usize>(text: &mut ArrayVec<u8, CAPACITY>, bytes: &[u8])
+    requires { length text.old.items + length bytes.now ≤ CAPACITY }
     ensures text { text.new.items ≡ text.old.items ++ bytes.now }
     ensures len { length text.new.items ≡ length text.old.items + length bytes.now }
 {
@@ -22,8 +22,8 @@ pub fn append<const ROOM: usize>(text: &mut ArrayVec<u8, ROOM>, bytes: &[u8])
 }
 
 /// Appends a number, in decimal digits, to a text that has room for any.
-pub fn append_number<const ROOM: usize>(text: &mut ArrayVec<u8, ROOM>, number: u64)
-    requires { length text.old.items + MOST_DIGITS ≤ ROOM }
+pub fn append_number<const CAPACITY: usize>(text: &mut ArrayVec<u8, CAPACITY>, number: u64)
+    requires { length text.old.items + MOST_DIGITS ≤ CAPACITY }
     ensures text { text.new.items ≡ text.old.items ++ decimal number }
     ensures len { length text.new.items ≤ length text.old.items + MOST_DIGITS }
 {

@@ -4,13 +4,13 @@
 //! Most names are short, and their first and last bytes, which may overlap, are all that they have.
 //!
 //! This is here for speed alone: RESULTS.md has its gain as *short names compared at once*. It rests on the
-//! compiler, which compares rooms of a known length in an instruction or two. Change it only if you measure small
+//! compiler, which compares arrays of a known length in an instruction or two. Change it only if you measure small
 //! requests and loads by names before and after.
 
 ghost use Rattle.std.specs.Prelude.{◌≡◌, ◌≢◌, ◌*◌, ◌≤◌, length};
 ghost use Rattle.std.specs.Bool.{OnTrue, OnFalse};
 
-use crate::words::room::as_room;
+use crate::words::array::as_array;
 
 /// Whether two texts have the same bytes. It is quickest for texts of up to 16 bytes.
 #[inline(always)]
@@ -63,5 +63,5 @@ fn known_same<const LEN: usize>(left: &[u8], right: &[u8]) -> bool
     ensures same { OnTrue result (left.now ≡ right.now) }
     ensures other { OnFalse result (left.now ≢ right.now) }
 {
-    *as_room::<LEN>(left) == *as_room::<LEN>(right)
+    *as_array::<LEN>(left) == *as_array::<LEN>(right)
 }

@@ -22,7 +22,7 @@ kept_are len few =
 
 pub returns : goal.returns
 returns c =
-    let room = c.args.room.now in
+    let array = c.args.array.now in
     let len = c.args.len in
-    let kept = c.as_room-kept.ensures ∙ kept_are len c.requires in
-    cc (and_kept room len (16 - len) (omega (arith, c.told-room, c.requires)) c.fits-room)
+    let kept = c.as_array-kept.ensures ∙ kept_are len c.requires in
+    cc (and_kept array len (16 - len) (omega (arith, c.told-array, c.requires)) c.fits-array)

@@ -12,25 +12,25 @@ use Rattle.dm_stack.proofs.names.name_key.first_space.Goals as goal
 
 -- the lanes that are spaces, as bits
 abbrev bits_of : List ℕ → ℕ
-bits_of room = mask_l (map (top 7) (zip2 (λ a b. cond (nat_eq a b) 255 0) room (replicate 16 32))) % 2 ^ 64
+bits_of array = mask_l (map (top 7) (zip2 (λ a b. cond (nat_eq a b) 255 0) array (replicate 16 32))) % 2 ^ 64
 
-spaces_are : (room : List ℕ) → length room ≡ 16 → bits_of room ≡ mask_l (map (λ x. nat_eq x 32) room)
-spaces_are room long =
-    cc (tops_compared w8 nat_eq room (replicate 16 32), zip2_splat nat_eq room 16 32 long, mask_l-mod (map (λ x. nat_eq x 32) room) 64 (omega (arith, length-map room (λ x. nat_eq x 32), long)))
+spaces_are : (array : List ℕ) → length array ≡ 16 → bits_of array ≡ mask_l (map (λ x. nat_eq x 32) array)
+spaces_are array long =
+    cc (tops_compared w8 nat_eq array (replicate 16 32), zip2_splat nat_eq array 16 32 long, mask_l-mod (map (λ x. nat_eq x 32) array) 64 (omega (arith, length-map array (λ x. nat_eq x 32), long)))
 
 -- the first of them
-first_is : (room : List ℕ) (at : ℕ) → length room ≡ 16 → (bits_of room ≡ 0 → ⊥) → at ≡ count_trailing_zeros 64 (bits_of room) → (at < 16) × (get_or room at 0 ≡ 32)
-first_is room at long others is =
-    let bits = spaces_are room long in
-    let some : 0 < mask_l (map (λ x. nat_eq x 32) room) = pos_of_ne-zero (λ none. others (bits ∙ none)) in
-    let place : at ≡ prefix_len (λ x. not (nat_eq x 32)) room = is ∙ ap (count_trailing_zeros 64) bits ∙ trailing_mask_l (λ x. nat_eq x 32) 64 room (omega (arith, long)) some in
-    let within = some_lane (λ x. nat_eq x 32) room some in (
+first_is : (array : List ℕ) (at : ℕ) → length array ≡ 16 → (bits_of array ≡ 0 → ⊥) → at ≡ count_trailing_zeros 64 (bits_of array) → (at < 16) × (get_or array at 0 ≡ 32)
+first_is array at long others is =
+    let bits = spaces_are array long in
+    let some : 0 < mask_l (map (λ x. nat_eq x 32) array) = pos_of_ne-zero (λ none. others (bits ∙ none)) in
+    let place : at ≡ prefix_len (λ x. not (nat_eq x 32)) array = is ∙ ap (count_trailing_zeros 64) bits ∙ trailing_mask_l (λ x. nat_eq x 32) 64 array (omega (arith, long)) some in
+    let within = some_lane (λ x. nat_eq x 32) array some in (
       omega (arith, place, within, long),
-      eqb-true (get_or room at 0) 32 (rw place (passes_at_first (λ x. nat_eq x 32) room 0 within)),
+      eqb-true (get_or array at 0) 32 (rw place (passes_at_first (λ x. nat_eq x 32) array 0 within)),
     )
 
 pub returns-clause-within : goal.returns-clause-within
-returns-clause-within c = (first_is c.args.room.now _ c.told-room c.if-spaces-eq0.false refl).0
+returns-clause-within c = (first_is c.args.array.now _ c.told-array c.if-spaces-eq0.false refl).0
 
 pub returns-clause-space : goal.returns-clause-space
-returns-clause-space c = (first_is c.args.room.now _ c.told-room c.if-spaces-eq0.false refl).1
+returns-clause-space c = (first_is c.args.array.now _ c.told-array c.if-spaces-eq0.false refl).1

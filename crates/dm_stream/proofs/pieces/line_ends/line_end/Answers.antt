@@ -5,12 +5,12 @@ use Rattle.dm_stream.specs.pieces.LineEnds.{IsLineEnd, line_end}
 use Rattle.dm_stream.proofs.pieces.line_ends.line_end.Goals as goal
 
 -- the front of a text with the count of its bytes as the last of eight
-counted : (len end : ℕ) (text room : List ℕ) → end ≤ 7 → length room ≡ 8 → room ≡ take 8 text → take end text ≡ line_end len → IsLineEnd len (set room 7 end)
-counted len end text room short eight is holds =
-    let last : get_or (set room 7 end) 7 0 ≡ end = get_or-set_same room 7 end 0 (omega arith) in
-    let front : take end (set room 7 end) ≡ line_end len =
-    take-set-le end room 7 end short ∙ ap (λ (bytes : List ℕ). take end bytes) is ∙ take-take end 8 text (omega arith) ∙ holds in
-    (length-set room 7 end ∙ eight, omega (arith, last), ap (λ (k : ℕ). take k (set room 7 end)) last ∙ front)
+counted : (len end : ℕ) (text array : List ℕ) → end ≤ 7 → length array ≡ 8 → array ≡ take 8 text → take end text ≡ line_end len → IsLineEnd len (set array 7 end)
+counted len end text array short eight is holds =
+    let last : get_or (set array 7 end) 7 0 ≡ end = get_or-set_same array 7 end 0 (omega arith) in
+    let front : take end (set array 7 end) ≡ line_end len =
+    take-set-le end array 7 end short ∙ ap (λ (bytes : List ℕ). take end bytes) is ∙ take-take end 8 text (omega arith) ∙ holds in
+    (length-set array 7 end ∙ eight, omega (arith, last), ap (λ (k : ℕ). take k (set array 7 end)) last ∙ front)
 
 pub returns : goal.returns
 returns c =

@@ -17,7 +17,7 @@ in_two len digits more = let all : 8 + (len - 8) ≡ len = omega arith in rw (�
 
 pub number_in_word-requires-clause-digits : goal.number_in_word-requires-clause-digits
 number_in_word-requires-clause-digits c =
-    let first : c.as_room-first.result.now ≡ take 8 c.args.digits.now = c.as_room-first.ensures in
+    let first : c.as_array-first.result.now ≡ take 8 c.args.digits.now = c.as_array-first.ensures in
     rw (first, take-take c.args.len 8 c.args.digits.now c.if-len-le8.true) c.requires.digits
 
 pub returns-then-len-le8 : goal.returns-then-len-le8
@@ -27,14 +27,14 @@ returns-then-len-le8 c =
 pub number_in_word-requires-2-clause-digits : goal.number_in_word-requires-2-clause-digits
 number_in_word-requires-2-clause-digits c =
     let digits = c.args.digits.now in
-    let first : c.as_room-first.result.now ≡ take 8 digits = c.as_room-first.ensures in
+    let first : c.as_array-first.result.now ≡ take 8 digits = c.as_array-first.ensures in
     let parts = each_part (take 8 digits) (take (c.args.len - 8) (drop 8 digits)) (rw (← in_two c.args.len digits c.if-len-le8.false) c.requires.digits) in
     rw (first, take-take 8 8 digits (omega arith)) parts.0
 
 pub number_in_word-requires-3-clause-digits : goal.number_in_word-requires-3-clause-digits
 number_in_word-requires-3-clause-digits c =
     let digits = c.args.digits.now in
-    let last : c.as_room-last.result.now ≡ take 8 (drop 8 digits) = c.as_room-last.ensures in
+    let last : c.as_array-last.result.now ≡ take 8 (drop 8 digits) = c.as_array-last.ensures in
     let parts = each_part (take 8 digits) (take (c.args.len - 8) (drop 8 digits)) (rw (← in_two c.args.len digits c.if-len-le8.false) c.requires.digits) in
     rw (last, take-take (c.args.len - 8) 8 (drop 8 digits) (omega (arith, c.requires.within))) parts.1
 

@@ -30,7 +30,7 @@ number_of-lanes text front lanes len value front_is lanes_are within room some f
 
 pub returns-clause-number : goal.returns-clause-number
 returns-clause-number c =
-    number_of-lanes c.args.text.now c.as_room-front.result.now c.less_zero-digits.result c.in_ok-len.len c.number_ahead.result c.as_room-front.ensures c.less_zero-digits.ensures
+    number_of-lanes c.args.text.now c.as_array-front.result.now c.less_zero-digits.result c.in_ok-len.len c.number_ahead.result c.as_array-front.ensures c.less_zero-digits.ensures
     (λ i. (c.type_inv.text i).fits)
     c.requires
     (omega (arith, c.if-len-eq0.false))

@@ -3,11 +3,11 @@ use Rattle.std.proofs.lemmas.Bool.{cases_eq}
 use Rattle.dm_stream.specs.pieces.LineEnds.{AreMade, IsLineEnd}
 use Rattle.dm_stream.proofs.pieces.line_ends.LineEnds.new.Goals as goal
 
-made_more : (bound : ℕ) (ends : List (List ℕ)) (room : List ℕ) → bound < length ends → IsLineEnd bound room → AreMade bound ends → AreMade (bound + 1) (set ends bound room)
-made_more bound ends room within is made len below =
+made_more : (bound : ℕ) (ends : List (List ℕ)) (array : List ℕ) → bound < length ends → IsLineEnd bound array → AreMade bound ends → AreMade (bound + 1) (set ends bound array)
+made_more bound ends array within is made len below =
     elim (cases_eq len bound) [
-      | inl same ↦ subst (λ (k : ℕ). IsLineEnd k (get_or (set ends bound room) k [])) (sym same) (subst (λ (text : List ℕ). IsLineEnd bound text) (sym (get_or-set_same ends bound room [] within)) is)
-      | inr other ↦ subst (λ (text : List ℕ). IsLineEnd len text) (sym (get_or-set_other ends bound len room [] other)) (made len (omega (arith, other)))
+      | inl same ↦ subst (λ (k : ℕ). IsLineEnd k (get_or (set ends bound array) k [])) (sym same) (subst (λ (text : List ℕ). IsLineEnd bound text) (sym (get_or-set_same ends bound array [] within)) is)
+      | inr other ↦ subst (λ (text : List ℕ). IsLineEnd len text) (sym (get_or-set_other ends bound len array [] other)) (made len (omega (arith, other)))
     ]
 
 pub lengths-preserved : goal.lengths-preserved

@@ -1,7 +1,7 @@
 use Rattle.std.proofs.Common.{◌≡◌, ◌-◌, ◌≤◌, ◌++◌, [], ◌∷◌, length, take}
 use Rattle.dm_table.specs.io.DeviceIo.{since}
 use Rattle.dm_stream.specs.requests.Lines.{line_parts}
-use Rattle.dm_stream.specs.declared.requests.lines.TheConstants.{ROOM}
+use Rattle.dm_stream.specs.declared.requests.lines.TheConstants.{BUFFER_BYTES}
 use Rattle.dm_stream.proofs.requests.lines.Lines.advance.Given as goal
 
 -- what came is held, its front was searched, and neither an end nor a fault was met
@@ -20,4 +20,4 @@ invariant-turns g l =
     }
 
 abbrev pub decreases-turns : goal.decreases-turns
-decreases-turns g l = ROOM - length l.self
+decreases-turns g l = BUFFER_BYTES - length l.self

@@ -20,10 +20,10 @@ first_fault old mid broken before after same at minds grows well more =
 pub returns-in-Err-clause-minds : goal.returns-in-Err-clause-minds
 returns-in-Err-clause-minds g c =
     let old = c.args.self.now in
-    let minds = c.empty.ensures.minds in
+    let minds = c.try_drain.ensures.minds in
     let after = (g.W.Output.past c.flush.new.self).faults in
-    let more : after ≡ c.empty.new.self.behind.faults + 1 = rw (c.in-Err.ensures, ← c.self-2.view_is) in
-    let first = first_fault old c.empty.new.self _ _ after (cc) (rw (← c.self.view_is)) minds.broken minds.grows (not_true _ c.in_ok-empty.ensures.fails.1) more in
+    let more : after ≡ c.try_drain.new.self.behind.faults + 1 = rw (c.in-Err.ensures, ← c.self-2.view_is) in
+    let first = first_fault old c.try_drain.new.self _ _ after (cc) (rw (← c.self.view_is)) minds.broken minds.grows (not_true _ c.in_ok-try_drain.ensures.fails.1) more in
     record {
       grows = omega (arith, first.1);
       broken = rw (lt-ltb old.behind.faults after first.1, first.0);

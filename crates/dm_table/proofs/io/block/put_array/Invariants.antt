@@ -1,12 +1,12 @@
 use Rattle.std.proofs.Common.{◌≡◌, ◌+◌, ◌-◌, ◌≤◌, ◌++◌, take}
-use Rattle.dm_table.proofs.io.block.put_room.Given as goal
+use Rattle.dm_table.proofs.io.block.put_array.Given as goal
 
 -- what was put so far is the front of the room
 abbrev pub invariant-sixteens : goal.invariant-sixteens
 invariant-sixteens g l = record {
-  within : l.done ≤ g.row.ROOM;
+  within : l.done ≤ g.row.LEN;
   put : take (l.at + l.done) l.block ≡ take l.at l.fn.block ++ take l.done l.bytes;
 }
 
 abbrev pub decreases-sixteens : goal.decreases-sixteens
-decreases-sixteens g l = g.row.ROOM - l.done
+decreases-sixteens g l = g.row.LEN - l.done

@@ -1,6 +1,6 @@
 use Rattle.dm_table.proofs.io.BlockLemmas.{passed_on}
 use Rattle.dm_table.specs.laws.Progress.{same_output}
-use Rattle.dm_table.proofs.io.gathered.Gathered.pass_on.Goals as goal
+use Rattle.dm_table.proofs.io.gathered.GatheredOutput.drain.Goals as goal
 
 pub returns-clause-past : goal.returns-clause-past
 returns-clause-past g c =

@@ -3,11 +3,11 @@
 
 ghost use Rattle.std.specs.Prelude.{◌≡◌, length};
 
-/// Bytes of a known length, as a room.
+/// Bytes of a known length, as an array.
 #[inline(always)]
-pub fn as_room<const ROOM: usize>(bytes: &[u8]) -> &[u8; ROOM]
-    requires { length bytes.now ≡ ROOM }
+pub fn as_array<const LEN: usize>(bytes: &[u8]) -> &[u8; LEN]
+    requires { length bytes.now ≡ LEN }
     ensures { result.now ≡ bytes.now }
 {
-    bytes.first_chunk::<ROOM>().unwrap()
+    bytes.first_chunk::<LEN>().unwrap()
 }
