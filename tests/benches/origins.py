@@ -51,10 +51,10 @@ def show(name, snapshots, target, places, first, requests):
 
 def count(table, disks, requests):
     """The instructions of a run, and the lines of its output."""
-    with tempfile.TemporaryDirectory() as room:
+    with tempfile.TemporaryDirectory() as folder:
         words = ["map", "table"]
         for name, content in [("table", table), ("disks", disks)]:
-            words.append(os.path.join(room, name))
+            words.append(os.path.join(folder, name))
             with open(words[-1], "w", encoding="utf-8") as it:
                 it.write(content)
         ran = subprocess.run(["valgrind", "--tool=callgrind", "--callgrind-out-file=/dev/null", sys.argv[1]] + words,

@@ -125,13 +125,13 @@ def show(name, stack, make, count):
 
 def measure(stack, requests):
     """The seconds of processor time of a replay, and the most bytes of memory that it had."""
-    with tempfile.TemporaryDirectory() as room:
+    with tempfile.TemporaryDirectory() as folder:
         words = [sys.argv[1], "replay", "table"]
         for name, content in zip(("table", "disks"), stack):
-            words.append(os.path.join(room, name))
+            words.append(os.path.join(folder, name))
             with open(words[-1], "w", encoding="utf-8") as it:
                 it.write(content)
-        asked = os.path.join(room, "requests")
+        asked = os.path.join(folder, "requests")
         with open(asked, "w", encoding="utf-8") as it:
             it.writelines(requests)
         with open(asked, "rb") as given:

@@ -141,55 +141,55 @@ def main():
     parser.add_argument("most", metavar="MOST", type=int, nargs="?", default=1000000)
     parser.add_argument("commands", metavar="COMMAND", nargs="*")
     asked = parser.parse_args()
-    with tempfile.TemporaryDirectory() as room:
+    with tempfile.TemporaryDirectory() as folder:
         for name, parts in SMALL.items():
-            write(os.path.join(room, name), parts)
-        write(os.path.join(room, "moments"), ("%d.%06d\n" % divmod(it, 1000000) for it in range(asked.most)))
+            write(os.path.join(folder, name), parts)
+        write(os.path.join(folder, "moments"), ("%d.%06d\n" % divmod(it, 1000000) for it in range(asked.most)))
         for words, lines in ROWS:
             if not asked.commands or words[0] in asked.commands:
-                show(words, lines, asked.most, room)
+                show(words, lines, asked.most, folder)
         if not asked.commands:
-            show_single(room)
+            show_single(folder)
 
 
-def show(words, lines, most, room):
+def show(words, lines, most, folder):
     """Prints the line of a command."""
-    tenth, memory_of_tenth = least(words, lines, most // 10, room)
-    seconds, memory = least(words, lines, most, room)
+    tenth, memory_of_tenth = least(words, lines, most // 10, folder)
+    seconds, memory = least(words, lines, most, folder)
     print("%-38s %-16s %6.2f s %5.1f %5d %5d MiB" % (" ".join(words), lines.__name__, seconds, seconds / tenth, memory_of_tenth, memory), flush=True)
 
 
-def show_single(room):
+def show_single(folder):
     """Prints the lines of the single inputs."""
     for name, words, files in SINGLE:
         for file, text in files.items():
-            write(os.path.join(room, file), [text])
-        ran = [measured(TOOL + words, os.devnull, room) for _ in range(RUNS)]
+            write(os.path.join(folder, file), [text])
+        ran = [measured(TOOL + words, os.devnull, folder) for _ in range(RUNS)]
         print("%-38s %-16s %6.2f s       %5d MiB" % (" ".join(words[:2]), name, min(it[0] for it in ran), max(it[1] for it in ran)), flush=True)
-    seconds, memory = least_of_saves(room)
+    seconds, memory = least_of_saves(folder)
     print("%-38s %-16s %6.2f s       %5d MiB" % ("save", "%d pieces" % CHUNKS, seconds, memory))
 
 
-def least_of_saves(room):
+def least_of_saves(folder):
     """The least seconds of some runs that save a volume, and the greatest memory."""
     sectors = CHUNKS * CHUNK // 512
     for name in ("left", "right"):
-        with open(os.path.join(room, name), "wb") as it:
+        with open(os.path.join(folder, name), "wb") as it:
             it.write(os.urandom(CHUNKS * CHUNK // 2))
-    write(os.path.join(room, "volume"), ["v: 0 %d striped 2 %d left 0 right 0\n" % (sectors, CHUNK // 512)])
-    write(os.path.join(room, "disks"), ["left %d\nright %d\n" % (sectors // 2, sectors // 2)])
+    write(os.path.join(folder, "volume"), ["v: 0 %d striped 2 %d left 0 right 0\n" % (sectors, CHUNK // 512)])
+    write(os.path.join(folder, "disks"), ["left %d\nright %d\n" % (sectors // 2, sectors // 2)])
     ran = []
     for _ in range(RUNS):
-        ran.append(measured(TOOL + ["save", "v", "saved", "table", "volume", "disks"], os.devnull, room))
-        os.remove(os.path.join(room, "saved"))
+        ran.append(measured(TOOL + ["save", "v", "saved", "table", "volume", "disks"], os.devnull, folder))
+        os.remove(os.path.join(folder, "saved"))
     return min(it[0] for it in ran), max(it[1] for it in ran)
 
 
-def least(words, lines, count, room):
+def least(words, lines, count, folder):
     """The least seconds of some runs, and the greatest memory."""
-    path = os.path.join(room, "input")
+    path = os.path.join(folder, "input")
     write(path, lines(count, random.Random(1)))
-    ran = [measured(TOOL + words, path, room) for _ in range(RUNS)]
+    ran = [measured(TOOL + words, path, folder) for _ in range(RUNS)]
     return min(it[0] for it in ran), max(it[1] for it in ran)
 
 
@@ -203,10 +203,10 @@ def write(path, parts):
     os.waitpid(child, 0)
 
 
-def measured(words, path, room):
+def measured(words, path, folder):
     """The seconds of processor time that a run takes, and its memory in MiB."""
     with open(path, "rb") as given:
-        child = subprocess.Popen(words, stdin=given, stdout=subprocess.DEVNULL, stderr=subprocess.DEVNULL, cwd=room)
+        child = subprocess.Popen(words, stdin=given, stdout=subprocess.DEVNULL, stderr=subprocess.DEVNULL, cwd=folder)
         _, status, used = os.wait4(child.pid, 0)
     if status:
         sys.exit("%s: it ended with %d" % (" ".join(words), status))

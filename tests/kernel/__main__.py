@@ -58,8 +58,8 @@ def main():
         return 1
     jobs = [(kind, job) for kind, module in KINDS.items() for job in module.jobs(given.vectors)]
     found = {kind: Found() for kind in KINDS}
-    with tempfile.TemporaryDirectory(prefix="dmremap-kernel-") as room:
-        start = (os.path.abspath(given.program), room)
+    with tempfile.TemporaryDirectory(prefix="dmremap-kernel-") as folder:
+        start = (os.path.abspath(given.program), folder)
         with multiprocessing.get_context("fork").Pool(os.cpu_count(), begin, start) as workers:
             for kind, part in workers.imap(run, jobs):
                 found[kind].add(part)
@@ -70,10 +70,10 @@ def main():
     return report(found, known)
 
 
-def begin(path, room):
+def begin(path, folder):
     """Makes a worker's program, with a folder of its own for the files that it makes."""
     global PROGRAM
-    PROGRAM = Program(path, tempfile.mkdtemp(dir=room))
+    PROGRAM = Program(path, tempfile.mkdtemp(dir=folder))
 
 
 def run(job):

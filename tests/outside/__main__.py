@@ -87,7 +87,7 @@ def suites_of(modules, patterns, tally):
 
 
 def run_all(suites, program, jobs, folder, tally):
-    """Runs the modules in rooms of this folder, several at a time where that is asked for."""
+    """Runs the modules in folders below this one, several at a time where that is asked for."""
     order = sorted(suites, key=lambda name: LONG.index(name) if name in LONG else len(LONG))
     together = [name for name in order if name not in ALONE] if jobs > 1 and len(order) > 1 else []
     with concurrent.futures.ProcessPoolExecutor(jobs, multiprocessing.get_context("fork")) as workers:
@@ -116,12 +116,12 @@ def run_apart(suite, program, folder):
 
 
 def run(suite, program, folder, tally):
-    """Runs the tests of a module, in a room of its own."""
-    with tempfile.TemporaryDirectory(dir=folder) as room:
+    """Runs the tests of a module, in a folder of its own."""
+    with tempfile.TemporaryDirectory(dir=folder) as own:
         # As root the cases of unreadable files run as nobody, who has to come to the program.
-        os.chmod(room, 0o755)
-        Case.top, Case.room, Case.is_own = TOP, room, program == BUILT
-        Case.program = Program(shutil.copy(program, os.path.join(room, "dmremap")), room)
+        os.chmod(own, 0o755)
+        Case.top, Case.own_folder, Case.is_own = TOP, own, program == BUILT
+        Case.program = Program(shutil.copy(program, os.path.join(own, "dmremap")), own)
         suite.run(tally)
 
 

@@ -36,12 +36,12 @@ def is_static(path):
 class Program:
     """The program, and the folder that its files are made in."""
 
-    def __init__(self, path, room):
-        self.path, self.room = path, room
+    def __init__(self, path, folder):
+        self.path, self.folder = path, folder
 
     def file(self, name, content=""):
         """Makes a file, and the folders above it, and returns its path."""
-        path = os.path.join(self.room, name)
+        path = os.path.join(self.folder, name)
         os.makedirs(os.path.dirname(path), exist_ok=True)
         with open(path, "wb") as it:
             it.write(as_bytes(content))
@@ -112,7 +112,7 @@ class Case(unittest.TestCase):
 
     program: Program
     top: str  # of the repository
-    room: str  # the module's own folder
+    own_folder: str  # the module's own folder
     is_own: bool  # whether the program is that of this repository
 
     def __init_subclass__(cls, checks=(), **others):

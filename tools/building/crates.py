@@ -1,4 +1,4 @@
-"""The work of rt on a crate, in the room of that."""
+"""The work of rt on a crate, in its own folder."""
 
 import os
 import re
@@ -6,29 +6,29 @@ import signal
 import subprocess
 import time
 
-import rooms
+import folders
 from calls import Failed, write
 from sources import BUILT, TOP
 
 
 class Crate:
-    """A crate that is being built in its room, in a process group of its own."""
+    """A crate that is being built in its folder, in a process group of its own."""
 
     def __init__(self, name, jobs, lock):
         self.name, self.since = name, time.strftime("%H:%M")
-        self.room = os.path.join(rooms.ROOMS, name)
-        self.said = os.path.join(self.room, "said")
+        self.folder = os.path.join(folders.FOLDERS, name)
+        self.said = os.path.join(self.folder, "said")
         is_program = name == "dmremap"
         self.makes = BUILT if is_program else ["crates/%s/out/rlib" % name]
         command = ["rt", "run" if is_program else "lib", "--jobs", str(jobs), *["--", "--help"] * is_program]
         with open(self.said, "wb") as said:
-            self.ran = subprocess.Popen(command, cwd=rooms.room_of(name), stdin=subprocess.DEVNULL, stdout=said,
+            self.ran = subprocess.Popen(command, cwd=folders.folder_of(name), stdin=subprocess.DEVNULL, stdout=said,
                                         stderr=subprocess.STDOUT, start_new_session=True, pass_fds=[lock])
 
     def lines(self):
-        """What rt said, of files in the room as of those that they are copies of."""
+        """What rt said, of files in its folder as of those that they are copies of."""
         with open(self.said, encoding="utf-8", errors="replace") as it:
-            return it.read().replace(self.room, TOP).splitlines()
+            return it.read().replace(self.folder, TOP).splitlines()
 
     def progress(self):
         checked = re.findall(r"^so far: (\d+ of \d+) functions", "\n".join(self.lines()), re.M)
@@ -39,7 +39,7 @@ class Crate:
         status = self.ran.poll()
         if status is None:
             return False
-        lacking = [it for it in self.makes if not os.path.exists(os.path.join(self.room, it))]
+        lacking = [it for it in self.makes if not os.path.exists(os.path.join(self.folder, it))]
         if status == 0 and not lacking:
             return True
         write("".join(it + "\n" for it in self.lines()[-20:]))

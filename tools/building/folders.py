@@ -1,7 +1,7 @@
-"""The rooms in which crates are built beside each other.
+"""The folders in which crates are built beside each other.
 
 `rt` holds the folders of a crate and of all below it while it works, so that two crates which stand on a common one are
-built one after the other. A room is a repository of its own: a copy of all sources as they stood when the build began, and
+built one after the other. Each is a repository of its own: a copy of all sources as they stood when the build began, and
 links to the libraries below, as they were built of that copy. What `rt` keeps of the crate itself is moved there, and back
 at the end, or when the next build begins."""
 
@@ -15,12 +15,12 @@ from sources import PARTS, TOP, loose, state
 
 # It is in the crate's `out`, where rt looks for no crates.
 SITE = os.path.join(TOP, "crates", "dmremap", "out", "site")
-COPY, ROOMS = os.path.join(SITE, "copy"), os.path.join(SITE, "rooms")
+COPY, FOLDERS = os.path.join(SITE, "copy"), os.path.join(SITE, "folders")
 
 
-def room_of(name):
+def folder_of(name):
     """Returns the folder that a crate is built in."""
-    return os.path.join(ROOMS, name, "crates", name)
+    return os.path.join(FOLDERS, name, "crates", name)
 
 
 @contextlib.contextmanager
@@ -54,21 +54,21 @@ def copy_sources(order):
 
 
 def clear():
-    """Brings back what is kept of each crate, and removes the rooms, also those of a build that was killed."""
+    """Brings back what is kept of each crate, and removes the folders, also those of a build that was killed."""
     with contextlib.suppress(FileNotFoundError):
-        for name in os.listdir(ROOMS):
-            move(os.path.join(room_of(name), "out"), os.path.join(TOP, "crates", name, "out"))
+        for name in os.listdir(FOLDERS):
+            move(os.path.join(folder_of(name), "out"), os.path.join(TOP, "crates", name, "out"))
     with contextlib.suppress(FileNotFoundError):
         shutil.rmtree(SITE)
 
 
 def furnish(name, below):
-    """Makes the room of a crate, of which `below` are those that it stands on, near and far."""
-    copy(COPY, os.path.join(ROOMS, name), [*below, name], link)
+    """Makes the folder of a crate, of which `below` are those that it stands on, near and far."""
+    copy(COPY, os.path.join(FOLDERS, name), [*below, name], link)
     for it in below:
-        to = os.path.join(ROOMS, name, "crates", it, "out", "rlib")
-        shutil.copytree(os.path.join(room_of(it), "out", "rlib"), to, copy_function=link)
-    move(os.path.join(TOP, "crates", name, "out"), os.path.join(room_of(name), "out"))
+        to = os.path.join(FOLDERS, name, "crates", it, "out", "rlib")
+        shutil.copytree(os.path.join(folder_of(it), "out", "rlib"), to, copy_function=link)
+    move(os.path.join(TOP, "crates", name, "out"), os.path.join(folder_of(name), "out"))
 
 
 def copy(top, to, names, how):

@@ -72,16 +72,16 @@ def check_offered(tally, program, top, derive):
 
 def check_derived(tally, program, top):
     """A manual that doesn't fit on the disk, and completions without their folder."""
-    room = os.path.join(os.path.realpath(program.room), "derived")
-    shutil.copytree(os.path.join(top, "tools"), os.path.join(room, "tools"), ignore=shutil.ignore_patterns("completions"))
-    page = os.path.join(room, "docs", TOOL + ".1")
+    derived = os.path.join(os.path.realpath(program.folder), "derived")
+    shutil.copytree(os.path.join(top, "tools"), os.path.join(derived, "tools"), ignore=shutil.ignore_patterns("completions"))
+    page = os.path.join(derived, "docs", TOOL + ".1")
     os.makedirs(os.path.dirname(page))
     shutil.copy(os.path.join(top, "docs", "dmremap.1"), os.path.dirname(page))
     os.symlink("/dev/full", page)
-    script = [os.path.join(room, "tools", "derive")]
+    script = [os.path.join(derived, "tools", "derive")]
     tally.same("tools/derive on a full disk", run(script), 5, "", "derive: %s: No space left on device\n" % page)
     os.unlink(page)
-    lost = os.path.join(room, "tools", "packaging", "completions", TOOL + ".bash")
+    lost = os.path.join(derived, "tools", "packaging", "completions", TOOL + ".bash")
     tally.same("tools/derive without a folder", run(script), 5, "", "derive: %s: No such file or directory\n" % lost)
     with open(page, encoding="utf-8") as one, open(os.path.join(top, "docs", TOOL + ".1"), encoding="utf-8") as other:
         tally.holds("what it wrote before", one.read() == other.read(), "it is another")
@@ -89,7 +89,7 @@ def check_derived(tally, program, top):
 
 def check_packed(tally, program, top):
     """The packed file is the same each time, and does what the sources do, from anywhere."""
-    packed = [os.path.join(program.room, "packed", str(it), TOOL) for it in range(2)]
+    packed = [os.path.join(program.folder, "packed", str(it), TOOL) for it in range(2)]
     for path in packed:
         os.makedirs(os.path.dirname(path))
         tally.same("tools/pack", run([os.path.join(top, "tools", "pack"), path]))
@@ -107,7 +107,7 @@ def check_packed(tally, program, top):
 
 def check_started(tally, program, top):
     """The script at the top works by a link, from any folder."""
-    link = os.path.join(program.room, "a link to the tool")
+    link = os.path.join(program.folder, "a link to the tool")
     os.symlink(os.path.join(top, TOOL), link)
     wanted = run([os.path.join(top, TOOL), "--help"])
     tally.same("the tool by a link", run([link, "--help"], folder="/"), 0, wanted.out)

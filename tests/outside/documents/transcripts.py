@@ -60,7 +60,7 @@ def commands(lines):
 
 def check(tally, program, top, name, shown):
     """Runs the commands of the document `name`, with both streams as a terminal shows them."""
-    folder = os.path.join(program.room, "shown-in-" + name.replace(os.sep, "-"))
+    folder = os.path.join(program.folder, "shown-in-" + name.replace(os.sep, "-"))
     os.mkdir(folder)
     os.symlink(program.path, os.path.join(folder, "dmremap"))
     for it in ("dmremap-tools", "examples"):

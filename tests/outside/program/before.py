@@ -120,7 +120,7 @@ def check_files(tally, program):
     refused = (1, "", "dmremap: before: read\n")
     tally.same("no such file of earlier requests", program.run(start + ["missing"], given="R s 8 1\n"), *refused)
     tally.same("earlier requests with no name", program.run(start + [""], given="R s 8 1\n"), *refused)
-    tally.same("a folder of earlier requests", program.run(start + [program.room], given="R s 8 1\n"), *refused)
+    tally.same("a folder of earlier requests", program.run(start + [program.folder], given="R s 8 1\n"), *refused)
     secret = program.file("secret", "W s 9 1\n")
     os.chmod(secret, 0)
     tally.same("earlier requests that may not be read", program.run(start + [secret], before=become_nobody), *refused)

@@ -47,9 +47,9 @@ ODD_PATHS = ["two words", "  spaces around  ", "*", "$HOME", "a;b", "quote'and\"
 
 def check_paths(tally, program):
     for path in ODD_PATHS:
-        table = os.path.relpath(program.file("tables/" + path, TABLE), program.room + "/tables")
+        table = os.path.relpath(program.file("tables/" + path, TABLE), program.folder + "/tables")
         disks = program.file("lists/" + path, DISKS)
-        got = program.run(["map", "table", "--", table, disks], given=REQUESTS, folder=program.room + "/tables")
+        got = program.run(["map", "table", "--", table, disks], given=REQUESTS, folder=program.folder + "/tables")
         tally.same("files named %r" % path, got, 0, ANSWER)
 
 
@@ -57,7 +57,7 @@ def check_refused(tally, program):
     table, disks = program.file("table", TABLE), program.file("disks", DISKS)
     zeros = program.file("zeros", "z: 0 8 zero\n")
     wrong = program.file("wrong", "no table\n")
-    folder = os.path.join(program.room, "folder")
+    folder = os.path.join(program.folder, "folder")
     os.makedirs(folder, exist_ok=True)
     rows = [
         ("a missing FILE", "missing", disks, "source"),
@@ -95,13 +95,13 @@ def check_unreadable(tally, program):
 
 def check_others(tally, program):
     table, disks = program.file("table", TABLE), program.file("disks", DISKS)
-    link = os.path.join(program.room, "link")
+    link = os.path.join(program.folder, "link")
     os.symlink(table, link)
     tally.same("a link as FILE", program.run(["map", "table", link, disks], given=REQUESTS), 0, ANSWER)
     tally.same("an empty FILE and DISKS", program.run(["map", "table", os.devnull, os.devnull]))
     got = program.run(["map", "table", os.devnull, disks], given=REQUESTS)
     tally.same("a request to an empty FILE", got, 3, "", "dmremap: request 1: unknown\n")
-    pipe = os.path.join(program.room, "pipe")
+    pipe = os.path.join(program.folder, "pipe")
     os.mkfifo(pipe)
     writer = threading.Thread(target=write_slowly, args=(pipe, TABLE), daemon=True)
     writer.start()
@@ -114,7 +114,7 @@ def check_others(tally, program):
 
 def check_pipes(tally, program):
     """Two pipes, whose writer opens DISKS once FILE is written; and one that nobody writes to."""
-    pipes = [os.path.join(program.room, it) for it in ("file pipe", "disks pipe", "silent pipe")]
+    pipes = [os.path.join(program.folder, it) for it in ("file pipe", "disks pipe", "silent pipe")]
     for it in pipes:
         os.mkfifo(it)
     concise = "a,,,rw,0 8 linear sda 4"
@@ -168,7 +168,7 @@ def check_metadata(tally, program):
                0, output)
     rows = [
         ("missing", "read"),
-        (program.room, "read"),
+        (program.folder, "read"),
         ("/dev/zero", "long"),
         (program.file("longer", most + "#"), "long"),
         (os.devnull, "field at 1"),

@@ -86,7 +86,7 @@ class Shim:
 
     def __init__(self, program):
         self.program = program
-        self.path = os.path.join(program.room, "growths.so")
+        self.path = os.path.join(program.folder, "growths.so")
         self.fault = ""
         source = os.path.join(os.path.dirname(os.path.abspath(__file__)), "growths.c")
         if shutil.which("cc") is None:

@@ -156,7 +156,7 @@ def check_tests(tally, program, top):
     """The tests of dm_replay, if the gate left them."""
     tests = os.path.join(top, TESTS)
     if os.access(tests, os.X_OK):
-        tests = Program(shutil.copy(tests, program.room), program.room)
+        tests = Program(shutil.copy(tests, program.folder), program.folder)
         check_rows(tally, tests)
         check_growths(tally, Shim(tests))
     else:
@@ -179,10 +179,10 @@ def check_rows(tally, tests):
     for name, rows in (("random stacks", random_rows()), ("small stacks", small_rows()), ("the longest request", long_rows())):
         rows = list(rows)
         tests.file(ROWS_NAME, "#".join(rows))
-        got = tests.run([READER], folder=tests.room)
+        got = tests.run([READER], folder=tests.folder)
         tally.holds("%d rows of stops of %s" % (len(rows), name), got.status == 0, "%s, %r" % (got.status, got.out[-2000:]))
     tests.file(ROWS_NAME, "#".join([*rows[:1], rows[0].replace("old base", "old other"), *rows[1:]]))
-    got = tests.run([READER], folder=tests.room)
+    got = tests.run([READER], folder=tests.folder)
     tally.holds("a row of stops with wrong answers", got.status not in (0, None), "it passes")
 
 

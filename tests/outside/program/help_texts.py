@@ -208,7 +208,7 @@ def check_forms(tally, program, synopsis, commands):
 
 def check_examples(tally, program, top, commands):
     """Each help has an example, which can be followed."""
-    folder = os.path.join(program.room, "help", "examples")
+    folder = os.path.join(program.folder, "help", "examples")
     os.makedirs(folder)
     files = {"stack.table": "stack.table", "disks.txt": "stack-disks.txt", "vg0.backup": "vg0.backup"}
     for name, example in files.items():

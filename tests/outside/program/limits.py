@@ -224,10 +224,10 @@ def check_small_stack(tally, program):
     tally.same("a stack of 512 KiB, which may get more", got, 0, "a b\n")
     table, disks, given = deepest()
     files = ["table", program.file("table", table), program.file("disks", disks)]
-    room = dict(os.environ, ROOM="r" * 100000)
+    large = dict(os.environ, ROOM="r" * 100000)
     for words in (["map", *files, "--status"], ["replay", *files], ["check", *files], ["concise", *files]):
         wanted = program.run(words, given=given)
-        got = program.run(words, given=given, env=room, before=lambda: limit_stack(512 << 10))
+        got = program.run(words, given=given, env=large, before=lambda: limit_stack(512 << 10))
         tally.same("%s with a stack of 512 KiB" % words[0], got, wanted.status, wanted.out, wanted.err)
         tally.holds("%s of a deep stack" % words[0], wanted.out, "it is refused: %r" % wanted.err)
 

@@ -108,7 +108,7 @@ def check_words(tally, program):
     for it in ([], words[:1], words[:2], words + ["1"], ["--help"], *(words[:2] + [it] for it in NO_UNITS)):
         tally.same("power_cut with %r" % it, program.run(it, given="W s 0 1\n"), 2, "", USAGE)
     tally.same("power_cut with words that are no text", program.run([b"\xff", words[1], "1"]), 2, "", USAGE)
-    gone = os.path.join(program.room, "gone")
+    gone = os.path.join(program.folder, "gone")
     tally.same("a missing FILE", program.run([gone, words[1], "1"]), 1, "", "dmremap: source: read\n")
     tally.same("a missing DISKS", program.run([words[0], gone, "1"]), 1, "", "dmremap: disks: read\n")
     closed = program.file("cut/closed", SNAPSHOT[0])
@@ -171,4 +171,4 @@ class PowerCuts(Case, checks=[
         built = os.path.join(cls.top, POWER_CUT)
         if not os.access(built, os.X_OK):
             raise unittest.SkipTest("power cuts: there is no %s, which the gate leaves" % POWER_CUT)
-        cls.program = Program(shutil.copy(built, os.path.join(cls.room, "power_cut")), cls.room)
+        cls.program = Program(shutil.copy(built, os.path.join(cls.own_folder, "power_cut")), cls.own_folder)

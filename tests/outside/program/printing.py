@@ -295,9 +295,9 @@ def check_streams(tally, program):
     """Files that can't be read, and streams that fail or are closed."""
     words = ["table", *files_of(program)]
     text = TABLES[0][1]
-    missing = words[:2] + [os.path.join(program.room, "missing")] + words[3:]
+    missing = words[:2] + [os.path.join(program.folder, "missing")] + words[3:]
     tally.same("table of a missing file", program.run(missing), 1, "", "dmremap: source: read\n")
-    missing = words[:3] + [program.room]
+    missing = words[:3] + [program.folder]
     tally.same("table with a folder as its disks", program.run(missing), 1, "", "dmremap: disks: read\n")
     requests = failing_input("R a")
     tally.same("table, with requests that would fail", program.run(words, stdin=requests), 0, text)

@@ -130,7 +130,7 @@ def taken(chunk, count):
 def stored(program, table, disks, paths, requests="", *more, **how):
     """Maps requests from the stores that this text of paths names."""
     words = ["map", "table", program.file("table", table), program.file("disks", disks)]
-    return program.run(words + ["--paths", program.file("paths", paths), *more], given=requests, folder=program.room, **how)
+    return program.run(words + ["--paths", program.file("paths", paths), *more], given=requests, folder=program.folder, **how)
 
 
 def of_store(program, chunk, pairs, requests="", *more, length=800, store_len=4000, header=None, size=None):
@@ -153,9 +153,9 @@ def check_words(tally, program):
         ("table", TABLE % (800, 8)), ("disks", DISKS % (800, 4000)), ("paths", "cow c.img\n"), ("earlier", "W s 16 1\n")))
     rest = ["table", table, disks]
     for words in (["map", *rest, "--paths", paths], ["map", "--paths=" + paths, *rest]):
-        tally.same("the words %s" % words, program.run(words, given="R s 8 1\n", folder=program.room), 0, "1 R cow 16 1\n")
+        tally.same("the words %s" % words, program.run(words, given="R s 8 1\n", folder=program.folder), 0, "1 R cow 16 1\n")
     for words in (["map", *rest, "--paths", paths, "--before", earlier], ["map", "--before", earlier, *rest, "--paths", paths]):
-        got = program.run(words, given="R s 8 1\nR s 16 1\nR s 24 1\n", folder=program.room)
+        got = program.run(words, given="R s 8 1\nR s 16 1\nR s 24 1\n", folder=program.folder)
         tally.same("the words %s" % words, got, 0, "1 R cow 16 1\n2 R cow 24 1\n3 R base 24 1\n")
 
 
@@ -170,7 +170,7 @@ def check_files(tally, program):
     table, disks = program.file("table", TABLE % (800, 8)), program.file("disks", DISKS % (800, 4000))
     start = ["map", "table", table, disks, "--paths"]
     refused = (1, "", "dmremap: paths: read\n")
-    for name, path in (("no such file", "missing"), ("no name", ""), ("a folder", program.room)):
+    for name, path in (("no such file", "missing"), ("no name", ""), ("a folder", program.folder)):
         tally.same("%s as PATHS" % name, program.run(start + [path], given="R s 8 1\n"), *refused)
     secret = program.file("secret", "cow c.img\n")
     os.chmod(secret, 0)
@@ -186,7 +186,7 @@ def check_files(tally, program):
         tally.same("%s is refused before PATHS" % name, got, 1, "", "dmremap: %s\n" % err)
     got = program.run(start + ["missing", "--before", "missing"])
     tally.same("PATHS is refused before earlier requests", got, *refused)
-    path = os.path.join(program.room, "paths.pipe")
+    path = os.path.join(program.folder, "paths.pipe")
     if not os.path.exists(path):
         os.mkfifo(path)
     writer = threading.Thread(target=endless, args=(path, line.encode()))
@@ -223,7 +223,7 @@ def check_places(tally, program):
         put(program, file, 8, [(1, 2)], start=start)
         got = stored(program, TABLE % (800, 8), DISKS % (800, 4000), text, "R s 8 1\nR s 16 1\n")
         tally.same("%s in PATHS" % name, got, 0, "1 R cow 16 1\n2 R base 16 1\n")
-        os.unlink(os.path.join(program.room, file))
+        os.unlink(os.path.join(program.folder, file))
     put(program, "c.img", 8, [(1, 2)])
     got = stored(program, TABLE % (800, 8), DISKS % (800, 4000), "cow c.img?offset=999999999999999488\n")
     tally.same("the greatest offset", got, 1, "", told("read"))
@@ -302,9 +302,9 @@ def check_images(tally, program):
                 tally.same("an image of %d sectors and %d bytes" % (sectors, more), got, 0, "1 R cow %d 1\n" % (place(8, 299) * 8))
             else:
                 tally.same("an image of %d sectors and %d bytes" % (sectors, more), got, 1, "", told("read"))
-    folder = os.path.join(program.room, "folder")
+    folder = os.path.join(program.folder, "folder")
     os.makedirs(folder, exist_ok=True)
-    pipe = os.path.join(program.room, "image.pipe")
+    pipe = os.path.join(program.folder, "image.pipe")
     if not os.path.exists(pipe):
         os.mkfifo(pipe)
     secret = put(program, "secret.img", 8, [(1, 2)])
@@ -337,7 +337,7 @@ def check_shrinks(tally, program):
     words = ["map", "table", program.file("table", TABLE % (4000000, 8)), program.file("disks", DISKS % (4000000, 4000000)),
              "--paths", program.file("paths", "cow c.img\n")]
     ran = subprocess.Popen(
-        [program.path, *words], stdin=subprocess.DEVNULL, stdout=subprocess.PIPE, stderr=subprocess.PIPE, cwd=program.room)
+        [program.path, *words], stdin=subprocess.DEVNULL, stdout=subprocess.PIPE, stderr=subprocess.PIPE, cwd=program.folder)
     while ran.poll() is None and bytes_read(ran.pid) < 65536:
         pass
     ran.send_signal(signal.SIGSTOP)
@@ -361,7 +361,7 @@ def check_missing(tally, program):
     """Sectors of a store on disks that PATHS doesn't name, or whose image ends: the first in the order of the list."""
     # The header and half of the first area lie on sda, the other half of each on sdb.
     put(program, "whole.img", 8, taken(8, 1), size=96 * SECTOR)
-    with open(os.path.join(program.room, "whole.img"), "rb") as it:
+    with open(os.path.join(program.folder, "whole.img"), "rb") as it:
         whole = it.read()
     program.file("a.img", spread(whole, 16, 0))
     program.file("b.img", spread(whole, 8, 1))
@@ -424,13 +424,13 @@ def check_runs(tally, program):
     got = of_store(program, 8, [(3, 2)], "R s 24 1\nR s nine 1\n")
     tally.same("a bad request", got, 3, "1 R cow 16 1\n", "dmremap: request 2: number\n")
     program.file("earlier", "W s 8 nine\n")
-    got = of_store(program, 8, [(3, 2)], "R s 24 1\n", "--before", os.path.join(program.room, "earlier"))
+    got = of_store(program, 8, [(3, 2)], "R s 24 1\n", "--before", os.path.join(program.folder, "earlier"))
     tally.same("a bad earlier request", got, 1, "", "dmremap: before: number at 1\n")
     path = program.file("requests", "R s 8 1\n")
     with open(path, "rb") as requests:
         put(program, "c.img", 8, [(100, 2)])
         words = ["map", "table", program.file("table", TABLE % (800, 8)), program.file("disks", DISKS % (800, 4000))]
-        got = program.run(words + ["--paths", program.file("paths", "cow c.img\n")], stdin=requests, folder=program.room)
+        got = program.run(words + ["--paths", program.file("paths", "cow c.img\n")], stdin=requests, folder=program.folder)
         tally.same("requests after a refused store", got, 1, "", told("range"))
         tally.holds("no request is read after a refused store", os.lseek(requests.fileno(), 0, os.SEEK_CUR) == 0, "some were")
 

@@ -201,7 +201,7 @@ def limit_files(most):
 
 
 def check_requests(tally, program):
-    folder = os.open(program.room, os.O_RDONLY)
+    folder = os.open(program.folder, os.O_RDONLY)
     tally.same("a folder as requests", program.map(TABLE, DISKS, stdin=folder), 4, "", UNREAD)
     os.close(folder)
     written = os.open(program.file("written"), os.O_WRONLY)

@@ -44,7 +44,7 @@ def check_faults(tally, tree):
     for name, variables, said in rows:
         tree.remove()
         tally.same("./dmremap " + name, tree.run(["splitname", "a-b"], variables=variables), 70, "", said)
-        tally.holds("./dmremap %s leaves nothing" % name, tree.leaves_nothing(), "there are rooms")
+        tally.holds("./dmremap %s leaves nothing" % name, tree.leaves_nothing(), "there are folders")
         closed = tree.run(["splitname", "a-b"], variables=variables, before=lambda: os.close(2))
         tally.same("./dmremap %s, with a closed standard error" % name, closed, 70)
         with open("/dev/full", "wb") as full:
@@ -79,7 +79,7 @@ def check_faults(tally, tree):
 
 def check_rights(tally, tree):
     """Somebody else may run what is built, and may not build."""
-    for at, folders, _ in os.walk(tree.room):
+    for at, folders, _ in os.walk(tree.folder):
         os.chmod(at, 0o755)
     tree.run([], tree.build)
     got = tree.run(["splitname", "a-b"], before=become_nobody)
@@ -110,7 +110,7 @@ def check_full_disks(tally, tree):
         got = tree.run(words, before=lambda: resource.setrlimit(resource.RLIMIT_FSIZE, (limit, limit)))
         is_told = got.status == 70 and got.out == b"" and b"dmremap: the " in got.err and tree.leaves_nothing()
         tally.holds("./dmremap with files of at most %d bytes" % limit, is_told, "%s, %r" % (got.status, got.err))
-    full = os.path.join(tree.room, "full")
+    full = os.path.join(tree.folder, "full")
     os.makedirs(full, exist_ok=True)
     small = ["unshare", "--map-root-user", "--mount", "sh", "-c",
              'mount -t tmpfs -o size="$1" none "$2" && cp -a "$3" "$2/tree" && shift 3 && exec "$@"', "sh"]
@@ -163,7 +163,7 @@ def check_checkout(tally, tree):
         run([*git, "checkout", "-q", steps[0]], env=env)
         tree.remove()
         os.chmod(tree.program.file("bin/rt", HELD_RT), 0o755)
-        let = os.path.join(tree.room, "let")
+        let = os.path.join(tree.folder, "let")
         with tempfile.TemporaryFile() as err:
             ran = tree.start(["splitname", "a-b"], err, LET=let)
             has_begun = becomes(lambda: tree.called() == ["low"])
@@ -209,7 +209,7 @@ def check_by(tally, tree):
 def check_turns(tally, tree):
     """A second call waits while another one builds, and also for what one left that was killed. Six calls build once."""
     tree.rt(HELD_RT)
-    let = os.path.join(tree.room, "let")
+    let = os.path.join(tree.folder, "let")
     rows = [("works", False, None), ("was killed", True, None), ("was killed that had no standard input", True, 0),
             ("was killed that had no standard output", True, 1), ("was killed that had no standard error", True, 2)]
     for name, is_killed, closed in rows:
@@ -270,7 +270,7 @@ def check_told(tally, tree):
     often = tree.write(os.path.join(os.path.dirname(BUILD), "often"), text.replace(*OFTEN))
     os.chmod(often, 0o755)
     tree.rt(HELD_RT)
-    let = os.path.join(tree.room, "let")
+    let = os.path.join(tree.folder, "let")
     running = b"dmremap: low since 00:00, 3 of 7"
     here, there = os.openpty()
     with tempfile.TemporaryFile() as file:
@@ -331,20 +331,20 @@ def check_killed(tally, tree):
     tally.holds("./dmremap after a build that was killed", not wrong, "%s" % wrong[:2])
 
 
-def check_rooms(tally, tree):
+def check_folders(tally, tree):
     """Two crates that stand on the same one are built at a time, with what was kept of each, which comes back."""
     tree.rt(HELD_RT)
     tree.write("crates.txt", "low:\nmiddle: low\ndmremap: low middle beside\nbeside: low\n")
-    let = os.path.join(tree.room, "let")
+    let = os.path.join(tree.folder, "let")
     places = tree.path("crates/beside/out/rlib/places")
-    room = tree.path("crates/dmremap/out/site/rooms/beside")
+    folder = tree.path("crates/dmremap/out/site/folders/beside")
     for end in (signal.SIGTERM, signal.SIGKILL, None):
         tree.remove()
         tree.write(places, "kept\n")
         with tempfile.TemporaryFile() as err:
             ran = tree.start(["splitname", "a-b"], err, LET=let, FREE="low dmremap")
             has_begun = becomes(lambda: sorted(tree.called()) == ["beside", "low", "middle"])
-            is_there = os.path.exists(os.path.join(room, "crates", "low", "out", "rlib", "places"))
+            is_there = os.path.exists(os.path.join(folder, "crates", "low", "out", "rlib", "places"))
             if end:
                 ran.send_signal(end)
                 ran.wait()
@@ -357,15 +357,15 @@ def check_rooms(tally, tree):
         with open(places, encoding="utf-8") as it:
             text = it.read().splitlines()
         is_right = has_begun and is_there and text[0] == "kept" and tree.leaves_nothing()
-        is_right &= text[1:] == [] if end == signal.SIGTERM else len(text) > 1 and text[1].startswith(room)
+        is_right &= text[1:] == [] if end == signal.SIGTERM else len(text) > 1 and text[1].startswith(folder)
         is_right &= out == (b"" if end == signal.SIGTERM else b"a b\n")
-        tally.holds("./dmremap in rooms, and %s" % (end.name if end else "no signal"), is_right,
+        tally.holds("./dmremap in folders, and %s" % (end.name if end else "no signal"), is_right,
                     "%s, %s, %s" % (out, tree.called(), text))
 
 
 class Building(Case, checks=[
     check_calls, check_faults, check_full_disks, check_changed, check_by, check_turns, check_told, check_stopped,
-    check_killed, check_rooms
+    check_killed, check_folders
 ]):
     """Builds of a small tree."""
 

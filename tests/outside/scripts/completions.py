@@ -79,7 +79,7 @@ def check_typed(tally, program, top):
         if shutil.which(shell) is None:
             tally.skip("what is typed in " + shell, "it isn't there")
             continue
-        folder = os.path.join(program.room, "typed", shell)
+        folder = os.path.join(program.folder, "typed", shell)
         for name, content in [(start, TOLD % (script % os.path.join(top, "tools", "packaging", "completions"))), ("stack.table", ""),
                               ("stack.disks", ""), ("stack.errors", ""), ("other file", "what it holds")]:
             program.file(os.path.join(folder, name), content)
@@ -123,7 +123,7 @@ def said_in(path, terminal):
 
 
 def check_offered(tally, program, top):
-    folder = os.path.join(program.room, "completed")
+    folder = os.path.join(program.folder, "completed")
     for name in ("stack.table", "stack.disks", "other file"):
         program.file(os.path.join("completed", name))
     rows = rows_of(program)

@@ -49,7 +49,7 @@ int answer_of(int count) { return puts("%s") < 0 || count < 4; }
 
 def make_tree(program, top, name):
     """A repository with the scripts, what they install, and the program."""
-    tree = os.path.join(program.room, name)
+    tree = os.path.join(program.folder, name)
     for it in [*SCRIPTS[:2], "install", "README.md", "CHANGELOG.md", ".gitignore", "docs", "tests/benches/RESULTS.md", "examples", "tools"]:
         one, other = os.path.join(top, it), os.path.join(tree, it)
         os.makedirs(os.path.dirname(other), exist_ok=True)
@@ -62,7 +62,7 @@ def make_tree(program, top, name):
     program.file(os.path.join(tree, "crates", "dmremap", "src", "main.rt"))
     out = os.path.join(tree, "crates", "dmremap", "out")
     os.makedirs(out)
-    objects = os.path.join(program.room, "objects")
+    objects = os.path.join(program.folder, "objects")
     if not os.path.exists(objects):
         make_objects(program)
     make = 'cp "$1" "$3/dmremap" && cp "$2" "$3/dmremap.o"'
@@ -79,7 +79,7 @@ def make_objects(program):
         return
     version = run([program.path, "--version"]).out.decode().strip()
     for it, text in ("main", OBJECT % version), ("libos_c", LIBRARY % ANSWER.strip()), ("liblibc_c", "int other;\n"):
-        made = os.path.join(program.room, "objects", "c", it)
+        made = os.path.join(program.folder, "objects", "c", it)
         run(["cc", "-c", "-x", "c", "-o", made + ".o", program.file("objects/%s.c" % it, text)])
         run(["ar", "crD", made + ".a", made + ".o"])
 
@@ -117,8 +117,8 @@ def check_works(tally, program, folder, name):
 def check_installed(tally, program, tree):
     wanted = installed_in(tree)
     tally.holds("what there is to install", len(wanted) > 30, "it is %s" % sorted(wanted))
-    folder = os.path.join(program.room, "a folder", "below it")
-    got = run([os.path.join(tree, "install"), "a folder/below it"], folder=program.room)
+    folder = os.path.join(program.folder, "a folder", "below it")
+    got = run([os.path.join(tree, "install"), "a folder/below it"], folder=program.folder)
     tally.same("./install", got, 0, "dmremap: installed below a folder/below it\n")
     tally.holds("what ./install puts there", files_below(folder) == wanted, "it is %s" % sorted(files_below(folder)))
     executable = [it for it in sorted(wanted) if os.access(os.path.join(folder, it), os.X_OK)]
@@ -131,7 +131,7 @@ def check_installed(tally, program, tree):
 
 def check_destination(tally, program, tree):
     """DESTDIR stands before the prefix, also before the one that is meant if none is given."""
-    below = os.path.join(program.room, "destination")
+    below = os.path.join(program.folder, "destination")
     for words, prefix in (([], os.path.join("usr", "local")), ([os.sep + "own"], "own")):
         got = run([os.path.join(tree, "install"), *words], env=dict(os.environ, DESTDIR=below))
         there = files_below(os.path.join(below, prefix))
@@ -141,7 +141,7 @@ def check_destination(tally, program, tree):
 
 def check_links(tally, program, tree):
     """What is installed gets in place of a link, and not through it."""
-    folder = os.path.join(program.room, "linked prefix")
+    folder = os.path.join(program.folder, "linked prefix")
     mine = program.file("mine", "mine\n")
     places = ("bin/dmremap", TOOL, DOCUMENTS + "/README.md")
     for it in places:
@@ -157,7 +157,7 @@ def check_links(tally, program, tree):
 
 def check_removed(tally, program, tree):
     """What was installed is removed, and what others put there stays."""
-    folder = os.path.join(program.room, "a folder", "below it")
+    folder = os.path.join(program.folder, "a folder", "below it")
     others = ["bin/other", DOCUMENTS + "/other.md"]
     for it in others:
         program.file(os.path.join(folder, it))
@@ -202,11 +202,11 @@ def check_release(tally, program, top, tree):
         tally.skip("./release", "there is no %s" % missing[0])
         return
     env = {it: os.environ[it] for it in os.environ if not it.startswith("GIT_")}
-    kit = os.path.join(program.room, "objects")
+    kit = os.path.join(program.folder, "objects")
     os.chmod(program.file("kit/rt", RT % kit), 0o755)
-    env["PATH"] = os.path.join(program.room, "kit") + os.pathsep + env["PATH"]
+    env["PATH"] = os.path.join(program.folder, "kit") + os.pathsep + env["PATH"]
     release = os.path.join(tree, RELEASE)
-    for words in ["--help"], [""], ["a", "b"], [program.room, ""]:
+    for words in ["--help"], [""], ["a", "b"], [program.folder, ""]:
         tally.same("./release %s" % words, run([release, *words], env=env), 2, "", RELEASE_USAGE)
     tally.same("./release without a repository", run([release], env=env), 1, "", "release: there is no repository in %s\n" % tree)
     run([*GIT, "init", "-q"], folder=tree, env=env)
@@ -217,10 +217,10 @@ def check_release(tally, program, top, tree):
     shutil.copytree(os.path.join(tree, ".git"), os.path.join(other, ".git"))
     packed = []
     # What another repository and another place and time would make of it.
-    odd = dict(env, TZ="Asia/Tokyo", GIT_DIR="/no/such/repository", GIT_WORK_TREE=program.room, GIT_INDEX_FILE="/dev/null")
+    odd = dict(env, TZ="Asia/Tokyo", GIT_DIR="/no/such/repository", GIT_WORK_TREE=program.folder, GIT_INDEX_FILE="/dev/null")
     odd.update(TAR_OPTIONS="--exclude=README.md", GZIP="-1", DPKG_DEB_COMPRESSOR_LEVEL="1")
     for at, mask, variables in (tree, 0o022, env), (other, 0o077, odd):
-        folder = os.path.join(program.room, "packed", str(mask))
+        folder = os.path.join(program.folder, "packed", str(mask))
         os.makedirs(folder)
         got = run([os.path.join(at, RELEASE)], folder=folder, env=variables, before=lambda: os.umask(mask))
         made = {it: bytes_of(os.path.join(folder, it)) for it in os.listdir(folder)}
@@ -247,11 +247,11 @@ def names_of(program):
 
 def check_full(tally, program, release, env):
     """On a disk that is full, nothing has the name of what it is a part of."""
-    full = os.path.join(program.room, "a full disk")
+    full = os.path.join(program.folder, "a full disk")
     os.mkdir(full)
     small = ["unshare", "--map-root-user", "--mount", "sh", "-c",
              'mount -t tmpfs -o size="$1" none "$2" && { "$3" "$2" 2> /dev/null; echo "status $?"; ls -A "$2"; }', "sh"]
-    sizes = [os.path.getsize(os.path.join(program.room, "packed", "63", it)) for it in names_of(program)]
+    sizes = [os.path.getsize(os.path.join(program.folder, "packed", "63", it)) for it in names_of(program)]
     for size in (sizes[0] // 2, sizes[0] + sizes[-1] // 2):
         got = run([*small, str(size), full, release], env=env)
         if b"unshare" in got.err or b"mount" in got.err:
@@ -268,11 +268,11 @@ def check_refused(tally, program, tree, release, env):
     for value in ("normal", "no"):
         run([*GIT, "config", "status.showUntrackedFiles", value], folder=tree, env=env)
         for variables in hidden:
-            got = run([release, program.room], env=dict(env, **variables))
+            got = run([release, program.folder], env=dict(env, **variables))
             tally.same("./release of a file that isn't committed, %s, %s" % (value, variables), got, 1, "",
                        "release: there are files that aren't committed, such as examples/notes.txt\n")
     ignored = program.file(os.path.join(tree, "examples", ".gitignore"), "*\n")
-    tally.same("./release of a file that a .gitignore hides which isn't committed", run([release, program.room], env=env), 1, "",
+    tally.same("./release of a file that a .gitignore hides which isn't committed", run([release, program.folder], env=env), 1, "",
                "release: there are files that aren't committed, such as examples/.gitignore\n")
     os.remove(ignored)
     os.remove(more)
@@ -282,7 +282,7 @@ def check_refused(tally, program, tree, release, env):
     for how in None, "assume-unchanged", "skip-worktree":
         if how:
             run([*GIT, "update-index", "--" + how, "README.md"], folder=tree, env=env)
-        tally.same("./release of a change, %s" % how, run([release, program.room], env=env), 1, "",
+        tally.same("./release of a change, %s" % how, run([release, program.folder], env=env), 1, "",
                    "release: there are changes that aren't committed\n")
         if how:
             run([*GIT, "update-index", "--no-" + how, "README.md"], folder=tree, env=env)
@@ -291,13 +291,13 @@ def check_refused(tally, program, tree, release, env):
              "rm", "rt", "sed", "sha256sum", "sort", "stat", "tr", "xargs"}
     for missing, told in ("rt", "the program is linked with libraries of the Rattle toolchain, and there is no rt on the path"), \
             ("cc", "the program is linked by cc, and there is none on the path"):
-        few = os.path.join(program.room, "without " + missing)
+        few = os.path.join(program.folder, "without " + missing)
         os.mkdir(few)
         for it in tools - {missing}:
             os.symlink(shutil.which(it, path=env["PATH"]), os.path.join(few, it))
-        got = run([release, program.room], env=dict(env, PATH=few))
+        got = run([release, program.folder], env=dict(env, PATH=few))
         tally.same("./release without " + missing, got, 1, "", "release: %s\n" % told)
-    got = run([release, os.path.join(program.room, "no folder")], env=env)
+    got = run([release, os.path.join(program.folder, "no folder")], env=env)
     tally.holds("./release into no folder", got.status == 1 and b"no folder" in got.err, "%s, %r" % (got.status, got.err))
 
 
@@ -319,7 +319,7 @@ def check_static(tally, path, name):
 
 
 def check_unpacked(tally, program, tree, archive, name):
-    unpacked = os.path.join(program.room, "unpacked")
+    unpacked = os.path.join(program.folder, "unpacked")
     with tarfile.open(archive) as it:
         owners = {(entry.uid, entry.gid) for entry in it.getmembers()}
         tally.holds("the owners in the archive", owners == {(0, 0)}, "they are %s" % owners)
@@ -338,12 +338,12 @@ def check_unpacked(tally, program, tree, archive, name):
 
 def check_packages(tally, program, folder, names):
     """The packages have what is in the archive, below /usr, and belong to root."""
-    wanted = set(files_below(os.path.join(program.room, "unpacked"))) 
+    wanted = set(files_below(os.path.join(program.folder, "unpacked"))) 
     wanted = {"usr/" + it.partition("/")[2] for it in wanted if "/share/" in it or "/bin/" in it}
     for name in names:
         path = os.path.join(folder, name)
         if name.endswith(".deb"):
-            to = os.path.join(program.room, "deb")
+            to = os.path.join(program.folder, "deb")
             tally.same("the package %s" % name, run(["dpkg-deb", "-x", path, to]))
             there = set(files_below(to))
             owners = {it.split()[1] for it in run(["dpkg-deb", "-c", path]).out.decode().splitlines()}

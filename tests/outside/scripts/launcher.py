@@ -29,7 +29,7 @@ def check_version(tally, top):
 
 def path_without(tree, *left_out):
     """A folder with the tools that the scripts call, and nothing else."""
-    few = os.path.join(tree.room, "few" + "".join(left_out))
+    few = os.path.join(tree.folder, "few" + "".join(left_out))
     os.makedirs(few, exist_ok=True)
     for it in {*TOOLS, "python3"} - {*left_out}:
         if not os.path.lexists(os.path.join(few, it)):
@@ -60,19 +60,19 @@ def check_words(tally, tree):
 
 def check_places(tally, tree):
     tree.put()
-    room, words = tree.room, tree.words()
-    link, chain, folder = (os.path.join(room, it) for it in ("a link", "a link to the link", "a linked tree"))
+    parent, words = tree.folder, tree.words()
+    link, chain, folder = (os.path.join(parent, it) for it in ("a link", "a link to the link", "a linked tree"))
     os.symlink("a tree/dmremap", link)
     os.symlink(link, chain)
     os.symlink(tree.top, folder)
     rows = [
         ("by its whole path", tree.script, "/"),
         ("from its folder", "./dmremap", tree.top),
-        ("from another folder", "../a tree/dmremap", os.path.join(room, "bin")),
+        ("from another folder", "../a tree/dmremap", os.path.join(parent, "bin")),
         ("through a link", link, "/"),
         ("through a link to a link", chain, "/"),
         ("through a link to its folder", folder + "/dmremap", "/"),
-        ("through a link beside", "./a link", room),
+        ("through a link beside", "./a link", parent),
     ]
     for name, script, at in rows:
         tally.same("./dmremap " + name, tree.run(words, script, given=REQUESTS, folder=at), 0, ANSWER)
@@ -80,7 +80,7 @@ def check_places(tally, tree):
     for shell in ["sh"], ["bash"], ["bash", "--posix"]:
         got = tree.run([*shell[1:], "dmremap", *words], shell[0], given=REQUESTS, folder=tree.top)
         tally.same("./dmremap as a script of %s" % " ".join(shell), got, 0, ANSWER)
-    got = tree.run(["map", "table", "the table", "the disks"], given=REQUESTS, folder=room)
+    got = tree.run(["map", "table", "the table", "the disks"], given=REQUESTS, folder=parent)
     tally.same("./dmremap with paths from where it is called", got, 0, ANSWER)
     got = tree.run(words, given=REQUESTS + "R b 0 1\n")
     tally.same("./dmremap gives the program's status", got, 3, ANSWER, "dmremap: request 2: unknown\n")
@@ -91,7 +91,7 @@ def check_places(tally, tree):
     got = tree.run(["--help"], before=lambda: os.close(0))
     is_help = got.status == 0 and got.err == b""
     tally.holds("./dmremap --help with a closed standard input", is_help, "standard error is %r" % got.err)
-    got = tree.run(words, "./dmremap", variables={"CDPATH": room}, given=REQUESTS, folder=tree.top)
+    got = tree.run(words, "./dmremap", variables={"CDPATH": parent}, given=REQUESTS, folder=tree.top)
     tally.same("./dmremap under CDPATH", got, 0, ANSWER)
 
 
@@ -114,16 +114,16 @@ def check_odd_places(tally, program, top):
 
 def check_own_path(tally, program, top):
     """A path to the program that is no UTF-8, or in other letters, by each way to it."""
-    room = os.path.join(program.room, os.fsdecode(b"a path \xff"))
+    parent = os.path.join(program.folder, os.fsdecode(b"a path \xff"))
     tree = Tree(program, top, "own")
     for name in "t", "a:t", "\u00e9":
-        at = shutil.copytree(tree.top, os.path.join(room, name))
+        at = shutil.copytree(tree.top, os.path.join(parent, name))
         for how, said in ("that builds", BUILDING + told()), ("that is built", ""):
             tally.same("./dmremap %s in %r" % (how, name), tree.run(["splitname", "a-b"], os.path.join(at, "dmremap")), 0, "a b\n", said)
-    copy = shutil.copy(program.path, os.path.join(room, "dmremap"))
+    copy = shutil.copy(program.path, os.path.join(parent, "dmremap"))
     listed = program.file("own/paths", "a %s\n" % program.file("own/a", bytes(4096)))
     stack = ["table", program.file("own/table", "v: 0 8 linear a 0\n"), program.file("own/disks", "a 8\n")]
-    words = ["save", "--program", copy, "--paths", listed, "v", os.path.join(program.room, "own", "out"), *stack]
+    words = ["save", "--program", copy, "--paths", listed, "v", os.path.join(program.folder, "own", "out"), *stack]
     tally.same("the tools over such a program", run([os.path.join(top, "dmremap-tools"), *words]))
 
 
@@ -132,7 +132,7 @@ def check_interrupts(tally, tree):
     path = tree.path("tools/building/calls.py")
     with open(path, encoding="utf-8") as it:
         kept = it.read()
-    begun = os.path.join(tree.room, "begun")
+    begun = os.path.join(tree.folder, "begun")
     tree.write("tools/building/calls.py", "import time\nopen(%r, 'w').close()\ntime.sleep(30)\n%s" % (begun, kept))
     for script in tree.script, tree.build:
         tree.remove()
@@ -210,7 +210,7 @@ def check_times(tally, tree):
             for it in files:
                 os.utime(os.path.join(at, it), times)
         tally.same("./dmremap where %s, with the same sums" % name, tree.run(words, given=REQUESTS), 0, ANSWER)
-    copied = os.path.join(tree.room, "a copy of the tree")
+    copied = os.path.join(tree.folder, "a copy of the tree")
     shutil.copytree(tree.top, copied)
     tally.same("./dmremap in a copy", tree.run(words, os.path.join(copied, "dmremap"), given=REQUESTS), 0, ANSWER)
     with open(os.path.join(copied, SOURCES[0]), "a", encoding="utf-8") as it:
@@ -221,7 +221,7 @@ def check_times(tally, tree):
 
 def check_settled(tally, tree):
     """What stat says is kept where nothing has changed within the last two seconds, and not before, by a clock that is set."""
-    words, clock = tree.words(), os.path.join(tree.room, "clock")
+    words, clock = tree.words(), os.path.join(tree.folder, "clock")
     tree.put()
     changed = int(max(os.stat(it).st_ctime for it in (tree.built, tree.built + ".o")))
     path = os.pathsep.join([clock, tree.environment()["PATH"]])
@@ -235,7 +235,7 @@ def check_settled(tally, tree):
 def check_linked(tally, tree, source):
     """A source may be a link, and so may a folder of sources: what it leads to is looked at."""
     words, seen = tree.words(), tree.path("out/seen")
-    aside = os.path.join(tree.room, "aside")
+    aside = os.path.join(tree.folder, "aside")
     folder = tree.path("crates/low/proofs/more")
     tree.write(os.path.join(folder, "text"), "more\n")
     for linked, changed in (source, aside), (folder, os.path.join(aside, "text")):
@@ -259,7 +259,7 @@ def check_linked(tally, tree, source):
 def check_loose(tally, tree):
     """A link that leads nowhere is no source, until it leads somewhere."""
     words = tree.words()
-    link, later = tree.path("crates/low/src/.#text"), os.path.join(tree.room, "later")
+    link, later = tree.path("crates/low/src/.#text"), os.path.join(tree.folder, "later")
     for leads_to in "somebody@a-machine.1:2", later:
         os.symlink(leads_to, link)
         name = "a link to " + os.path.basename(leads_to)

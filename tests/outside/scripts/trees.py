@@ -82,9 +82,9 @@ class Tree:
     """A tree with the scripts and a few crates, of one source each."""
 
     def __init__(self, program, top, name="a tree"):
-        self.program, self.room = program, program.room
-        self.top = os.path.join(self.room, name)
-        self.calls = os.path.join(self.room, "calls")
+        self.program, self.folder = program, program.folder
+        self.top = os.path.join(self.folder, name)
+        self.calls = os.path.join(self.folder, "calls")
         for crate in [*CRATES, "beside"]:
             for part in ("src", "specs", "proofs"):
                 program.file(os.path.join(self.top, "crates", crate, part, "text"), "%s of %s\n" % (part, crate))
@@ -130,7 +130,7 @@ class Tree:
 
     def other_environment(self, **variables):
         """The variables of a run beside another one, whose calls of rt stay noted."""
-        path = os.path.join(self.room, "bin") + os.pathsep + os.environ["PATH"]
+        path = os.path.join(self.folder, "bin") + os.pathsep + os.environ["PATH"]
         return {**os.environ, "PATH": path, "CALLS": self.calls, "PROGRAM": self.made, **variables}
 
     def run(self, words, script=None, variables=None, **how):
@@ -160,7 +160,7 @@ class Tree:
             return it.read()
 
     def leaves_nothing(self):
-        """Whether no room is left of a build."""
+        """Whether no folder is left of a build."""
         return not os.path.exists(self.path(os.path.join("crates", "dmremap", "out", "site")))
 
 

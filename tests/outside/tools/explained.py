@@ -43,9 +43,9 @@ class Explain:
         return self._program.run(typed, given=requests, folder=self.folder)
 
 
-def make_room(program, top):
+def make_folder(program, top):
     """A folder with the files of the rows."""
-    folder = os.path.dirname(program.file("explained/room"))
+    folder = os.path.dirname(program.file("explained/empty"))
     for name, content in FILES.items():
         program.file("explained/" + name, content)
     for name in ("vg0.backup", "vg0-snapshot.backup"):
@@ -236,4 +236,4 @@ class Explained(Case, checks=[
 
     @classmethod
     def setUpClass(cls):
-        cls.explain = Explain(cls.program, cls.top, make_room(cls.program, cls.top))
+        cls.explain = Explain(cls.program, cls.top, make_folder(cls.program, cls.top))

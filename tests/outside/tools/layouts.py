@@ -93,11 +93,11 @@ def check_full(tally, program, top):
     for place, name in enumerate(("requests", "table", "disks")):
         given = ["W s 0 1\n", table, disks]
         given[place] = "BZh"
-        path = os.path.join(program.room, "full", name)
+        path = os.path.join(program.folder, "full", name)
         tally.same("stores by a compressed %s" % name, full(*given), 1, "", "dmremap-tools store: %s: it is compressed (bzip2): unpack it\n" % path)
     got = full("W a 0 1\n", "a: 0 8 zero\n", "")
     tally.same("no store", got, 1, "", "dmremap-tools store: %s: it has no snapshot: give the tables of one\n" % program.file("full/table", ""))
-    got = tool_calls.call(top, ["store", "table", "none", "none", "--program", os.path.join(program.room, "none")])
+    got = tool_calls.call(top, ["store", "table", "none", "none", "--program", os.path.join(program.folder, "none")])
     tally.same("stores of no table", got, 1, "", "dmremap-tools store: none: No such file or directory\n")
     for words, usage, why in (
             (["lvm", "none", "none"], "usage: FORMAT FILE [DISKS] [--requests REQUESTS]\n", "give DISKS, or leave it out with lvm"),

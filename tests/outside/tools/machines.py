@@ -43,7 +43,7 @@ def read(path):
 def check_row(tally, program, top, command, words, inputs, output, message, status, disks):
     """A row with its DISKS, and that what it makes loads."""
     tool_calls.check_rows(tally, program, top, [(command, words, inputs, output, message, status)])
-    name, written = "%s over %r" % (command, inputs[-1][:40]), read(os.path.join(program.room, "rows", "disks"))
+    name, written = "%s over %r" % (command, inputs[-1][:40]), read(os.path.join(program.folder, "rows", "disks"))
     tally.holds("DISKS of " + name, written == (disks.encode() if disks is not None else None), "it is %r" % written)
     if status == 0 and disks is not None:
         form = "concise" if ",,," in output else "table"
@@ -79,7 +79,7 @@ DEVICES = "253:0 8192 dm-0 \n253:1 32768 dm-1 \n253:2 8192 dm-2 \n253:3 8192 dm-
 
 def check_images(tally, program, top):
     """Lengths of images, in whole sectors."""
-    folder = os.path.join(program.room, "machines")
+    folder = os.path.join(program.folder, "machines")
     program.file("machines/sda1.img", bytes(2048 * 512))
     program.file("machines/paths", "8:1 sda1.img\n")
     for name, text in (("ls", machine_rows.NUMBERS), ("status", machine_rows.FRESH), ("table", machine_rows.ALL)):

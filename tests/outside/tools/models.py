@@ -72,7 +72,7 @@ class Pile:
 
 def empty_pile(case, name):
     """A pile in a folder of that name, without an image."""
-    folder = os.path.join(case.room, name)
+    folder = os.path.join(case.own_folder, name)
     shutil.rmtree(folder, ignore_errors=True)
     os.makedirs(folder)
     return Pile(case.program, case.top, folder)

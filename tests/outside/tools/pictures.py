@@ -33,10 +33,10 @@ PLOT = ["--plot", "plot.svg", "--disks"]
 
 def drawn(tally, program, top, words, given):
     """The texts of a picture, and its pixels."""
-    got = call(top, words, given, program.room)
+    got = call(top, words, given, program.folder)
     if not tally.holds(" ".join(words), got.status == 0 and got.err == b"", "status %s, %r" % (got.status, got.err)):
         return "", None
-    path = os.path.join(program.room, "plot.svg") if words[0] == "report" else program.file("drawn.svg", got.out)
+    path = os.path.join(program.folder, "plot.svg") if words[0] == "report" else program.file("drawn.svg", got.out)
     made = run(["rsvg-convert", "-f", "png", path])
     tally.holds("drawing " + " ".join(words), made.status == 0 and made.err == b"", made.err)
     text = picture_in(path)
@@ -151,15 +151,15 @@ def check_costs(tally, program, top):
     program.file("disks", "".join("d%d 8\n" % it for it in range(1025)))
     rows = ["%d R d%d 0 8\n" % (it + 1, it) for it in range(1025)]
     program.file("pieces", "".join(rows[:1024]))
-    path = os.path.join(program.room, "plot.svg")
-    got = call(top, ["report", *PLOT, "disks", "pieces"], folder=program.room, memory=MEMORY)
+    path = os.path.join(program.folder, "plot.svg")
+    got = call(top, ["report", *PLOT, "disks", "pieces"], folder=program.folder, memory=MEMORY)
     tally.holds("a plot of many disks", got.status == 0 and picture_in(path).count("<image ") == 1024, "status %s, %r" % (got.status, got.err))
     program.file("pieces", "".join(rows))
-    got = call(top, ["report", *PLOT, "disks", "pieces"], folder=program.room, memory=MEMORY)
+    got = call(top, ["report", *PLOT, "disks", "pieces"], folder=program.folder, memory=MEMORY)
     tally.same("a plot of too many disks", got, 1, "", "dmremap-tools report: pieces: pieces on more than 1024 disks, too many for a picture: give those of fewer\n")
     program.file("times", "0\n1\n999999999999999\n")
     program.file("pieces", "1 R d0 0 8\n2 R d1 0 8\n3 R d2 0 8\n")
-    got = call(top, ["report", "--times", "times", *PLOT, "disks", "pieces"], folder=program.room)
+    got = call(top, ["report", "--times", "times", *PLOT, "disks", "pieces"], folder=program.folder)
     tally.holds("a plot of times far apart", got.status == 0 and "1e+15 seconds" in picture_in(path), "status %s, %r" % (got.status, got.err))
 
 

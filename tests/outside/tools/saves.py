@@ -57,7 +57,7 @@ class Disks:
         self.source = ["table", program.file("save/table", TABLE), program.file("save/disks", DISKS)]
 
     def target(self, name):
-        return os.path.join(self.program.room, "save", name)
+        return os.path.join(self.program.folder, "save", name)
 
     def save(self, top, target, *words):
         return tool_calls.call(top, ["save", *self.words, "v", self.target(target), *self.source, *words])
@@ -175,7 +175,7 @@ def check_whole_disks(tally, program, top):
             ("a partition, by a backup", end, 56, "GPT"), ("a partition below a damaged table", damaged.ljust(129 * SECTOR, b"x"), 56, "GPT"),
             ("the head of a disk with a damaged table", damaged[:8 * SECTOR], 56, None),
             ("what has no table", bytes(129 * SECTOR), 56, None)):
-        path, target = program.file("save/disk", image), os.path.join(program.room, "save", "of disk")
+        path, target = program.file("save/disk", image), os.path.join(program.folder, "save", "of disk")
         words = [program.file("save/table", "v: 0 8 linear p 0\n"), program.file("save/disks", "p %d\n" % size)]
         listed = program.file("save/paths", "p %s\n" % path)
         got = tool_calls.call(top, ["save", "--program", program.path, "--paths", listed, "v", target, "table", *words])
@@ -188,7 +188,7 @@ def check_whole_disks(tally, program, top):
     listed = program.file("save/paths", "p %s?offset=%d\n" % (path, 40 * SECTOR))
     for form, more in (("table", [program.file("save/disks", "p 56\n")]), ("lvm", [])):
         source = program.file("save/source", "v: 0 8 linear p 0\n" if more else OF_PARTITION)
-        target = os.path.join(program.room, "save", "of partition " + form)
+        target = os.path.join(program.folder, "save", "of partition " + form)
         got = tool_calls.call(top, ["save", "--program", program.path, "--paths", listed, "v" if more else "g-v", target, form, source, *more])
         tally.same("saving from a partition by its place, " + form, got, 0)
         tally.holds("what is saved from it", os.path.exists(target) and read(target) == bytes(range(256)) * 16, "it is another")
@@ -221,7 +221,7 @@ def check_labels(tally, program, top):
              UNLABELLED + "; labels of some that begin at the bytes 53248, 81920 are sound: give one as IMAGE?offset=BYTES"),
             ("the head of a disk", physical_volumes.mbr((0x83, 8, 8), (0x8E, 400, 56)) + bytes(99 * SECTOR), None,
              "the image of a whole disk (MBR), which ends before its partitions do (1 from sector 8 on, 2 from sector 400 on): take more of the disk")):
-        path, target = program.file("save/disk", image), os.path.join(program.room, "save", "of label")
+        path, target = program.file("save/disk", image), os.path.join(program.folder, "save", "of label")
         listed = program.file("save/paths", "p %s%s\n" % (path, "" if begin is None else "?offset=%d" % (begin * SECTOR)))
         source = program.file("save/source", OF_VOLUME)
         got = tool_calls.call(top, ["save", "--program", program.path, "--paths", listed, "g-v", target, "lvm", source])
@@ -230,7 +230,7 @@ def check_labels(tally, program, top):
             tally.holds("what is saved by labels, " + name, read(target) == image[begin * SECTOR:(begin + 8) * SECTOR], "it is another")
             os.unlink(target)
     for figures, told in ((18, path + ": it ends before sector 8"), (19, "%s?offset=%s: No such file or directory" % (path, "9" * 19))):
-        target = os.path.join(program.room, "save", "far %d" % figures)
+        target = os.path.join(program.folder, "save", "far %d" % figures)
         words = [program.file("save/table", "v: 0 8 linear p 0\n"), program.file("save/disks", "p 64\n")]
         listed = program.file("save/paths", "p %s?offset=%s\n" % (path, "9" * figures))
         got = tool_calls.call(top, ["save", "--program", program.path, "--paths", listed, "v", target, "table", *words])
@@ -433,7 +433,7 @@ def check_mutations(tally, program, top):
                " ext:     logical_offset:        physical_offset: length:   expected: flags:\n"
                "   0:        0..       4:          1..         5:      5:            \n"
                "   1:        5..       9:         42..        46:      5:         30: last,eof\n/f: 2 extents found\n")
-    texts = {"extents": extents.encode(), "paths": read(os.path.join(program.room, "save/paths")), "map": b"0x0 ?\n0x0 0x2000 +\n0x2000 0x4000 ?\n"}
+    texts = {"extents": extents.encode(), "paths": read(os.path.join(program.folder, "save/paths")), "map": b"0x0 ?\n0x0 0x2000 +\n0x2000 0x4000 ?\n"}
     words = ["save", "--program", program.path, "--paths", "paths", "v", "out", *disks.source]
     dice = random.Random(1)
     for number in range(TRIES):

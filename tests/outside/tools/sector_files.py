@@ -87,9 +87,9 @@ def made(tally, program, name, contents, *words, size="8M"):
     """A file system with these files, or None."""
     for path, content in contents.items():
         program.file("%s/%s" % (name, path), content)
-    image = os.path.join(program.room, name + ".img")
+    image = os.path.join(program.folder, name + ".img")
     words = words or ("-t", "ext4", "-b", "1024")
-    ran = run([found("mke2fs"), "-q", *words, "-d", os.path.join(program.room, name), image, size])
+    ran = run([found("mke2fs"), "-q", *words, "-d", os.path.join(program.folder, name), image, size])
     return image if tally.holds("the file system %s is made" % name, ran.status == 0, ran.err) else None
 
 
@@ -177,7 +177,7 @@ def check_lost_inodes(tally, program, top):
     """Where many inodes are lost, each of their names is found, though debugfs doesn't know any more how many there are."""
     names = {"/%s%d" % (kind, it) for kind in ("f", "linked") for it in range(6)}
     for it in range(6):
-        os.link(program.file("inodes/f%d" % it), os.path.join(program.room, "inodes", "linked%d" % it))
+        os.link(program.file("inodes/f%d" % it), os.path.join(program.folder, "inodes", "linked%d" % it))
     image = made(tally, program, "inodes", {})
     if not image:
         return
@@ -218,7 +218,7 @@ def check_xfs(tally, program, top):
 
 def made_xfs(tally, program):
     """An XFS file system with two files, or None."""
-    image = os.path.join(program.room, "xfs.img")
+    image = os.path.join(program.folder, "xfs.img")
     big, small = program.file("xfs/big", os.urandom(50000)), program.file("xfs/small", b"x")
     proto = program.file("xfs/proto", "/none\n0 0\nd--755 0 0\nd d--755 0 0\nf. ---644 0 0 %s\n$\ng ---644 0 0 %s\n$\n" % (big, small))
     ran = run([found("mkfs.xfs"), "-q", "-f", "-d", "file,name=%s,size=300m" % image, "-p", proto])

@@ -90,7 +90,7 @@ def check_blocks(tally, program, top):
         tally.same("the figures of %d pieces" % len(rows), got, 0, figures_of(rows))
         lower = requests_of(rows)
         dice.shuffle(lower)
-        got = call(top, ["report", os.path.join(program.room, "blocks", "pieces"), "--compare", program.file("blocks/lower", "".join(lower))])
+        got = call(top, ["report", os.path.join(program.folder, "blocks", "pieces"), "--compare", program.file("blocks/lower", "".join(lower))])
         tally.same("the same in another order", got, 0, figures_of(rows))
 
 

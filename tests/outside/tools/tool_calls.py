@@ -42,7 +42,7 @@ def lost(command, words, inputs, message, output=""):
 def check_rows(tally, program, top, rows):
     """Runs each row in a folder of its own."""
     for command, words, inputs, output, message, status in rows:
-        folder = os.path.join(program.room, "rows")
+        folder = os.path.join(program.folder, "rows")
         shutil.rmtree(folder, ignore_errors=True)
         for place, text in enumerate(inputs, 1):
             program.file("rows/%d" % place, text)

@@ -111,9 +111,9 @@ def check_calls(tally, top, folder, commands):
         check_standard_input(tally, top, folder, *call_tried)
 
 
-def make_room(program, top):
+def make_folder(program, top):
     """A folder with the samples, and what the commands need besides."""
-    folder = os.path.join(program.room, "streams")
+    folder = os.path.join(program.folder, "streams")
     shutil.copytree(samples(top), folder)
     shutil.copy(os.path.join(top, "examples", "vg0.backup"), folder)
     os.symlink(program.path, os.path.join(folder, "dmremap"))
@@ -510,7 +510,7 @@ class ToolStreams(Case, checks=[
 
     @classmethod
     def setUpClass(cls):
-        cls.folder = make_room(cls.program, cls.top)
+        cls.folder = make_folder(cls.program, cls.top)
         known = importlib.import_module("dmremap_tools.commands").COMMANDS
         cls.commands = [(it, CALLS[it.name]) for it in known if it.name in CALLS]
         cls.commands += [(it, words) for it in known for name, words in WAYS if name == it.name]

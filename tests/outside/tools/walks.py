@@ -167,8 +167,8 @@ def file_system(program, dice):
     files = {"f%d" % it: os.urandom(dice.choice([100, 5000, 70000])) for it in range(12)}
     for name, content in files.items():
         program.file("walk/files/" + name, content)
-    path = os.path.join(program.room, "walk", "system")
-    made = run(["mke2fs", "-q", "-F", "-t", "ext4", "-b", "1024", "-d", os.path.join(program.room, "walk", "files"), path, "4M"],
+    path = os.path.join(program.folder, "walk", "system")
+    made = run(["mke2fs", "-q", "-F", "-t", "ext4", "-b", "1024", "-d", os.path.join(program.folder, "walk", "files"), path, "4M"],
                env=dict(os.environ, PATH=os.environ["PATH"] + ":/sbin:/usr/sbin"))
     assert made.status == 0, made.err
     return read(path), files
