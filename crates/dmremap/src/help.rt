@@ -204,7 +204,7 @@ pub(crate) const FILE_HELP: &str = "The file of the devices and their tables, or
 pub(crate) const DISKS_HELP: &str =
     "The file of the disks and their lengths, for the formats concise and table";
 
-pub(crate) const STATUS_HELP: &str =
+pub(crate) const STATUS_OPTION_HELP: &str =
     "After all pieces, print how much of each snapshot's store is used";
 
 pub(crate) const BEFORE_HELP: &str =

@@ -344,7 +344,12 @@ fn map_command<'a>(alloc: Global, parser: ValueParser<'a>) -> Result<Command<'a>
     let command = loading_command(alloc, parser, "map", help::MAP_ABOUT, help::MAP_NOTES);
     let command = with_word(
         command,
-        flag(alloc, "status", ArgAction::SetTrue, help::STATUS_HELP),
+        flag(
+            alloc,
+            "status",
+            ArgAction::SetTrue,
+            help::STATUS_OPTION_HELP,
+        ),
     );
     let command = with_word(command, before_option(alloc));
     with_word(command, paths_option(alloc))

@@ -20,7 +20,7 @@ def check_commands(tally, program, top):
     commands = [smaller("\n".join(lines)) for _, lines in transcripts.blocks(found[1])] if found else []
     if not tally.holds("the commands for a long trace", len(commands) == 2, "RECIPES has %d" % len(commands)):
         return
-    folder = make_room(program, top)
+    folder = make_folder(program, top)
     pieces = run(["./dmremap", "map", "lvm", "vg0.backup"], given=bytes_of(folder, "requests"), folder=folder)
     totals = run(["sh", "-c", "./dmremap map lvm vg0.backup < requests | ./dmremap-tools report | grep ^total | sort"], folder=folder)
     tally.holds("one run over a long trace", pieces.status == totals.status == 0 and totals.out.count(b"\n") == 2, totals.err)
@@ -32,7 +32,7 @@ def check_commands(tally, program, top):
     tally.holds("numbers by parts", bytes_of(folder, "pieces") == pieces.out, "they differ")
 
 
-def make_room(program, top):
+def make_folder(program, top):
     """A folder with the program, the tools, and requests to a volume."""
     dice = random.Random(3)
     rows = ["%s vg0-lv0 %d %d\n" % (dice.choice("RW"), dice.randrange(200000), dice.randrange(1, 4000)) for _ in range(COUNT)]

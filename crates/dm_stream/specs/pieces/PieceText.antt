@@ -22,17 +22,17 @@ unit_text stack (CopyOf disk sector to to_sector) len = codes "copy " ++ sector_
 unit_text stack (FillOf disk sector) len = codes "fill " ++ decimal len ++ code " " ∷ sector_text stack disk sector
 
 -- a piece without a disk
-abbrev pub IsPlain : coded.Piece → Type 0
-IsPlain (coded.TheVariants.Zero len) = Unit {0}
-IsPlain (coded.TheVariants.Drop len) = Unit {0}
-IsPlain (coded.TheVariants.Error len) = Unit {0}
-IsPlain _ = ⊥
+abbrev pub IsDiskless : coded.Piece → Type 0
+IsDiskless (coded.TheVariants.Zero len) = Unit {0}
+IsDiskless (coded.TheVariants.Drop len) = Unit {0}
+IsDiskless (coded.TheVariants.Error len) = Unit {0}
+IsDiskless _ = ⊥
 
 -- what its line begins with after the number
-abbrev pub plain_word : BlockUnit → List ℕ
-plain_word Zeros = codes "zero "
-plain_word Drops = codes "drop "
-plain_word unit = codes "error "
+abbrev pub diskless_word : BlockUnit → List ℕ
+diskless_word Zeros = codes "zero "
+diskless_word Drops = codes "drop "
+diskless_word unit = codes "error "
 
 -- a piece that is a copy or a fill
 abbrev pub IsOther : coded.Piece → Type 0

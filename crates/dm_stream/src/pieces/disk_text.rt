@@ -13,7 +13,7 @@ ghost use Rattle.dm_table.specs.words.Bytes.{code};
 ghost use Rattle.dm_stream.specs.pieces.DiskText.{disk_text, line_head};
 
 use crate::pieces::letter::Letter;
-use dm_table::{DiskName, put_bytes, put_array};
+use dm_table::{DiskName, put_array, put_bytes};
 use std::marker::Model;
 
 /// The bytes of the longest text: those of a name, and a space.

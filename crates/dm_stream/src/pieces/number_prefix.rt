@@ -10,7 +10,7 @@ ghost use Rattle.std.specs.Prelude.{◌≡◌, ◌+◌, ◌≤◌, length, take}
 ghost use Rattle.dm_table.specs.io.Block.{IsPut};
 ghost use Rattle.dm_stream.specs.pieces.NumberPrefix.{number_prefix};
 
-use dm_table::{put_bytes, put_digits, put_array};
+use dm_table::{put_array, put_bytes, put_digits};
 use std::marker::Model;
 
 /// The bytes of a prefix: the digits of a number, a space, and what makes the copy cheap.

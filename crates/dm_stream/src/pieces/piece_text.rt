@@ -1,7 +1,7 @@
 //! The lines of pieces, as texts that put themselves into a block.
 //!
 //! Reads and writes come by the hundreds of millions, so they are put in line; the other kinds go
-//! through a function of their own. A new kind of piece is an arm of `put_other` or `put_rare` here and of
+//! through a function of their own. A new kind of piece is an arm of `put_other` or `put_copy_or_fill` here and of
 //! `unit_text` in `specs/pieces/PieceText`.
 //!
 //! That is for speed alone, with the arrays that lines are copied from: RESULTS.md has the gain as *texts kept ready*.
@@ -21,9 +21,9 @@ ghost use Rattle.dm_table.specs.words.Bytes.{code};
 
 use crate::pieces::disk_range::DiskRange;
 use crate::pieces::disk_texts::DiskTexts;
+use crate::pieces::diskless_word::DisklessWord;
 use crate::pieces::line_ends::LineEnds;
 use crate::pieces::number_prefix::NumberPrefix;
-use crate::pieces::plain_word::PlainWord;
 use crate::pieces::range_text::RangeText;
 use dm_map::Piece;
 use dm_stack::DiskId;
@@ -72,14 +72,14 @@ impl<'a> Text for RangeLine<'a> {
 
 /// The line of a piece without a disk, under a number.
 #[derive(Drop)]
-struct PlainLine<'a> {
+struct DisklessLine<'a> {
     prefix: &'a NumberPrefix,
     ends: &'a LineEnds,
-    word: PlainWord,
+    word: DisklessWord,
     len: u64,
 }
 
-impl<'a> Model for PlainLine<'a> {
+impl<'a> Model for DisklessLine<'a> {
     ghost use Rattle.std.specs.Prelude.{ℕ, List};
     ghost use Rattle.dm_stream.specs.pieces.PieceText.{plain_line};
 
@@ -88,7 +88,7 @@ impl<'a> Model for PlainLine<'a> {
     ghost view = { λ line. plain_line line.prefix.now line.word line.len };
 }
 
-impl<'a> Text for PlainLine<'a> {
+impl<'a> Text for DisklessLine<'a> {
     ghost text = { λ line. line };
 
     #[inline(always)]
@@ -101,14 +101,14 @@ impl<'a> Text for PlainLine<'a> {
 
 /// The line of a copy or a fill on disks of a stack, under a number.
 #[derive(Drop)]
-struct RareLine<'a> {
+struct CopyLine<'a> {
     prefix: &'a NumberPrefix,
     ends: &'a LineEnds,
     disks: &'a DiskTexts<'a>,
     piece: &'a Piece,
 }
 
-impl<'a> Model for RareLine<'a> {
+impl<'a> Model for CopyLine<'a> {
     ghost use Rattle.std.specs.Prelude.{ℕ, List};
     ghost use Rattle.dm_map.specs.pieces.Units.{IsOnDisks};
     ghost use Rattle.dm_stream.specs.pieces.Pending.{piece_view};
@@ -121,13 +121,13 @@ impl<'a> Model for RareLine<'a> {
     ghost invariant = { λ line. IsOnDisks line.disks.now line.piece.now × IsOther line.piece.now };
 }
 
-impl<'a> Text for RareLine<'a> {
+impl<'a> Text for CopyLine<'a> {
     ghost text = { λ line. line };
 
     #[inline(always)]
     fn put_into(&self, block: &mut [u8], at: usize) -> usize {
         let at = self.prefix.put_into(block, at);
-        put_rare(block, at, self.ends, self.disks, self.piece)
+        put_copy_or_fill(block, at, self.ends, self.disks, self.piece)
     }
 }
 
@@ -173,14 +173,14 @@ pub(crate) fn put_other<W: Output>(
 {
     match *piece {
         Piece::Zero { len } | Piece::Drop { len } | Piece::Error { len } => {
-            writer.put(&PlainLine {
+            writer.put(&DisklessLine {
                 prefix,
                 ends,
-                word: PlainWord::of(piece),
+                word: DisklessWord::of(piece),
                 len,
             })
         }
-        _ => writer.put(&RareLine {
+        _ => writer.put(&CopyLine {
             prefix,
             ends,
             disks,
@@ -193,7 +193,7 @@ pub(crate) fn put_other<W: Output>(
 /// never inlined, since these are rare.
 #[cold]
 #[inline(never)]
-fn put_rare(
+fn put_copy_or_fill(
     block: &mut [u8],
     at: usize,
     ends: &LineEnds,

@@ -13,7 +13,7 @@ ghost use Rattle.dm_table.specs.io.Block.{IsPut};
 ghost use Rattle.dm_stream.specs.pieces.RangeText.{range_text, IsKept};
 
 use crate::pieces::line_ends::LineEnds;
-use dm_table::{put_bytes, put_digits, put_array};
+use dm_table::{put_array, put_bytes, put_digits};
 use std::marker::Model;
 
 /// The bytes of a range: two numbers, a space and a newline, and what makes the copy cheap.

@@ -30,11 +30,11 @@ pub(crate) struct Answered {
     pub(crate) len: usize,
 }
 
-/// Answers the requests at the front of the held bytes that are quickly read, after `done` others, if requests are
-/// gathered.
+/// Answers the requests at the front of the held bytes that are quickly read, after `done` others, if they are read in
+/// batches.
 #[inline(always)]
-pub(crate) fn answer_gathered<H: Handler>(
-    gathers: bool,
+pub(crate) fn answer_in_batches<H: Handler>(
+    batches: bool,
     stack: &Stack,
     handler: &mut H,
     source: &mut H::Source,
@@ -46,7 +46,7 @@ pub(crate) fn answer_gathered<H: Handler>(
     ensures { AnswersFronts (H.ready stack.now) (H.answered stack.now) (H.stopped stack.now) done held.now
         handler.old source.old handler.new source.new result }
 {
-    if gathers {
+    if batches {
         answer_batch(stack, handler, source, held, done)
     } else {
         Ok(Answered { count: 0, len: 0 })

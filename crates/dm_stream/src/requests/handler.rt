@@ -48,7 +48,7 @@ pub trait Handler {
 
     /// Whether requests are read in batches: then `prefetch` is called for each of a batch before the first of them
     /// is answered, which is worth its time where answers wait for memory. Asked once a run.
-    fn gathers(&self, _stack: &Stack) -> bool {
+    fn batches(&self, _stack: &Stack) -> bool {
         false
     }
 

@@ -10,7 +10,7 @@ ghost use Rattle.dm_table.specs.io.Progress.{IsReadOn, MetNothing};
 ghost use Rattle.dm_stream.specs.requests.Lines.{line_parts};
 ghost use Rattle.dm_stream.specs.requests.Requests.{HasMet, IsAmong, Requests, after_requests, is_bad, line_requests, numbered, requests_of, word_for};
 
-use crate::requests::batch::{Answered, answer_gathered};
+use crate::requests::batch::{Answered, answer_in_batches};
 use crate::requests::front::{Front, front_of};
 use crate::requests::handler::{Handler, HandlesFrom};
 use crate::requests::lines::{Lines, Next};
@@ -116,12 +116,12 @@ pub fn handle_requests<Q, H: HandlesFrom<Q>>(
         (requests_of (delivery (H.asked requests.old) (H.asked requests.new))).all) }
     ensures unread { OnErr result (MetNothing (H.asked requests.old) (H.asked requests.new)) }
 {
-    let gathers = handler.gathers(stack);
+    let batches = handler.batches(stack);
     let mut lines = Lines::new();
     let mut number = 0;
     'lines: loop {
         let held = lines.held();
-        let batch = match answer_gathered(gathers, stack, handler, &mut *source, held, number) {
+        let batch = match answer_in_batches(batches, stack, handler, &mut *source, held, number) {
             Ok(batch) => batch,
             Err(fault) => return Err(fault),
         };

@@ -81,7 +81,7 @@ impl<'s, T: Taken> Handler for EarlierPlayer<'s, T> {
         }
     }
 
-    fn gathers(&self, stack: &Stack) -> bool {
+    fn batches(&self, stack: &Stack) -> bool {
         gains_by_reading_ahead(stack)
     }
 

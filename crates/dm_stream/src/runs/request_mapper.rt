@@ -149,7 +149,7 @@ impl<'s, T: Taken, W: Output> Handler for RequestMapper<'_, 's, T, W> {
         }
     }
 
-    fn gathers(&self, stack: &Stack) -> bool {
+    fn batches(&self, stack: &Stack) -> bool {
         gains_by_reading_ahead(stack)
     }
 

@@ -65,12 +65,12 @@ pub(crate) fn read_fields<'a>(
 fn check_head(top: &Section<'_>) -> Result<(), LoadFault>
     ensures { IsPlainStep (λ check. fields_faults check top.now top_fields) (result_err result) }
 {
-    check_contents(top)?;
+    check_title_field(top)?;
     check_version(top)
 }
 
 /// Fails where the text isn't one of a volume group.
-fn check_contents(top: &Section<'_>) -> Result<(), LoadFault>
+fn check_title_field(top: &Section<'_>) -> Result<(), LoadFault>
     ensures { IsPlainStep (at_key kinds.Title (codes "contents") top.now) (result_err result) }
 {
     let node = node_at(top, "contents")?;

@@ -62,7 +62,7 @@ impl Handler for Counts {
         Ok(())
     }
 
-    fn gathers(&self, _stack: &Stack) -> bool {
+    fn batches(&self, _stack: &Stack) -> bool {
         true
     }
 

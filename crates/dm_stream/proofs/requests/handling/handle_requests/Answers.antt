@@ -38,7 +38,7 @@ pub returns-in-Err-clause-stopped : goal.returns-in-Err-clause-stopped
 returns-in-Err-clause-stopped g c =
     let so_far = c.lines.invariant.turned in
     among_batch (g.H.ReadsFrom.asked c.args.requests.now) (g.H.ReadsFrom.asked c.lines.requests) c.lines.lines c.held-held.result.now (c.lines.number + 1) so_far.done _ _ so_far.told c.held-held.ensures c.in-Err.ensures
-    (λ first stopped. g.met.H.Handler.answered_then_stopped c.args.stack.now c.args.handler.now c.lines.handler c.answer_gathered.new.handler c.args.source.now c.lines.source c.answer_gathered.new.source so_far.done first _ so_far.answered stopped)
+    (λ first stopped. g.met.H.Handler.answered_then_stopped c.args.stack.now c.args.handler.now c.lines.handler c.answer_in_batches.new.handler c.args.source.now c.lines.source c.answer_in_batches.new.source so_far.done first _ so_far.answered stopped)
 
 -- A request at the front of the held bytes
 
@@ -52,7 +52,7 @@ lines-preserved-in-Some g c =
       few = c.in-Some.ensures.few;
       turned = record {
         done = so_far.done ++ more;
-        answered = g.met.H.Handler.answered_then_answered c.args.stack.now c.args.handler.now c.answer_gathered.new.handler c.handle.new.self c.args.source.now c.answer_gathered.new.source c.handle.new.source so_far.done more so_far.answered c.in_default-handle.ensures.answered;
+        answered = g.met.H.Handler.answered_then_answered c.args.stack.now c.args.handler.now c.answer_in_batches.new.handler c.handle.new.self c.args.source.now c.answer_in_batches.new.source c.handle.new.source so_far.done more so_far.answered c.in_default-handle.ensures.answered;
         reads = so_far.reads;
         faults = so_far.faults;
         ends = so_far.ends;
@@ -75,14 +75,14 @@ returns-in-Err-handle-clause-stopped g c =
     so_far.reads (grows-same mid.handed mid.handed) so_far.faults so_far.ends
     (held_next (stand_of mid mid) mid.handed read front.len c.in-Some.ensures.within c.in-Some.ensures.short c.in-Some.ensures.line)
     c.in-Some.ensures.good
-    (g.met.H.Handler.answered_then_stopped c.args.stack.now c.args.handler.now c.answer_gathered.new.handler c.handle.new.self c.args.source.now c.answer_gathered.new.source c.handle.new.source so_far.done more _ so_far.answered c.in-Err-handle.ensures.stopped)
+    (g.met.H.Handler.answered_then_stopped c.args.stack.now c.args.handler.now c.answer_in_batches.new.handler c.handle.new.self c.args.source.now c.answer_in_batches.new.source c.handle.new.source so_far.done more _ so_far.answered c.in-Err-handle.ensures.stopped)
 
 -- The next line, before which the handler was told of a read
 
 pub lines-preserved : goal.lines-preserved
 lines-preserved g c =
     let turned = after_batch _ c.in-Ok.batch.len _ _ (g.met.H.Handler.answered_then_answered c.args.stack.now) c.lines.invariant.turned c.in-Ok.ensures.answered c.held-held.ensures c.skip.ensures in
-    let so_far = after_waiting (g.met.H.Handler.answered_then_answered c.args.stack.now) turned (c.before_read.ensures.answered c.args.stack.now c.answer_gathered.new.source) in
+    let so_far = after_waiting (g.met.H.Handler.answered_then_answered c.args.stack.now) turned (c.before_read.ensures.answered c.args.stack.now c.answer_in_batches.new.source) in
     let h0 = (g.H.ReadsFrom.asked c.args.requests.now).handed in
     let h1 = (g.H.ReadsFrom.asked c.lines.requests).handed in
     let h2 = (g.H.ReadsFrom.asked c.next_for.new.requests).handed in
@@ -92,7 +92,7 @@ lines-preserved g c =
       few = c.in-Ok-request_of.ensures.few;
       turned = record {
         done = so_far.done ++ more;
-        answered = g.met.H.Handler.answered_then_answered c.args.stack.now c.args.handler.now c.before_read.new.handler c.handle_named.new.handler c.args.source.now c.answer_gathered.new.source c.handle_named.new.source so_far.done more so_far.answered c.in_default-handle_named.ensures.answered;
+        answered = g.met.H.Handler.answered_then_answered c.args.stack.now c.args.handler.now c.before_read.new.handler c.handle_named.new.handler c.args.source.now c.answer_in_batches.new.source c.handle_named.new.source so_far.done more so_far.answered c.in_default-handle_named.ensures.answered;
         reads = grows_more h0 h1 h2 so_far.reads c.in-Line.ensures.reads.grows;
         faults = c.in-Line.ensures.quiet.0 ∙ so_far.faults;
         ends = c.in-Line.ensures.quiet.1 ∙ so_far.ends;
@@ -106,7 +106,7 @@ lines-preserved g c =
 pub returns-in-Err-request_of-clause-answered : goal.returns-in-Err-request_of-clause-answered
 returns-in-Err-request_of-clause-answered g c =
     let turned = after_batch _ c.in-Ok.batch.len _ _ (g.met.H.Handler.answered_then_answered c.args.stack.now) c.lines.invariant.turned c.in-Ok.ensures.answered c.held-held.ensures c.skip.ensures in
-    ended (g.H.Handler.answered c.args.stack.now) (g.H.ReadsFrom.asked c.next_for.new.requests) (ALine c.in-Line.line.now) (ending.TheVariants.BadRequest (c.lines.number + c.in-Ok.batch.count + 1) c.in-Err-request_of.word) (g.met.H.Handler.answered_then_answered c.args.stack.now) turned (c.before_read.ensures.answered c.args.stack.now c.answer_gathered.new.source) c.in-Line.ensures.reads.grows c.in-Line.ensures.answer c.in-Err-request_of.ensures.bad
+    ended (g.H.Handler.answered c.args.stack.now) (g.H.ReadsFrom.asked c.next_for.new.requests) (ALine c.in-Line.line.now) (ending.TheVariants.BadRequest (c.lines.number + c.in-Ok.batch.count + 1) c.in-Err-request_of.word) (g.met.H.Handler.answered_then_answered c.args.stack.now) turned (c.before_read.ensures.answered c.args.stack.now c.answer_in_batches.new.source) c.in-Line.ensures.reads.grows c.in-Line.ensures.answer c.in-Err-request_of.ensures.bad
 
 pub returns-in-Err-request_of-clause-met : goal.returns-in-Err-request_of-clause-met
 returns-in-Err-request_of-clause-met g c =
@@ -117,31 +117,31 @@ returns-in-Err-request_of-clause-met g c =
 pub returns-in-End-clause-answered : goal.returns-in-End-clause-answered
 returns-in-End-clause-answered g c =
     let turned = after_batch _ c.in-Ok.batch.len _ _ (g.met.H.Handler.answered_then_answered c.args.stack.now) c.lines.invariant.turned c.in-Ok.ensures.answered c.held-held.ensures c.skip.ensures in
-    ended (g.H.Handler.answered c.args.stack.now) (g.H.ReadsFrom.asked c.next_for.new.requests) AnEnd ending.TheVariants.Done (g.met.H.Handler.answered_then_answered c.args.stack.now) turned (c.before_read.ensures.answered c.args.stack.now c.answer_gathered.new.source) c.in-End.ensures.reads.grows c.in-End.ensures.answer (λ rest. refl)
+    ended (g.H.Handler.answered c.args.stack.now) (g.H.ReadsFrom.asked c.next_for.new.requests) AnEnd ending.TheVariants.Done (g.met.H.Handler.answered_then_answered c.args.stack.now) turned (c.before_read.ensures.answered c.args.stack.now c.answer_in_batches.new.source) c.in-End.ensures.reads.grows c.in-End.ensures.answer (λ rest. refl)
 
 pub returns-in-Unended-clause-answered : goal.returns-in-Unended-clause-answered
 returns-in-Unended-clause-answered g c =
     let turned = after_batch _ c.in-Ok.batch.len _ _ (g.met.H.Handler.answered_then_answered c.args.stack.now) c.lines.invariant.turned c.in-Ok.ensures.answered c.held-held.ensures c.skip.ensures in
-    ended (g.H.Handler.answered c.args.stack.now) (g.H.ReadsFrom.asked c.next_for.new.requests) AnUnended (ending.TheVariants.BadRequest (c.lines.number + c.in-Ok.batch.count + 1) word.TheVariants.Unended) (g.met.H.Handler.answered_then_answered c.args.stack.now) turned (c.before_read.ensures.answered c.args.stack.now c.answer_gathered.new.source) c.in-Unended.ensures.reads.grows c.in-Unended.ensures.answer (λ rest. refl)
+    ended (g.H.Handler.answered c.args.stack.now) (g.H.ReadsFrom.asked c.next_for.new.requests) AnUnended (ending.TheVariants.BadRequest (c.lines.number + c.in-Ok.batch.count + 1) word.TheVariants.Unended) (g.met.H.Handler.answered_then_answered c.args.stack.now) turned (c.before_read.ensures.answered c.args.stack.now c.answer_in_batches.new.source) c.in-Unended.ensures.reads.grows c.in-Unended.ensures.answer (λ rest. refl)
 
 pub returns-in-Long-clause-answered : goal.returns-in-Long-clause-answered
 returns-in-Long-clause-answered g c =
     let turned = after_batch _ c.in-Ok.batch.len _ _ (g.met.H.Handler.answered_then_answered c.args.stack.now) c.lines.invariant.turned c.in-Ok.ensures.answered c.held-held.ensures c.skip.ensures in
-    ended (g.H.Handler.answered c.args.stack.now) (g.H.ReadsFrom.asked c.next_for.new.requests) ALong (ending.TheVariants.BadRequest (c.lines.number + c.in-Ok.batch.count + 1) word.TheVariants.Long) (g.met.H.Handler.answered_then_answered c.args.stack.now) turned (c.before_read.ensures.answered c.args.stack.now c.answer_gathered.new.source) c.in-Long.ensures.reads.grows c.in-Long.ensures.answer (λ rest. refl)
+    ended (g.H.Handler.answered c.args.stack.now) (g.H.ReadsFrom.asked c.next_for.new.requests) ALong (ending.TheVariants.BadRequest (c.lines.number + c.in-Ok.batch.count + 1) word.TheVariants.Long) (g.met.H.Handler.answered_then_answered c.args.stack.now) turned (c.before_read.ensures.answered c.args.stack.now c.answer_in_batches.new.source) c.in-Long.ensures.reads.grows c.in-Long.ensures.answer (λ rest. refl)
 
 pub returns-in-ReadFault-clause-answered : goal.returns-in-ReadFault-clause-answered
 returns-in-ReadFault-clause-answered g c =
     let turned = after_batch _ c.in-Ok.batch.len _ _ (g.met.H.Handler.answered_then_answered c.args.stack.now) c.lines.invariant.turned c.in-Ok.ensures.answered c.held-held.ensures c.skip.ensures in
-    ended (g.H.Handler.answered c.args.stack.now) (g.H.ReadsFrom.asked c.next_for.new.requests) AFault ending.TheVariants.ReadFault (g.met.H.Handler.answered_then_answered c.args.stack.now) turned (c.before_read.ensures.answered c.args.stack.now c.answer_gathered.new.source) c.in-ReadFault.ensures.reads.grows c.in-ReadFault.ensures.answer (λ rest. refl)
+    ended (g.H.Handler.answered c.args.stack.now) (g.H.ReadsFrom.asked c.next_for.new.requests) AFault ending.TheVariants.ReadFault (g.met.H.Handler.answered_then_answered c.args.stack.now) turned (c.before_read.ensures.answered c.args.stack.now c.answer_in_batches.new.source) c.in-ReadFault.ensures.reads.grows c.in-ReadFault.ensures.answer (λ rest. refl)
 
 pub returns-in-Err-handle_named-clause-stopped : goal.returns-in-Err-handle_named-clause-stopped
 returns-in-Err-handle_named-clause-stopped g c =
     let turned = after_batch _ c.in-Ok.batch.len _ _ (g.met.H.Handler.answered_then_answered c.args.stack.now) c.lines.invariant.turned c.in-Ok.ensures.answered c.held-held.ensures c.skip.ensures in
-    let so_far = after_waiting (g.met.H.Handler.answered_then_answered c.args.stack.now) turned (c.before_read.ensures.answered c.args.stack.now c.answer_gathered.new.source) in
+    let so_far = after_waiting (g.met.H.Handler.answered_then_answered c.args.stack.now) turned (c.before_read.ensures.answered c.args.stack.now c.answer_in_batches.new.source) in
     let first = g.H.ReadsFrom.asked c.args.requests.now in
     let mid = g.H.ReadsFrom.asked c.lines.requests in
     let last = g.H.ReadsFrom.asked c.next_for.new.requests in
     let more = numbered c.in-Ok-request_of.request ∷ [] in
     among first mid last c.skip.new.self (c.lines.number + c.in-Ok.batch.count + 1) so_far.done more c.in-Line.line.now _
     so_far.told so_far.reads c.in-Line.ensures.reads.grows so_far.faults so_far.ends c.in-Line.ensures.answer c.in-Ok-request_of.ensures.good
-    (g.met.H.Handler.answered_then_stopped c.args.stack.now c.args.handler.now c.before_read.new.handler c.handle_named.new.handler c.args.source.now c.answer_gathered.new.source c.handle_named.new.source so_far.done more _ so_far.answered c.in-Err-handle_named.ensures.stopped)
+    (g.met.H.Handler.answered_then_stopped c.args.stack.now c.args.handler.now c.before_read.new.handler c.handle_named.new.handler c.args.source.now c.answer_in_batches.new.source c.handle_named.new.source so_far.done more _ so_far.answered c.in-Err-handle_named.ensures.stopped)

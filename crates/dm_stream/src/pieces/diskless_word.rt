@@ -4,7 +4,7 @@
 ghost use Rattle.std.specs.Prelude.{◌≡◌, ◌+◌, ◌≤◌, length};
 ghost use Rattle.dm_table.specs.io.Block.{IsPut};
 ghost use Rattle.dm_map.specs.pieces.Units.{first_unit};
-ghost use Rattle.dm_stream.specs.pieces.PieceText.{IsPlain, plain_word};
+ghost use Rattle.dm_stream.specs.pieces.PieceText.{IsDiskless, diskless_word};
 
 use dm_map::Piece;
 use dm_table::put_bytes;
@@ -15,12 +15,12 @@ const WORD_BYTES: usize = 8;
 
 /// A word and a space, at the front of an array. A clause sees these bytes.
 #[derive(Drop)]
-pub(crate) struct PlainWord {
+pub(crate) struct DisklessWord {
     bytes: [u8; WORD_BYTES],
     len: usize,
 }
 
-impl Model for PlainWord {
+impl Model for DisklessWord {
     ghost use Rattle.std.specs.Prelude.{◌≤◌, ℕ, List, take};
 
     ghost Value = { List ℕ };
@@ -30,23 +30,23 @@ impl Model for PlainWord {
     ghost invariant = { λ word. (4 ≤ word.len) × (word.len ≤ 8) };
 }
 
-impl PlainWord {
+impl DisklessWord {
     /// The word of a piece without a disk.
     #[inline(always)]
-    pub(crate) fn of(piece: &Piece) -> PlainWord
-        requires { IsPlain piece.now }
-        ensures { result ≡ plain_word (first_unit piece.now) }
+    pub(crate) fn of(piece: &Piece) -> DisklessWord
+        requires { IsDiskless piece.now }
+        ensures { result ≡ diskless_word (first_unit piece.now) }
     {
         match *piece {
-            Piece::Zero { .. } => PlainWord {
+            Piece::Zero { .. } => DisklessWord {
                 bytes: *b"zero    ",
                 len: 5,
             },
-            Piece::Drop { .. } => PlainWord {
+            Piece::Drop { .. } => DisklessWord {
                 bytes: *b"drop    ",
                 len: 5,
             },
-            _ => PlainWord {
+            _ => DisklessWord {
                 bytes: *b"error   ",
                 len: 6,
             },
