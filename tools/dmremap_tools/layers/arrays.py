@@ -40,7 +40,6 @@ class Array:
             self.refuse("device %d of the array is missing: add what `mdadm --examine` prints of it" % role)
         return self.by_role[role]
 
-    @functools.lru_cache(maxsize=1 << 12)
     def role_in(self, row: int, column: int) -> int:
         """The member that has a column of data beside parity."""
         role = (_role_of_raid5 if self.level == "raid5" else _role_of_raid6)(self.layout, self.count, row, column)
@@ -82,6 +81,16 @@ class Array:
         if self.level == "raid10":
             return self.chunks // self.copies.far * self.count // self.copies.near * self.chunk
         return self.chunks * self.chunk * (self.count - (2 if self.level == "raid6" else 1))
+
+    @property
+    def period(self) -> Tuple[int, int]:
+        """After how many chunks their places come again, and how many sectors later on each member."""
+        near, far, is_offset = self.copies
+        if self.level == "raid10":
+            return self.count, near * (far if is_offset else 1) * self.chunk
+        # Layouts that end in -6 come again after one row less.
+        rows = self.count - self.layout.endswith("-6")
+        return rows * (self.count - (2 if self.level == "raid6" else 1)), rows * self.chunk
 
     def _chunk(self) -> int:
         match = examine.CHUNK.fullmatch(examine.same(self.there, "Chunk Size"))
@@ -178,8 +187,7 @@ def place(array: Array, number: int, copy: int) -> Tuple[int, int]:
     """The role and the row of a chunk. In raid10 the far copies of each near one have consecutive numbers."""
     if array.level != "raid10":
         row, column = divmod(number, array.count - (2 if array.level == "raid6" else 1))
-        # Layouts that end in -6 come again after one row less.
-        return column if array.level == "raid4" else array.role_in(row % (array.count * (array.count - 1)), column), row
+        return column if array.level == "raid4" else array.role_in(row, column), row
     near, far, is_offset = array.copies
     row, role = divmod(number * near, array.count)
     at, turn = divmod(copy, far)

@@ -16,6 +16,7 @@ missing. In answers it refuses writes beside parity, copies and fills, and what 
 """
 
 import argparse
+import functools
 import itertools
 from typing import Dict, Iterator, List, Tuple
 
@@ -26,8 +27,8 @@ from dmremap_tools.model.device import blocks_of
 
 # The name of a disk, a sector of it, and how many follow.
 Run = Tuple[str, int, int]
-# Lines that are written at once.
-AT_ONCE = 1 << 10
+# Lines that are written at once, and chunks whose places are kept.
+AT_ONCE, MOST_KNOWN = 1 << 10, 1 << 16
 EXAMPLE = "dmremap-tools md --name md0 examine.txt > md0.table"
 
 
@@ -85,13 +86,21 @@ def follow(array: arrays.Array, disk: str, copy: "int | None", source: pieces.An
 
 
 def _read(array: arrays.Array, piece: pieces.Piece, copies: int, first: int) -> Iterator[Run]:
-    """Where a piece is read: in one of the copies, or in the next one that is there."""
-    for number, at, count in blocks_of(piece.start, piece.count, array.chunk):
-        places = (arrays.place(array, number, (first + it) % copies) for it in range(copies))
-        there = next((it for it in places if it[0] in array.by_role), None)
-        role, row = there or arrays.place(array, number, first % copies)
+    """Where a piece is read: in one of the copies, or in the next one that is there. After a period of chunks their places
+    come again, as many sectors later."""
+    period, sectors = array.period
+
+    @functools.lru_cache(MOST_KNOWN)
+    def beginning_of(number: int) -> Tuple[str, int]:
+        places = [arrays.place(array, number, (first + it) % copies) for it in range(copies)]
+        role, row = next((it for it in places if it[0] in array.by_role), places[0])
         disk, start = array.beginning(role)
-        yield disk, start + row * array.chunk + at, count
+        return disk, start + row * array.chunk
+
+    for number, at, count in blocks_of(piece.start, piece.count, array.chunk):
+        turn, number = divmod(number, period)
+        disk, start = beginning_of(number)
+        yield disk, start + turn * sectors + at, count
 
 
 def _written(array: arrays.Array, piece: pieces.Piece, copies: int) -> Iterator[Run]:
