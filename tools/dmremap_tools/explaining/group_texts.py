@@ -8,9 +8,8 @@ from dmremap_tools.base.refusal import Refusal
 from dmremap_tools.explaining.finding import Finding
 from dmremap_tools.explaining.texts import Text
 from dmremap_tools.metadata import lvm2_text
-from dmremap_tools.metadata.followed import judge
-from dmremap_tools.metadata.mending import Mending
-from dmremap_tools.metadata.volume_group import TYPES, Group
+from dmremap_tools.metadata.mending import Copy
+from dmremap_tools.metadata.volume_group import TYPES
 
 OLDER = ["the text is damaged, or was changed by hand: take it anew, or an older one from /etc/lvm/archive,",
          "or that of another physical volume:", "  dmremap-tools metadata DISK > vg.backup"]
@@ -57,11 +56,10 @@ def _owner(document: Document, number: int) -> str:
 
 def _remedy(file: Text, document: Document, is_loaded: Callable[[bytes], bool]) -> List[str]:
     """What mends it, and what can be mapped then."""
-    copy = Mending(document)
+    copy = Copy(document)
     try:
-        lvm2_text.drop_twice(copy)
-        group = Group(lvm2_text.group_of(copy))
-        judge(group)
+        group = lvm2_text.group_of(copy)
+        group.judge()
         records = {it.volume.name for it in group.records}
         volumes = [it for it in group.volumes.values() if it.name not in records]
         kept = [shown(it.name) for it in volumes if not it.why]
@@ -69,7 +67,7 @@ def _remedy(file: Text, document: Document, is_loaded: Callable[[bytes], bool]) 
         if kept:
             lvm2_text.drop_volumes(copy, group)
             lvm2_text.mend_group(copy, group)
-        made = lvm2_text.mended(copy, file.content)
+        made = copy.content(file.content)
     except Refusal as refused:
         return ["lvm2-text can't mend it: %s" % refused.why, *OLDER]
     reasons = left[:MOST] + ["  .."] * (len(left) > MOST)

@@ -5,7 +5,7 @@ from typing import Dict, Iterator, List, Tuple
 from dmremap_tools.base import streams
 from dmremap_tools.base.config_text import Document, Node, shown
 from dmremap_tools.base.refusal import Refusal
-from dmremap_tools.metadata.volume_group import disk_names, sections_in
+from dmremap_tools.metadata.volume_group import disk_names
 
 
 def of_group(path: str) -> Iterator[Tuple[str, int]]:
@@ -27,7 +27,7 @@ def names_by_id(text: str) -> Dict[bytes, str]:
 def _read(path: str) -> Tuple[Document, List[Tuple[str, Node]]]:
     document = Document(streams.name_of(path), streams.read_bytes(path))
     group = next(iter(document.top.sections()), None)
-    physicals = sections_in(group, b"physical_volumes") if group else []
+    physicals = group.sections_in(b"physical_volumes") if group else []
     if not physicals:
         raise Refusal(document.path, "no physical volumes of a group: give a text of /etc/lvm/backup, or what `metadata` prints")
     return document, list(zip(disk_names(physicals), physicals))

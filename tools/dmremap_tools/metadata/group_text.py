@@ -6,7 +6,6 @@ from typing import Iterator, List, NamedTuple, Optional
 from dmremap_tools.base import quoting
 from dmremap_tools.base.config_text import Document, shown
 from dmremap_tools.base.refusal import Refusal
-from dmremap_tools.metadata.volume_group import sections_in
 
 # What a text begins with, after its group's name: the group's id, and the number of the text in that group.
 BEGINNING = re.compile(rb' \{\nid = "([^"\n]{0,64})"\nseqno = ([0-9]{1,10})\n')
@@ -68,7 +67,7 @@ def summary(text: bytes) -> str:
     name = f"{beginning.group.decode()} seqno {beginning.seqno}" if beginning else "another text"
     try:
         groups = Document("", text).top.sections()[:1]
-        nodes = [node for group in groups for node in sections_in(group, b"logical_volumes")]
+        nodes = [node for group in groups for node in group.sections_in(b"logical_volumes")]
         volumes = quoting.some([shown(it.key) for it in nodes]) or "none"
     except Refusal:
         volumes = "unknown"

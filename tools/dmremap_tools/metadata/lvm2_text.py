@@ -38,9 +38,8 @@ from dmremap_tools.base import program, quoting, streams
 from dmremap_tools.base.config_text import ANEW, Document, Node, shown
 from dmremap_tools.base.plain_text import MARK
 from dmremap_tools.base.refusal import Refusal
-from dmremap_tools.metadata.followed import NOT_ASKED, judge, leave_others
-from dmremap_tools.metadata.mending import Mending, mend_section, mended
-from dmremap_tools.metadata.volume_group import LINEAR, STRIPED, Group, Volume
+from dmremap_tools.metadata.mending import Copy
+from dmremap_tools.metadata.volume_group import LINEAR, NOT_ASKED, STRIPED, Group, Volume
 
 EXAMPLE = "dmremap-tools lvm2-text vgm.backup > copy.backup && dmremap table lvm copy.backup"
 # How many bytes of a text are taken, and dmremap takes of the copy.
@@ -67,19 +66,23 @@ def run(words: argparse.Namespace) -> None:
     if content.count(b"\n") > MOST_COPY:
         raise Refusal(path, f"it has more than {MOST_COPY} lines, and dmremap takes as many bytes: "
                       "give the text of one group")
-    copy = Mending(Document(path, content[len(MARK):] if content.startswith(MARK) else content))
-    drop_twice(copy)
-    group = Group(group_of(copy))
-    for name, key in zip(words.only, only):
-        if key not in group.volumes:
-            raise Refusal(path, f"no volume {quoting.shown(name)}: give a name that the text has")
+    copy = Copy(Document(path, content[len(MARK):] if content.startswith(MARK) else content))
+    group = group_of(copy)
+    lost = next((name for name, key in zip(words.only, only) if key not in group.volumes), None)
+    if lost is not None:
+        raise Refusal(path, f"no volume {quoting.shown(lost)}: give a name that the text has")
     if only:
-        leave_others(group, only)
+        group.leave_others(only)
+    group.judge()
     drop_volumes(copy, group)
+    if group.volumes and all(it.why for it in group.volumes.values()):
+        copy.tell()
+        raise Refusal(path, "nothing is left, as dmremap can follow none of its volumes: use `save`, `serve` or "
+                      "`machine`")
     if only:
         _leave_physicals(copy, group)
     mend_group(copy, group)
-    made = mended(copy, content)
+    made = copy.content(content)
     copy.tell()
     # A text that lvm2 wrote passes, so what doesn't is damaged.
     with tempfile.NamedTemporaryFile(prefix="dmremap-tools-") as file:
@@ -92,39 +95,33 @@ def run(words: argparse.Namespace) -> None:
     streams.out.write(made.decode("utf-8", "surrogateescape"))
 
 
-def drop_twice(copy: Mending) -> None:
-    """Of several values of one key the last counts for lvm2. It puts sections together; here that isn't done."""
-    waiting = [copy.document.top]
+def group_of(copy: Copy) -> Group:
+    """The group of a text, without what is there twice: lvm2 reads the first section alone, and the last of several
+    values of one key. It puts sections of one key together; here that isn't done."""
+    document = copy.document
+    waiting = [document.top]
     while waiting:
         section = waiting.pop()
         last = {it.key: it for it in section.children}
-        for node in [it for it in section.children if last[it.key] is not it]:
+        for node in (it for it in section.children if last[it.key] is not it):
             counting = last[node.key]
             if node.children is not None or counting.children is not None:
-                raise copy.document.refused(counting.start, f"{shown(node.key)} is there twice, first in line "
-                                            f"{copy.document.line_at(node.start)}: put the two together")
-            line = copy.document.line_at(counting.start)
-            copy.drop(node, shown(node.key), f"it is there again in line {line}, which counts")
+                raise document.refused(counting.start, f"{shown(node.key)} is there twice, first in line "
+                                       f"{document.line_at(node.start)}: put the two together")
+            copy.drop(node, f"it is there again in line {document.line_at(counting.start)}, which counts")
         section.children = [it for it in section.children if last[it.key] is it]
         waiting += section.sections()
+    group, *others = document.top.sections() or [document.top]
+    if group.child(b"physical_volumes") is None:
+        raise Refusal(document.path, "no metadata of a group: give a text of /etc/lvm/backup, or what `metadata` "
+                      "prints")
+    for node in others:
+        copy.drop(node, "lvm2 reads one section of a text, the first")
+    return Group(group)
 
 
-def group_of(copy: Mending) -> Node:
-    """The group: lvm2 reads the first section alone."""
-    top = copy.document.top
-    sections = top.sections()
-    if not sections or sections[0].child(b"physical_volumes") is None:
-        raise Refusal(copy.document.path, "no metadata of a group: "
-                      "give a text of /etc/lvm/backup, or what `metadata` prints")
-    for node in sections[1:]:
-        copy.drop(node, shown(node.key), "lvm2 reads one section of a text, the first")
-    top.children = [it for it in top.children if it.children is None or it is sections[0]]
-    return sections[0]
-
-
-def drop_volumes(copy: Mending, group: Group) -> None:
+def drop_volumes(copy: Copy, group: Group) -> None:
     """Leaves out the volumes that can't stay, and says what answers lack of origins that lose snapshots."""
-    judge(group)
     for volume in group.volumes.values():
         if volume.node.value(b"segment_count", int) not in (None, len(volume.segments)):
             why = f"segment_count isn't the number of its segments, {len(volume.segments)}: {ANEW}"
@@ -132,7 +129,7 @@ def drop_volumes(copy: Mending, group: Group) -> None:
         if volume.why == NOT_ASKED:
             copy.left_out.add(volume.node)
         elif volume.why:
-            copy.drop(volume.node, shown(volume.name), volume.why)
+            copy.drop(volume.node, volume.why)
     without: Dict[Volume, List[bytes]] = {}
     for record in group.records:
         origin = group.volumes.get(record.origin)
@@ -141,13 +138,9 @@ def drop_volumes(copy: Mending, group: Group) -> None:
     for origin, snapshots in without.items():
         copy.say(origin.node.start, f"kept: {shown(origin.name)}, without its snapshot {shown(b', '.join(snapshots))}: "
                  "on a machine, a write to it also copies what it overwrites, which the answers don't show")
-    if group.volumes and all(it.why for it in group.volumes.values()):
-        copy.tell()
-        raise Refusal(copy.document.path, "nothing is left, as dmremap can follow none of its volumes: "
-                      "use `save`, `serve` or `machine`")
 
 
-def _leave_physicals(copy: Mending, group: Group) -> None:
+def _leave_physicals(copy: Copy, group: Group) -> None:
     """Leaves out the physical volumes that nothing lies on which stays. One stays whose disk has the path of another
     that does, as dmremap names both by their keys; and one of a group of which all volumes need none."""
     staying = [it for it in group.volumes.values() if not it.why]
@@ -160,57 +153,61 @@ def _leave_physicals(copy: Mending, group: Group) -> None:
         group.physicals = kept
 
 
-def mend_group(copy: Mending, group: Group) -> None:
+def mend_group(copy: Copy, group: Group) -> None:
     """Mends what dmremap reads of the text, and leaves out what it would stumble over."""
-    mend_section(copy, copy.document.top, TOP, {group.node})
-    lists = {it for it in group.node.sections() if it.key in (b"physical_volumes", b"logical_volumes")}
-    mend_section(copy, group.node, GROUP, lists)
+    copy.mend(copy.document.top, TOP, {group.node})
+    lists = [it for it in group.node.sections() if it.key in (b"physical_volumes", b"logical_volumes")]
+    copy.mend(group.node, GROUP, lists)
     for node in lists:
-        mend_section(copy, node, (), set(node.sections()))
+        copy.mend(node, (), node.sections())
     for node in group.physicals.values():
-        mend_section(copy, node, PHYSICAL, ())
+        copy.mend(node, PHYSICAL)
         _mend_physical(copy, group, node)
     raids = [it for volume in group.volumes.values() for it in volume.segments if (it.kind or b"").startswith(b"raid")]
     # These lists have the data of a raid volume, with what says how that is kept before each part of it.
     parts = {name for it in raids for key in (b"raids", b"raid0_lvs") for name in it.node.values(key)}
-    for volume in [it for it in group.volumes.values() if not it.why]:
+    for volume in (it for it in group.volumes.values() if not it.why):
         if volume.name in parts:
             _mend_part(copy, volume)
-        mend_section(copy, volume.node, VOLUME, {it.node for it in volume.segments})
+        copy.mend(volume.node, VOLUME, {it.node for it in volume.segments})
         for segment in volume.segments:
-            mend_section(copy, segment.node, SEGMENT, ())
-            kind = segment.node.child(b"type")
-            if kind and segment.kind == LINEAR:
-                copy.put(kind, kind.items[0], b'"%s"' % STRIPED, "linear is another name of striped")
+            copy.mend(segment.node, SEGMENT)
+            if segment.kind == LINEAR:
+                kind = segment.node.child(b"type").items[0].start
+                copy.put(kind, b'"%s"' % STRIPED)
+                copy.say_changed(kind, b"type", "linear is another name of striped")
 
 
-def _mend_part(copy: Mending, volume: Volume) -> None:
+def _mend_part(copy: Copy, volume: Volume) -> None:
     """lvm2 loads all parts of raid volumes as writable, whatever their status is."""
-    status, flags = volume.node.child(b"status"), volume.node.values(b"flags")
-    if status and status.children is None and b"WRITE" not in status.own_values() and b"WRITE_LOCKED" not in flags:
-        at, before = (status.items[-1].end, b", ") if status.items else (status.end - 1, b"")
-        copy.insert(at, before + b'"WRITE"')
+    status, words = volume.node.child(b"status"), [*volume.node.values(b"status"), *volume.node.values(b"flags")]
+    if status and status.children is None and b"WRITE" not in words and b"WRITE_LOCKED" not in words:
+        if status.items:
+            copy.put_behind(status.items[-1].start, b', "WRITE"')
+        else:
+            copy.put(status.end - 1, b'"WRITE"]')
         why = f"{shown(volume.name)} is part of a raid volume, which lvm2 loads as writable"
         copy.say_changed(status.start, status.key, why)
 
 
-def _mend_physical(copy: Mending, group: Group, node: Node) -> None:
+def _mend_physical(copy: Copy, group: Group, node: Node) -> None:
     """Gives a disk the length that its extents need at least, and a name. After a change of its size lvm2 writes
     less, and old versions wrote no size; the true one stands nowhere in the text."""
     start, count, size = (node.value(it, int) for it in (b"pe_start", b"pe_count", b"dev_size"))
     if start is None or count is None or group.extent_size is None:
         return
-    inside, name, least = node.value_at + 1, shown(node.key), start + count * group.extent_size
+    name, least = shown(node.key), start + count * group.extent_size
     if least == 0 and not size:
-        copy.drop(node, name, "it has no sectors")
+        copy.drop(node, "it has no sectors")
         return
     long = f"at least {least} sectors long, where its extents end"
     if node.child(b"device") is None:
-        copy.insert(inside, b' device = ""')
+        copy.put_behind(node.value_at, b' device = ""')
         copy.say_changed(node.start, b"device", f"{name} has none, so that the disk has this name")
     size_field = node.child(b"dev_size")
     if size_field is None:
-        copy.insert(inside, b" dev_size = %d" % least)
+        copy.put_behind(node.value_at, b" dev_size = %d" % least)
         copy.say_changed(node.start, b"dev_size", f"{name} has none, and is {long}")
     elif size is not None and size < least:
-        copy.put(size_field, size_field.items[0], b"%d" % least, f"{name} is {long}, and not {size}")
+        copy.put(size_field.items[0].start, b"%d" % least)
+        copy.say_changed(size_field.items[0].start, b"dev_size", f"{name} is {long}, and not {size}")

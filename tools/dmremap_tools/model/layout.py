@@ -9,7 +9,6 @@ from dmremap_tools.base import names, tables
 from dmremap_tools.base.config_text import Node, shown
 from dmremap_tools.base.numbers import SECTOR
 from dmremap_tools.base.refusal import Refusal
-from dmremap_tools.metadata.followed import are_even
 from dmremap_tools.metadata.volume_group import Group, Record, Segment, Volume
 from dmremap_tools.model.device import Device, Extent, Missing
 from dmremap_tools.model.mapping import Mapped, Tables
@@ -173,7 +172,7 @@ class Layout:
         areas = [word for area, extent in segment.stripes for word in self._area(name, area, extent, length // columns)]
         if columns == 1:
             return tables.Line(first, length, "linear", areas)
-        if not are_even(self.group, segment) or not segment.stripe_size:
+        if not segment.is_even(self.group.extent_size) or not segment.stripe_size:
             self.refuse(name, f"{which} isn't divided evenly by its stripes, so that no kernel takes it")
         return tables.Line(first, length, "striped", [str(columns), str(segment.stripe_size), *areas])
 

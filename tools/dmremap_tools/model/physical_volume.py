@@ -19,7 +19,6 @@ from dmremap_tools.base.config_text import Document, Node
 from dmremap_tools.base.numbers import SECTOR
 from dmremap_tools.base.refusal import Refusal
 from dmremap_tools.metadata.group_text import beginning_of, texts_of_ring, without_time
-from dmremap_tools.metadata.volume_group import sections_in
 from dmremap_tools.model.device import Device, Gap, Part, Run
 from dmremap_tools.model.image import Image, Lenient
 
@@ -191,7 +190,7 @@ class Text(NamedTuple):
 
     def on_arrays(self) -> Iterator[str]:
         """The ids of the physical volumes that were on md arrays when it was written."""
-        for node in sections_in(self.node(), b"physical_volumes"):
+        for node in self.node().sections_in(b"physical_volumes"):
             device, identity = node.value(b"device", bytes), node.value(b"id", bytes)
             if isinstance(device, bytes) and isinstance(identity, bytes) and device.startswith(ARRAYS):
                 yield identity.decode("ascii", "replace")
