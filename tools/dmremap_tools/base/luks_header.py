@@ -8,7 +8,6 @@ from typing import List, NamedTuple, Optional
 from dmremap_tools.base import numbers, streams
 from dmremap_tools.base.disk_image import Image
 from dmremap_tools.base.numbers import SECTOR
-from dmremap_tools.base.refusal import Refusal
 
 MAGIC, SECOND_MAGIC = b"LUKS\xba\xbe", b"SKUL\xba\xbe"
 # Where the second header of version 2 may lie: the sizes that the first may have.
@@ -19,15 +18,21 @@ SUMS = ("sha1", "sha224", "sha256", "sha384", "sha512")
 FIRST, SLOT, SLOTS, FIRST_BYTES = struct.Struct(">104xLL56x40s"), struct.Struct(">40xLL"), slice(208, 592), 592
 # Version 2: magic and version, the size, how often it was written, the name of its sum, the id, and where it is.
 SECOND = struct.Struct(">6sHQQ48x32s64x40s48xQ")
+DAMAGED = "its header of LUKS is damaged: restore it in a copy by `cryptsetup luksHeaderRestore`"
+SECOND_ALONE = "its first header is damaged, the second one is sound: repair a copy by cryptsetup repair"
+UNSAID = "its header of LUKS doesn't say where the data is: see `cryptsetup luksDump`"
 
 
 class Container(NamedTuple):
-    """The id of a container, where its data begins and how long that is, if it doesn't go on to the end of the disk."""
+    """A container: its version and id, in sectors where its data begins, how long that is, if it doesn't go on to the
+    end of the disk, and what headers and keys take; and what is wrong with it."""
 
-    uuid: str
-    start: int
-    length: Optional[int]
+    version: int
+    identity: str = ""
+    start: Optional[int] = None
+    length: Optional[int] = None
     header: int = 0
+    fault: Optional[str] = None
 
     def is_detached(self) -> bool:
         """Whether the data lies on another disk, as it would lie where the header does."""
@@ -44,20 +49,21 @@ class Header(NamedTuple):
     text: bytes
 
 
-def container_in(image: Image) -> Container:
-    head = image.read(0, BINARY)
-    if head.startswith(MAGIC + b"\0\1") and len(head) >= FIRST_BYTES:
+def container_in(image: Image) -> Optional[Container]:
+    """The container that an image is, by its first header or by the second alone, or None."""
+    head, headers = image.read(0, BINARY), headers_in(image)
+    is_first, version = head.startswith(MAGIC), int.from_bytes(head[6:8], "big")
+    if is_first and version == 1 and len(head) >= FIRST_BYTES:
         start, key_bytes, uuid = FIRST.unpack_from(head)
         ends = [key + -(-key_bytes * stripes // SECTOR) for key, stripes in SLOT.iter_unpack(head[SLOTS])]
-        return Container(_text(uuid), start, None, max(-(-FIRST_BYTES // SECTOR), *ends))
-    headers = headers_in(image)
-    if not headers:
-        why = "its header of LUKS is damaged: restore it in a copy by `cryptsetup luksHeaderRestore`"
-        raise Refusal(image.path, why)
-    newest = max(headers, key=lambda it: it.sequence)
-    if newest is not headers[0]:
+        return Container(1, _text(uuid), start, None, max(-(-FIRST_BYTES // SECTOR), *ends))
+    newest = max(headers, key=lambda it: it.sequence, default=None)
+    if newest is not next(iter(headers), None):
         streams.tell(f"{image.path}: its second header of LUKS is newer: that is read")
-    return _container_of(image, newest)
+    found = _container_of(newest) if newest else Container(version, fault=DAMAGED)
+    if is_first:
+        return found._replace(version=version)
+    return None if found.start is None else found._replace(fault=SECOND_ALONE)
 
 
 def headers_in(image: Image) -> List[Header]:
@@ -86,25 +92,24 @@ def _header_at(image: Image, place: int) -> Optional[Header]:
     return Header(place, size, sequence, _text(uuid), area.split(b"\0", 1)[0])
 
 
-def _container_of(image: Image, header: Header) -> Container:
+def _container_of(header: Header) -> Container:
     """The container of one segment that a header of version 2 tells of."""
-    unsaid = Refusal(image.path, "its header of LUKS doesn't say where the data is: see `cryptsetup luksDump`")
     try:
         said = json.loads(header.text.decode("utf-8"))
         segments = [(str(it["type"]), str(it["offset"]), str(it["size"])) for it in said["segments"].values()]
         keys = numbers.read(str(said.get("config", {}).get("keyslots_size", 0))) or 0
     except (ValueError, KeyError, TypeError, AttributeError, RecursionError):
-        raise unsaid
+        return Container(2, fault=UNSAID)
     if len(segments) != 1 or segments[0][0] != "crypt":
         kinds = ", ".join(kind[:16] for kind, _, _ in segments[:4])
-        raise Refusal(image.path, f"it has {len(segments)} segments, as while it is being encrypted anew ({kinds}): "
-                      "end that by `cryptsetup reencrypt`")
+        return Container(2, fault=f"it has {len(segments)} segments, as while it is being encrypted anew ({kinds}): "
+                         "end that by `cryptsetup reencrypt`")
     start, length = map(numbers.read, segments[0][1:])
     is_odd = segments[0][2] != "dynamic" if length is None else length == 0 or length % SECTOR
     if start is None or start % SECTOR or is_odd:
-        raise unsaid
+        return Container(2, fault=UNSAID)
     header_sectors = -(-(2 * header.size + keys) // SECTOR)
-    return Container(header.uuid, start // SECTOR, length and length // SECTOR, header_sectors)
+    return Container(2, header.uuid, start // SECTOR, length and length // SECTOR, header_sectors)
 
 
 def _text(content: bytes) -> str:

@@ -20,11 +20,12 @@ from argparse import ArgumentParser, Namespace
 from typing import Dict, Iterator, List, Optional, Tuple
 
 from dmremap_tools.base import numbers, program, quoting, streams
+from dmremap_tools.base.luks_header import Container
 from dmremap_tools.base.numbers import SECTOR
+from dmremap_tools.base.partition_table import Table
 from dmremap_tools.base.refusal import Refusal
 from dmremap_tools.layers import arrays
 from dmremap_tools.layouts import rescue_map
-from dmremap_tools.model.contents import Container, Partitions
 from dmremap_tools.model.device import Device, Part, blocks_of
 from dmremap_tools.model.group_owners import Groups
 from dmremap_tools.model.mapping import Mapped
@@ -108,14 +109,14 @@ class Owners:
         for device, table in pile.tables.items():
             self._known[device] = self._of_table(device, table)
         for spot, container in pile.containers:
-            self._known[spot.device] = of_container(container)
+            self._known[spot.device] = of_container(spot.device, container)
         for volume in pile.volumes:
             self._known[volume.device] = groups.of(volume)
 
     def on(self, device: Device) -> Ground:
         return lambda first, end: (self._known.get(device) or self._of_other(device))(first, end)
 
-    def _of_table(self, device: Device, table: Partitions) -> Ground:
+    def _of_table(self, device: Device, table: Table) -> Ground:
         if table.fault:
             return all_of(unknown(table.fault))
         copies = [table.kind, f"backup of the {table.kind}"] if table.kind == "GPT" else [table.kind] * len(table.taken)
@@ -144,15 +145,15 @@ class Owners:
         return self._known.setdefault(device, made)
 
 
-def of_container(container: Container) -> Ground:
+def of_container(device: Device, container: Container) -> Ground:
     name, start = f"LUKS{container.version}", container.start
     if start is None:
         return all_of(Step(f"{name} container: {container.fault}"))
-    end = container.device.size // SECTOR if container.length is None else start + container.length
+    end = device.size // SECTOR if container.length is None else start + container.length
     claims = [Run(0, max(start, container.header), Step(f"{name} header"))]
     # A header whose data would lie within it is of a container on another disk.
-    claims += [Run(start, end, Step(f"{name} data, encrypted"))] * (start >= container.header)
-    return claimed(claims, free(container.device, "the container doesn't say that it has it"))
+    claims += [Run(start, end, Step(f"{name} data, encrypted"))] * (not container.is_detached())
+    return claimed(claims, free(device, "the container doesn't say that it has it"))
 
 
 def of_member(array: Array, member: Member, above: Ground) -> Ground:

@@ -10,7 +10,7 @@ import nbdkit  # type: ignore
 from dmremap_tools.base import streams
 from dmremap_tools.base.numbers import SECTOR
 from dmremap_tools.base.refusal import Refusal
-from dmremap_tools.model.device import ZEROS, Gap, joined
+from dmremap_tools.model.device import ZEROS, joined
 from dmremap_tools.model.pile import Pile, Target
 
 __all__ = ["API_VERSION", "thread_model", "config", "get_ready", "open", "get_size", "can_multi_conn", "can_extents", "pread", "extents"]
@@ -61,11 +61,11 @@ def can_extents(handle: int) -> bool:
 
 
 def pread(handle: int, buffer: bytearray, offset: int, flags: int) -> None:
-    buffer[:] = answered(lambda: _target.device.read(offset, len(buffer)))
+    buffer[:] = answered(_target.device.read, offset, len(buffer))
 
 
 def extents(handle: int, count: int, offset: int, flags: int) -> List[Tuple[int, int, int]]:
-    return answered(lambda: found_extents(count, offset))
+    return answered(found_extents, count, offset)
 
 
 def found_extents(count: int, offset: int) -> List[Tuple[int, int, int]]:
@@ -81,12 +81,10 @@ def found_extents(count: int, offset: int) -> List[Tuple[int, int, int]]:
     return found
 
 
-def answered(ask: Callable[[], Answer], is_last: bool = False) -> Answer:
-    """What is asked of the volume. Where a child was ended meanwhile it is asked once more; what isn't there fails."""
+def answered(ask: Callable[[int, int], Answer], first: int, second: int) -> Answer:
+    """What is asked of the volume. What isn't there fails."""
     try:
-        return ask()
+        return ask(first, second)
     except (Refusal, streams.OutputFailed) as fault:
-        if is_last or isinstance(fault, Gap):
-            nbdkit.set_error(errno.EIO)
-            raise RuntimeError(str(fault)) from None
-        return answered(ask, True)
+        nbdkit.set_error(errno.EIO)
+        raise RuntimeError(str(fault)) from None

@@ -23,10 +23,12 @@ from argparse import ArgumentParser, Namespace
 from typing import Any, Dict, Iterator, List
 
 from dmremap_tools.base import program, quoting, streams
+from dmremap_tools.base.luks_header import container_in
 from dmremap_tools.base.numbers import SECTOR
-from dmremap_tools.model.contents import container_in, ways_in
+from dmremap_tools.model.contents import ways_in
 from dmremap_tools.model.device import Device
 from dmremap_tools.model.groups import WHOLE, Group, Volume
+from dmremap_tools.model.image import Lenient
 from dmremap_tools.model.md_array import Array
 from dmremap_tools.model.pile import Pile, Spot
 
@@ -67,7 +69,7 @@ def luks_rows(pile: Pile) -> Iterator[Row]:
     found = [(spot.place, *((spot.path, spot.partition) if spot.image else (None, 0)), container)
              for spot, container in pile.containers]
     volumes = (volume for group in pile.groups for volume in group.volumes if volume.file_system() == "luks")
-    found += [(volume.path, None, 0, container_in(volume.device())) for volume in volumes]
+    found += [(volume.path, None, 0, container_in(Lenient(volume.device()))) for volume in volumes]
     for name, image, partition, container in found:
         yield {"name": name, "image": image or name, "partition": partition, "version": container.version,
                "id": container.identity, "start": container.start, "sectors": container.length,

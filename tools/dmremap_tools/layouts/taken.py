@@ -125,9 +125,8 @@ def container_heads(image: Image, size: int) -> Iterator[Span]:
         for header in luks_header.headers_in(image):
             yield head(header.place // SECTOR, (header.place + header.size) // SECTOR, "second-header" + OF_LUKS)
         return
-    try:
-        container = luks_header.container_in(image)
-    except Refusal:
+    container = luks_header.container_in(image)
+    if container.start is None:
         yield head(0, min(LUKS_SECTORS, size // SECTOR), DAMAGED + "header" + OF_LUKS)
         return
     yield head(0, max(container.header, container.start), "header" + OF_LUKS)

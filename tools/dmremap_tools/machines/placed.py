@@ -5,8 +5,8 @@ from typing import Dict, List, Optional, Tuple
 
 from dmremap_tools.base import disk_image, quoting, streams
 from dmremap_tools.base.config_text import shown
-from dmremap_tools.base.mbr import Partition
 from dmremap_tools.base.numbers import SECTOR
+from dmremap_tools.base.partition_table import Partition
 from dmremap_tools.base.paths import Place
 from dmremap_tools.base.refusal import Refusal
 from dmremap_tools.machines.disks import names_by_id

@@ -7,9 +7,8 @@ from typing import Dict, Iterable, Iterator, List, NamedTuple, Optional
 
 from dmremap_tools.base import disk_image, quoting, streams
 from dmremap_tools.base.disk_image import Image
-from dmremap_tools.base.mbr import Partition
 from dmremap_tools.base.numbers import SECTOR
-from dmremap_tools.base.partition_table import GPT_SECTORS, DamagedTable, Table, backup_of, table_of
+from dmremap_tools.base.partition_table import GPT_SECTORS, DamagedTable, Partition, Table, backup_of, table_of
 from dmremap_tools.base.paths import Place
 from dmremap_tools.base.refusal import Refusal
 from dmremap_tools.layers.examine import HARMLESS
@@ -193,7 +192,7 @@ def chosen_parts(disk: Image) -> List[Image]:
 def table_in(disk: Image, sector: int = SECTOR) -> Optional[Table]:
     """The partition table of a disk, of which it is told where only its second copy is sound."""
     table = found_table(disk, sector)
-    if table and table.is_backup:
+    if table and table.copy == "backup":
         streams.tell(f"{disk.path}: the first copy of the partition table (GPT) is damaged: its backup at the end is "
                      "read")
     return table

@@ -2,25 +2,16 @@
 
 import shlex
 import struct
-from typing import Dict, List, NamedTuple, Optional
+from typing import List, Optional
 
-from dmremap_tools.base import luks_header, partition_table
+from dmremap_tools.base.luks_header import Container
 from dmremap_tools.base.numbers import SECTOR
+from dmremap_tools.base.partition_table import Table, backup_of, table_of
 from dmremap_tools.base.refusal import Refusal
-from dmremap_tools.model.device import Device, Gap, Part, Run
+from dmremap_tools.model.device import Device, Gap, Part
 from dmremap_tools.model.image import Lenient
 
 BIG_SECTOR = 4096
-# A partition table: its kind, which copy was taken of a GPT, the bytes of its sectors, its partitions by their numbers,
-# what it takes itself, in bytes, and how it is damaged.
-Partitions = NamedTuple("Partitions", [
-    ("kind", str), ("copy", str), ("sector", int), ("partitions", Dict[int, Part]), ("taken", List[Run]),
-    ("fault", Optional[str])])
-# A container: its version and id, where its data begins and how long that is, what is wrong with it, and what its
-# headers and keys take, in sectors, as far as its header says so.
-Container = NamedTuple("Container", [
-    ("device", Device), ("version", int), ("identity", str), ("start", Optional[int]), ("length", Optional[int]),
-    ("fault", Optional[str]), ("header", int)])
 # What is read of a device: the last magic of those below ends there.
 READ = 68 << 10
 # Bytes at a place by which a file system is known.
@@ -41,36 +32,17 @@ EXT4_INCOMPATIBLE = 0x40 | 0x80 | 0x100 | 0x200 | 0x400 | 0x1000 | 0x4000 | 0x80
 EXT4_READ_ONLY = 0x8 | 0x10 | 0x20 | 0x40 | 0x400
 
 
-def partitions_of(device: Device, may_use_backup: bool, sector: int = SECTOR) -> Optional[Partitions]:
-    """The partition table of a device, or None. The backup of a GPT alone, without anything at the beginning that
-    speaks of it, is taken where nothing else is known of the device. `sector` has the bytes of a sector for an MBR."""
+def partitions_of(device: Device, may_use_backup: bool, sector: int = SECTOR) -> Optional[Table]:
+    """The partition table of a device, with these by their numbers, or None. The backup of a GPT alone, without
+    anything at the beginning that speaks of it, is taken where nothing else is known of the device. `sector` has the
+    bytes of a sector for an MBR."""
     image = Lenient(device)
     try:
-        table = partition_table.table_of(image, sector)
-        table = table or (partition_table.backup_of(image) if may_use_backup else None)
+        table = table_of(image, sector) or (backup_of(image) if may_use_backup else None)
     except Refusal as refusal:
-        return Partitions("GPT", "", SECTOR, {}, [], refusal.why)
-    if table is None:
-        return None
-    copy = "" if table.kind == "MBR" else "backup" if table.is_backup else "first"
-    parts = {each.number: Part(f"{device.name}:{each.number}", device, each.start, each.size)
-             for each in table.partitions}
-    return Partitions(table.kind, copy, table.sector, parts, table.taken, None)
-
-
-def container_in(device: Device) -> Optional[Container]:
-    image = Lenient(device)
-    head = image.read(0, 8)
-    is_first = head.startswith(luks_header.MAGIC)
-    if not is_first and not any(image.read(place, 6) == luks_header.SECOND_MAGIC for place in luks_header.SIZES):
-        return None
-    version = int.from_bytes(head[6:8], "big") if is_first else 2
-    try:
-        found = luks_header.container_in(image)
-    except Refusal as refusal:
-        return Container(device, version, "", None, None, refusal.why, 0) if is_first else None
-    fault = "its first header is damaged, the second one is sound: repair a copy by cryptsetup repair"
-    return Container(device, version, found.uuid, found.start, found.length, None if is_first else fault, found.header)
+        return Table("GPT", "", SECTOR, {}, [], refusal.why)
+    return table and table._replace(partitions={
+        number: Part(f"{device.name}:{number}", device, start, size) for number, start, size in table.partitions})
 
 
 def ways_in(container: Container, name: str, image: Optional[str], partition: int) -> List[str]:

@@ -20,6 +20,8 @@ class Gap(Refusal):
     """Bytes that aren't there: their image is missing, ends before them, or can't be read."""
 
 
+# A block with the one that is read for it; or the blocks up to an end of which nothing is known, and why.
+Entry = NamedTuple("Entry", [("key", int), ("end", int), ("value", int), ("why", Optional[str])])
 # Bytes of a source, from `start` on.
 Extent = NamedTuple("Extent", [("source", "Device"), ("start", int), ("size", int)])
 
@@ -117,25 +119,46 @@ class Part(Device):
 
 
 class Overlaid(Device):
-    """A device with other blocks over its own: sorted pairs of a block and the one of `above` that is read for it."""
+    """A device with blocks of the one `above` over its own, which `entries` gives from one block up to another."""
 
-    def __init__(self, name: str, lower: Device, above: Device, block: int, pairs: Sequence[Run], size: int) -> None:
+    def __init__(self, name: str, lower: Device, above: Device, block: int,
+                 entries: Callable[[int, int], Iterator[Entry]], size: int) -> None:
         super().__init__(name, size)
-        self._lower, self._above, self._block = lower, above, block
-        self._blocks, self._places = array("Q", (pair[0] for pair in pairs)), array("Q", (pair[1] for pair in pairs))
+        self._lower, self._above, self._block, self._entries = lower, above, block, entries
 
     @functools.cached_property
-    def is_whole(self) -> bool:
-        used = (max(self._places, default=-1) + 1) * self._block
-        return self._lower.lack(0, self.size) is None and self._above.lack(0, used) is None
+    def _are_whole(self) -> bool:
+        return self._lower.lack(0, self.size) is None and self._above.lack(0, self._above.size) is None
+
+    def lack(self, start: int, size: int) -> Optional[str]:
+        if start + size > self.size or not self._are_whole:
+            return super().lack(start, size)
+        return next((entry.why for entry in self._touched(start, size) if entry.why), None)
+
+    def _touched(self, start: int, size: int) -> Iterator[Entry]:
+        return self._entries(start // self._block, -(-(start + size) // self._block))
 
     def _extents(self, start: int, size: int) -> Iterator[Extent]:
-        for number, offset, count in blocks_of(start, size, self._block):
-            at = bisect.bisect_left(self._blocks, number)
-            if at < len(self._blocks) and self._blocks[at] == number:
-                yield from self._above.extents(self._places[at] * self._block + offset, count)
+        at, end = start, start + size
+        for key, stop, value, why in self._touched(start, size):
+            first, stop = max(at, key * self._block), min(end, stop * self._block)
+            yield from self._lower.extents(at, first - at) if first > at else ()
+            if why:
+                yield Extent(Missing(why), 0, stop - first)
             else:
-                yield from self._lower.extents(number * self._block + offset, count)
+                yield from self._above.extents((value - key) * self._block + first, stop - first)
+            at = stop
+        yield from self._lower.extents(at, end - at) if at < end else ()
+
+
+def sorted_entries(pairs: Sequence[Run]) -> Callable[[int, int], Iterator[Entry]]:
+    """The entries of sorted pairs of a block and the one that is read for it."""
+    blocks, places = (array("Q", column) for column in zip(*pairs)) if pairs else ((), ())
+
+    def entries(first: int, end: int) -> Iterator[Entry]:
+        for at in range(bisect.bisect_left(blocks, first), bisect.bisect_left(blocks, end)):
+            yield Entry(blocks[at], blocks[at] + 1, places[at], None)
+    return entries
 
 
 class Copies(Device):

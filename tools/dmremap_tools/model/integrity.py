@@ -11,7 +11,7 @@ from typing import Iterator, NamedTuple, Optional, Set, Tuple
 from dmremap_tools.base.numbers import SECTOR
 from dmremap_tools.base.refusal import Refusal
 from dmremap_tools.metadata.volume_group import Segment
-from dmremap_tools.model.device import Device, Gap, Known, Overlaid
+from dmremap_tools.model.device import Device, Gap, Known, Overlaid, sorted_entries
 from dmremap_tools.model.layout import Layout
 from dmremap_tools.model.pools import sum_of
 
@@ -58,7 +58,8 @@ def device_of(layout: Layout, name: str, segment: Segment, size: int) -> Device:
     blocks = (each for place in sections_in_order(journal) for each in blocks_in(journal, read(journal, place)))
     held = {block: content for block, content in blocks if (block + 1) * journal.block <= size}
     known = Known(f"the journal of {name}", b"".join(held.values()))
-    return Overlaid(name, data, known, journal.block, sorted((block, place) for place, block in enumerate(held)), size)
+    pairs = sorted((block, place) for place, block in enumerate(held))
+    return Overlaid(name, data, known, journal.block, sorted_entries(pairs), size)
 
 
 def read(journal: Journal, section: int) -> bytes:

@@ -8,7 +8,8 @@ import os
 import re
 import subprocess
 import tempfile
-from typing import Callable, Dict, Iterator, List, NamedTuple, NoReturn, Optional, Sequence, Set, Tuple
+import weakref
+from typing import Callable, Dict, Iterator, List, NamedTuple, NoReturn, Optional, Sequence, Tuple
 
 from dmremap_tools.base import names, numbers, program, quoting, streams, tables
 from dmremap_tools.base.given import put
@@ -43,8 +44,6 @@ class Tables:
         # What writes to a file what the program reads of the disk that a store is.
         self.stores: Dict[str, Callable[[str], None]] = {}
         self._names: Dict[Device, str] = {}
-        self._children: Dict[str, Child] = {}
-        self._refused: Set[int] = set()
 
     def disk(self, device: Device) -> str:
         """The name of the disk that a device is here."""
@@ -79,23 +78,41 @@ class Tables:
         """What the lines use of disks: the first sector, and how many, or None for all."""
         return (span for line in self.lines() for span in line.spans() if span[0] in self.disks)
 
+    def pieces(self, name: str, first: int, count: int) -> List[Piece]:
+        """Where so many sectors are read as one request may have. A few are taken from a window, which is kept."""
+        if count > WINDOW // 4:
+            return self._asked(name, first, count)
+        found: List[Piece] = []
+        for at in range(first // WINDOW * WINDOW, first + count, WINDOW):
+            for piece in self._window(name, at):
+                begin, stop = max(first, at), min(first + count, at + piece.count)
+                if begin < stop:
+                    found.append(Piece(piece.what, piece.disk, piece.start + begin - at, stop - begin))
+                at += piece.count
+        return found
+
+    @functools.lru_cache(MOST_WINDOWS)
+    def _window(self, name: str, start: int) -> List[Piece]:
+        return self._asked(name, start, min(WINDOW, self.devices[name].end() - start))
+
+    def _asked(self, name: str, first: int, count: int) -> List[Piece]:
+        with contextlib.suppress(Refusal):
+            return self.child_of(name).ask(name, first, count)
+        # Where it was ended meanwhile, it is asked once more.
+        self._child.cache_clear()
+        return self.child_of(name).ask(name, first, count)
+
     def child_of(self, name: str) -> "Child":
         """The program that knows a device and others around it, or this one alone where it refuses another."""
-        child = self._children.get(name)
-        if child and not child.is_closed:
-            return child
         known = list(self.devices)
-        block = known.index(name) // MOST_DEVICES
-        if block not in self._refused:
-            with contextlib.suppress(Refusal):
-                return self._new_child(known[block * MOST_DEVICES:(block + 1) * MOST_DEVICES], name)
-            self._refused.add(block)
-        return self._new_child([name], name)
+        first = known.index(name) // MOST_DEVICES * MOST_DEVICES
+        with contextlib.suppress(Refusal):
+            return self._child(*known[first:first + MOST_DEVICES])
+        return self._child(name)
 
-    def _new_child(self, wanted: Sequence[str], name: str) -> "Child":
-        child = Child(self.closure(wanted), name)
-        self._children.update(dict.fromkeys(wanted, child))
-        return child
+    @functools.lru_cache(MOST_CHILDREN)
+    def _child(self, *wanted: str) -> "Child":
+        return Child(self.closure(wanted))
 
     def words(self, room: str) -> List[str]:
         """The words with which the program maps by them, once what it reads is in a folder."""
@@ -120,16 +137,12 @@ class Tables:
 
 
 class Child:
-    """The program, which knows a device of tables. It answers each request before it takes the next."""
+    """The program, which knows devices of tables. It answers each request before it takes the next."""
 
     program: Optional[str] = None
 
-    def __init__(self, source: Tables, name: str) -> None:
-        self._name, self._number, self.is_closed = program.dmremap(Child.program), 0, False
-        ends = {name: device.end() for name, device in source.devices.items()}
-        self._window = functools.lru_cache(MOST_WINDOWS)(
-            lambda name, start: self._ask(name, start, min(WINDOW, ends[name] - start)))
-        self._said = tempfile.TemporaryFile()
+    def __init__(self, source: Tables) -> None:
+        self._name, self._number, self._said = program.dmremap(Child.program), 0, tempfile.TemporaryFile()
         with tempfile.TemporaryDirectory(prefix="dmremap-tools-") as room:
             words = source.words(room)
             self.chunks = store_states.chunks_in(words, source.devices.values()) if source.stores else {}
@@ -138,35 +151,11 @@ class Child:
                 self._child = program.start(words, stdin=subprocess.PIPE, stdout=subprocess.PIPE, stderr=self._said)
             except OSError as fault:
                 raise NoProgram(quoting.shown(self._name), f"{streams.why(fault)}: {ASKED}")
-            _live.append(self)
-            if len(_live) > MOST_CHILDREN:
-                _live[0].close()
-            self._ask(name, 0, 1)
+            # It ends once nobody may ask it any more.
+            weakref.finalize(self, end, self._child)
+            self.ask(next(iter(source.devices)), 0, 1)
 
-    def close(self) -> None:
-        _live.remove(self)
-        self.is_closed = True
-        self._child.kill()
-        self._child.wait()
-        for pipe in (self._child.stdin, self._child.stdout, self._said):
-            # A request that was not written is of no use any more.
-            with contextlib.suppress(OSError):
-                pipe.close()
-
-    def pieces(self, name: str, first: int, count: int) -> List[Piece]:
-        """Where so many sectors are read as one request may have. A few are taken from a window, which is kept."""
-        if count > WINDOW // 4:
-            return self._ask(name, first, count)
-        found: List[Piece] = []
-        for at in range(first // WINDOW * WINDOW, first + count, WINDOW):
-            for piece in self._window(name, at):
-                begin, stop = max(first, at), min(first + count, at + piece.count)
-                if begin < stop:
-                    found.append(Piece(piece.what, piece.disk, piece.start + begin - at, stop - begin))
-                at += piece.count
-        return found
-
-    def _ask(self, name: str, first: int, count: int) -> List[Piece]:
+    def ask(self, name: str, first: int, count: int) -> List[Piece]:
         """The answer to one request, which has its number."""
         try:
             self._child.stdin.write(f"R {name} {first} {count}\n".encode())
@@ -186,13 +175,18 @@ class Child:
         return found
 
     def _fail(self) -> NoReturn:
+        # What was written to one that ended is of no use any more.
         with contextlib.suppress(OSError):
             self._child.stdin.close()
         status = self._child.wait()
         self._said.seek(0)
         said = quoting.shown(self._said.read(1 << 12).decode("utf-8", "replace").strip()) or "no answer"
-        self.close()
         raise Refusal(quoting.shown(self._name), f"{said} (status {status}): see what `dmremap-tools explain` says")
+
+
+def end(child: "subprocess.Popen[bytes]") -> None:
+    child.kill()
+    child.wait()
 
 
 def use(given: Optional[str]) -> None:
@@ -234,9 +228,7 @@ class Mapped(Device):
             raise Gap(self.name, "no whole sectors: ask for these")
         end = (start + size) // SECTOR
         for first in range(start // SECTOR, end, MOST_SECTORS):
-            # Others that are asked meanwhile may end the child.
-            child = self.source.child_of(self.key)
-            for piece in child.pieces(self.key, first, min(MOST_SECTORS, end - first)):
+            for piece in self.source.pieces(self.key, first, min(MOST_SECTORS, end - first)):
                 if piece.what == READ:
                     yield from self.source.disks[piece.disk].extents(piece.start * SECTOR, piece.count * SECTOR)
                 else:
@@ -244,4 +236,3 @@ class Mapped(Device):
 
 
 DISKS = itertools.count()
-_live: List[Child] = []

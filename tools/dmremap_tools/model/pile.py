@@ -3,10 +3,12 @@
 from typing import Dict, List, NamedTuple, Optional, Sequence, Tuple
 
 from dmremap_tools.base import quoting
+from dmremap_tools.base.luks_header import Container, container_in
 from dmremap_tools.base.numbers import SECTOR
+from dmremap_tools.base.partition_table import Table
 from dmremap_tools.base.refusal import Refusal
 from dmremap_tools.model import mapping, md_superblock, physical_volume
-from dmremap_tools.model.contents import BIG_SECTOR, Container, Partitions, container_in, file_system_of, partitions_of
+from dmremap_tools.model.contents import BIG_SECTOR, file_system_of, partitions_of
 from dmremap_tools.model.device import Device, Run
 from dmremap_tools.model.groups import REMOVED, Group, Texts, Volume, same_id
 from dmremap_tools.model.image import Image, Lenient
@@ -60,7 +62,7 @@ class Pile:
                  unread: Optional[Dict[str, List[Run]]] = None) -> None:
         mapping.use(program)
         self.found: List[Found] = []
-        self.tables: Dict[Device, Partitions] = {}
+        self.tables: Dict[Device, Table] = {}
         self.arrays: List[Array] = []
         self.containers: List[Tuple[Spot, Container]] = []
         self.volumes: List[PhysicalVolume] = []
@@ -152,7 +154,7 @@ class Pile:
 
     def _recognise(self, spot: Spot, known: Optional[str]) -> None:
         """Says what a device is that has no partitions and is no member."""
-        container = container_in(spot.device)
+        container = container_in(Lenient(spot.device))
         volume = None if container else physical_volume.volume_in(spot.device)
         if container:
             self.containers.append((spot, container))
@@ -257,7 +259,7 @@ def known_in(device: Device) -> Optional[str]:
     return "lvm2" if physical_volume.label_of(Lenient(device))[0] else file_system_of(device)
 
 
-def table_in(device: Device, known: Optional[str]) -> Optional[Partitions]:
+def table_in(device: Device, known: Optional[str]) -> Optional[Table]:
     """The partition table of a device. An MBR, which has no sum, is one if something is in its partitions, with sectors
     of 512 or of 4096 bytes, or if nothing is known of the device itself."""
     first = partitions_of(device, known is None)

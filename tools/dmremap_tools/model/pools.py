@@ -6,13 +6,13 @@ import functools
 import itertools
 import struct
 from collections import namedtuple
-from typing import Any, Iterator, NamedTuple, Optional, Tuple
+from typing import Any, Iterator, Optional, Tuple
 
 from dmremap_tools.base.config_text import shown
 from dmremap_tools.base.numbers import SECTOR
 from dmremap_tools.base.refusal import Refusal
 from dmremap_tools.metadata.volume_group import Segment
-from dmremap_tools.model.device import ZEROS, Device, Extent, Gap, Missing, Overlaid, Part, Run
+from dmremap_tools.model.device import ZEROS, Device, Entry, Gap, Overlaid, Part, Run, sorted_entries
 from dmremap_tools.model.layout import Layout
 
 BLOCK, WORD = 4096, 8
@@ -34,8 +34,6 @@ TIME_BITS, FLAG_BITS, VALID = 24, 16, 1
 MODES = (b"writethrough", b"writeback")
 ONE_TIME = "give images of one time"
 ODD_CACHE = "the cache's metadata maps a block twice, or one that isn't there: run cache_check on a copy of it"
-# A key with its value; or the keys up to an end of which nothing is known, and why.
-Entry = NamedTuple("Entry", [("key", int), ("end", int), ("value", int), ("why", Optional[str])])
 
 
 class Tree:
@@ -136,40 +134,6 @@ for _ in range(8):
     TABLE = [value >> 1 ^ (POLYNOMIAL if value & 1 else 0) for value in TABLE]
 
 
-class ThinDevice(Device):
-    """A thin volume: its tree of blocks leads to those of its pool. What nobody wrote reads as zeros."""
-
-    def __init__(self, name: str, tree: Tree, data: Device, block: int, size: int) -> None:
-        super().__init__(name, size)
-        self._tree, self._data, self._block = tree, data, block
-        self._is_data_whole = data.lack(0, data.size) is None
-
-    def lack(self, start: int, size: int) -> Optional[str]:
-        if start + size > self.size or not self._is_data_whole:
-            return super().lack(start, size)
-        for entry in self._tree.entries(start // self._block, -(-(start + size) // self._block)):
-            if entry.why:
-                return entry.why
-            if ((entry.value >> TIME_BITS) + 1) * self._block > self._data.size:
-                return f"{self.name}: a block lies past the end of its pool: {ONE_TIME}"
-        return None
-
-    def _extents(self, start: int, size: int) -> Iterator[Extent]:
-        at, end = start, start + size
-        for entry in self._tree.entries(start // self._block, -(-end // self._block)):
-            first, stop = entry.key * self._block, min(end, entry.end * self._block)
-            if first > at:
-                yield Extent(ZEROS, 0, first - at)
-                at = first
-            if entry.why:
-                yield Extent(Missing(entry.why), 0, stop - at)
-            else:
-                yield from self._data.extents((entry.value >> TIME_BITS) * self._block + at - first, stop - at)
-            at = stop
-        if at < end:
-            yield Extent(ZEROS, 0, end - at)
-
-
 def thin_of(layout: Layout, name: str, segment: Segment, size: int) -> Device:
     """The device of a thin segment: the tree of devices of its pool leads to its own."""
     node, volumes = segment.node, layout.group.volumes
@@ -196,7 +160,15 @@ def thin_of(layout: Layout, name: str, segment: Segment, size: int) -> Device:
                       "lists what is left")
     if root.why:
         raise Refusal(name, root.why)
-    return ThinDevice(name, Tree(meta, root.value), data, superblock.data_block_size * SECTOR, size)
+    tree, block = Tree(meta, root.value), superblock.data_block_size * SECTOR
+    past = f"{name}: a block lies past the end of its pool: {ONE_TIME}"
+
+    def entries(first: int, end: int) -> Iterator[Entry]:
+        for key, stop, value, why in tree.entries(first, end):
+            place = value >> TIME_BITS
+            yield Entry(key, stop, place, why or (past if (place + 1) * block > data.size else None))
+    # What nobody wrote reads as zeros.
+    return Overlaid(name, ZEROS, data, block, entries, size)
 
 
 def cached_of(layout: Layout, name: str, segment: Segment, size: int) -> Device:
@@ -219,7 +191,7 @@ def cached_of(layout: Layout, name: str, segment: Segment, size: int) -> Device:
     pairs = sorted((value >> FLAG_BITS, place) for place, value in enumerate(values) if value & VALID)
     if any(one[0] == other[0] for one, other in zip(pairs, pairs[1:])) or pairs and pairs[-1][0] * block >= size:
         raise Refusal(name, ODD_CACHE)
-    return Overlaid(name, layout.plain(origin), data, block, pairs, size)
+    return Overlaid(name, layout.plain(origin), data, block, sorted_entries(pairs), size)
 
 
 def cache_of(layout: Layout, segment: Segment, pool: bytes) -> Tuple[Optional[Device], Optional[Device], Segment]:
