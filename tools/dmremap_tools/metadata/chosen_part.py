@@ -14,9 +14,8 @@ from dmremap_tools.base.refusal import Refusal
 from dmremap_tools.layers.examine import HARMLESS
 from dmremap_tools.model import md_superblock
 from dmremap_tools.model.md_superblock import BAD_BLOCKS, Superblock, has_all
-from dmremap_tools.model.physical_volume import LABEL, LABEL_SECTORS, Label, label_fault, label_of
+from dmremap_tools.model.physical_volume import Label, label_of, volumes_begin
 
-WINDOW, PROGRESS = 4 << 20, 64
 # What tables call an array, and a partition of one.
 ARRAY, PARTITION = re.compile(r"(?:/dev/)?md(?:_?d?\d+(?:p\d+)?|/.+)|9:\d+"), re.compile(r".*p\d+")
 # What a sector has on disks that don't have 512 bytes in it, and the last byte at which a superblock begins that lies
@@ -210,26 +209,9 @@ def with_volumes(disk: Image, partitions: List[Partition]) -> List[Partition]:
     return [each for each, part in parts if label_of(part)[0] is not None or array_data(part) is not None]
 
 
-def volumes_in(image: Image) -> Iterator[int]:
-    """The bytes at which physical volumes begin, of all sound labels in an image."""
-    at, count = image.next_data(0) // SECTOR * SECTOR, 0
-    while at < image.size:
-        window = image.read(at, WINDOW)
-        for place in (match.start() for match in re.finditer(LABEL, window)):
-            sector = window[place:place + SECTOR]
-            belongs = int.from_bytes(sector[8:16], "little")
-            begin = at + place - belongs * SECTOR
-            is_placed = place % SECTOR == 0 and belongs < LABEL_SECTORS and image.base + begin >= 0
-            if is_placed and not label_fault(sector, belongs):
-                yield begin
-        at, count = max(at + WINDOW, image.next_data(at + WINDOW) // SECTOR * SECTOR), count + 1
-        if count % PROGRESS == 0:
-            streams.show_progress(f"labels are searched: MiB {at >> 20} of {image.size >> 20}")
-
-
 def where_volumes_begin(image: Image) -> str:
     """What is said of the physical volumes that are found by their labels, or nothing."""
-    found = [str(image.base + begin) for begin in itertools.islice(volumes_in(image), quoting.MOST_NAMED + 1)]
+    found = [str(image.base + begin) for begin in itertools.islice(volumes_begin(image), quoting.MOST_NAMED + 1)]
     if not found:
         return ""
     if len(found) == 1:

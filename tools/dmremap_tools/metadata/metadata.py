@@ -29,8 +29,8 @@ from dmremap_tools.base.disk_image import Image, open_image
 from dmremap_tools.base.paths import Place, place_of
 from dmremap_tools.base.refusal import Refusal, WrongWords
 from dmremap_tools.metadata.chosen_part import check_newest, chosen_parts, taken_from_array
-from dmremap_tools.metadata.group_text import summary, without_time
-from dmremap_tools.metadata.valid_text import areas_of, text_of, texts_in, valid_text
+from dmremap_tools.metadata.group_text import text_of
+from dmremap_tools.metadata.valid_text import areas_of, older_text, texts_in, valid_text
 
 EXAMPLE = "dmremap-tools metadata vg0-head.img > vg0.backup && dmremap table lvm vg0.backup"
 
@@ -54,11 +54,12 @@ def run(words: argparse.Namespace) -> None:
     if len(images) > 1 and is_of_one:
         raise Refusal(images[0].path, "it has several physical volumes: take one, as HEAD?offset=BYTES")
     if words.list:
-        for (at, group, identity, seqno), _, time in texts_in(images[0]):
-            line = b"%d %s %s seqno %d - %s" % (at, group, identity, seqno, time)
-            streams.out.write(quoting.escaped(line.decode("utf-8", "surrogateescape")) + "\n")
+        for text in texts_in(images[0]):
+            time = (text.said_time() or b"cut").decode("utf-8", "surrogateescape")
+            line = f"{text.at} {text.group} {text.identity} seqno {text.seqno} - {time}"
+            streams.out.write(quoting.escaped(line) + "\n")
         return
-    content = text_of(images[0], words.seqno, words.at) if is_of_one else _first_if_equal(images)
+    content = older_text(images[0], words.seqno, words.at) if is_of_one else _first_if_equal(images)
     streams.out.write(content.decode("utf-8", "surrogateescape"))
 
 
@@ -72,11 +73,11 @@ def _volumes_in(place: Place) -> List[Image]:
 
 def _first_if_equal(images: List[Image]) -> bytes:
     """The first of the valid texts of these volumes, which are one but for their times."""
-    texts = [valid_text(it, areas_of(it)) for it in images]
-    if len({without_time(it) for it in texts}) > 1:
+    texts = [text_of(valid_text(it, areas_of(it))) for it in images]
+    if len({it.body() for it in texts}) > 1:
         for image, text in zip(images, texts):
             where = f" from sector {image.base // numbers.SECTOR} on" if image.base else ""
-            streams.tell(f"{image.path}{where}: {summary(text)}")
+            streams.tell(f"{image.path}{where}: {text.summary()}")
         raise Refusal(images[0].path, "the texts differ: "
                       "look at what each has, and take the volume that is right alone")
-    return texts[0]
+    return texts[0].content

@@ -8,9 +8,9 @@ from dmremap_tools.base.luks_header import is_container
 from dmremap_tools.base.numbers import SECTOR
 from dmremap_tools.base.refusal import Refusal
 from dmremap_tools.metadata.chosen_part import where_volumes_begin
-from dmremap_tools.metadata.group_text import RingText, beginning_of, summary, texts_of_ring, without_time
+from dmremap_tools.metadata.group_text import Text, texts_of_ring
 from dmremap_tools.model import physical_volume
-from dmremap_tools.model.physical_volume import EMPTY, MISSING, MOST_AREAS, SEARCHED, Area, header_fault, label_of
+from dmremap_tools.model.physical_volume import EMPTY, MISSING, MOST_AREAS, SEARCHED, Area, area_at, label_of
 
 OTHER = "try another physical volume of the group, or a file in /etc/lvm/backup"
 OLDER = "see what is left of older texts with --list"
@@ -26,7 +26,7 @@ def areas_of(image: Image) -> List[Area]:
         return _searched_areas(image, faults or ["there is no label in the first four sectors"])
     if not label.areas:
         raise Refusal(image.path, f"this physical volume keeps no metadata: {OTHER}")
-    areas = [physical_volume.listed_area(image, label, start, size) for start, size in label.areas]
+    areas = [area_at(image, start, size, label.size) for start, size in label.areas]
     if label.is_used is False and all(it.fault in (EMPTY, MISSING) for it in areas):
         raise Refusal(image.path, "the physical volume belongs to no group: " + OLDER)
     return areas
@@ -38,7 +38,7 @@ def _searched_areas(image: Image, why: List[str]) -> List[Area]:
     areas: List[Area] = []
     for at, header in physical_volume.search(image):
         belongs, size = physical_volume.place_in(header)
-        fault = header_fault(header, belongs)
+        fault = physical_volume.header_fault(header, belongs)
         misplaced = f"the metadata area at byte {at} belongs at byte {belongs}, so "
         if fault:
             why.append(f"the metadata area at byte {at}: {fault}")
@@ -51,7 +51,7 @@ def _searched_areas(image: Image, why: List[str]) -> List[Area]:
             raise Refusal(image.path, f"more than {MOST_AREAS} metadata areas are where they say that they begin: "
                           + OTHER)
         else:
-            areas.append(physical_volume.area_at(image, at, size))
+            areas.append(area_at(image, at, size, at + size))
     said, most = quoting.some(why, "; "), SEARCHED >> 20
     if not areas:
         known = ENCRYPTED if is_container(image) else other_form(image.read(0, SECTOR))
@@ -64,54 +64,50 @@ def _searched_areas(image: Image, why: List[str]) -> List[Area]:
 
 def valid_text(image: Image, areas: List[Area]) -> bytes:
     """The sound text with the highest number. Refuses texts of different groups, and different ones of that number."""
-    sound = [it for it in areas if it.text is not None]
+    sound = [it for it in areas if it.text]
     if not sound:
         why = "; ".join(f"{_places([it])}: {it.fault}" for it in areas)
         is_cut = any(it.fault == MISSING for it in areas)
         raise Refusal(image.path, f"{why}: " + ("take more of the disk" if is_cut else f"{OTHER}, or {OLDER}"))
-    beginnings = [beginning_of(it.text) for it in sound]
-    numbers = [it.seqno if it else -1 for it in beginnings]
-    newest = [area for area, number in zip(sound, numbers) if number == max(numbers)]
-    are_of_one = len(sound) == 1 or all(beginnings) and len({it.identity for it in beginnings}) == 1
-    if not are_of_one or len({without_time(it.text) for it in newest}) > 1:
+    newest = [it for it in sound if it.text.seqno == max(each.text.seqno for each in sound)]
+    are_of_one = len(sound) == 1 or sound[0].text.group and len({it.text.identity for it in sound}) == 1
+    if not are_of_one or len({it.text.body() for it in newest}) > 1:
         for area in sound:
-            streams.tell(f"{image.path}: {_places([area])}: {summary(area.text)}")
+            streams.tell(f"{image.path}: {_places([area])}: {area.text.summary()}")
         why = "have different texts with one seqno" if are_of_one else "have texts of different groups"
         raise Refusal(image.path, f"{_places(sound)} {why}: {OTHER}")
     for area in areas:
         if area.fault:
             streams.tell(f"{image.path}: passed over: {_places([area])}: {area.fault}")
         elif area not in newest:
-            streams.tell(f"{image.path}: passed over: {_places([area])}: its text is older: {summary(area.text)}")
-            streams.tell(f"{image.path}: taken: {_places(newest[:1])}: {summary(newest[0].text)}")
-    return newest[0].text
+            streams.tell(f"{image.path}: passed over: {_places([area])}: its text is older: {area.text.summary()}")
+            streams.tell(f"{image.path}: taken: {_places(newest[:1])}: {newest[0].text.summary()}")
+    return newest[0].text.content
 
 
 def _places(areas: List[Area]) -> str:
     return f"the metadata area{'s' * (len(areas) > 1)} at byte {' and '.join(str(it.start) for it in areas)}"
 
 
-def texts_in(image: Image) -> List[RingText]:
+def texts_in(image: Image) -> List[Text]:
     """The older texts in the areas of an image, or at its beginning where these aren't known; no empty list."""
-    rings = ((start + SECTOR, size - SECTOR) for start, size in physical_volume.areas_in(image))
-    texts = [it for start, size in rings for it in texts_of_ring(image.base + start, image.read(start, size))]
-    texts = texts or texts_of_ring(image.base, image.read(0, HEAD), False)
+    texts = physical_volume.older_texts(image) or texts_of_ring(image.base, image.read(0, HEAD), False)
     if not texts:
         raise Refusal(image.path, "there is no text of a group: "
                       "take another physical volume, or a file in /etc/lvm/archive")
     return texts
 
 
-def text_of(image: Image, seqno: int, at: Optional[int]) -> bytes:
+def older_text(image: Image, seqno: int, at: Optional[int]) -> bytes:
     """The older text with this number, or the one at a byte."""
-    texts = [it for it in texts_in(image) if (it.beginning.seqno == seqno if at is None else it.beginning.at == at)]
+    texts = [it for it in texts_in(image) if (it.seqno == seqno if at is None else it.at == at)]
     which, there = (f"with the seqno {seqno}", "those there are") if at is None else ("at that place", "the places")
     if not texts:
         raise Refusal(image.path, f"there is no text {which}: see {there} with --list")
-    whole = {it.content for it in (texts if at is None else texts[:1]) if it.content is not None}
+    whole = {it.content for it in (texts if at is None else texts[:1]) if it.said_time()}
     if not whole:
         raise Refusal(image.path, f"the text {which} is cut: see with --list which are whole")
     if len(whole) > 1:
-        places = quoting.some([str(it.beginning.at) for it in texts])
+        places = quoting.some([str(it.at) for it in texts])
         raise Refusal(image.path, f"there are several texts {which}, at the bytes {places}: take one with --at BYTE")
     return whole.pop()

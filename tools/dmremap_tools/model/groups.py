@@ -9,11 +9,12 @@ from typing import Callable, Dict, Iterable, Iterator, List, NamedTuple, Optiona
 from dmremap_tools.base.config_text import shown
 from dmremap_tools.base.numbers import SECTOR
 from dmremap_tools.base.refusal import Refusal
+from dmremap_tools.metadata.group_text import Text
 from dmremap_tools.model.contents import file_system_of
 from dmremap_tools.model.device import Device, Missing
 from dmremap_tools.model.layout import Layout, Use
 from dmremap_tools.model.mapping import NoProgram
-from dmremap_tools.model.physical_volume import PhysicalVolume, Text
+from dmremap_tools.model.physical_volume import PhysicalVolume
 from dmremap_tools.model.snapshot import INVALID as INVALID_SNAPSHOT
 
 COMPLETE, LACKING, TRUNCATED, FORKED = "complete", "missing", "truncated", "forked"
@@ -100,8 +101,9 @@ def uses_of(text: Text) -> List[Tuple[Use, str]]:
 
 @functools.lru_cache(maxsize=1 << 12)
 def ids_in(text: Text) -> Set[str]:
-    begin, end = text.content.find(VOLUMES), text.content.find(HISTORY)
-    region = text.content[begin:end if end > begin else len(text.content)] if begin >= 0 else b""
+    body = text.body()
+    begin, end = body.find(VOLUMES), body.find(HISTORY)
+    region = body[begin:end if end > begin else len(body)] if begin >= 0 else b""
     return {identity.decode("ascii", "replace") for identity in IDENTITY.findall(region)}
 
 
@@ -127,7 +129,7 @@ class Group:
 
 
 class Holder(NamedTuple):
-    """A current text, and the physical volumes that have it."""
+    """A text, and the physical volumes of which it is the current one."""
 
     text: Text
     volumes: List[PhysicalVolume]
@@ -174,32 +176,33 @@ def state_of(side: Layout) -> Tuple[str, List[str]]:
 
 
 class Texts:
-    """All texts of some physical volumes, of any group: those that are current, with the ones that have them, and all
-    that are known, whose volumes may have written where a removed volume was."""
+    """All texts of some physical volumes, of any group: those that are current, with the ones that have them, and older
+    ones, whose volumes may have written where a removed volume was."""
 
     def __init__(self, volumes: Sequence[PhysicalVolume]) -> None:
         self._volumes = volumes
-        self._current: Dict[str, Dict[bytes, Holder]] = {}
-        self._known: Dict[str, Dict[bytes, Text]] = {}
+        # The texts by the ids of their groups, and by their keys.
+        self._known: Dict[str, Dict[bytes, Holder]] = {}
         for volume in volumes:
-            for text in volume.older + volume.current:
-                self._known.setdefault(text.identity, {})[text.key()] = text
-            for text in volume.current:
-                holders = self._current.setdefault(text.identity, {})
-                holders.setdefault(text.key(), Holder(text, [])).volumes.append(volume)
+            for text, its_own in [(text, []) for text in volume.older] + [(text, [volume]) for text in volume.current]:
+                holders = self._known.setdefault(text.identity, {})
+                holders.setdefault(text.key(), Holder(text, [])).volumes.extend(its_own)
         # Why the current text of a physical volume can't be read, by its id.
         unread = [volume for volume in volumes if volume.faults and not volume.current]
         self._lost = {volume.identity: f"{volume.place}: {volume.faults[0]}" for volume in unread}
 
     def groups(self) -> Iterator[Group]:
         """The groups that are there, and then those that were removed."""
-        for identity in (identity for identity in self._known if identity in self._current):
-            yield from self._sides(sides_of(self._current[identity].values()), list(self._known[identity].values()))
-        for older in (list(texts.values()) for identity, texts in self._known.items() if identity not in self._current):
-            removed = list(self._removed(older, set()))
-            if removed:
-                side = max((volume.side for volume in removed), key=lambda side: side.text.seqno)
-                yield Group(side, REMOVED, self._volumes, older, removed)
+        removed = []
+        for holders in map(dict.values, self._known.values()):
+            current, texts = [holder for holder in holders if holder.volumes], [holder.text for holder in holders]
+            removed += [] if current else [texts]
+            yield from self._sides(sides_of(current), texts)
+        for texts in removed:
+            volumes = list(self._removed(texts, set()))
+            if volumes:
+                side = max((volume.side for volume in volumes), key=lambda side: side.text.seqno)
+                yield Group(side, REMOVED, self._volumes, texts, volumes)
 
     def _find(self, identity: str) -> Device:
         """The device of a physical volume. Two of one id are a copy and its original, or were changed apart."""
@@ -233,24 +236,21 @@ class Texts:
     def _newer(self, holder: Holder, side: Layout) -> Optional[str]:
         """Why a text may not be the last: a disk that it names has a later one, or one of another sum."""
         same = [volume.told.get(side.text.key()) for volume in holder.volumes]
-        for volume in self._volumes:
-            if volume.identity in side.physical_ids.values() and (volume.faults or not volume.current):
-                fault = volume.faults[0] if volume.faults else "it isn't the current one"
-                last = max((text.seqno for text in volume.older if text.identity == side.text.identity), default=0)
-                is_later = last > side.text.seqno
-                if is_later or any(told not in same for told in volume.unread):
-                    which = "another text, which may be later"
-                    which = f"a later text, with the seqno {last}, that isn't confirmed" if is_later else which
-                    return NEWER.format(volume.place, which, fault, side.text.seqno)
+        for volume in (it for it in self._volumes if it.identity in side.physical_ids.values()):
+            fault = next(iter(volume.faults), None if volume.current else "it isn't the current one")
+            last = max((text.seqno for text in volume.older if text.identity == side.text.identity), default=0)
+            which = "another text, which may be later" if any(told not in same for told in volume.unread) else None
+            if last > side.text.seqno:
+                which = f"a later text, with the seqno {last}, that isn't confirmed"
+            if fault and which:
+                return NEWER.format(volume.place, which, fault, side.text.seqno)
         return None
 
     def _after(self, text: Text) -> Iterator[Text]:
         """The texts that were written after one, as far as that is known."""
-        for identity, texts in self._known.items():
-            for key, other in texts.items():
-                is_current = key in self._current.get(identity, {})
-                if other.seqno > text.seqno if identity == text.identity else is_current or other.time >= text.time:
-                    yield other
+        for other, volumes in (holder for holders in self._known.values() for holder in holders.values()):
+            if other.seqno > text.seqno if other.identity == text.identity else volumes or other.time >= text.time:
+                yield other
 
     def _refused(self, side: Layout, name: bytes, texts: Sequence[Text], doubt: Optional[str]) -> Optional[str]:
         """Why a removed volume of a group that has these texts can't be given, or None."""

@@ -86,3 +86,6 @@ class Lenient(disk_image.Image):
         """The bytes that are there, up to the first sector that isn't."""
         blocks = read_blocks(self._device.read, at, min(at + count, self.size))
         return b"".join(content for _, content, _ in itertools.takewhile(lambda block: block[2], blocks))
+
+    def next_data(self, at: int) -> int:
+        return next((begin for begin, _ in self._device.runs(at, self.size)), self.size)

@@ -7,7 +7,6 @@ of the ring. Label, header and text have a sum each, a CRC-32 of zlib's polynomi
 isn't inverted at the end. A sum is no bound, as whoever wrote the disk can make it."""
 
 import functools
-import hashlib
 import itertools
 import re
 import struct
@@ -15,11 +14,9 @@ import zlib
 from typing import Dict, Iterator, List, NamedTuple, Optional, Tuple
 
 from dmremap_tools.base import disk_image, streams
-from dmremap_tools.base.config_text import Document, Node
 from dmremap_tools.base.numbers import SECTOR
-from dmremap_tools.base.refusal import Refusal
-from dmremap_tools.metadata.group_text import beginning_of, texts_of_ring, without_time
-from dmremap_tools.model.device import Device, Gap, Part, Run
+from dmremap_tools.metadata.group_text import Text, text_of, texts_of_ring
+from dmremap_tools.model.device import Device, Part, Run
 from dmremap_tools.model.image import Image, Lenient
 
 LABEL, TYPE, LABEL_SECTORS = b"LABELONE", b"LVM2 001", 4
@@ -32,19 +29,15 @@ SEARCHED = 4 << 20
 # How the letters of an id are grouped in a text.
 GROUPS = ((0, 6), (6, 10), (10, 14), (14, 18), (18, 22), (22, 26), (26, 32))
 MISSING, EMPTY = "the image ends before it does", "it has no text"
-# The bytes of a text that is read, and texts that are kept as they were read.
-MOST_TEXT, MOST_KEPT = 4 << 20, 8
-# What the paths of md arrays begin with.
-ARRAYS = b"/dev/md"
-TIME = re.compile(rb"\ncreation_time = ([0-9]{1,18})")
 # Bytes of an image that are searched at once.
 WINDOW = 4 << 20
 # A label: its sector, the id and the bytes of the volume, the places of the areas: starts and sizes, and whether the
 # volume belongs to a group; labels of old versions don't say that, so that it is None.
 Label = NamedTuple("Label", [
     ("sector", int), ("identity", bytes), ("size", int), ("areas", List[Run]), ("is_used", Optional[bool])])
-# An area with its text, or with what is wrong with it.
-Area = NamedTuple("Area", [("start", int), ("text", Optional[bytes]), ("fault", Optional[str])])
+# An area with its text, or with what is wrong with it, and what its header says of a text: how many bytes it has, and
+# their sum.
+Area = NamedTuple("Area", [("start", int), ("text", Optional[Text]), ("fault", Optional[str]), ("told", bytes)])
 
 
 def checksum(content: bytes) -> int:
@@ -88,34 +81,29 @@ def _label_in(sector: bytes, place: int) -> Label:
     return Label(place, identity, size, areas[:MOST_AREAS], bool(flags & IN_USE) if version >= 2 else None)
 
 
-def listed_area(image: disk_image.Image, label: Label, start: int, size: int) -> Area:
-    if start + size > label.size:
-        return Area(start, None, "the label says that it ends after the volume")
-    return area_at(image, start, size)
-
-
-def area_at(image: disk_image.Image, start: int, size: int) -> Area:
-    """The area at this place, of at most so many bytes, with its valid text, or with what is wrong with it."""
-    if size > MOST_AREA:
-        return Area(start, None, f"it has {size} bytes, and no more than {MOST_AREA} are read")
+def area_at(image: disk_image.Image, start: int, size: int, end: int) -> Area:
+    """The area at this place, of at most so many bytes, with its valid text, or with what is wrong with it. The volume
+    ends at `end`."""
     header = image.read(start, SECTOR)
     fault = MISSING if len(header) < SECTOR else header_fault(header, start)
+    ring, offset, length, stored, flags = struct.unpack_from("<QQQLL", header.ljust(SECTOR, b"\0"), 32)
+    told = header[48:60] if not fault and length and not flags & IGNORED else b""
+    faults = (
+        (start + size > end, "the label says that it ends after the volume"),
+        (size > MOST_AREA, f"it has {size} bytes, and no more than {MOST_AREA} are read"),
+        (fault, fault),
+        (ring > size, f"its header says that it has {ring} bytes, of which there are {size}"),
+        (flags & IGNORED, "lvm2 keeps no text in it"),
+        (offset == 0 or length == 0, EMPTY),
+        (not (SECTOR <= offset < ring and length <= ring - SECTOR), "its header names a place outside of it"))
+    fault = next((why for is_so, why in faults if is_so), None)
     if fault:
-        return Area(start, None, fault)
-    ring, offset, length, stored, flags = struct.unpack_from("<QQQLL", header, 32)
-    if ring > size:
-        return Area(start, None, f"its header says that it has {ring} bytes, of which there are {size}")
-    if flags & IGNORED:
-        return Area(start, None, "lvm2 keeps no text in it")
-    if offset == 0 or length == 0:
-        return Area(start, None, EMPTY)
-    if not (SECTOR <= offset < ring and length <= ring - SECTOR):
-        return Area(start, None, "its header names a place outside of it")
+        return Area(start, None, fault, told)
     before_end = min(length, ring - offset)
     text = image.read(start + offset, before_end) + image.read(start + SECTOR, length - before_end)
     if len(text) < length or checksum(text) != stored:
-        return Area(start, None, MISSING if len(text) < length else "the sum of its text is wrong")
-    return Area(start, text.rstrip(b"\0"), None)
+        return Area(start, None, MISSING if len(text) < length else "the sum of its text is wrong", told)
+    return Area(start, text_of(text.rstrip(b"\0")), None, told)
 
 
 def header_fault(header: bytes, start: int) -> Optional[str]:
@@ -147,53 +135,15 @@ def search(image: disk_image.Image) -> List[Tuple[int, bytes]]:
     return sorted(headers)
 
 
-def areas_in(image: disk_image.Image) -> List[Run]:
-    """Where the metadata areas are and how many bytes they have, by the label, or else by their headers."""
-    label = label_of(image)[0]
+def older_texts(image: disk_image.Image) -> List[Text]:
+    """The texts in all areas, by the label, or else by their headers: those in force, older ones, and what is left of
+    some."""
+    label, texts = label_of(image)[0], []
     headers = [] if label else [header for at, header in search(image) if not header_fault(header, at)]
-    places = label.areas if label else list(map(place_in, headers))
-    return [it for it in places if SECTOR < it[1] <= MOST_AREA][:MOST_AREAS]
-
-
-class Text(NamedTuple):
-    """A whole text of a group: what it begins with, when it was written, and its bytes without that."""
-
-    group: str
-    identity: str
-    seqno: int
-    time: int
-    content: bytes
-
-    def key(self) -> bytes:
-        """By which the same text is known in other places."""
-        return hashlib.sha256(self.content).digest()
-
-    @functools.lru_cache(MOST_KEPT)
-    def node(self) -> Node:
-        """The section of the group. A text that says something else is refused."""
-        if len(self.content) > MOST_TEXT:
-            why = f"its text has {len(self.content)} bytes, and no more than {MOST_TEXT} are read"
-            raise Refusal(self.group, f"{why}: activate it with lvm2")
-        sections = Document(self.group, self.content).top.sections()
-        if not sections:
-            raise Refusal(self.group, "its text has no section: see older ones by `metadata --list`")
-        return sections[0]
-
-    @functools.lru_cache(None)
-    def fault(self) -> Optional[str]:
-        """Why it can't be read, or None."""
-        try:
-            self.node()
-            return None
-        except Refusal as refusal:
-            return str(refusal)
-
-    def on_arrays(self) -> Iterator[str]:
-        """The ids of the physical volumes that were on md arrays when it was written."""
-        for node in self.node().sections_in(b"physical_volumes"):
-            device, identity = node.value(b"device", bytes), node.value(b"id", bytes)
-            if isinstance(device, bytes) and isinstance(identity, bytes) and device.startswith(ARRAYS):
-                yield identity.decode("ascii", "replace")
+    places = label.areas if label else map(place_in, headers)
+    for start, size in [it for it in places if SECTOR < it[1] <= MOST_AREA][:MOST_AREAS]:
+        texts += texts_of_ring(image.base + start + SECTOR, image.read(start + SECTOR, size - SECTOR))
+    return texts
 
 
 class PhysicalVolume:
@@ -211,9 +161,8 @@ class PhysicalVolume:
         self.unread: List[bytes] = []
         self.told: Dict[bytes, bytes] = {}
         for at, size in label.areas:
-            area, told = listed_area(self._image, label, at, size), self._told_at(at)
-            text, fault = _text_of(area.text or b""), area.fault
-            if area.text is not None and not text:
+            _, text, fault, told = area_at(self._image, at, size, label.size)
+            if text and not text.group:
                 fault = "its text doesn't begin as that of a group"
             elif text and text.fault():
                 fault = f"its text can't be read: {text.fault()}"
@@ -224,34 +173,10 @@ class PhysicalVolume:
                 self.faults.append(f"the metadata area at byte {at}: {fault}")
                 self.unread += [told] if told else []
 
-    def _told_at(self, start: int) -> bytes:
-        """What the header of an area says of its text, if the header is sound and lvm2 keeps one there."""
-        header = self._image.read(start, SECTOR)
-        if len(header) < SECTOR or header_fault(header, start):
-            return b""
-        length, _, flags = struct.unpack_from("<QLL", header, 48)
-        return header[48:60] if length and not flags & IGNORED else b""
-
     @functools.cached_property
     def older(self) -> List[Text]:
         """All whole texts in its rings, the current ones among them."""
-        found: List[Text] = []
-        for start, size in areas_in(self._image):
-            ring = self._image.read(start + SECTOR, size - SECTOR)
-            # What nobody wrote is left out, as it has no texts.
-            written = ring.rstrip(b"\0")
-            texts = texts_of_ring(0, written + b"\0", len(written) == len(ring))
-            found += filter(None, (_text_of(text.content) for text in texts if text.content is not None))
-        return found
-
-
-def _text_of(content: bytes) -> Optional[Text]:
-    beginning = beginning_of(content)
-    if not beginning:
-        return None
-    times = TIME.findall(content)
-    group, identity = (each.decode("ascii", "replace") for each in (beginning.group, beginning.identity))
-    return Text(group, identity, beginning.seqno, int(times[-1]) if times else 0, without_time(content))
+        return [text for text in older_texts(self._image) if text.said_time()]
 
 
 def volume_in(device: Device, start: int = 0) -> Optional[PhysicalVolume]:
@@ -261,21 +186,24 @@ def volume_in(device: Device, start: int = 0) -> Optional[PhysicalVolume]:
 
 
 def volumes_within(image: Image) -> List[PhysicalVolume]:
-    """The physical volumes anywhere in an image, by sound labels that say in which sector of theirs they lie."""
-    found: Dict[int, PhysicalVolume] = {}
-    for begin, end in image.runs(0, image.size):
-        for at in range(begin, end, WINDOW):
-            streams.show_progress(f"{image.name}: {at >> 20} of {image.size >> 20} MiB")
-            try:
-                content = image.load(at, min(WINDOW, image.size - at))
-            except Gap:
-                continue
-            for place in (match.start() for match in re.finditer(LABEL, content)):
-                sector = int.from_bytes(content[place + 8:place + 16], "little")
-                start = at + place - sector * SECTOR
-                if place % SECTOR or sector >= LABEL_SECTORS or start < 0 or start in found:
-                    continue
-                volume = volume_in(Part(f"{image.name}?offset={start}", image, start, image.size - start), start)
-                if volume:
-                    found[start] = volume
-    return list(found.values())
+    """The physical volumes anywhere in an image."""
+    parts = [Part(f"{image.name}?offset={start}", image, start, image.size - start)
+             for start in dict.fromkeys(volumes_begin(Lenient(image)))]
+    return list(filter(None, (volume_in(part, part.start) for part in parts)))
+
+
+def volumes_begin(image: disk_image.Image) -> Iterator[int]:
+    """The bytes at which physical volumes begin, of all sound labels in an image, which say in which sector they lie."""
+    at = image.next_data(0)
+    while at < image.size:
+        at = at // SECTOR * SECTOR
+        streams.show_progress(f"{image.path}: labels are searched, MiB {at >> 20} of {image.size >> 20}")
+        window = image.read(at, WINDOW)
+        for place in (match.start() for match in re.finditer(LABEL, window)):
+            sector = window[place:place + SECTOR]
+            belongs = int.from_bytes(sector[8:16], "little")
+            begin = at + place - belongs * SECTOR
+            is_placed = place % SECTOR == 0 and belongs < LABEL_SECTORS and image.base + begin >= 0
+            if is_placed and not label_fault(sector, belongs):
+                yield begin
+        at = image.next_data(at + WINDOW)
