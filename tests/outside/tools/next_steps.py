@@ -16,7 +16,7 @@ VERBS = ("activate|add|ask|assemble|begin|compare|dump|end|give|install|leave|lo
          "see|take|trace|try|unpack|use|write")
 STEP = re.compile(r"`|(?<![\w-])--[a-z]|;|(?:^|[:,.(] )(?:or )?(?:%s)\b" % VERBS, re.I)
 # Where the elements of dumps are.
-ELEMENTS = "dmremap_tools.machines.dumps"
+ELEMENTS = "dmremap_tools.machines.thin"
 METHOD = re.compile(r"_?refuse(?:_line|_where)?|refused")
 EXCEPTIONS = {
     "there are both a partition table ({}) and the label of a physical volume, which lvm2 doesn't take then: IMAGE?offset=BYTES "

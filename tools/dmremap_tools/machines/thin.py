@@ -16,12 +16,12 @@ isn't whole, a device or a list that it doesn't have, and blocks past the end of
 import array
 import itertools
 from argparse import ArgumentParser, Namespace
-from typing import Dict, Iterable, Iterator, List, Optional, Set, Tuple
+from typing import Dict, Iterable, Iterator, List, NamedTuple, NoReturn, Optional, Set, Tuple
+from xml.parsers import expat
 
-from dmremap_tools.base import numbers, streams, tables
+from dmremap_tools.base import numbers, quoting, streams, tables
 from dmremap_tools.base.refusal import Refusal, WrongWords
 from dmremap_tools.layers import parts
-from dmremap_tools.machines import dumps
 
 EXAMPLE = "dmremap-tools thin --data tdata --device 1 vg0-thin1 2097152 dump.xml > thin.concise"
 # The runs of a device or a list, and of all together, where a list counts for as many as take its memory.
@@ -29,11 +29,79 @@ MOST_RUNS, MOST_TOGETHER, RUNS_OF_LIST = 1 << 20, 1 << 22, 32
 # What a dump of a cache has, and how many blocks of it are taken.
 OF_CACHE = ("superblock", "mapping", "mappings", "hints", "hint", "discards", "discard")
 MOST_BLOCKS = 1 << 21
+# What a dump of a pool has, and where elements say which blocks they map, and how many; without a word it is one.
+OF_POOL = ("superblock", "device", "def", "ref", "single_mapping", "range_mapping")
+MAPPINGS = {"single_mapping": ("origin_block", "data_block", ""), "range_mapping": ("origin_begin", "data_begin", "length")}
+# How many bytes the text has at most from the beginning of an element to the next one.
+MOST_BETWEEN = 1 << 20
+ANEW = "make the dump anew of repaired metadata"
+# The first block, where it lies, and how many there are from there.
+Run = Tuple[int, int, int]
+
+
+class Element(NamedTuple):
+    """The beginning of an element with what it says, or its end, whose tag has a slash in front."""
+
+    name: str
+    tag: str
+    said: Dict[str, str]
+
+    def number(self, key: str) -> int:
+        if key not in self.said:
+            self.refuse("it doesn't say " + key)
+        value = numbers.read(self.said[key])
+        if value is None:
+            self.refuse(f"{key} is no whole number below 2^64")
+        return value
+
+    def block_size(self, key: str) -> int:
+        return self.number(key) or self.refuse("blocks of no sectors")
+
+    def refuse(self, reason: str) -> NoReturn:
+        said = "".join(f' {key}="{value}"' for key, value in self.said.items())
+        raise Refusal(self.name, f"{reason}, {ANEW}: " + quoting.shown(f"<{self.tag}{said}>"))
+
+
+def elements(path: str, tool: str, known: Iterable[str]) -> Iterator[Element]:
+    """The elements of a dump, which begins and ends with its superblock. None is kept, and what no dump has is refused, such
+    as a list of entities at its beginning."""
+    name, between, begun = streams.name_of(path), 0, ""
+    found: List[Element] = []
+
+    def refuse(what: str) -> NoReturn:
+        raise Refusal(name, f"not what {tool} prints, {ANEW}: {quoting.shown(what)}")
+
+    def start(tag: str, said: Dict[str, str]) -> None:
+        nonlocal begun
+        if (tag == "superblock") == bool(begun):
+            refuse(f"<{tag}>")
+        begun = tag
+        found.append(Element(name, tag, said))
+
+    parser = expat.ParserCreate("utf-8", "}")
+    parser.StartElementHandler = start
+    parser.EndElementHandler = lambda tag: found.append(Element(name, "/" + tag, {}))
+    parser.CharacterDataHandler = lambda text: text.strip() and refuse(text.strip())
+    parser.StartDoctypeDeclHandler = lambda *_: refuse("<!DOCTYPE>")
+    for chunk in itertools.chain(streams.chunks(path), [b""]):
+        try:
+            parser.Parse(chunk, not chunk)
+        except expat.ExpatError as fault:
+            why = f"not what {tool} prints, or its end is missing, {ANEW}: {quoting.shown(str(fault))}"
+            raise Refusal(f"{name}:{fault.lineno}", why)
+        between = 0 if found else between + len(chunk)
+        if between > MOST_BETWEEN:
+            refuse(f"{between} bytes without an element")
+        for element in found:
+            if element.tag.lstrip("/") not in known:
+                element.refuse("an element that isn't known")
+            yield element
+        found.clear()
 
 
 class Runs:
-    """The runs of a device or of a shared list: the first block of each, where it begins in the data, and how many
-    blocks follow. What follows each other is one. `lists` are those that a list refers to, which many may share."""
+    """The runs of a device or of a shared list, in threes of figures. What follows each other is one. `lists` are those that
+    a list refers to, which many may share."""
 
     def __init__(self) -> None:
         self.figures = array.array("Q")
@@ -42,7 +110,7 @@ class Runs:
     def __len__(self) -> int:
         return len(self.figures) // 3 + len(self.lists)
 
-    def add(self, element: dumps.Element, first: int, place: int, count: int) -> None:
+    def add(self, element: Element, first: int, place: int, count: int) -> None:
         figures = self.figures
         if figures and figures[-3] + figures[-1] == first and figures[-2] + figures[-1] == place:
             figures[-1] += count
@@ -50,7 +118,7 @@ class Runs:
             figures.extend((first, place, count))
             check(element, len(self), MOST_RUNS)
 
-    def take_lists(self, element: dumps.Element) -> None:
+    def take_lists(self, element: Element) -> None:
         """Adds the runs of all lists that it refers to, by way of others as well, none of which a device can have twice."""
         seen, waiting, self.lists = set(), self.lists[::-1], []
         while waiting:
@@ -62,27 +130,69 @@ class Runs:
             for run in zip(*[iter(each.figures)] * 3):
                 self.add(element, *run)
 
-    def in_order(self) -> Iterator[Tuple[int, int, int]]:
+    def in_order(self) -> Iterator[Run]:
         places = sorted(range(0, len(self.figures), 3), key=self.figures.__getitem__)
         return (tuple(self.figures[place:place + 3]) for place in places)  # type: ignore
 
 
-def check(element: dumps.Element, count: int, most: int, said: str = "") -> None:
+def check(element: Element, count: int, most: int, said: str = "") -> None:
     """Refuses more runs than fit into memory."""
     if count > most:
         raise Refusal(element.name, f"more than {most} runs of blocks{said}: use `save` or `serve`")
 
 
-def read_cache(path: str, is_all: bool) -> Tuple[int, Iterator[Tuple[int, int, int]]]:
+def read_pool(path: str, wanted: Set[int]) -> Tuple[int, Dict[int, Runs]]:
+    """The sectors of a block, and the runs of the devices that are wanted, by their numbers."""
+    size = most = mapped = together = 0
+    devices: Dict[int, Runs] = {}
+    lists: Dict[str, Runs] = {}
+    into: Optional[Runs] = None
+    for element in elements(path, "thin_dump", OF_POOL):
+        name = element.said.get("name", "")
+        if element.tag == "superblock":
+            size, most = element.block_size("data_block_size"), element.number("nr_data_blocks")
+        elif element.tag == "device":
+            number, mapped = element.number("dev_id"), element.number("mapped_blocks")
+            into = devices.setdefault(number, Runs()) if number in wanted else None
+        elif element.tag == "def":
+            if name in lists:
+                element.refuse("a list of this name is there already")
+            begun, into = name, Runs()
+        elif element.tag == "ref":
+            if name not in lists:
+                element.refuse("no list of this name comes before it")
+            if into is not None and len(lists[name]):
+                into.lists.append(lists[name])
+                check(element, len(into), MOST_RUNS)
+        elif element.tag in MAPPINGS:
+            first, place, count = (element.number(key) if key else 1 for key in MAPPINGS[element.tag])
+            if into is not None:
+                if place + count > most or not count:
+                    element.refuse(f"past the end of the data, of {most} blocks")
+                into.add(element, first, place, count)
+        elif element.tag in ("/device", "/def") and into is not None:
+            check(element, together + RUNS_OF_LIST, MOST_TOGETHER, " in all")
+            if element.tag == "/device":
+                into.take_lists(element)
+                blocks = sum(into.figures[2::3])
+            else:
+                lists[begun] = into
+            together += RUNS_OF_LIST + len(into)
+            check(element, together, MOST_TOGETHER, " in all")
+            if element.tag == "/device" and blocks != mapped:
+                element.refuse(f"it has {blocks} blocks and not {mapped}, as it says")
+            into = None
+    return size, devices
+
+
+def read_cache(path: str, is_all: bool) -> Tuple[int, Iterator[Run]]:
     """The sectors of a block, and the runs of dirty blocks: the first on the origin and in the cache, and how many."""
     size = most = 0
     origins, cached, is_dirty = array.array("Q"), array.array("Q"), bytearray()
-    for element in dumps.elements(path, "cache_dump"):
-        if element.tag not in OF_CACHE:
-            element.refuse("an element that isn't known")
-        if element.tag == "superblock" and not element.is_end:
+    for element in elements(path, "cache_dump", OF_CACHE):
+        if element.tag == "superblock":
             size, most = element.block_size("block_size"), element.number("nr_cache_blocks")
-        elif element.tag == "mapping" and not element.is_end:
+        elif element.tag == "mapping":
             if element.number("cache_block") >= most or len(cached) == MOST_BLOCKS:
                 element.refuse(f"past the end of the cache, of {min(most, MOST_BLOCKS)} blocks")
             if element.said.get("dirty") not in ("true", "false"):
@@ -93,16 +203,30 @@ def read_cache(path: str, is_all: bool) -> Tuple[int, Iterator[Tuple[int, int, i
     for where, blocks in (("origin", origins), ("cache", cached)):
         for block, run in itertools.groupby(sorted(blocks)):
             if len(list(run)) > 1:
-                raise Refusal(streams.name_of(path), f"block {block} of the {where} is there twice: {dumps.ANEW}")
+                raise Refusal(streams.name_of(path), f"block {block} of the {where} is there twice: {ANEW}")
     dirty = sorted(filter(is_dirty.__getitem__, range(len(origins))), key=origins.__getitem__)
     return size, runs_of((origins[it], cached[it]) for it in dirty)
 
 
-def runs_of(blocks: Iterable[Tuple[int, int]]) -> Iterator[Tuple[int, int, int]]:
+def runs_of(blocks: Iterable[Tuple[int, int]]) -> Iterator[Run]:
     """The runs of sorted blocks that follow each other in both of their places."""
     for _, run in itertools.groupby(enumerate(blocks), lambda it: (it[1][0] - it[0], it[1][1] - it[0])):
         _, (origin, cached) = next(run)
         yield origin, cached, 1 + sum(1 for _ in run)
+
+
+def lines_of(name: str, runs: Iterable[Run], block: int, sectors: int, data: str, beside: Optional[str]) -> Iterator[tables.Line]:
+    """The lines of a device, from its first sector to its last: of runs of blocks of the data, and of what lies `beside` or zeros."""
+    at = 0
+    for number, place, count in itertools.chain(runs, [(-(-sectors // block), 0, 0)]):
+        first, end = min(number * block, sectors), min((number + count) * block, sectors)
+        if first < at:
+            raise Refusal(quoting.shown(name), f"block {number} of a device is there twice: {ANEW}")
+        if at < first:
+            yield tables.Line(at, first - at, *(("linear", [beside, str(at)]) if beside else ("zero", [])))
+        if first < end:
+            yield tables.Line(first, end - first, "linear", [data, str(place * block)])
+        at = end
 
 
 def add_words(parser: ArgumentParser) -> None:
@@ -128,85 +252,21 @@ def run(words: Namespace) -> None:
         cache, origin = parts.disk_in(words.cache, "--cache"), parts.disk_in(words.origin, "--origin")
         sectors = numbers.check_length("--sectors", words.sectors)
         size, runs = read_cache(words.dump, words.all)
-        lines = dumps.lines_of(words.name, runs, size, sectors, cache, origin)
-        made = [parts.device_of(words.name, "ro", lines, parts.part_of(words))]
+        made = iter([(words.name, lines_of(words.name, runs, size, sectors, cache, origin))])
     else:
         raise WrongWords("give --data and --device, or --cache, --origin, --name and --sectors")
-    streams.out.write(tables.text_of(made, True))
+    devices = [parts.device_of(name, "ro", lines, parts.part_of(words)) for name, lines in made]
+    streams.out.write(tables.text_of(devices, True))
 
 
-def thin_devices(words: Namespace) -> List[tables.Device]:
+def thin_devices(words: Namespace) -> Iterator[Tuple[str, Iterator[tables.Line]]]:
+    """The name of each device and its lines."""
     data = parts.disk_in(words.data, "--data")
     wanted = [(streams.whole("--device", number), name, numbers.check_length("--device", streams.whole("--device", sectors)))
               for number, name, sectors in words.device]
     external = {streams.whole("--external", number): parts.disk_in(disk, "--external") for number, disk in words.external}
-    pool = Pool(words.dump, {number for number, _, _ in wanted})
-    made = []
+    size, devices = read_pool(words.dump, {number for number, _, _ in wanted})
     for number, name, sectors in wanted:
-        if number not in pool.devices:
+        if number not in devices:
             raise Refusal(streams.name_of(words.dump), f"it has no device {number}: give a dev_id that it has")
-        runs = pool.devices[number].in_order()
-        lines = dumps.lines_of(name, runs, pool.block, sectors, data, external.get(number))
-        made.append(parts.device_of(name, "ro", lines, parts.part_of(words)))
-    return made
-
-
-class Pool:
-    """The sectors of a block, and the runs of the devices that are wanted."""
-
-    def __init__(self, path: str, wanted: Set[int]) -> None:
-        self.block = self._most = self._count = self._runs = 0
-        self.devices: Dict[int, Runs] = {}
-        self._wanted, self._name = wanted, ""
-        self._lists: Dict[str, Runs] = {}
-        self._into: Optional[Runs] = None
-        for element in dumps.elements(path, "thin_dump"):
-            if element.tag in ("device", "def"):
-                self._end(element) if element.is_end else self._begin(element)
-            elif element.tag not in ("superblock", "ref", "single_mapping", "range_mapping"):
-                element.refuse("an element that isn't known")
-            elif element.tag == "superblock" and not element.is_end:
-                self.block, self._most = element.block_size("data_block_size"), element.number("nr_data_blocks")
-            elif not element.is_end:
-                self._add(element)
-
-    def _begin(self, element: dumps.Element) -> None:
-        if element.tag == "device":
-            number, self._count = element.number("dev_id"), element.number("mapped_blocks")
-            self._into = self.devices.setdefault(number, Runs()) if number in self._wanted else None
-            return
-        self._into, self._name = Runs(), element.said.get("name", "")
-        if self._name in self._lists:
-            element.refuse("a list of this name is there already")
-
-    def _end(self, element: dumps.Element) -> None:
-        into, self._into = self._into, None
-        if into is None:
-            return
-        check(element, self._runs + RUNS_OF_LIST, MOST_TOGETHER, " in all")
-        if element.tag == "device":
-            into.take_lists(element)
-        self._runs += RUNS_OF_LIST + len(into)
-        check(element, self._runs, MOST_TOGETHER, " in all")
-        blocks = sum(into.figures[2::3])
-        if element.tag == "def":
-            self._lists[self._name] = into
-        elif blocks != self._count:
-            element.refuse(f"it has {blocks} blocks and not {self._count}, as it says")
-
-    def _add(self, element: dumps.Element) -> None:
-        """Adds blocks, or a list of them, to what has begun."""
-        if element.tag == "ref":
-            found = self._lists.get(element.said.get("name", ""))
-            if found is None:
-                element.refuse("no list of this name comes before it")
-            if self._into is not None and len(found):
-                self._into.lists.append(found)
-                check(element, len(self._into), MOST_RUNS)
-            return
-        keys = ("origin_block", "data_block", "") if element.tag == "single_mapping" else ("origin_begin", "data_begin", "length")
-        first, place, count = (element.number(key) if key else 1 for key in keys)
-        if self._into is not None:
-            if place + count > self._most or not count:
-                element.refuse(f"past the end of the data, of {self._most} blocks")
-            self._into.add(element, first, place, count)
+        yield name, lines_of(name, devices[number].in_order(), size, sectors, data, external.get(number))
