@@ -26,7 +26,8 @@ class Line:
 
     def places(self) -> range:
         """Where its words name a disk or a device below."""
-        return range(2, len(self.words), 2) if self.target == "striped" else range(LOWERS.get(self.target, 0))
+        most = len(self.words)
+        return range(2, most, 2) if self.target == "striped" else range(min(most, LOWERS.get(self.target, 0)))
 
     def lowers(self) -> List[str]:
         return [self.words[it] for it in self.places()]

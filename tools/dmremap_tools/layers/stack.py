@@ -8,7 +8,7 @@ from dmremap_tools.base import disks, names, program, streams, tables
 from dmremap_tools.base.given import Given, put
 from dmremap_tools.base.refusal import Refusal
 from dmremap_tools.layers import refused
-from dmremap_tools.machines.disks import of_group
+from dmremap_tools.machines.placed import disks_of
 
 
 class Stack(NamedTuple):
@@ -62,5 +62,5 @@ def load(asked: str, given: Given, room: str) -> Stack:
                 streams.tell(message.rstrip("\n"))
             raise
     put(text, [printed])
-    sizes = dict(of_group(copy.file)) if copy.disks is None else disks.read(copy.disks)
+    sizes = {name: size for name, size, _ in disks_of(copy.file)} if copy.disks is None else disks.read(copy.disks)
     return Stack(tables.read(text)[0], sizes, copy.file if copy.disks is None else None)

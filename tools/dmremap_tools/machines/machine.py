@@ -34,20 +34,164 @@ Refuses a text that isn't what one of these commands prints, and a machine of wh
 
 import argparse
 import re
-from typing import Dict, List, Optional, Tuple
+from typing import Dict, Iterable, Iterator, List, Optional, Set, Tuple
 
-from dmremap_tools.base import disk_image, listings, numbers, paths, quoting, streams, tables
+from dmremap_tools.base import disk_image, listings, names, numbers, paths, quoting, streams, tables
 from dmremap_tools.base.refusal import Refusal, WrongWords
-from dmremap_tools.machines.found import NOT_ASKED, Found, Stack, leave_others, leave_unknown, read_status, read_tables
+from dmremap_tools.base.store_places import MOST, MOST_IN_CHUNK, places
 from dmremap_tools.machines.placed import partitioned, sectors_at
 from dmremap_tools.metadata.chosen_part import GIVE
 
 EXAMPLE = "dmremap-tools machine --disks disks ls.txt status.txt lsblk.txt concise.txt > tables"
 
+# A row of `dmsetup table` or `dmsetup status`: a device, and a line of it if it has a table.
+ROW = re.compile(r"(.+?):(?: ?| (\d+ \d+ \S.*))")
+# A device of `dmsetup table --concise`: its name, uuid, minor number and flags, and its lines.
+DEVICE = re.compile(r"((?:[^,\\]|\\.)*),(?:[^,\\]|\\.)*,(\d+),(r[ow])(?:,(.*))?")
+IS_CONCISE = re.compile(r",\d+,r[ow](?:[,;]|$)")
+MAJOR_MINOR = re.compile(r"\d+:\d+")
+# Why a device is left out that isn't asked for, which is not told.
+NOT_ASKED = "not asked for"
+DEEPEST = 32
+TOO_DEEP = "it stands on itself, or on too many others"
 # The numbers of disks called sd: each has a minor that is a multiple of 16, and its partitions have those after it.
 SD_MAJORS = [str(it) for it in (8, *range(65, 72), *range(128, 136))]
 # What a kernel or udev calls partitions.
 PARTITION = re.compile(r"(?:.*/)?(?:(?:s|v|xv|h)d[a-z]+|.*[0-9]p|.*-part)[0-9]{1,10}")
+
+
+class Found(tables.Device):
+    """A device that `dmsetup ls` has, and why it is left out, if it is. `origins` has what it is a snapshot of, whether
+    dmremap can follow it or not, and `level`, once it is judged, how many devices stand on each other up to it."""
+
+    def __init__(self, name: str, number: str) -> None:
+        super().__init__(name)
+        self.number, self.level = number, 0
+        self.why = "" if names.FORM.fullmatch(name) else "dmremap takes no such name"
+        self.is_described = self.is_encrypted = self.is_store = False
+        self.origins: List[str] = []
+
+    def leave(self, why: str) -> None:
+        self.why = self.why or why
+
+    def add(self, text: str) -> None:
+        words = text.split()
+        start, length = [numbers.read(it) for it in words[:2]] if len(words) > 2 else (None, None)
+        if start is None or length is None:
+            return self.leave("a line of its table is none: " + quoting.shown(text))
+        target, words = words[2], words[3:]
+        if target in ("snapshot", "snapshot-merge"):
+            self.origins += words[:1]
+        if target == "crypt" and len(words) >= 5:
+            self.is_encrypted = True
+            target, words = "linear", words[3:5]
+        line = tables.Line(start, length, target, words)
+        if start != (self.end() if self.lines else 0):
+            self.leave("its lines don't follow each other")
+        self.lines.append(line)
+        if target not in tables.TARGETS:
+            self.leave(quoting.shown(target))
+        elif (line.fault() or not 0 < length <= numbers.LONGEST_DEVICE - start
+              or not all(map(MAJOR_MINOR.fullmatch, line.lowers()))):
+            self.leave(quoting.shown(text))
+
+    def has(self, *targets: str) -> bool:
+        return all(line.target in targets for line in self.lines)
+
+
+class Stack:
+    """The devices by their numbers, and the length and the path of each number that lsblk has."""
+
+    def __init__(self, devices: Dict[str, Found], sizes: Dict[str, Optional[int]], of: Dict[str, str]) -> None:
+        self.devices, self._sizes, self._paths, self._counted = devices, sizes, of, 0
+
+    def kept(self, numbered: Iterable[str]) -> List[Found]:
+        """The devices with these numbers, but for disks and those that are left out."""
+        return [self.devices[it] for it in numbered if it in self.devices and not self.devices[it].why]
+
+    def length(self, number: str) -> Optional[int]:
+        """The sectors of a device or a disk, or None where nothing says so."""
+        device = self.devices.get(number)
+        if device and device.lines and (not device.why or number not in self._sizes):
+            return device.end()
+        return self._sizes.get(number)
+
+    def lower(self, number: str) -> str:
+        """What stands in FILE for this number."""
+        return next((names.MAPPER + it.name for it in self.kept([number])), self._paths.get(number, number))
+
+    def disks_below(self, devices: Iterable[Found]) -> Dict[str, Optional[int]]:
+        lowers = dict.fromkeys(it for device in devices for it in device.lowers())
+        return {self.lower(it): self.length(it) for it in lowers if not self.kept([it])}
+
+    def keep_only(self, wanted: List[str]) -> None:
+        """Leaves out all but the devices of these names, and what they stand on."""
+        number_of = {device.name: number for number, device in self.devices.items()}
+        for name in wanted:
+            if name not in number_of:
+                raise Refusal("--only", f"no device {quoting.shown(name)}: give a name that LS has")
+        waiting, asked = [number_of[name] for name in wanted], set()
+        while waiting:
+            number = waiting.pop()
+            if number in self.devices and number not in asked:
+                asked.add(number)
+                waiting += self.devices[number].lowers()
+        for number in self.devices.keys() - asked:
+            self.devices[number].why = NOT_ASKED
+
+    def settle(self) -> None:
+        """Leaves out what dmremap would refuse. Each device is judged once, after those that it stands on."""
+        begun: Set[str] = set()
+        waiting = list(self.devices.values())[::-1]
+        while waiting:
+            device = waiting[-1]
+            if device.why or device.level:
+                waiting.pop()
+            elif device.number in begun:
+                self._judge(device, self.kept(device.lowers()))
+            else:
+                begun.add(device.number)
+                left = [it for it in self.kept(device.lowers()) if not it.level]
+                if not begun.isdisjoint(it.number for it in left):
+                    device.leave(TOO_DEEP)
+                else:
+                    waiting += left
+
+    def _judge(self, device: Found, lowers: List[Found]) -> None:
+        device.level = 1 + max((it.level for it in lowers), default=0)
+        device.is_store = device.flags != "ro" and device.has("linear", "striped") and all(it.is_store for it in lowers)
+        device.why = TOO_DEEP if device.level > DEEPEST else self._fault(device)
+
+    def _fault(self, device: Found) -> str:
+        if device.end() != self._sizes.get(device.number, device.end()):
+            return "lsblk and its table differ in its length"
+        for lower, start, count in (span for line in device.lines for span in line.spans()):
+            length = self.length(lower)
+            if not length:
+                return f"lsblk has no length of {lower}"
+            if length > numbers.LONGEST_DEVICE:
+                return f"dmremap takes no disk as long as {lower}"
+            if start + (count or 0) > length:
+                return f"it goes past the end of {quoting.shown(self.lower(lower))}"
+        if device.has("linear", "striped", "zero", "error"):
+            return ""
+        if len(device.lines) > 1:
+            return "a snapshot beside other lines"
+        if device.end() != self.length(device.lowers()[0]):
+            return "it is not as long as its origin"
+        return self._fault_of_store(*device.lines[0].words[1:]) if device.has("snapshot") else ""
+
+    def _fault_of_store(self, store: str, kind: str, said: str) -> str:
+        chunk, length = int(said), self.length(store) or 0
+        if chunk & (chunk - 1) or not 0 < chunk <= MOST_IN_CHUNK:
+            return f"its chunks have {chunk} sectors"
+        if not all(it.is_store for it in self.kept([store])):
+            return "its store is read-only, or not made of linear and striped lines"
+        counted = self._counted + (length // chunk if kind == "N" else places(chunk, length))
+        if counted > MOST:
+            return f"dmremap counts {MOST} chunks of stores in all"
+        self._counted = counted
+        return ""
 
 
 def add_words(parser: argparse.ArgumentParser) -> None:
@@ -73,16 +217,63 @@ def run(words: argparse.Namespace) -> None:
         if not any(it.origins and it.name == name for it in devices.values()):
             # That which was meant would be left out.
             raise Refusal("--store", f"no snapshot {quoting.shown(name)}: give a name that LS has")
-    leave_unknown(devices, is_known)
+    for device in devices.values():
+        if not device.lines:
+            device.leave("no table")
+        if device.origins and not is_known.get(device.name):
+            device.leave("its store has copies, and nothing says of which chunks" if device.name in is_known
+                         else "`dmsetup status` says nothing of it")
     if words.only:
-        leave_others(devices, words.only)
+        stack.keep_only(words.only)
     stack.settle()
-    kept, disks = stack.with_names()
-    say_left_out(stack, disks)
+    kept = stack.kept(devices)
+    disks = stack.disks_below(kept)
+    say_left_out(stack, kept, disks)
     if not kept:
         raise Refusal(streams.name_of(words.table), "no device is left that dmremap can follow: see above what was left out")
     beside.write("".join("%s %d\n" % it for it in disks.items()))
+    for device in kept:
+        device.lines = [line.with_lowers(stack.lower) for line in device.lines]
     streams.out.write(tables.text_of(kept, is_concise))
+
+
+def read_status(path: str) -> Dict[str, bool]:
+    """Of each snapshot, whether nothing was copied to its store yet."""
+    rows = listings.rows_of(path, streams.rows(path), ROW, "dmsetup status")
+    said = [(name, line.split()) for name, line in rows if line]
+    return {name: len(words) == 5 and words[3].split("/")[0] == words[4] for name, words in said if words[2] == "snapshot"}
+
+
+def read_tables(path: str, devices: Dict[str, Found]) -> bool:
+    """Gives the devices their flags and lines, and says whether the text of these is the concise form."""
+    rows = streams.rows(path)
+    is_concise = any(map(IS_CONCISE.search, rows))
+    # In this form a number has to fit its name.
+    of = {(it.name, it.number.split(":")[1] if is_concise else ""): it for it in devices.values()}
+    for key, flags, lines, told in (concise_rows if is_concise else table_rows)(path, rows):
+        if key not in of:
+            streams.tell("left out: " + told)
+            continue
+        of[key].flags, of[key].is_described = flags, True
+        for line in filter(None, lines):
+            of[key].add(line)
+    return is_concise
+
+
+Row = Tuple[Tuple[str, str], str, List[Optional[str]], str]
+
+
+def table_rows(path: str, rows: List[str]) -> Iterator[Row]:
+    for name, line in listings.rows_of(path, rows, ROW, "dmsetup table"):
+        yield (name, ""), "", [line], quoting.shown(name) + ", which `dmsetup ls` has not"
+
+
+def concise_rows(path: str, rows: List[str]) -> Iterator[Row]:
+    for place, row in enumerate(re.split(r"(?<!\\);", "\n".join(rows).rstrip("\n")), 1):
+        match = DEVICE.fullmatch(row)
+        name, minor, flags, lines = match.groups("") if match else [""] * 4
+        told = f"device {place} of {streams.name_of(path)}, which `dmsetup ls` has not: {quoting.shown(row)}"
+        yield (re.sub(r"\\([,;\\])", r"\1", name), minor), flags, re.split(r",(?=\d+ \d+ \S)", lines), told
 
 
 def lengths_of(words: argparse.Namespace) -> Tuple[Dict[str, Optional[int]], Dict[str, str]]:
@@ -121,7 +312,7 @@ def length_in(path: str, number: str, known: Optional[int], sector: int) -> int:
     return length
 
 
-def say_left_out(stack: Stack, disks: Dict[str, int]) -> None:
+def say_left_out(stack: Stack, kept: List[Found], disks: Dict[str, Optional[int]]) -> None:
     """Says what is left out, what is encrypted, and which copies answers lack."""
     left_out = [it for it in stack.devices.values() if it.why]
     for device in stack.devices.values():
@@ -131,12 +322,9 @@ def say_left_out(stack: Stack, disks: Dict[str, int]) -> None:
             streams.tell(f"left out: {quoting.shown(device.name)} ({device.why}){disk}")
         elif device.is_encrypted and not device.why:
             streams.tell(f"encrypted: the sectors below {device.name}, whose lines of crypt are linear here")
-    snapshots: Dict[str, List[Found]] = {}
-    for other in left_out:
-        for origin in dict.fromkeys(other.origins):
-            snapshots.setdefault(origin, []).append(other)
-    unknown = [it for it in left_out if not it.is_described]
-    for device in stack.kept():
-        for other in snapshots.get(device.lowers()[0], []) + unknown if device.has("snapshot-origin") else []:
+    for device in kept:
+        origin = device.lowers()[0] if device.has("snapshot-origin") else ""
+        of_it = [it for it in left_out if origin in it.origins] + [it for it in left_out if not it.is_described]
+        for other in of_it if origin else ():
             streams.tell(f"kept: {device.name}, without {quoting.shown(other.name)}, which {'is' if other.origins else 'may be'} a snapshot "
                          "of it: on the machine, a write to it also copies what it overwrites, which the answers don't show")

@@ -1,24 +1,47 @@
-"""Where the physical volumes of a group begin in disks or images of them, as the ids in their labels say."""
+"""The physical volumes of a group, and where they begin in disks or images of them, as the ids in their labels say."""
 
 import os
-from typing import Dict, List, Optional, Tuple
+from typing import Dict, Iterator, List, Optional, Tuple
 
 from dmremap_tools.base import disk_image, quoting, streams
-from dmremap_tools.base.config_text import shown
+from dmremap_tools.base.config_text import Document, shown
 from dmremap_tools.base.numbers import SECTOR
 from dmremap_tools.base.partition_table import Partition
 from dmremap_tools.base.paths import Place
 from dmremap_tools.base.refusal import Refusal
-from dmremap_tools.machines.disks import names_by_id
 from dmremap_tools.metadata.chosen_part import (
     GIVE, check_mirrored, check_places, chosen_parts, table_in, taken_from_array)
+from dmremap_tools.metadata.volume_group import Group, disk_names
 from dmremap_tools.model.physical_volume import label_of
+
+
+def groups_in(path: str) -> Tuple[Document, List[Group]]:
+    """A text of lvm2, and its groups that have physical volumes."""
+    document = Document(streams.name_of(path), streams.read_bytes(path))
+    groups = [group for group in map(Group, document.top.sections()) if group.physicals]
+    if not groups:
+        raise Refusal(document.path, "no physical volumes of a group: give a text of /etc/lvm/backup, or what `metadata` "
+                      "prints")
+    return document, groups
+
+
+def disks_of(path: str) -> Iterator[Tuple[str, int, Optional[bytes]]]:
+    """The name of each physical volume of a group, its length, and its id, if it has one."""
+    document, (group, *_) = groups_in(path)
+    physicals = list(group.physicals.values())
+    for name, node in zip(disk_names(physicals), physicals):
+        size = node.value(b"dev_size", int)
+        if size is None or size <= 0:
+            why = f"no dev_size of {shown(node.key)}: take the copy that lvm2-text makes"
+            raise document.refused(node.start, why)
+        yield name, size, node.value(b"id", bytes)
 
 
 def by_ids(text: Optional[str], places: Dict[str, Place], sizes: Dict[str, int]) -> Dict[str, Place]:
     """The places of disks, of which some may be whole disks that have a physical volume on a partition. Without `text`,
     the metadata of their group, they are what was given. `sizes` has the sectors of each disk."""
-    named = names_by_id(text) if text is not None else {}
+    disks = disks_of(text) if text is not None else ()
+    named = {identity: name for name, _, identity in disks if identity is not None}
     check_places(places, bool(named))
     found, decided = dict(places), set()
     for path in dict.fromkeys(place.path for place in places.values()):
