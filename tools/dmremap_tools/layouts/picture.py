@@ -15,7 +15,7 @@ from typing import Dict, List, Set, Tuple
 from dmremap_tools.base import quoting, streams
 from dmremap_tools.base.refusal import Refusal
 from dmremap_tools.layouts import svg
-from dmremap_tools.layouts.span_lines import END, MEET, Span, kind_of
+from dmremap_tools.layouts.spans import END, MEET, Span, kind_of
 
 EXAMPLE = "dmremap-tools spans stack.disks stack.table | dmremap-tools picture > disks.svg"
 WIDTH, MARGIN, LANE = 900, 20, 26

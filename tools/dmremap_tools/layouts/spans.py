@@ -17,6 +17,7 @@ first and the last sector, and both devices. Snapshots may share an origin. --al
 multiple of 2048 sectors, which is 1 MiB, or of --to SECTORS.
 """
 
+import heapq
 from argparse import ArgumentParser, Namespace
 from typing import Dict, Iterable, Iterator, List, Optional, Sequence, Set
 
@@ -25,12 +26,20 @@ from dmremap_tools.base.disk_image import Image
 from dmremap_tools.base.numbers import SECTOR
 from dmremap_tools.base.paths import Place
 from dmremap_tools.base.refusal import Refusal, WrongWords
-from dmremap_tools.layouts.span_lines import END, LINE, Span, clashes_in
-from dmremap_tools.layouts.taken import OF_LVM, OUTER, PhysicalVolume, heads_of, physical_volumes
+from dmremap_tools.layouts.taken import ALLOCATED, OF_LVM, OUTER, Span, heads_of, physical_volumes
 from dmremap_tools.layouts.tree import devices_in
 from dmremap_tools.metadata.chosen_part import check_places, volume_label
 
 EXAMPLE = "dmremap-tools spans stack.disks stack.table > spans"
+
+# The kind of a line that says where a disk or a device ends, and those that may share sectors: snapshots their origin, also
+# with the line `snapshot-origin` that serves them.
+END, ORIGIN, SERVES, OTHER = "end", "origin", "snapshot-origin", "other"
+# The kinds that have no sector in common with one of these.
+MEET = {ORIGIN: (OTHER,), SERVES: (SERVES, OTHER), OTHER: (ORIGIN, SERVES, OTHER)}
+# How many clashes are printed: nested ranges have as many as their number squared.
+MOST = 1000000
+LINE = "%s %d %d %s %s %s\n"
 
 
 def add_words(parser: ArgumentParser) -> None:
@@ -50,25 +59,90 @@ def run(words: Namespace) -> None:
     if words.to == 0:
         raise WrongWords("--to: give one sector or more")
     devices = devices_in(words.file)
-    sizes = disks.read(words.disks)
-    spans = Spans(sizes, devices)
-    if not devices and not sizes:
+    ends = disks.read(words.disks)
+    sizes = {**ends, **{names.MAPPER + it.name: it.end() for it in devices}}
+    spans = list(spans_of(devices, sizes))
+    if not sizes:
         streams.tell("no disk and no device came")
-    images = images_of(paths.places(words.paths), sizes, devices)
-    labels = {on: label.identity for on, image in images.items() for label in [volume_label(image)] if label}
-    for path in words.metadata:
-        spans.add_physicals(physical_volumes(path, {it.name for it in devices}), labels)
-    for on, image in images.items():
-        spans.add_heads(on, image)
+    images = images_of(paths.places(words.paths), ends, devices)
+    add_physicals(words.metadata, {it.name for it in devices}, images, sizes, spans)
+    ends = {on: sizes[on] for on in [*ends, *(it.on for it in spans)]}
+    spans = sorted(spans + [Span(on, end, end, "-", "-", END) for on, end in ends.items()])
     if words.clashes:
-        lines = clashes_in(spans.sorted(), streams.name_of(words.file))
+        lines = clashes_in(spans, streams.name_of(words.file))
     elif words.align:
-        begun = (it for it in spans.sorted() if it.kind != END and it.first % words.to)
+        begun = (it for it in spans if it.kind != END and it.first % words.to)
         lines = (f"{it.device} begins at sector {it.first} of {it.on}\n" for it in begun)
     else:
-        lines = with_free(spans.sorted()) if words.free else (LINE % it for it in spans.sorted())
+        lines = with_free(spans) if words.free else (LINE % it for it in spans)
     for line in lines:
         streams.out.write(line)
+
+
+def spans_of(devices: Iterable[tables.Device], sizes: Dict[str, int]) -> Iterator[Span]:
+    """What the lines of devices use."""
+    for device, line in ((device, line) for device in devices for line in device.lines):
+        for place, (lower, first, count) in enumerate(line.spans()):
+            if lower not in sizes:
+                raise Refusal(quoting.shown(lower), "neither a disk nor a device: add it to DISKS")
+            kind = line.target if line.target != "snapshot" else (ORIGIN, "store")[place]
+            end = sizes[lower] if count is None else first + count
+            yield Span(lower, first, end, device.name, str(line.start), kind)
+
+
+def add_physicals(texts: Iterable[str], named: Set[str], images: Dict[str, Image], sizes: Dict[str, int], spans: List[Span]
+                  ) -> None:
+    """Adds what metadata says is taken of physical volumes that are disks or devices here: by their labels, or else by their
+    paths or their keys, unless the label there is that of another one. Then what the beginnings of disks and devices say is
+    taken, and those partitions in which nothing lies. Volumes with the names of devices are left out."""
+    labels = {on: volume_label(image) for on, image in images.items()}
+    labelled = {label.identity: on for on, label in labels.items() if label}
+    described = set()
+    for physical in (it for path in texts for it in physical_volumes(path, named)):
+        words = [*tables.names_in(physical.path), physical.key]
+        on = next((it for it in words if it in sizes and not labels.get(it)), None)
+        on = labelled.get(physical.identity, on)
+        if on is None:
+            streams.tell("left out: the physical volume %s (%s), which is neither a disk nor a device here"
+                         % (quoting.shown(physical.key), quoting.shown(physical.path)))
+            continue
+        described.add(on)
+        spans += [taken._replace(on=on) for taken in physical.taken]
+    for on, image in images.items():
+        for first, end, what in heads_of(image):
+            end = min(end, sizes[on])
+            if what.startswith(OUTER):
+                is_told = any(it.on == on and it.first < end and first < it.end for it in spans)
+            else:
+                is_told = what.endswith(OF_LVM) and on in described
+            if first < end and not is_told:
+                spans.append(Span(on, first, end, what, "-", ALLOCATED))
+
+
+def kind_of(span: Span) -> str:
+    return span.kind if span.kind in (ORIGIN, SERVES) else OTHER
+
+
+def clashes_in(spans: Iterable[Span], name: str) -> Iterator[str]:
+    """A line for each clash among sorted spans of a text that is called so: on what, the first and the last sector that
+    two lines have in common, and their devices. It takes the time of what is printed."""
+    opened: Dict[str, List[Span]] = {}
+    on, count = "", 0
+    for span in spans:
+        if span.kind == END or span.first == span.end:
+            continue
+        if span.on != on:
+            on, opened = span.on, {kind: [] for kind in MEET}
+        kinds = MEET[kind_of(span)]
+        for kind in kinds:
+            opened[kind] = [it for it in opened[kind] if it.end > span.first]
+        for other in heapq.merge(*(opened[kind] for kind in kinds)):
+            count += 1
+            if count > MOST:
+                raise Refusal(name, f"there are more than {MOST} clashes: take the lines of one disk, or of fewer "
+                              "devices")
+            yield f"{on} {span.first} {min(other.end, span.end) - 1} {other.device} {span.device}\n"
+        opened[kind_of(span)].append(span)
 
 
 def with_free(spans: List[Span]) -> Iterator[str]:
@@ -102,51 +176,3 @@ def part_of(line: tables.Line, first: int, count: int, devices: Dict[str, tables
     if lower in images:
         return images[lower].part(start * SECTOR, count * SECTOR)
     return part_of(devices[lower].lines[0], start, count, devices, images) if lower in devices else None
-
-
-class Spans:
-    """The ranges, and how long each disk and each device is."""
-
-    def __init__(self, sizes: Dict[str, int], devices: Sequence[tables.Device]) -> None:
-        self._disks, self._sizes = sizes, {**sizes, **{names.MAPPER + it.name: it.end() for it in devices}}
-        self._spans: List[Span] = []
-        # Physical volumes of which metadata says what is taken.
-        self._described: Set[str] = set()
-        for device, line in ((device, line) for device in devices for line in device.lines):
-            for place, (lower, first, count) in enumerate(line.spans()):
-                if lower not in self._sizes:
-                    raise Refusal(quoting.shown(lower), "neither a disk nor a device: add it to DISKS")
-                kind = line.target if line.target != "snapshot" else ("origin", "store")[place]
-                end = self._sizes[lower] if count is None else first + count
-                self._spans.append(Span(lower, first, end, device.name, str(line.start), kind))
-
-    def sorted(self) -> List[Span]:
-        """All ranges and ends, by what they are on and their first sector."""
-        ended = {*self._disks, *(it.on for it in self._spans)}
-        return sorted(self._spans + [Span(on, self._sizes[on], self._sizes[on], "-", "-", END) for on in ended])
-
-    def add_physicals(self, physicals: Iterable[PhysicalVolume], labels: Dict[str, bytes]) -> None:
-        """Adds what metadata says is taken of physical volumes that are disks or devices here: by their labels, or else
-        by their paths or their keys, unless the label there is that of another one."""
-        labelled = {identity: on for on, identity in labels.items()}
-        for physical in physicals:
-            words = [*tables.names_in(physical.path), physical.key]
-            named = next((it for it in words if it in self._sizes and it not in labels), None)
-            on = labelled.get(physical.identity, named)
-            if on is None:
-                streams.tell("left out: the physical volume %s (%s), which is neither a disk nor a device here"
-                             % (quoting.shown(physical.key), quoting.shown(physical.path)))
-                continue
-            self._described.add(on)
-            self._spans += [taken._replace(on=on) for taken in physical.taken]
-
-    def add_heads(self, on: str, image: Image) -> None:
-        """Adds what the beginning of a disk or a device says is taken, and those partitions in which nothing lies."""
-        for head in heads_of(image):
-            head = head._replace(on=on, end=min(head.end, self._sizes[on]))
-            if head.device.startswith(OUTER):
-                is_told = any(it.on == on and it.first < head.end and head.first < it.end for it in self._spans)
-            else:
-                is_told = head.device.endswith(OF_LVM) and on in self._described
-            if head.first < head.end and not is_told:
-                self._spans.append(head)

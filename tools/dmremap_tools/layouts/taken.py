@@ -1,20 +1,22 @@
 """What is taken though no line names it: of physical volumes, as the metadata of a group says it, and of a disk, a
 partition or a device, as it says itself: superblocks of md, a partition table, a header of LUKS, a label of LVM."""
 
-from typing import Collection, Dict, Iterator, List, NamedTuple, Optional
+from typing import Collection, Dict, Iterator, List, NamedTuple, Optional, Tuple
 
-from dmremap_tools.base import config_text, luks_header, partition_table, quoting, streams
+from dmremap_tools.base import config_text, luks_header, partition_table, quoting
 from dmremap_tools.base.config_text import Node
 from dmremap_tools.base.disk_image import Image
 from dmremap_tools.base.numbers import SECTOR
 from dmremap_tools.base.refusal import Refusal
-from dmremap_tools.layouts.span_lines import Span
+from dmremap_tools.machines.placed import groups_in
 from dmremap_tools.metadata.chosen_part import found_table, volume_label
 from dmremap_tools.metadata.volume_group import Group, Segment
 from dmremap_tools.model import md_superblock
 from dmremap_tools.model.md_superblock import Superblock
 from dmremap_tools.model.physical_volume import Label, label_of
 
+# A range of sectors of a disk or a device: whose line uses it, where that begins on its device, and as what.
+Span = NamedTuple("Span", [("on", str), ("first", int), ("end", int), ("device", str), ("start", str), ("kind", str)])
 # The kind of what is taken; `device` says what it is. What it is taken of is said where it is known.
 ALLOCATED = "allocated"
 OF_LVM, OF_LUKS, OF_MD = "-of-LVM", "-of-LUKS", "-of-md"
@@ -23,6 +25,8 @@ PARTITION, MEMBER, CONTAINER, DAMAGED = "partition-", "member-of-", "container" 
 OUTER = (PARTITION, MEMBER, CONTAINER)
 # What a GPT takes at the beginning of a disk, and a header of LUKS with its keys, as they are made, if none is sound.
 GPT_SECTORS, LUKS_SECTORS, SUPERBLOCK_SECTORS = 34, 32768, 8
+# The first sector of what is taken, the one after its last, and what it is.
+Head = Tuple[int, int, str]
 # A physical volume: its key, path and id in the metadata, and what is taken of it, wherever it is.
 PhysicalVolume = NamedTuple("PhysicalVolume", [
     ("key", str), ("path", str), ("identity", Optional[bytes]), ("taken", List[Span])])
@@ -30,11 +34,7 @@ PhysicalVolume = NamedTuple("PhysicalVolume", [
 
 def physical_volumes(path: str, named: Collection[str]) -> Iterator[PhysicalVolume]:
     """The physical volumes in a text of lvm2. Volumes with these names of devices have lines, and are left out here."""
-    document = config_text.Document(streams.name_of(path), streams.read_bytes(path))
-    groups = [group for group in map(Group, document.top.sections()) if group.physicals]
-    if not groups:
-        raise Refusal(document.path, "no physical volumes of a group: give a text of /etc/lvm/backup, or what "
-                      "`metadata` prints")
+    document, groups = groups_in(path)
     for group in groups:
         found = {}
         for key, node in group.physicals.items():
@@ -53,10 +53,12 @@ def own(text: str, group: Group, node: Node) -> List[Span]:
     start, count, size = (node.value(it, int) for it in (b"pe_start", b"pe_count", b"dev_size"))
     if start is None or start < 0:
         raise Refusal(text, f"no pe_start of {config_text.shown(node.key)}: take an older text, of /etc/lvm/archive")
-    name = word_of(group.name)
+    name, end = word_of(group.name), size
+    if count is not None and count >= 0 and group.extent_size:
+        end = start + count * group.extent_size
     found = [Span("", 0, start, name, "-", "label+metadata")]
-    if count is not None and count >= 0 and size is not None and group.extent_size:
-        found.append(head(start + count * group.extent_size, size, "end-of-" + name))
+    if size is not None:
+        found.append(Span("", end, size, "end-of-" + name, "-", ALLOCATED))
     return [it for it in found if it.first < it.end]
 
 
@@ -78,74 +80,67 @@ def word_of(content: bytes) -> str:
     return quoting.escaped(content.decode("utf-8", "surrogateescape")).replace(" ", "\\x20")
 
 
-def head(first: int, end: int, what: str) -> Span:
-    return Span("", first, end, what, "-", ALLOCATED)
-
-
-def heads_of(image: Image) -> Iterator[Span]:
+def heads_of(image: Image) -> Iterator[Head]:
     """What is taken of an image. What is damaged is told as that."""
     members = md_superblock.superblocks(image)
     found = [it for member in members for it in member_heads(image, member)]
     for at in md_superblock.damaged(image):
-        found.append(head(at // SECTOR, at // SECTOR + SUPERBLOCK_SECTORS, DAMAGED + "superblock" + OF_MD))
+        found.append((at // SECTOR, at // SECTOR + SUPERBLOCK_SECTORS, DAMAGED + "superblock" + OF_MD))
     if all(it.start for it in members):
         found += contents_of(image, volume_label(image), image.size)
     # What has no sectors, or would begin after the end of an image that is cut, isn't there.
-    yield from (it for it in found or table_heads(image) if it.first < it.end)
+    yield from (it for it in found or table_heads(image) if it[0] < it[1])
 
 
-def contents_of(image: Image, label: Optional[Label], size: int) -> List[Span]:
-    """What begins an image of so many bytes, unless it is a partition table."""
-    return list(label_heads(label) if label else container_heads(image, size))
-
-
-def member_heads(image: Image, member: Superblock) -> Iterator[Span]:
+def member_heads(image: Image, member: Superblock) -> Iterator[Head]:
     """A member of an array: its data, what that holds if it is all of the array's, and the rest, the array's own."""
-    end, last = member.start + member.length, image.size // SECTOR
-    yield head(0, member.start, "superblock" + OF_MD)
-    yield head(end, last, "superblock" + OF_MD)
-    yield head(member.start, end, MEMBER + md_superblock.level_name(member).replace(" ", "-"))
+    end = member.start + member.length
+    yield 0, member.start, "superblock" + OF_MD
+    yield end, image.size // SECTOR, "superblock" + OF_MD
+    yield member.start, end, MEMBER + md_superblock.level_name(member).replace(" ", "-")
     if md_superblock.has_all(member) and not member.start:
         data = image.part(0, member.length * SECTOR)
         yield from contents_of(data, label_of(data)[0], member.length * SECTOR) or table_heads(data)
 
 
-def label_heads(label: Label) -> Iterator[Span]:
-    """A label of LVM, and the metadata areas that it lists."""
-    yield head(label.sector, label.sector + 1, "label" + OF_LVM)
-    for start, size in label.areas:
-        if start + size <= label.size:
-            yield head(start // SECTOR, -(-(start + size) // SECTOR), "area" + OF_LVM)
+def contents_of(image: Image, label: Optional[Label], size: int) -> List[Head]:
+    """What begins an image of so many bytes, unless it is a partition table: a label of LVM, and the metadata areas that it
+    lists, or a container of LUKS."""
+    if not label:
+        return list(container_heads(image, size))
+    areas = [(start // SECTOR, -(-(start + size) // SECTOR), "area" + OF_LVM) for start, size in label.areas
+             if start + size <= label.size]
+    return [(label.sector, label.sector + 1, "label" + OF_LVM), *areas]
 
 
-def container_heads(image: Image, size: int) -> Iterator[Span]:
+def container_heads(image: Image, size: int) -> Iterator[Head]:
     """A header of LUKS with its keys, and the data, where that is on the same disk. Of a header whose first copy is
     lost only the second is told, as another system may have written over it."""
     if not luks_header.is_container(image):
         for header in luks_header.headers_in(image):
-            yield head(header.place // SECTOR, (header.place + header.size) // SECTOR, "second-header" + OF_LUKS)
+            yield header.place // SECTOR, (header.place + header.size) // SECTOR, "second-header" + OF_LUKS
         return
     container = luks_header.container_in(image)
     if container.start is None:
-        yield head(0, min(LUKS_SECTORS, size // SECTOR), DAMAGED + "header" + OF_LUKS)
+        yield 0, min(LUKS_SECTORS, size // SECTOR), DAMAGED + "header" + OF_LUKS
         return
-    yield head(0, max(container.header, container.start), "header" + OF_LUKS)
+    yield 0, max(container.header, container.start), "header" + OF_LUKS
     if not container.is_detached():
         end = size // SECTOR if container.length is None else container.start + container.length
-        yield head(container.start, end, CONTAINER)
+        yield container.start, end, CONTAINER
 
 
-def table_heads(image: Image) -> Iterator[Span]:
+def table_heads(image: Image) -> Iterator[Head]:
     """A partition table, with the tables of extended partitions or the second copy of a GPT, and the partitions."""
     try:
         table = found_table(image)
     except Refusal as fault:
         # No copy is sound, or it ends after the image does.
-        yield head(0, GPT_SECTORS, DAMAGED * isinstance(fault, partition_table.DamagedTable) + "GPT")
+        yield 0, GPT_SECTORS, DAMAGED * isinstance(fault, partition_table.DamagedTable) + "GPT"
         return
     if not table:
         return
     for start, end in table.taken:
-        yield head(start // SECTOR, min(end, image.size) // SECTOR, table.kind)
+        yield start // SECTOR, min(end, image.size) // SECTOR, table.kind
     for number, start, size in table.partitions:
-        yield head(start // SECTOR, (start + size) // SECTOR, "%s%d" % (PARTITION, number))
+        yield start // SECTOR, (start + size) // SECTOR, "%s%d" % (PARTITION, number)
