@@ -23,60 +23,40 @@ GAP = ('<defs><pattern id="gap" width="6" height="6" patternUnits="userSpaceOnUs
        "</defs>\n")
 
 
-class Bar:
-    """A disk or a device with its ranges, which are added in the order of their first sectors. `lanes` has the lane of
-    each, and `clashing` the places of those that clash."""
-
-    def __init__(self, on: str) -> None:
-        self.on, self.size = on, 0
-        self.ranges: List[Span] = []
-        self.lanes: List[int] = []
-        self.clashing: Set[int] = set()
-        self._busy: List[Tuple[int, int]] = []
-        self._free: List[int] = []
-        # For each kind the ranges that may clash and aren't known to, and the end of all.
-        self._open: Dict[str, List[int]] = {it: [] for it in MEET}
-        self._ends = dict.fromkeys(MEET, 0)
-
-    def add(self, span: Span) -> None:
-        """Adds a range, in the first lane in which it meets none."""
-        while self._busy and self._busy[0][0] <= span.first:
-            heapq.heappush(self._free, heapq.heappop(self._busy)[1])
-        self.lanes.append(heapq.heappop(self._free) if self._free else len(self._busy))
-        heapq.heappush(self._busy, (span.end, self.lanes[-1]))
-        place, kind = len(self.ranges), kind_of(span)
-        for other in MEET[kind]:
-            if self._ends[other] > span.first:
-                self.clashing.update([place], (it for it in self._open[other] if self.ranges[it].end > span.first))
-                self._open[other] = []
-        self._open[kind].append(place)
-        self._ends[kind] = max(self._ends[kind], span.end)
-        self.ranges.append(span)
-
-    def height(self) -> int:
-        return LANE * (max(self.lanes, default=0) + 1)
-
-
 def add_words(parser: ArgumentParser) -> None:
     parser.add_argument("--scale", action="store_true", help="bars in proportion to the longest")
     parser.add_argument("spans", metavar="SPANS", nargs="?", default="-", help="what spans printed; else standard input")
 
 
 def run(words: Namespace) -> None:
-    bars = list(read(words.spans).values())
-    numbers = {name: place for place, name in enumerate(dict.fromkeys(it.device for bar in bars for it in bar.ranges))}
+    bars = read(words.spans)
+    lanes = [lanes_of(ranges) for ranges, _ in bars.values()]
+    numbers = {name: place for place, name in enumerate(dict.fromkeys(it.device for ranges, _ in bars.values() for it in ranges))}
     legend, rows = legend_of(numbers)
-    longest = max((it.size for it in bars), default=1)
-    *tops, end = itertools.accumulate([MARGIN, *(30 + bar.height() for bar in bars)])
+    longest = max((end for _, end in bars.values()), default=1)
+    heights = [LANE * (max(it, default=0) + 1) for it in lanes]
+    *tops, end = itertools.accumulate([MARGIN, *(30 + height for height in heights)])
     streams.out.write(svg.head(WIDTH + 2 * MARGIN, end + 18 * rows + MARGIN) + GAP)
-    for bar, top in zip(bars, tops):
-        draw(bar, top, WIDTH * bar.size / longest if words.scale else WIDTH, numbers)
+    for (on, (ranges, size)), of_ranges, top, height in zip(bars.items(), lanes, tops, heights):
+        width = WIDTH * size / longest if words.scale else WIDTH
+        streams.out.write(svg.text(MARGIN, top, "%s, %d sectors, %s" % (on, size, svg.size_of(size))))
+        streams.out.write('<rect x="%d" y="%d" width="%.2f" height="%d" fill="url(#gap)" stroke="#888"/>\n'
+                          % (MARGIN, top + 6, width, height))
+        clashing = clashing_in(ranges)
+        # What clashes comes last, so that its edges are seen.
+        for place in sorted(range(len(ranges)), key=clashing.__contains__):
+            span = ranges[place]
+            x, wide = MARGIN + width * span.first / size, max(0.5, width * (span.end - span.first) / size)
+            edge = "red" if place in clashing else "#555"
+            draw(span, x, top + 7 + LANE * of_ranges[place], wide, svg.colour(numbers[span.device]), edge)
     streams.out.write('<g transform="translate(0,%d)">\n%s</g>\n</svg>\n' % (end, legend))
 
 
-def read(path: str) -> Dict[str, Bar]:
-    bars: Dict[str, Bar] = {}
+def read(path: str) -> Dict[str, Tuple[List[Span], int]]:
+    """The ranges of each disk or device, and how long it is."""
     source = streams.Lines(path)
+    ranges: Dict[str, List[Span]] = {}
+    ends: Dict[str, int] = {}
     for row in source:
         fields = row.split(" ")
         is_line = len(fields) == 6 and "" not in fields
@@ -84,38 +64,57 @@ def read(path: str) -> Dict[str, Bar]:
         if first > end:
             source.refuse("not a line of spans, give what `spans` prints: " + quoting.shown(row))
         span = Span(fields[0], first, end, *fields[3:])
-        bar = bars.setdefault(span.on, Bar(span.on))
+        before = ranges.setdefault(span.on, [])
         if span.kind == END:
-            bar.size = end
+            ends[span.on] = end
         elif first < end:
-            if bar.ranges and first < bar.ranges[-1].first:
+            if before and first < before[-1].first:
                 raise Refusal(source.name, f"the ranges of {quoting.shown(span.on)} aren't sorted: give what `spans` "
                               "prints")
-            bar.add(span)
+            before.append(span)
     source.tell_if_none()
-    for bar in bars.values():
-        if not bar.size or any(it.end > bar.size for it in bar.ranges):
-            raise Refusal(source.name, f"{quoting.shown(bar.on)} has no end, or a range past it: give what `spans` "
-                          "prints")
-    return bars
+    for on, spans in ranges.items():
+        if not ends.get(on) or any(it.end > ends[on] for it in spans):
+            raise Refusal(source.name, f"{quoting.shown(on)} has no end, or a range past it: give what `spans` prints")
+    return {on: (spans, ends[on]) for on, spans in ranges.items()}
 
 
-def draw(bar: Bar, top: int, width: float, numbers: Dict[str, int]) -> None:
-    streams.out.write(svg.text(MARGIN, top, "%s, %d sectors, %s" % (bar.on, bar.size, svg.size_of(bar.size))))
-    streams.out.write('<rect x="%d" y="%d" width="%.2f" height="%d" fill="url(#gap)" stroke="#888"/>\n'
-                      % (MARGIN, top + 6, width, bar.height()))
-    # What clashes comes last, so that its edges are seen.
-    for place in sorted(range(len(bar.ranges)), key=bar.clashing.__contains__):
-        span = bar.ranges[place]
-        x, y = MARGIN + width * span.first / bar.size, top + 7 + LANE * bar.lanes[place]
-        wide = max(0.5, width * (span.end - span.first) / bar.size)
-        streams.out.write('<g><title>%s</title><rect x="%.2f" y="%d" width="%.2f" height="24" fill="%s" stroke="%s"/>\n' % (
-            svg.escaped("%s (%s): sectors %d to %d, %s" % (
-                span.device, span.kind, span.first, span.end - 1, svg.size_of(span.end - span.first))),
-            x, y, wide, svg.colour(numbers[span.device]), "red" if place in bar.clashing else "#555"))
-        if wide > svg.LETTER * len(span.device) + 8:
-            streams.out.write(svg.text(x + 4, y + 16, span.device))
-        streams.out.write("</g>\n")
+def lanes_of(ranges: List[Span]) -> List[int]:
+    """For each of sorted ranges the first lane in which it meets none."""
+    lanes: List[int] = []
+    busy: List[Tuple[int, int]] = []
+    free: List[int] = []
+    for span in ranges:
+        while busy and busy[0][0] <= span.first:
+            heapq.heappush(free, heapq.heappop(busy)[1])
+        lanes.append(heapq.heappop(free) if free else len(busy))
+        heapq.heappush(busy, (span.end, lanes[-1]))
+    return lanes
+
+
+def clashing_in(ranges: List[Span]) -> Set[int]:
+    """The places of those of sorted ranges that clash with one before them, or with one after them."""
+    found = set()
+    ends, firsts = dict.fromkeys(MEET, 0), dict.fromkeys(MEET, float("inf"))
+    for place, span in enumerate(ranges):
+        if any(ends[other] > span.first for other in MEET[kind_of(span)]):
+            found.add(place)
+        ends[kind_of(span)] = max(ends[kind_of(span)], span.end)
+    for place, span in reversed(list(enumerate(ranges))):
+        if any(firsts[other] < span.end for other in MEET[kind_of(span)]):
+            found.add(place)
+        firsts[kind_of(span)] = span.first
+    return found
+
+
+def draw(span: Span, x: float, y: int, wide: float, colour: str, edge: str) -> None:
+    streams.out.write('<g><title>%s</title><rect x="%.2f" y="%d" width="%.2f" height="24" fill="%s" stroke="%s"/>\n' % (
+        svg.escaped("%s (%s): sectors %d to %d, %s" % (
+            span.device, span.kind, span.first, span.end - 1, svg.size_of(span.end - span.first))),
+        x, y, wide, colour, edge))
+    if wide > svg.LETTER * len(span.device) + 8:
+        streams.out.write(svg.text(x + 4, y + 16, span.device))
+    streams.out.write("</g>\n")
 
 
 def legend_of(numbers: Dict[str, int]) -> Tuple[str, int]:

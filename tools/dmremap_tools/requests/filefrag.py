@@ -21,7 +21,7 @@ part of XFS has its extents on another device.
 
 import re
 from argparse import ArgumentParser, Namespace
-from typing import Dict, Iterator, List, Match, NoReturn, Optional, Set, Tuple
+from typing import Dict, Iterable, Iterator, Set, Tuple
 
 from dmremap_tools.base import names, numbers, quoting, requests, streams, tables
 from dmremap_tools.base.refusal import WrongWords
@@ -49,8 +49,9 @@ LEAF = re.compile(r" *([0-9]+) - +([0-9]+) +([0-9]+) - +([0-9]+) +([0-9]+)( Unin
 INNER = re.compile(r" *[0-9]+ - +[0-9]+ +[0-9]+ +[0-9]+")
 MOST_LEVELS = 64
 LIST_ANEW = "make the text anew by `debugfs -R 'ex /FILE' IMAGE`"
-# The sector of the file, that of the device, and how many there are.
+# The sector of the file, that of the device, and how many there are; at the end of a file its length and ENDED.
 Extent = Tuple[int, int, int]
+ENDED = (-1, 0)
 
 
 def add_words(parser: ArgumentParser) -> None:
@@ -72,157 +73,134 @@ def run(words: Namespace) -> None:
     if words.device is not None and (words.size is None) == (words.debugfs is not None):
         raise WrongWords("--device needs --size with --debugfs, and has the size without it")
     name = names.Names(words.ls).device(words.volume, names.Word("VOLUME"))
+    source = streams.Lines(words.file)
     if words.debugfs is None:
-        reader = Reader(streams.Lines(words.file), BTRFS if words.addresses else KNOWN)
+        extents = read_filefrag(source, BTRFS if words.addresses else KNOWN)
     else:
-        reader = ExtentList(words.debugfs, streams.Lines(words.file), streams.whole("--size", "0" if words.size is None else words.size))
+        size = streams.whole("--size", "0" if words.size is None else words.size)
+        extents = read_list(source, block_of(words.debugfs), size)
     if words.device is None:
-        for _, first, count in reader.extents():
-            requests.write(reader.source, "R", name, first, count)
+        for _, first, count in extents:
+            if (first, count) != ENDED:
+                requests.write(source, "R", name, first, count)
         return
     disk = parts.disk_in(words.on, "--on") if words.on is not None else names.MAPPER + name
-    streams.out.write(tables.text_of([parts.device_of(words.device, "", lines_of(reader, disk), parts.part_of(words))], False))
+    device = parts.device_of(words.device, "", lines_of(source, extents, disk), parts.part_of(words))
+    streams.out.write(tables.text_of([device], False))
 
 
-def lines_of(reader: "Reader | ExtentList", disk: str) -> Iterator[tables.Line]:
-    end = 0
-    for at, first, count in reader.extents():
+def lines_of(source: streams.Lines, extents: Iterable[Extent], disk: str) -> Iterator[tables.Line]:
+    end = files = size = 0
+    for at, first, count in extents:
+        if (first, count) == ENDED:
+            files, size = files + 1, at
+            continue
         if at > end:
             yield tables.Line(end, at - end, "zero", [])
         yield tables.Line(at, count, "linear", [disk, str(first)])
         end = at + count
-    if reader.files > 1:
-        reader.source.refuse("more than one file: give the extents of one")
-    size = numbers.sectors_touched(0, reader.size)[1]
+    if files > 1:
+        source.refuse("more than one file: give the extents of one")
     if end < size:
         yield tables.Line(end, size - end, "zero", [])
 
 
-class Reader:
-    """Reads the text line by line; `opened` is the line that the list of a file began with."""
-
-    def __init__(self, source: streams.Lines, known: Set[str] = KNOWN) -> None:
-        self.source, self._known = source, known
-        self._opened = ""
-        self.files = self.size = self._block = self._count = self._after = 0
-        self._is_known = self._is_last = False
-
-    def extents(self) -> Iterator[Extent]:
-        """The extents as they come: the sector of the file, that of the device, and how many there are."""
-        for line in self.source:
-            extent = EXTENT.fullmatch(line) if self._opened else None
-            if extent:
-                yield from self._take_extent(*map(int, extent.groups()[:6]), extent[7].split(","))
-            else:
-                self._take_other(line)
-        if self._opened:
-            self.source.refuse(f"the end is missing, {ANEW}: {quoting.shown(self._opened)}")
-        if not self.files:
-            self.source.refuse("no file: " + ANEW)
-
-    def _take_other(self, line: str) -> None:
-        size, kind = SIZE.fullmatch(line), TYPE.fullmatch(line)
-        if size:
-            if not self._is_known or self._opened:
-                self.source.refuse_line("the line comes too early, " + ANEW)
-            self.size, blocks, self._block = map(self.source.whole, size.groups())
-            if not 0 <= blocks * self._block - self.size < MOST_SPARE:
-                self.source.refuse_line("bytes and blocks differ, " + ANEW)
-            self._opened, self._is_last = line, False
-            self._count = self._after = 0
-            self.files += 1
+def read_filefrag(source: streams.Lines, known: Set[str]) -> Iterator[Extent]:
+    """The extents as they come. `opened` is the line that the list of a file began with."""
+    opened, is_known, is_last = "", False, False
+    files = size = block = number = after = 0
+    for line in source:
+        extent = EXTENT.fullmatch(line) if opened else None
+        named, kind = (None, None) if extent else (SIZE.fullmatch(line), TYPE.fullmatch(line))
+        if extent:
+            place, first, last, start, end, length = map(int, extent.groups()[:6])
+            flags, text = extent[7].split(","), line.lstrip(" ")
+            refuse_if(source, text, ANEW, {
+                "an extent whose place is not known": not PLACED.issuperset(flags),
+                "an extent is missing": place != number or first < after or is_last,
+                "ends and length differ": last + 1 - first != length or end + 1 - start != length,
+                "the file ends elsewhere": "eof" in flags and (last + 1) * block < size})
+            number, is_last, after = number + 1, "last" in flags, last + 1
+            yield from in_sectors(source, text, block, (first, start, length), "unwritten" in flags)
+        elif named:
+            if not is_known or opened:
+                source.refuse_line("the line comes too early, " + ANEW)
+            size, blocks, block = map(source.whole, named.groups())
+            if not 0 <= blocks * block - size < MOST_SPARE:
+                source.refuse_line("bytes and blocks differ, " + ANEW)
+            opened, is_last, number, after, files = line, False, 0, 0, files + 1
         elif kind:
-            if kind[1] not in self._known:
-                self.source.refuse_line("not btrfs, leave out --addresses" if self._known is BTRFS
-                                        else "neither ext2, ext3, ext4 nor XFS, see `btrfs` and --addresses")
-            self._is_known = True
-        elif self._opened and FOUND.search(line):
-            if not self._is_last and (self._count or not NONE_FOUND.search(line)):
-                self.source.refuse_line("an extent is missing before, " + ANEW)
-            self._opened = ""
-        elif not GROUPS.fullmatch(line) and not (self._opened and HEAD.fullmatch(line)):
-            self.source.refuse_line("not a line of filefrag -v, " + ANEW)
-
-    def _take_extent(self, number: int, first: int, last: int, start: int, end: int, length: int, flags: List[str]) -> Iterator[Extent]:
-        """Takes an extent: from the block `first` to `last` of the file, from `start` to `end` of the device."""
-        after, is_last = last + 1, "last" in flags
-        faults = {"an extent whose place is not known": not PLACED.issuperset(flags),
-                  "an extent is missing": number != self._count or first < self._after or self._is_last,
-                  "ends and length differ": after - first != length or end + 1 - start != length,
-                  "the file ends elsewhere": "eof" in flags and after * self._block < self.size}
-        for why, is_so in faults.items():
-            if is_so:
-                self.source.refuse(f"{why}, {ANEW}: {quoting.shown(self.source.line.lstrip(' '))}")
-        self._count, self._is_last, self._after = self._count + 1, is_last, after
-        if "unwritten" in flags:
-            streams.tell("unwritten, so that it reads as zeros: " + quoting.shown(self.source.line.lstrip(" ")))
-            return
-        sectors = requests.sectors_of(self.source, self._block)
-        yield first * sectors, start * sectors, length * sectors
+            if kind[1] not in known:
+                source.refuse_line("not btrfs, leave out --addresses" if known is BTRFS
+                                   else "neither ext2, ext3, ext4 nor XFS, see `btrfs` and --addresses")
+            is_known = True
+        elif opened and FOUND.search(line):
+            if not is_last and (number or not NONE_FOUND.search(line)):
+                source.refuse_line("an extent is missing before, " + ANEW)
+            yield (numbers.sectors_touched(0, size)[1], *ENDED)
+            opened = ""
+        elif not GROUPS.fullmatch(line) and not (opened and HEAD.fullmatch(line)):
+            source.refuse_line("not a line of filefrag -v, " + ANEW)
+    if opened:
+        source.refuse(f"the end is missing, {ANEW}: {quoting.shown(opened)}")
+    if not files:
+        source.refuse("no file: " + ANEW)
 
 
-class ExtentList:
-    """Reads what debugfs lists. Each node of the tree has entries 1 to N. `size` is how many bytes the file has."""
-
-    files = 1
-
-    def __init__(self, path: str, source: streams.Lines, size: int) -> None:
-        self.source, self.size = source, size
-        self._block = block_of(path)
-        # By level, the last entry, and how many its node has.
-        self._entries: Dict[int, Tuple[int, int]] = {}
-        self._after = 0
-
-    def extents(self) -> Iterator[Extent]:
-        """The extents as they come: the sector of the file, that of the device, and how many there are."""
-        is_listed = False
-        for line in self.source:
-            if not LIST_HEAD.fullmatch(line):
-                yield from self._take(ENTRY.fullmatch(line.strip(" ")) if is_listed else None)
-            elif is_listed:
-                self.source.refuse("more than one file: give the list of one")
-            else:
-                is_listed = True
-        if any(number < count for number, count in self._entries.values()):
-            self.source.refuse("entries are missing at the end, " + LIST_ANEW)
-        if not is_listed:
-            self.source.refuse("no list of extents, which only files with extents have: " + LIST_ANEW)
-
-    def _take(self, entry: Optional[Match[str]]) -> Iterator[Extent]:
-        level, depth, number, count = map(self.source.whole, entry.groups()[:4]) if entry else (1, 0, 0, 0)
-        if not entry or level > depth or depth > MOST_LEVELS:
-            self._refuse("not a line of ex")
-        last, most = self._entries.get(level, (0, 0))
-        if number != (last + 1 if last < most else 1) or number > count:
-            self._refuse("an entry is missing")
-        self._entries[level] = number, count
+def read_list(source: streams.Lines, block: int, size: int) -> Iterator[Extent]:
+    """The extents that debugfs lists of a file of so many bytes. Each node of the tree has entries 1 to N."""
+    # By level, the last entry, and how many its node has.
+    entries: Dict[int, Tuple[int, int]] = {}
+    after, is_listed = 0, False
+    for line in source:
+        if LIST_HEAD.fullmatch(line):
+            if is_listed:
+                source.refuse("more than one file: give the list of one")
+            is_listed = True
+            continue
+        text = line.strip(" ")
+        entry = ENTRY.fullmatch(text) if is_listed else None
+        level, depth, number, count = map(source.whole, entry.groups()[:4]) if entry else (1, 0, 0, 0)
+        refuse_if(source, text, LIST_ANEW, {"not a line of ex": level > depth or depth > MOST_LEVELS})
+        last, most = entries.get(level, (0, 0))
+        is_next = number == (last + 1 if last < most else 1) and number <= count
+        refuse_if(source, text, LIST_ANEW, {"an entry is missing": not is_next})
+        entries[level] = number, count
         leaf = LEAF.fullmatch(entry[5])
-        if not leaf:
-            if level == depth or not INNER.fullmatch(entry[5]):
-                self._refuse("not a line of ex")
-            return
-        first, last, start, end, length = map(self.source.whole, leaf.groups()[:5])
-        if level != depth or first < self._after:
-            self._refuse("out of order")
-        self._after = last + 1
-        if self._after - first != length or end + 1 - start != length:
-            self._refuse("ends and length differ")
-        if leaf[6]:
-            streams.tell("unwritten, so that it reads as zeros: " + quoting.shown(self.source.line.strip(" ")))
-            return
-        sectors = requests.sectors_of(self.source, self._block)
-        yield first * sectors, start * sectors, length * sectors
+        is_inner = level < depth and INNER.fullmatch(entry[5])
+        refuse_if(source, text, LIST_ANEW, {"not a line of ex": not leaf and not is_inner})
+        if leaf:
+            first, last, start, end, length = map(source.whole, leaf.groups()[:5])
+            refuse_if(source, text, LIST_ANEW, {
+                "out of order": level != depth or first < after,
+                "ends and length differ": last + 1 - first != length or end + 1 - start != length})
+            after = last + 1
+            yield from in_sectors(source, text, block, (first, start, length), bool(leaf[6]))
+    if any(number < count for number, count in entries.values()):
+        source.refuse("entries are missing at the end, " + LIST_ANEW)
+    if not is_listed:
+        source.refuse("no list of extents, which only files with extents have: " + LIST_ANEW)
+    yield (numbers.sectors_touched(0, size)[1], *ENDED)
 
-    def _refuse(self, why: str) -> NoReturn:
-        self.source.refuse(f"{why}, {LIST_ANEW}: {quoting.shown(self.source.line.strip(' '))}")
+
+def refuse_if(source: streams.Lines, text: str, anew: str, faults: Dict[str, bool]) -> None:
+    for why, is_so in faults.items():
+        if is_so:
+            source.refuse(f"{why}, {anew}: {quoting.shown(text)}")
+
+
+def in_sectors(source: streams.Lines, text: str, block: int, extent: Extent, is_unwritten: bool) -> Iterator[Extent]:
+    """An extent that is counted in blocks, in sectors, unless it is one that is told."""
+    if is_unwritten:
+        streams.tell("unwritten, so that it reads as zeros: " + quoting.shown(text))
+        return
+    first, start, length = (it * requests.sectors_of(source, block) for it in extent)
+    yield first, start, length
 
 
 def block_of(path: str) -> int:
-    block, source = None, streams.Lines(path)
-    for line in source:
-        match = BLOCK.fullmatch(line)
-        if match:
-            block = source.whole(match[1])
-    if block is None:
+    source = streams.Lines(path)
+    found = [source.whole(match[1]) for match in map(BLOCK.fullmatch, source) if match]
+    if not found:
         source.refuse("no line 'Block size': give what `dumpe2fs -h` prints")
-    return block
+    return found[-1]
