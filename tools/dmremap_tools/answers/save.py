@@ -24,7 +24,7 @@ def run(words: Namespace) -> bool:
     """Saves what is asked for, and says whether something is missing."""
     source = given.given_in(words, "VOLUME TARGET FORMAT FILE [DISKS]")
     with tempfile.TemporaryDirectory(prefix="dmremap-tools-") as room:
-        volume = names.Names(words.ls).device(words.volume, names.Word("VOLUME"))
+        volume = names.Names(words.ls).device(words.volume, "VOLUME")
         begun = started.start(words, source, [volume], room)
         if words.extents is not None:
             reader = filefrag.Reader(streams.Lines(words.extents))

@@ -3,7 +3,7 @@
 import functools
 import re
 from argparse import ArgumentParser
-from typing import Dict, NamedTuple, NoReturn, Optional, Union
+from typing import Dict, NoReturn, Optional, Union
 
 from dmremap_tools.base import quoting, streams
 from dmremap_tools.base.refusal import Refusal
@@ -13,19 +13,8 @@ DISK = re.compile(r"(?!/dev/mapper/)(?!.*[,;\\])[!-~]{1,255}")
 MINOR = re.compile(r"/dev/dm-([0-9]{1,10})")
 MAPPER = "/dev/mapper/"
 MOST_KEPT = 4096
-
-
-class Word(NamedTuple):
-    """A word of the command line as a place, by what it is called in the usage."""
-
-    name: str
-
-    def refuse(self, reason: str) -> NoReturn:
-        raise Refusal(self.name, reason)
-
-
-# Where a name stands.
-Place = Union[streams.Lines, Word]
+# Where a name stands: in lines, or in the word of the command line that is called so in the usage.
+Place = Union[streams.Lines, str]
 
 
 def of_path(path: str) -> str:
@@ -51,15 +40,21 @@ class Names:
         """The name that a path stands for, or the path; empty for a /dev/dm-N that `dmsetup ls` has not."""
         minor = MINOR.fullmatch(path) if path.startswith("/dev/dm-") else None
         if minor and self._ls is None:
-            place.refuse(f"which device is {path}? Give --ls LS")
+            refuse(place, f"which device is {path}? Give --ls LS")
         return self._of_minor.get(minor[1], "") if minor else of_path(path)
 
     @functools.lru_cache(MOST_KEPT)
     def device(self, path: str, place: Place) -> str:
         name = self.known(path, place)
         if not FORM.fullmatch(name):
-            place.refuse(f"no name of a device, give it as dmsetup ls prints it: '{quoting.shown(path)}'")
+            refuse(place, f"no name of a device, give it as dmsetup ls prints it: '{quoting.shown(path)}'")
         return name
+
+
+def refuse(place: Place, reason: str) -> NoReturn:
+    if isinstance(place, str):
+        raise Refusal(place, reason)
+    place.refuse(reason)
 
 
 def add_words(parser: ArgumentParser) -> None:

@@ -47,7 +47,7 @@ def run(words: argparse.Namespace) -> None:
     sizes = {path: numbers.check_length("--size", streams.whole("--size", size)) for path, size in _pairs(words.size, "--size MEMBER=SECTORS").items()}
     array = arrays.Array(examine.read(words.examined), _pairs(words.path, "--path MEMBER=DISK"), sizes)
     if words.name is not None:
-        name = names.Names().device(words.name, names.Word("--name"))
+        name = names.Names().device(words.name, "--name")
         streams.out.write("".join([f"{name}: {line}\n" for line in arrays.lines_of(array, words.copy)]))
     else:
         follow(array, words.follow, words.copy, pieces.Answers(words.file))

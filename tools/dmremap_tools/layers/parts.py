@@ -29,7 +29,7 @@ def disk_in(word: str, option: str) -> str:
 
 def device_of(name: str, flags: str, lines: Iterable[tables.Line], part: Optional[Tuple[int, int]]) -> tables.Device:
     """A device of these lines, or of those that the part lies in, with `error` around them."""
-    device, size = tables.Device(names.Names().device(name, names.Word("NAME")), flags), 0
+    device, size = tables.Device(names.Names().device(name, "NAME"), flags), 0
     for line in lines if part is None else _meeting(lines, *part):
         size += len(name) + len(str(line)) + 3
         if len(device.lines) == MOST_LINES or size > MOST_TEXT:

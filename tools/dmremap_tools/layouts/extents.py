@@ -26,7 +26,7 @@ def add_words(parser: argparse.ArgumentParser) -> None:
 
 def run(words: argparse.Namespace) -> None:
     source = given.given_in(words, "VOLUME FORMAT FILE [DISKS]")
-    name = names.Names(words.ls).device(words.volume, names.Word("VOLUME"))
+    name = names.Names(words.ls).device(words.volume, "VOLUME")
     with tempfile.TemporaryDirectory(prefix="dmremap-tools-") as room:
         begun = started.start(words, source, [name], room)
         device = begun.loaded.by_path().get(names.MAPPER + name)

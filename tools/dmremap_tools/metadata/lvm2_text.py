@@ -38,7 +38,7 @@ from dmremap_tools.base import program, quoting, streams
 from dmremap_tools.base.config_text import ANEW, Document, Node, shown
 from dmremap_tools.base.plain_text import MARK
 from dmremap_tools.base.refusal import Refusal
-from dmremap_tools.metadata.mending import Copy
+from dmremap_tools.metadata.mending import Copy, Form
 from dmremap_tools.metadata.volume_group import LINEAR, NOT_ASKED, STRIPED, Group, Volume
 
 EXAMPLE = "dmremap-tools lvm2-text vgm.backup > copy.backup && dmremap table lvm copy.backup"
@@ -46,11 +46,13 @@ EXAMPLE = "dmremap-tools lvm2-text vgm.backup > copy.backup && dmremap table lvm
 MOST_TEXT, MOST_COPY = 8 << 20, 1 << 20
 ADVICE = "take an older text, from /etc/lvm/archive or by `metadata --list`, or leave this out by --only"
 
-# The fields that dmremap reads. Others it passes over.
-TOP, GROUP = {b"contents", b"version"}, {b"extent_size"}
-PHYSICAL, VOLUME = {b"device", b"dev_size", b"pe_start", b"pe_count"}, {b"status", b"flags", b"segment_count"}
-SEGMENT = {b"stripes", b"start_extent", b"extent_count", b"type", b"stripe_count", b"stripe_size", b"chunk_size",
-           b"origin", b"cow_store"}
+# What dmremap reads of a text. It passes over the rest.
+SEGMENT = Form({b"stripes", b"start_extent", b"extent_count", b"type", b"stripe_count", b"stripe_size", b"chunk_size",
+                b"origin", b"cow_store"}, {})
+VOLUMES = Form((), {None: Form({b"status", b"flags", b"segment_count"}, {None: SEGMENT})})
+PHYSICALS = Form((), {None: Form({b"device", b"dev_size", b"pe_start", b"pe_count"}, {})})
+GROUP = Form({b"extent_size"}, {b"physical_volumes": PHYSICALS, b"logical_volumes": VOLUMES})
+TOP = Form({b"contents", b"version"}, {None: GROUP})
 
 
 def add_words(parser: argparse.ArgumentParser) -> None:
@@ -155,27 +157,18 @@ def _leave_physicals(copy: Copy, group: Group) -> None:
 
 def mend_group(copy: Copy, group: Group) -> None:
     """Mends what dmremap reads of the text, and leaves out what it would stumble over."""
-    copy.mend(copy.document.top, TOP, {group.node})
-    lists = [it for it in group.node.sections() if it.key in (b"physical_volumes", b"logical_volumes")]
-    copy.mend(group.node, GROUP, lists)
-    for node in lists:
-        copy.mend(node, (), node.sections())
-    for node in group.physicals.values():
-        copy.mend(node, PHYSICAL)
-        _mend_physical(copy, group, node)
     raids = [it for volume in group.volumes.values() for it in volume.segments if (it.kind or b"").startswith(b"raid")]
     # These lists have the data of a raid volume, with what says how that is kept before each part of it.
     parts = {name for it in raids for key in (b"raids", b"raid0_lvs") for name in it.node.values(key)}
-    for volume in (it for it in group.volumes.values() if not it.why):
-        if volume.name in parts:
-            _mend_part(copy, volume)
-        copy.mend(volume.node, VOLUME, {it.node for it in volume.segments})
-        for segment in volume.segments:
-            copy.mend(segment.node, SEGMENT)
-            if segment.kind == LINEAR:
-                kind = segment.node.child(b"type").items[0].start
-                copy.put(kind, b'"%s"' % STRIPED)
-                copy.say_changed(kind, b"type", "linear is another name of striped")
+    staying = [it for it in group.volumes.values() if not it.why]
+    for volume in (it for it in staying if it.name in parts):
+        _mend_part(copy, volume)
+    copy.mend(copy.document.top, TOP)
+    for node in group.physicals.values():
+        _mend_physical(copy, group, node)
+    for segment in (it for volume in staying for it in volume.segments if it.kind == LINEAR):
+        kind = segment.node.child(b"type")
+        copy.put(kind.items[0].start, b'"%s"' % STRIPED, kind.key, "linear is another name of striped")
 
 
 def _mend_part(copy: Copy, volume: Volume) -> None:
@@ -185,7 +178,7 @@ def _mend_part(copy: Copy, volume: Volume) -> None:
         if status.items:
             copy.put_behind(status.items[-1].start, b', "WRITE"')
         else:
-            copy.put(status.end - 1, b'"WRITE"]')
+            copy.put_behind(status.value_at, b'"WRITE"')
         why = f"{shown(volume.name)} is part of a raid volume, which lvm2 loads as writable"
         copy.say_changed(status.start, status.key, why)
 
@@ -209,5 +202,4 @@ def _mend_physical(copy: Copy, group: Group, node: Node) -> None:
         copy.put_behind(node.value_at, b" dev_size = %d" % least)
         copy.say_changed(node.start, b"dev_size", f"{name} has none, and is {long}")
     elif size is not None and size < least:
-        copy.put(size_field.items[0].start, b"%d" % least)
-        copy.say_changed(size_field.items[0].start, b"dev_size", f"{name} is {long}, and not {size}")
+        copy.put(size_field.items[0].start, b"%d" % least, b"dev_size", f"{name} is {long}, and not {size}")

@@ -1,16 +1,15 @@
 """A copy of a text, whose lines have their numbers, in the form that dmremap reads, without what it can't pass over."""
 
 import re
-from typing import Collection, Dict, Iterator, List, Optional, Set, Tuple
+from typing import Collection, Dict, Iterator, List, NamedTuple, Optional, Set, Tuple
 
 from dmremap_tools.base import streams
 from dmremap_tools.base.config_text import ANEW, Document, Item, Node, shown
 from dmremap_tools.base.plain_text import MARK
 
-# What dmremap takes for a key, a number and a string, and how many sections it takes inside each other.
+# What dmremap takes for a key, and for a number or a string, and how many sections it takes inside each other.
 WORD = re.compile(rb"[A-Za-z0-9_+.][A-Za-z0-9_+.-]*")
-DIGITS = re.compile(rb"0|[1-9][0-9]{0,18}")
-QUOTED = re.compile(rb'"(?:[^"\\\n]|\\["\\])*"')
+PLAIN = re.compile(rb'0|[1-9][0-9]{0,18}|"(?:[^"\\\n]|\\["\\])*"')
 LEVELS = 16
 # The fields that have a list; others have one value.
 LISTS = {b"status", b"flags", b"stripes"}
@@ -23,6 +22,8 @@ REST_OF_LINE = re.compile(rb"[ \t\v\f\r]*(?:#[^\n]*)?(?=\n)")
 AT_END, OTHER = re.compile(rb"\r+(?=\n|\Z)"), re.compile(rb"(#[^\n]*)|[\r\v\f]")
 # What is written for a byte that is no UTF-8, or a newline in a string.
 UNKNOWN = "\ufffd"
+# What dmremap reads of a section: fields, and sections by their keys, with None for any.
+Form = NamedTuple("Form", [("fields", Collection[bytes]), ("sections", Dict[Optional[bytes], "Form"])])
 
 
 class Copy:
@@ -41,9 +42,6 @@ class Copy:
     def say(self, at: int, what: str) -> None:
         self._said.append((self.document.line_at(at), what))
 
-    def say_changed(self, at: int, key: bytes, why: str) -> None:
-        self.say(at, f"changed: {shown(key)}: {why}")
-
     def drop(self, node: Node, why: str) -> None:
         self.left_out.add(node)
         self.say(node.start, f"left out: {shown(node.key)}: {why}")
@@ -52,22 +50,30 @@ class Copy:
         path, said = self.document.path, sorted(self._said, key=lambda it: it[0])
         streams.tell(*(f"{path}:{line}: {what}" for line, what in said))
 
-    def put(self, at: int, content: bytes) -> None:
-        """Writes this for the token that begins at a byte."""
+    def put(self, at: int, content: bytes, key: bytes, why: str) -> None:
+        """Writes this for the token that begins at a byte, and says why."""
         self._written[at] = content
+        self.say_changed(at, key, why)
 
     def put_behind(self, at: int, content: bytes) -> None:
         self._behind[at] = self._behind.get(at, b"") + content
 
-    def mend(self, section: Node, fields: Collection[bytes], sections: Collection[Node] = ()) -> None:
-        """Mends the fields and sections of a section that dmremap reads, and leaves out what it can't pass over."""
+    def say_changed(self, at: int, key: bytes, why: str) -> None:
+        self.say(at, f"changed: {shown(key)}: {why}")
+
+    def mend(self, section: Node, form: Form) -> None:
+        """Mends what dmremap reads of a section, and leaves out what it can't pass over."""
         for node in section.children or ():
-            is_field = node.children is None
+            inner = form.sections.get(node.key) or form.sections.get(None)
             if node in self.left_out:
                 continue
-            if node in sections or is_field and node.key in fields:
-                self._mend_key(node)
+            if inner if node.children is not None else node.key in form.fields:
+                if not WORD.fullmatch(node.key):
+                    raise self.document.refused(node.start, f"no name that lvm2 gives, {ANEW}: {shown(node.key)}")
+                if not self._is_word(node):
+                    self.put(node.start, node.key, node.key, "a key in quotes")
                 self._mend_values(node)
+                self.mend(node, inner)
             else:
                 fault = next(self._faults_of(node), None)
                 if fault:
@@ -77,45 +83,33 @@ class Copy:
         """Whether its key is written as one, which has no quotes."""
         return bool(WORD.fullmatch(self.document.content, node.start, node.start + len(node.key)))
 
-    def _mend_key(self, node: Node) -> None:
-        if not WORD.fullmatch(node.key):
-            raise self.document.refused(node.start, f"no name that lvm2 gives, {ANEW}: {shown(node.key)}")
-        if not self._is_word(node):
-            self.put(node.start, node.key)
-            self.say_changed(node.start, node.key, "a key in quotes")
-
     def _mend_values(self, node: Node) -> None:
         """Writes the values of a field as dmremap reads them: numbers in decimal digits, strings in double quotes."""
-        items = node.items
-        for item in items:
-            text, value = item.text, item.value
+        items, key = node.items, node.key
+        for text, start, value in ((it.text, it.start, it.value) for it in items):
             if isinstance(value, bytes):
-                quoted = b'"%s"' % re.sub(rb'(["\\])', rb"\\\1", value).replace(b"\n", UNKNOWN.encode())
-                is_odd, why = not QUOTED.fullmatch(text), f"written as {shown(quoted)}"
-                content = quoted + b"\n" * text.count(b"\n")
+                content = b'"%s"' % re.sub(rb'(["\\])', rb"\\\1", value).replace(b"\n", UNKNOWN.encode())
+                why = f"written as {shown(content)}"
             elif value is None or value < 0:
-                why = f"{shown(node.key)} can't have this number, {ANEW}: {shown(text)}"
-                raise self.document.refused(item.start, why)
+                raise self.document.refused(start, f"{shown(key)} can't have this number, {ANEW}: {shown(text)}")
             else:
-                is_odd, why, content = not DIGITS.fullmatch(text), f"lvm2 reads {shown(text)} as {value}", b"%d" % value
-            if is_odd:
-                self.put(item.start, content)
-                self.say_changed(item.start, node.key, why)
-        if items and not node.is_list and node.key in LISTS:
-            self.put(node.value_at, b"[" + self._written.get(node.value_at, items[0].text))
+                content, why = b"%d" % value, f"lvm2 reads {shown(text)} as {value}"
+            if not PLAIN.fullmatch(text):
+                self.put(start, content + b"\n" * text.count(b"\n"), key, why)
+        if items and not node.is_list and key in LISTS:
+            self._written[node.value_at] = b"[" + self._written.get(node.value_at, items[0].text)
             self.put_behind(node.value_at, b"]")
-            self.say_changed(node.start, node.key, "one value in place of a list")
-        elif node.is_list and node.key not in LISTS and len(items) == 1:
-            self.put(node.value_at, b"")
-            self.put(node.end - 1, b"")
-            self.say_changed(node.start, node.key, "a list of one value")
+            self.say_changed(node.start, key, "one value in place of a list")
+        elif node.is_list and key not in LISTS and len(items) == 1:
+            self._written.update({node.value_at: b"", node.end - 1: b""})
+            self.say_changed(node.start, key, "a list of one value")
         for item in items if node.is_list else ():
             if item is items[-1] and item.comma >= 0:
-                self.put(item.comma, b"")
-                self.say_changed(item.start, node.key, "a comma too many")
+                self._written[item.comma] = b""
+                self.say_changed(item.start, key, "a comma too many")
             elif item is not items[-1] and item.comma < 0:
                 self.put_behind(item.start, b",")
-                self.say_changed(item.start, node.key, "a comma is missing")
+                self.say_changed(item.start, key, "a comma is missing")
 
     def _faults_of(self, node: Node) -> Iterator[str]:
         """Why dmremap can't pass over a field or a section. Asked for the first, it goes no deeper than LEVELS."""
@@ -124,9 +118,7 @@ class Copy:
         if not self._is_word(node):
             yield "a key that is no word"
         for item in node.items:
-            fault = unreadable(item)
-            if fault:
-                yield fault
+            yield from unreadable(item)
             if node.is_list and (item.comma >= 0) != (item is not node.items[-1]):
                 yield "a comma too many or too few"
         for child in reversed(node.children or ()):
@@ -139,7 +131,7 @@ class Copy:
             self.say(0, "changed: a byte order mark is taken out")
         if b"\0" in given:
             self.say(len(content), "left out: the NUL here, and what comes after it")
-        ends, gone, end, space, last = {it.start: it.end for it in self.left_out}, 0, 0, b"", b""
+        ends, gone, end, spaces, last = {it.start: it.end for it in self.left_out}, 0, 0, [], b""
         for text, start in self.document.tokens():
             if start < gone:
                 continue
@@ -149,22 +141,23 @@ class Copy:
                 gone, before = ends[start], between.rstrip(BLANK)
                 begins_line = before.endswith(b"\n") or not (before or end)
                 rest = REST_OF_LINE.match(content, gone) if begins_line else None
-                space += (before if begins_line else between) + b"\n" * content.count(b"\n", start, gone)
+                spaces += [before if begins_line else between, b"\n" * content.count(b"\n", start, gone)]
                 end = rest.end() if rest else gone
                 continue
-            space, end = space + between, start + len(text)
-            new = self._written.get(start, text) + self._behind.get(start, b"")
+            spaces.append(between)
+            new, end = self._written.get(start, text) + self._behind.get(start, b""), start + len(text)
             if text and not new:
                 continue
             if last and not between and WITHIN_WORD.match(content, start - 1):
                 self.say(start, "changed: a space is missing")
+            space = b"".join(spaces)
             plain = self._plain_space(space, start)
             if not plain and WITHIN_WORD.match(last[-1:] + new[:1]):
                 plain = b" "
             if is_odd and not _is_readable(space + new):
                 self.say(start, "changed: bytes that are no UTF-8")
             made += [plain, new]
-            space, last = b"", new
+            spaces, last = [], new
         if any(self._returned):
             what = f"changed: carriage returns are taken out of {sum(self._returned)} lines"
             self._said.append((self._returned.index(1), what))
@@ -183,19 +176,18 @@ class Copy:
         return OTHER.sub(lambda match: match[1] or b" ", AT_END.sub(b"", space))
 
 
-def unreadable(item: Item) -> Optional[str]:
-    """Why dmremap doesn't read a value that it would pass over, or None."""
+def unreadable(item: Item) -> Iterator[str]:
+    """Why dmremap doesn't read a value that it would pass over, if it doesn't."""
     text = item.text
-    if not isinstance(item.value, bytes):
-        if b"." in text:
-            return "a number with a fraction"
-        if not text.isdigit():
-            return "a number with a sign"
-        return "a number that is too large" if len(text) > 19 or int(text) >= 1 << 63 else None
-    if text[:1] != b'"':
-        return "a string without double quotes"
-    fault = "a string of several lines" if b"\n" in text else "a backslash that stands for itself"
-    return None if QUOTED.fullmatch(text) else fault
+    if isinstance(item.value, bytes):
+        if text[:1] != b'"':
+            yield "a string without double quotes"
+        elif not PLAIN.fullmatch(text):
+            yield "a string of several lines" if b"\n" in text else "a backslash that stands for itself"
+    elif not text.isdigit():
+        yield "a number with a fraction" if b"." in text else "a number with a sign"
+    elif len(text) > 19 or int(text) >= 1 << 63:
+        yield "a number that is too large"
 
 
 def _is_readable(content: bytes) -> bool:

@@ -123,13 +123,13 @@ class Group:
         """Leaves out a snapshot that is being merged, and its origin, which reads as the snapshot does, from what is
         left in the store; what it has itself is a mixture."""
         snapshot, origin = (shown(it or record.volume.name) for it in (record.store, record.origin))
-        record.volume.leave("the record of a snapshot that is being merged")
-        if record.store in self.volumes:
-            self.volumes[record.store].leave(f"it is being merged into {origin}")
-        if record.origin in self.volumes:
-            self.volumes[record.origin].leave(
-                f"the snapshot {snapshot} is being merged into it, so that some of its sectors are older and some "
-                "newer: go on when that is done (`lvs -o+copy_percent`)")
+        for name, why in (
+                (record.volume.name, "the record of a snapshot that is being merged"),
+                (record.store, f"it is being merged into {origin}"),
+                (record.origin, f"the snapshot {snapshot} is being merged into it, so that some of its sectors are "
+                                "older and some newer: go on when that is done (`lvs -o+copy_percent`)")):
+            if name in self.volumes:
+                self.volumes[name].leave(why)
 
     def _leave_snapshot(self, record: Record, why: Optional[str]) -> bool:
         """Leaves out a snapshot and its record, if there is a reason; says whether they were there before."""

@@ -72,7 +72,7 @@ def run(words: Namespace) -> None:
         raise WrongWords("--on, --size and --part are for --device")
     if words.device is not None and (words.size is None) == (words.debugfs is not None):
         raise WrongWords("--device needs --size with --debugfs, and has the size without it")
-    name = names.Names(words.ls).device(words.volume, names.Word("VOLUME"))
+    name = names.Names(words.ls).device(words.volume, "VOLUME")
     source = streams.Lines(words.file)
     if words.debugfs is None:
         extents = read_filefrag(source, BTRFS if words.addresses else KNOWN)
