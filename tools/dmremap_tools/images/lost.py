@@ -19,7 +19,6 @@ lies there in one piece. Otherwise they read a copy in the folder for temporary 
 """
 
 import os
-import re
 import tempfile
 from argparse import ArgumentParser, Namespace
 from collections import Counter
@@ -29,15 +28,12 @@ from dmremap_tools.base import program, streams
 from dmremap_tools.base.numbers import SECTOR
 from dmremap_tools.images.save import parts_of
 from dmremap_tools.layouts import rescue_map, systems
-from dmremap_tools.layouts.asked_runs import AskedRuns, Run
-from dmremap_tools.layouts.debugfs import Debugfs, quoted
-from dmremap_tools.layouts.ext_system import ExtSystem
+from dmremap_tools.layouts.file_system import Run
 from dmremap_tools.model.device import joined, lacking
 from dmremap_tools.model.image import Image
 from dmremap_tools.model.pile import Pile, Target
 
 EXAMPLE = "dmremap-tools lost vg0/home sda.img sdb.img --map sda.img=sda.map"
-FOLDER = re.compile(r"Type: directory")
 TABLE = "inode table: "
 
 
@@ -86,15 +82,11 @@ def copied(target: Target, path: str) -> str:
 
 def lines_of(path: str, volume: str, runs: Sequence[Run]) -> "list[str]":
     """A line for each file that some of these sectors belong to."""
-    asked = AskedRuns(volume, runs)
-    system = systems.system_in(path, asked)
+    system = systems.system_in(path, volume, runs)
     counts: "Counter[str]" = Counter()
     for each in runs:
         for block, first, end in each.parts(system.sectors):
-            for file in system.users(block, first, end) if block < system.end else ["past its end"]:
+            for file in system.users(block, first, end):
                 counts[file] += end - first
-    files = [file[len(TABLE):] if file.startswith(TABLE) else file for file in counts]
-    files = [file for file in files if file.startswith("/") and isinstance(system, ExtSystem)]
-    answers = Debugfs(path, []).ask_many("stat " + quoted(file) for file in files)
-    folders = {file for file, answer in zip(files, answers) if FOLDER.search(answer)}
+    folders = system.folders(file[len(TABLE):] if file.startswith(TABLE) else file for file in counts)
     return [f"{count} sectors: {'folder ' if file in folders else ''}{file}" for file, count in sorted(counts.items())]

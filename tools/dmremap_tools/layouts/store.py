@@ -24,7 +24,7 @@ from dmremap_tools.answers.mapped import Mapped
 from dmremap_tools.base import given, names, numbers, program, requests, store_places, streams
 from dmremap_tools.base.refusal import Refusal, WrongWords
 from dmremap_tools.layers import stack, started
-from dmremap_tools.layouts.asked_runs import Run
+from dmremap_tools.layouts.file_system import Run
 
 EXAMPLE = "dmremap-tools store table snaps.table snaps.disks"
 STATUS = re.compile(r"^([^ \n]+): 0 [0-9]+ snapshot (.*)$", re.M)
