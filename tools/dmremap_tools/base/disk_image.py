@@ -16,7 +16,7 @@ LONGEST_MAGIC = 8
 
 
 class Unreadable(Refusal):
-    """An image, or bytes of it, can't be read."""
+    """An image, or bytes of it, can't be read: it is missing, or ends before them."""
 
 
 class Image:
@@ -39,7 +39,7 @@ class Image:
                 parts.append(part)
                 left -= len(part)
         except OSError as fault:
-            raise Unreadable(self.path, f"byte {self.base + at} and those after it can't be read "
+            raise Unreadable(self.path, f"byte {self.file.tell()} and those after it can't be read "
                              f"({streams.why(fault)}): take an image of it by ddrescue")
         return b"".join(parts)
 

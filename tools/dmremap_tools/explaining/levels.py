@@ -18,8 +18,7 @@ from dmremap_tools.explaining.refusals import Told
 from dmremap_tools.explaining.steps import ORIGIN, SNAPSHOT, Part, Step, Way, asked_of, shown
 from dmremap_tools.layers.stack import Stack
 from dmremap_tools.model import snapshot
-from dmremap_tools.model.device import Missing, Part as DiskPart
-from dmremap_tools.model.image import Image
+from dmremap_tools.model.device import Image, Missing, Part as DiskPart
 from dmremap_tools.model.mapping import Mapped, Tables
 
 # What the name of a unit begins with that is more than a device, before its origin; no name of a device has a space.

@@ -29,8 +29,7 @@ from dmremap_tools.base.numbers import SECTOR
 from dmremap_tools.images.save import parts_of
 from dmremap_tools.layouts import rescue_map, systems
 from dmremap_tools.layouts.file_system import Run
-from dmremap_tools.model.device import joined, lacking
-from dmremap_tools.model.image import Image
+from dmremap_tools.model.device import Image, joined, lacking
 from dmremap_tools.model.pile import Pile, Target
 
 EXAMPLE = "dmremap-tools lost vg0/home sda.img sdb.img --map sda.img=sda.map"

@@ -15,6 +15,8 @@ and its snapshots, or to several thin volumes. Other words are
     unknown: WHY               nobody can be sure, so don't write there
 """
 
+import functools
+import itertools
 import re
 from argparse import ArgumentParser, Namespace
 from typing import Dict, Iterator, List, Optional, Tuple
@@ -26,12 +28,12 @@ from dmremap_tools.base.partition_table import Table
 from dmremap_tools.base.refusal import Refusal
 from dmremap_tools.layers import arrays
 from dmremap_tools.layouts import rescue_map
-from dmremap_tools.model.device import Device, Part, blocks_of
-from dmremap_tools.model.group_owners import Groups
+from dmremap_tools.model.device import ALL, Device, Part
 from dmremap_tools.model.mapping import Mapped
 from dmremap_tools.model.md_array import Array
 from dmremap_tools.model.md_superblock import Member
-from dmremap_tools.model.owners import Ground, Run, Step, all_of, claimed, column, free, gaps, unknown, ways
+from dmremap_tools.model.owners import (Ground, Groups, Run, Step, all_of, chunks_of, claimed, filled, free, unknown,
+                                        ways)
 from dmremap_tools.model.pile import Pile
 
 EXAMPLE = "echo 'sda.img 12096 8' | dmremap-tools owner sda.img sdb.img"
@@ -66,7 +68,7 @@ def run(words: Namespace) -> None:
             write(name, way.first, way.count, *way.steps)
         first = max(inside, first)
         if first < end:
-            write(name, first, end - first, unknown(device.ended()))
+            write(name, first, end - first, (unknown(device.ended()), None))
 
 
 def asked(words: Namespace) -> Iterator[Tuple[str, int, int]]:
@@ -91,8 +93,8 @@ def asked(words: Namespace) -> Iterator[Tuple[str, int, int]]:
 
 
 def write(name: str, first: int, count: int, *steps: Step) -> None:
-    said = [quoting.escaped(step.name) + ("" if step.sector is None else f" {step.sector}")
-            for step in steps or (unknown("nothing says who has it"),)]
+    said = [quoting.escaped(step) + ("" if sector is None else f" {sector}")
+            for step, sector in steps or ((unknown("nothing says who has it"), None),)]
     streams.out.write(f"{quoting.escaped(name)} {first} {count} = {' = '.join(said)}\n")
 
 
@@ -119,15 +121,14 @@ class Owners:
     def _of_table(self, device: Device, table: Table) -> Ground:
         if table.fault:
             return all_of(unknown(table.fault))
-        copies = [table.kind, f"backup of the {table.kind}"] if table.kind == "GPT" else [table.kind] * len(table.taken)
-        taken = [(start, end, name) for (start, end), name in zip(table.taken, copies) if start < end]
-        claims = [Run(start // SECTOR, end // SECTOR, Step(name)) for start, end, name in taken]
+        copies = itertools.chain([table.kind], itertools.repeat(f"backup of the {table.kind}" if table.copy else "MBR"))
+        claims = [Run(start // SECTOR, end // SECTOR, name) for (start, end), name in zip(table.taken, copies)]
         claims += [self._within(part.start, part.size, part) for part in table.partitions.values()]
         return claimed(claims, free(device, "no partition has it"))
 
     def _within(self, start: int, size: int, device: Device) -> Run:
         """What has sectors in which a device lies."""
-        return Run(start // SECTOR, (start + size) // SECTOR, Step(device.name, 0), self.on(device))
+        return Run(start // SECTOR, (start + size) // SECTOR, device.name, 0, self.on(device))
 
     def _of_other(self, device: Device) -> Ground:
         """Who has sectors of a device that is none of these."""
@@ -141,63 +142,60 @@ class Owners:
         elif found is None or found.what in ("unknown", "foreign"):
             made = all_of(unknown(found.note if found else "it was looked into no more"))
         else:
-            made = all_of(Step(f"{found.what}: {found.note}" if found.note else found.what))
+            made = all_of(f"{found.what}: {found.note}" if found.note else found.what)
         return self._known.setdefault(device, made)
 
 
 def of_container(device: Device, container: Container) -> Ground:
     name, start = f"LUKS{container.version}", container.start
     if start is None:
-        return all_of(Step(f"{name} container: {container.fault}"))
+        return all_of(f"{name} container: {container.fault}")
     end = device.size // SECTOR if container.length is None else start + container.length
-    claims = [Run(0, max(start, container.header), Step(f"{name} header"))]
+    claims = [Run(0, max(start, container.header), f"{name} header")]
     # A header whose data would lie within it is of a container on another disk.
-    claims += [Run(start, end, Step(f"{name} data, encrypted"))] * (not container.is_detached())
+    claims += [Run(start, end, f"{name} data, encrypted")] * (not container.is_detached())
     return claimed(claims, free(device, "the container doesn't say that it has it"))
 
 
 def of_member(array: Array, member: Member, above: Ground) -> Ground:
     """Who has the sectors of a member of an array: that, or the superblock with what it keeps free."""
-    start, length = member.superblock.start, array.length(member)
+    start, rest = member.superblock.start, all_of(f"superblock of {array.label}, with what it keeps free")
+    if array.device is None:
+        data = all_of(f"{array.label}, which isn't followed: {array.why}")
+    elif not any(other is member for other in array.by_role.values()):
+        data = all_of(f"a member of {array.label} that is stale or was being rebuilt")
+    else:
+        data = filled(functools.partial(of_data, array, member, above), rest)
+    return claimed([Run(start, start + array.length(member), "", 0, data)], rest)
 
-    def ground(first: int, end: int) -> Iterator[Run]:
-        runs, begin, stop = [], max(first, start), min(end, start + length)
-        if begin < stop and array.device is None:
-            runs = [Run(begin, stop, Step(f"{array.label}, which isn't followed: {array.why}"))]
-        elif begin < stop and not any(other is member for other in array.by_role.values()):
-            runs = [Run(begin, stop, Step(f"a member of {array.label} that is stale or was being rebuilt"))]
-        elif begin < stop:
-            for at, count, sector in places(array, member, begin - start, stop - start):
-                step = Step(f"parity of {array.label}") if sector is None else Step(array.label, sector)
-                runs.append(Run(start + at, start + at + count, step, None if sector is None else above))
-        yield from runs
-        for gap in gaps(runs, first, end):
-            yield Run(*gap, Step(f"superblock of {array.label}, with what it keeps free"))
 
-    return ground
+def of_data(array: Array, member: Member, above: Ground, first: int, end: int) -> Iterator[Run]:
+    """Who has sectors of a member's data: sectors of the array, or parity."""
+    for at, count, sector in places(array, member, first, end):
+        is_data = sector is not None
+        name = array.label if is_data else f"parity of {array.label}"
+        yield Run(at, at + count, name, sector, above if is_data else None)
 
 
 def places(array: Array, member: Member, first: int, end: int) -> Iterator[Tuple[int, int, Optional[int]]]:
     """Where a member's data are in the array: the first of each run, how many, and where; None stands for parity."""
+    device, chunk = array.device, array.chunk
     if array.level == "raid1":
         yield first, end - first, first
-        return
-    device = array.device
-    if array.level in ("linear", "raid0") and isinstance(device, Mapped):
-        for line in device.source.devices[device.key].lines:
-            spans = list(line.spans())
-            for place, (disk, start, count) in enumerate(spans):
+    elif array.level in ("linear", "raid0"):
+        for line in device.source.devices[device.key].lines if isinstance(device, Mapped) else ():
+            for place, (disk, start, count) in enumerate(line.spans()):
                 part, begin, until = device.source.disks[disk], max(first, start), min(end, start + (count or 0))
-                if isinstance(part, Part) and part.lower is member.device and begin < until:
-                    chunk = int(line.words[1]) if line.target == "striped" else 1
-                    for at, some, to in column(start, begin, until, chunk, len(spans), place):
-                        yield at, some, line.start + to
-        return
-    role, chunk = next(role for role, other in array.by_role.items() if other is member), array.chunk
-    for row, skipped, count in blocks_of(first, min(end, array.chunks * chunk) - first, chunk):
-        is_copied = array.level == "raid10"
-        for number in copies_in(array, role, row) if is_copied else [array.shape().number(role, row)]:
-            yield row * chunk + skipped, count, None if number is None else number * chunk + skipped
+                if isinstance(part, Part) and part.lower is member.device:
+                    columns, chunk = len(line.places()), int(line.words[1]) if line.target == "striped" else ALL
+                    numbers = functools.partial(lambda columns, place, row: [row * columns + place], columns, place)
+                    for at, some, to in chunks_of(begin - start, until - start, chunk, numbers):
+                        yield start + at, some, line.start + to
+    else:
+        role = next(role for role, other in array.by_role.items() if other is member)
+        one, many = functools.partial(array.shape().number, role), functools.partial(copies_in, array, role)
+        numbers = many if array.level == "raid10" else lambda row: [one(row)]
+        yield from chunks_of(first, min(end, array.chunks * chunk), chunk, numbers)
 
 
 def copies_in(array: Array, role: int, row: int) -> List[int]:

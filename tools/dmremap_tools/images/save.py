@@ -27,8 +27,7 @@ from dmremap_tools.base.numbers import SECTOR
 from dmremap_tools.base.refusal import INCOMPLETE, Refusal, WrongWords
 from dmremap_tools.layers import started
 from dmremap_tools.layouts.rescue_map import BAD, FINISHED
-from dmremap_tools.model.device import BLOCK, ZEROS, Extent, cut, joined, read_blocks
-from dmremap_tools.model.image import Image
+from dmremap_tools.model.device import BLOCK, ZEROS, Extent, Image, cut, joined, read_blocks
 from dmremap_tools.model.pile import Pile, Target
 
 EXAMPLE = "dmremap-tools save vg0/home home.img sda.img sdb.img --map home.map"

@@ -26,9 +26,8 @@ from dmremap_tools.base import program, quoting, streams
 from dmremap_tools.base.luks_header import container_in
 from dmremap_tools.base.numbers import SECTOR
 from dmremap_tools.model.contents import ways_in
-from dmremap_tools.model.device import Device
+from dmremap_tools.model.device import Device, Lenient
 from dmremap_tools.model.groups import WHOLE, Group, Volume
-from dmremap_tools.model.image import Lenient
 from dmremap_tools.model.md_array import Array
 from dmremap_tools.model.pile import Pile, Spot
 

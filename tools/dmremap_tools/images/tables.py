@@ -14,8 +14,7 @@ from typing import Dict, Tuple, Union
 from dmremap_tools.base import names, program, quoting, streams, tables
 from dmremap_tools.base.numbers import SECTOR
 from dmremap_tools.base.refusal import Refusal
-from dmremap_tools.model.device import Copies, Device, Part
-from dmremap_tools.model.image import Image
+from dmremap_tools.model.device import Copies, Device, Image, Part
 from dmremap_tools.model.layout import Layout
 from dmremap_tools.model.mapping import FILES, Mapped, Tables
 from dmremap_tools.model.pile import Pile

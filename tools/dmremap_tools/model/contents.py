@@ -8,8 +8,7 @@ from dmremap_tools.base.luks_header import Container
 from dmremap_tools.base.numbers import SECTOR
 from dmremap_tools.base.partition_table import Table, backup_of, table_of
 from dmremap_tools.base.refusal import Refusal
-from dmremap_tools.model.device import Device, Gap, Part
-from dmremap_tools.model.image import Lenient
+from dmremap_tools.model.device import Device, Gap, Lenient, Part
 
 BIG_SECTOR = 4096
 # What is read of a device: the last magic of those below ends there.

@@ -1,11 +1,17 @@
-"""Devices made of others. A device says in which images its bytes lie, extent by extent, so that they can be copied in
-large blocks, and so that what is missing is known before anything is read."""
+"""Images of disks, which are opened for reading alone, and devices made of others. A device says in which images its
+bytes lie, extent by extent, so that they can be copied in large blocks, and so that what is missing is known before
+anything is read."""
 
 import bisect
+import errno
 import functools
+import itertools
+import os
 from array import array
 from typing import Callable, Iterator, List, NamedTuple, Optional, Sequence, Tuple
 
+from dmremap_tools.base import disk_image, quoting, streams, written
+from dmremap_tools.base.disk_image import Unreadable as Gap
 from dmremap_tools.base.numbers import SECTOR
 from dmremap_tools.base.refusal import Refusal
 
@@ -14,10 +20,6 @@ Run = Tuple[int, int]
 ALL = 1 << 64
 # Bytes that are read at once.
 BLOCK = 1 << 20
-
-
-class Gap(Refusal):
-    """Bytes that aren't there: their image is missing, ends before them, or can't be read."""
 
 
 # A block with the one that is read for it; or the blocks up to an end of which nothing is known, and why.
@@ -189,6 +191,75 @@ class Copies(Device):
             else:
                 yield from self._best(copies[1:], start, extent.size)
             start += extent.size
+
+
+class Image(Device):
+    """The whole sectors of a file or a disk; `path` is as it was given. Some may not have been read from it."""
+
+    def __init__(self, path: str, unread: Sequence[Run] = ()) -> None:
+        self.path, self._unread, self.is_whole, name = path, unread, not unread, quoting.shown(path)
+        try:
+            descriptor = os.open(path, os.O_RDONLY | os.O_NONBLOCK | os.O_CLOEXEC)
+            # By this a file is the same one under another name.
+            self.identity = written.identity(os.fstat(descriptor))
+            if not self.identity:
+                raise Refusal(name, "neither a file nor a disk: give an image of the disk")
+            written.note_input(descriptor)
+            self._file = disk_image.Image(open(descriptor, "rb", buffering=0), name)
+        except OSError as fault:
+            raise Refusal(name, streams.why(fault))
+        self.bytes, self.other_form = self._file.size, ""
+        super().__init__(name, self.bytes // SECTOR * SECTOR)
+        try:
+            disk_image.check_form(descriptor, name)
+        except Refusal as refusal:
+            self.other_form = refusal.why
+
+    def ended(self) -> str:
+        return f"{self.name} ends at byte {self.bytes}: give an image of the whole disk"
+
+    def _extents(self, start: int, size: int) -> Iterator[Extent]:
+        for begin, end, run in cut(self._unread, start, start + size):
+            if run:
+                why = f"{self.name} lacks its bytes {run[0]} to {run[1] - 1}, as its map says"
+            yield Extent(Missing(why), 0, end - begin) if run else Extent(self, begin, end - begin)
+
+    def load(self, start: int, size: int) -> bytes:
+        content = self._file.read(start, size)
+        if len(content) < size:
+            raise Gap(self.name, f"it ends at byte {start + len(content)}: give an image that nobody changes")
+        return content
+
+    def runs(self, start: int, end: int) -> Iterator[Run]:
+        """The sectors of these bytes that aren't in holes, where the file system tells of holes, as runs of bytes."""
+        while start < end:
+            try:
+                begin = self._file.file.seek(start, os.SEEK_DATA)
+                stop = self._file.file.seek(begin, os.SEEK_HOLE)
+            except OSError as fault:
+                if fault.errno != errno.ENXIO:
+                    yield start, end
+                return
+            if begin >= end:
+                return
+            yield begin // SECTOR * SECTOR, min(-(-stop // SECTOR) * SECTOR, end)
+            start = stop
+
+
+class Lenient(disk_image.Image):
+    """A device as the readers of labels and tables take an image: fewer bytes where it ends or lacks some."""
+
+    def __init__(self, device: Device) -> None:
+        self._device = device
+        self.path, self.size, self.base = device.name, device.size, 0
+
+    def read(self, at: int, count: int) -> bytes:
+        """The bytes that are there, up to the first sector that isn't."""
+        blocks = read_blocks(self._device.read, at, min(at + count, self.size))
+        return b"".join(content for _, content, _ in itertools.takewhile(lambda block: block[2], blocks))
+
+    def next_data(self, at: int) -> int:
+        return next((begin for begin, _ in self._device.runs(at, self.size)), self.size)
 
 
 def cut(runs: Sequence[Run], start: int, end: int) -> Iterator[Tuple[int, int, Optional[Run]]]:

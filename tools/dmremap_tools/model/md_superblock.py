@@ -9,8 +9,7 @@ from typing import Iterator, List, NamedTuple, Optional, Tuple
 from dmremap_tools.base import streams
 from dmremap_tools.base.disk_image import Image, Unreadable
 from dmremap_tools.base.numbers import SECTOR
-from dmremap_tools.model.device import Device
-from dmremap_tools.model.image import Lenient
+from dmremap_tools.model.device import Device, Lenient
 
 MAGIC = 0xA92B4EFC
 LINEAR, STRIPED, MIRRORED = -1, 0, 1

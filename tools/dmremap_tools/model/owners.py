@@ -1,40 +1,53 @@
-"""Who has sectors: what lies on them, and what lies on that, and so on up to volumes."""
+"""Who has sectors: what lies on them, and what lies on that, and so on up to the volumes of a group by its text, active
+or not."""
 
+import functools
 import itertools
-from typing import Callable, Iterable, Iterator, List, NamedTuple, Optional, Sequence, Tuple
+from array import array
+from bisect import bisect_right
+from typing import Callable, Dict, Iterable, Iterator, List, NamedTuple, Optional, Sequence, Tuple
 
+from dmremap_tools.base.config_text import shown
 from dmremap_tools.base.numbers import SECTOR
 from dmremap_tools.base.refusal import Refusal
-from dmremap_tools.model.device import Device, Gap, blocks_of
+from dmremap_tools.metadata.volume_group import Segment
+from dmremap_tools.model import snapshot
+from dmremap_tools.model.device import ALL, ZEROS, Device, Gap, blocks_of, joined
+from dmremap_tools.model.groups import REMOVED, Group
+from dmremap_tools.model.layout import LOWER, Layout
+from dmremap_tools.model.mapping import NoProgram
+from dmremap_tools.model.parity import Shape
+from dmremap_tools.model.physical_volume import PhysicalVolume
 
 # How many things may lie on each other, and how many ways up there are beside some for each sector.
 DEEPEST, MOST_WAYS, MOST_OF_SECTOR = 40, 4096, 8
 # Sectors that are read at once of what nothing claims, and that are asked for at once.
 WINDOW, MOST_SECTORS = 1 << 11, 1 << 18
-NOBODY = "nobody"
-
-
-class Step(NamedTuple):
-    """What has sectors, and which of its own they begin with, where it counts them."""
-
-    name: str
-    sector: Optional[int] = None
+# Segments that name no physical volume, and that have columns of data.
+BARE = (b"zero", b"error", b"snapshot", b"thin", b"thin-pool", b"cache", b"cache+CACHE_USES_CACHEVOL", b"cache-pool",
+        b"integrity")
+SNAPSHOT = (b"origin", b"cow_store", b"merging_store")
+INTEGRITY, RAID5 = (b"origin", b"integrity"), (b"raid5", b"raid5_ls")
+# What a volume is to another one whose sectors it doesn't have one by one, by the field that names it.
+ROLES = {b"metadata": "metadata", b"meta_dev": "journal", b"mirror_log": "log", b"pool": "data", b"data": "data",
+         b"cache_pool": "cache", b"cache_vol": "cache", b"origin": "origin"}
+POOL_DATA, CACHE = (b"pool", b"data"), (b"cache_pool", b"cache_vol")
+# What lies on a volume or a physical volume: a volume with its segment, the field that names the lower one, its number
+# in that field, and the sector from which on it is named.
+Above = NamedTuple("Above", [("volume", bytes), ("segment", Segment), ("field", bytes), ("place", int), ("start", int)])
+# What has sectors, and which of its own they begin with, where it counts them.
+Step = Tuple[str, Optional[int]]
 
 
 class Run(NamedTuple):
-    """Sectors up to an end, what has them, and who has the sectors of that. Without a step they end here, as an
-    origin's that its snapshots read."""
+    """Sectors up to an end, the name of what has them, which of its own they begin with, where it counts them, and who
+    has these. Without a name nothing is said of them, as of an origin's that its snapshots read."""
 
     first: int
     end: int
-    step: Optional[Step] = None
+    name: str = ""
+    sector: Optional[int] = None
     above: "Optional[Ground]" = None
-
-    def within(self, first: int, end: int) -> "Run":
-        begin, step = max(first, self.first), self.step
-        if step and step.sector is not None:
-            step = Step(step.name, step.sector + begin - self.first)
-        return Run(begin, min(end, self.end), step, self.above)
 
 
 # Who has sectors of a device, from the first one up to an end. What no run has goes no further up.
@@ -48,45 +61,40 @@ class Way(NamedTuple):
     count: int
     steps: Tuple[Step, ...]
 
-    def goes_on(self, other: "Way") -> bool:
-        """Whether another way is the same of the sectors after these."""
-        moved = [step._replace(sector=None if step.sector is None else step.sector + self.count) for step in self.steps]
-        return self.first + self.count == other.first and moved == list(other.steps)
+    def after(self) -> Tuple[Step, ...]:
+        """The steps of the sectors after these that go the same way."""
+        return tuple((name, None if sector is None else sector + self.count) for name, sector in self.steps)
 
 
 def ways(ground: Ground, first: int, end: int) -> Iterator[Way]:
     """Each way up from these sectors; all of them have one."""
-    waiting: List[Way] = []
+    waiting: Dict[Tuple[Step, ...], Way] = {}
     for start in range(first, end, MOST_SECTORS):
-        stop, before, waiting = min(end, start + MOST_SECTORS), waiting, []
+        stop, before, waiting = min(end, start + MOST_SECTORS), waiting, {}
         for number, way in enumerate(ways_at_once(ground, start, stop)):
             if number > MOST_WAYS + MOST_OF_SECTOR * (stop - start):
                 raise Refusal(f"sector {start}", "too many ways lead up from there: ask for fewer sectors at once")
-            known = next((other for other in before if other.goes_on(way)), None)
+            known = before.pop(way.steps, None) if way.first == start else None
             if known:
-                before.remove(known)
                 way = Way(known.first, known.count + way.count, known.steps)
-            if way.first + way.count == stop:
-                waiting.append(way)
-            else:
+            if way.first + way.count < stop or way.after() in waiting:
                 yield way
-        yield from before
-    yield from waiting
+            else:
+                waiting[way.after()] = way
+        yield from before.values()
+    yield from waiting.values()
 
 
 def ways_at_once(ground: Ground, first: int, end: int, depth: int = 0) -> Iterator[Way]:
     """The same of so few sectors that their runs can be listed."""
     found = ground(first, end) if depth < DEEPEST else [Run(first, end, unknown("it lies on itself"))]
-    runs = list({run[:3]: run for run in found}.values())
+    runs = list(dict.fromkeys(found))
     for run in sorted(runs + [Run(*gap) for gap in gaps(runs, first, end)], key=lambda run: run.first):
-        if run.step is None:
-            yield Way(run.first, run.end - run.first, ())
-        elif run.above is None or run.step.sector is None:
-            yield Way(run.first, run.end - run.first, (run.step,))
-        else:
-            start = run.step.sector
-            for way in ways_at_once(run.above, start, start + run.end - run.first, depth + 1):
-                yield Way(run.first + way.first - start, way.count, (Step(run.step.name, way.first), *way.steps))
+        start, count = run.sector or 0, run.end - run.first
+        above = run.above and ways_at_once(run.above, start, start + count, depth + bool(run.name))
+        for way in above or [Way(start, count, ())]:
+            own = [(run.name, None if run.sector is None else way.first)] if run.name else []
+            yield Way(run.first + way.first - start, way.count, (*own, *way.steps))
 
 
 def gaps(runs: Iterable[Run], first: int, end: int) -> Iterator[Tuple[int, int]]:
@@ -99,44 +107,253 @@ def gaps(runs: Iterable[Run], first: int, end: int) -> Iterator[Tuple[int, int]]
         yield first, end
 
 
-def unknown(why: str) -> Step:
-    return Step(f"unknown: {why}")
+def unknown(why: str) -> str:
+    return f"unknown: {why}"
 
 
-def claimed(claims: Sequence[Run], rest: Ground) -> Ground:
+def all_of(name: str) -> Ground:
+    return lambda first, end: [Run(first, end, name)]
+
+
+def within(claims: Iterable[Run], first: int, end: int) -> Iterator[Run]:
+    """What claims have of some sectors."""
+    for run in claims:
+        begin, stop = max(first, run.first), min(end, run.end)
+        if begin < stop:
+            sector = None if run.sector is None else run.sector + begin - run.first
+            yield run._replace(first=begin, end=stop, sector=sector)
+
+
+def claimed(claims: Iterable[Run], rest: Ground) -> Ground:
     """The ground of some claims, and of what none of them has."""
-    def ground(first: int, end: int) -> Iterator[Run]:
-        runs = [claim.within(first, end) for claim in claims if claim.first < end and first < claim.end]
+    return filled(lambda first, end: within(claims, first, end), rest)
+
+
+def filled(ground: Ground, rest: Ground) -> Ground:
+    """A ground, and another one of the sectors that it says nothing of."""
+    def both(first: int, end: int) -> Iterator[Run]:
+        runs = list(ground(first, end))
         yield from runs
         for gap in gaps(runs, first, end):
             yield from rest(*gap)
-    return ground
-
-
-def all_of(step: Step) -> Ground:
-    return lambda first, end: [Run(first, end, step)]
+    return both
 
 
 def free(device: Device, what: str) -> Ground:
     """The ground of what nothing claims: nobody has zeros. What else is there may be in use, as a boot loader."""
-    def step_of(first: int, end: int) -> Step:
+    def name_of(window: Tuple[int, int]) -> str:
         try:
-            is_empty = not device.read(first * SECTOR, (end - first) * SECTOR).strip(b"\0")
+            is_empty = not device.read(window[0] * SECTOR, (window[1] - window[0]) * SECTOR).strip(b"\0")
         except Gap as gap:
             return unknown(gap.why)
-        return Step(NOBODY) if is_empty else unknown(f"{what}, and yet something is written there")
+        return "nobody" if is_empty else unknown(f"{what}, and yet something is written there")
 
     def ground(first: int, end: int) -> Iterator[Run]:
         windows = ((start, min(end, start + WINDOW)) for start in range(first, end, WINDOW))
-        for step, runs in itertools.groupby((Run(*each, step_of(*each)) for each in windows), lambda run: run.step):
-            same = list(runs)
-            yield Run(same[0].first, same[-1].end, step)
+        for name, same in itertools.groupby(windows, name_of):
+            begin, *_, stop = itertools.chain.from_iterable(same)
+            yield Run(begin, stop, name)
     return ground
 
 
-def column(start: int, first: int, end: int, chunk: int, columns: int, place: int) -> List[Tuple[int, int, int]]:
-    """Sectors of one column of stripes: the first of each run, how many, and where they are in the whole."""
-    if columns == 1:
-        return [(first, end - first, first - start)]
-    return [(start + number * chunk + skipped, count, (number * columns + place) * chunk + skipped)
-            for number, skipped, count in blocks_of(first - start, end - first, chunk)]
+def chunks_of(first: int, end: int, chunk: int,
+              numbers: Callable[[int], Iterable[Optional[int]]]) -> Iterator[Tuple[int, int, Optional[int]]]:
+    """Sectors of one column of chunks: the first of each run, how many, and where they are in the whole; `numbers`
+    says which of its chunks a row of the column has, or None for parity."""
+    for row, skipped, count in blocks_of(first, end - first, chunk):
+        for number in numbers(row):
+            yield row * chunk + skipped, count, None if number is None else number * chunk + skipped
+
+
+class Reading:
+    """Where the bytes of a volume are read, asked the other way round."""
+
+    def __init__(self, device: Device) -> None:
+        self.lacks: Optional[str] = None
+        rows: Dict[Device, List[Tuple[int, int, int]]] = {}
+        for at, extent in joined(device, 0, device.size):
+            why = extent.source.lack(extent.start, extent.size)
+            self.lacks = self.lacks or why
+            if why is None and extent.source is not ZEROS:
+                rows.setdefault(extent.source, []).append((extent.start, extent.size, at))
+        # The starts, the sizes and the places in the volume, by their sources.
+        self._sources = {source: [array("Q", each) for each in zip(*sorted(found))] for source, found in rows.items()}
+
+    def meeting(self, source: Device, start: int, size: int) -> Iterator[Tuple[int, int, int]]:
+        """Those of these bytes that the volume has: the first of each run, the end, and which of its own."""
+        starts, sizes, places = self._sources.get(source, ((), (), ()))
+        for row in range(max(0, bisect_right(starts, start) - 1), bisect_right(starts, start + size - 1)):
+            begin, stop = max(start, starts[row]), min(start + size, starts[row] + sizes[row])
+            if begin < stop:
+                yield begin, stop, places[row] + begin - starts[row]
+
+
+class Stack:
+    """The volumes of a text, from below. `doubt` says why nobody can be sure what is free."""
+
+    def __init__(self, side: Layout, doubt: Optional[str]) -> None:
+        self.side, self.group, self.extent = side, side.group, side.group.extent_size or 0
+        self._above: Dict[bytes, List[Above]] = {}
+        self._visible = set(side.visible())
+        self._stores = {record.store for record in side.group.records}
+        self._reading = functools.lru_cache(None)(lambda name: Reading(side.volume(name)))
+        # Who has sectors of a volume, or of a physical volume.
+        self.on: Callable[[bytes], Ground] = functools.lru_cache(None)(lambda name: functools.partial(self._runs, name))
+        doubts = [doubt, None if self.extent > 0 else "the text says no size of extents"]
+        for name, volume in side.group.volumes.items():
+            for segment in volume.segments:
+                doubts += self._add(name, segment)
+        self.doubt = next(filter(None, doubts), None)
+
+    def path(self, name: bytes) -> str:
+        return ("store of " if name in self._stores else "") + self.side.path(name)
+
+    def _add(self, name: bytes, segment: Segment) -> Iterator[str]:
+        """Notes what a segment lies on, and says what isn't known of that."""
+        first, which = segment.node.value(b"start_extent", int), f"{shown(segment.node.key)} of {shown(name)}"
+        if first is None or first < 0 or (segment.count or 0) <= 0:
+            yield f"the text doesn't say where {which} lies"
+        is_named = False
+        for field in LOWER:
+            values, has_starts = segment.node.values(field), field in (b"stripes", b"mirrors")
+            pairs = zip(values[::2], values[1::2]) if has_starts else zip(values, itertools.repeat(0))
+            for place, (lower, start) in enumerate(pairs):
+                physical = self.group.physicals.get(lower)
+                is_known = (physical or lower in self.group.volumes) and isinstance(start, int) and start >= 0
+                if is_known:
+                    sector = start * self.extent + (physical.value(b"pe_start", int) or 0 if physical else 0)
+                    self._above.setdefault(lower, []).append(Above(name, segment, field, place, sector))
+                    is_named = True
+                elif has_starts:
+                    yield f"{which} names no place"
+        if not is_named and segment.kind not in BARE:
+            yield f"nothing is known of the type {shown(segment.kind or b'none')} of {shown(name)}"
+
+    def _runs(self, name: bytes, first: int, end: int) -> Iterator[Run]:
+        if name in self._visible and name not in self._stores:
+            yield Run(first, end)
+        for above in self._above.get(name, ()):
+            yield from self._through(name, above, first, end)
+        for record in self.group.records:
+            if name == record.store or name == record.origin and not record.is_merging:
+                upper = record.origin if record.is_merging else record.store
+                yield from self._read(upper or b"", name, first, end)
+
+    def _through(self, lower: bytes, above: Above, first: int, end: int) -> Iterator[Run]:
+        """Who has sectors of a volume by way of one that lies on it."""
+        upper, segment, field, place, _ = above
+        kind, chunk, columns = segment.kind or b"", segment.stripe_size or 0, len(segment.stripes)
+        leg, legs, is_leg = place // 2, len(segment.node.values(b"raids")) // 2, field == b"raids" and place % 2 == 1
+        if field == b"stripes" and columns > 1:
+            name = unknown(f"the text says no stripes of {self.path(upper)}")
+            yield from self._of(above, first, end, chunk, columns, lambda row: row * columns + place) \
+                if chunk else [Run(first, end, name)]
+        elif field in (b"stripes", b"mirrors") or is_leg and kind == b"raid1" or (field, kind) == INTEGRITY:
+            yield from self._of(above, first, end, ALL, 1, lambda row: row)
+        elif is_leg and kind in RAID5 and chunk and legs > 1:
+            shape = Shape("raid5", legs, "left-symmetric", chunk * SECTOR)
+            yield from self._of(above, first, end, chunk, None, functools.partial(shape.number, leg))
+        elif field == b"raids":
+            yield Run(first, end, self._part("part" if is_leg else "superblock", upper))
+        elif field not in SNAPSHOT or kind.startswith(b"cache"):
+            # What a snapshot reads of its origin and of its store is found otherwise; a thin one reads its pool. Which
+            # thin or cached volumes may read this one: those of the pool whose data it is, or that it is the cache of.
+            pool = upper if field in POOL_DATA else lower if field in CACHE else b""
+            users = [other.volume for other in self._above.get(pool, ()) if other.field in (b"thin_pool", *CACHE)]
+            readers = dict.fromkeys([upper] if field == b"origin" else users)
+            runs = [run for reader in readers for run in self._read(reader, lower, first, end)]
+            yield from runs
+            # Where nobody can be sure of a volume, it is told as well what is sure.
+            for gap in gaps([run for run in runs if run.above], first, end):
+                yield Run(*gap, self._part(ROLES.get(field, "part"), upper))
+
+    def _of(self, above: Above, first: int, end: int, chunk: int, columns: Optional[int],
+            number: Callable[[int], Optional[int]]) -> Iterator[Run]:
+        """Who has those of some sectors that one of these columns of a segment has, or that have parity."""
+        begin, length = above.start, (above.segment.count or 0) * self.extent
+        to = (above.segment.node.value(b"start_extent", int) or 0) * self.extent
+        if columns:
+            first, end = max(first, begin), min(end, begin - -length // columns)
+        for at, count, sector in chunks_of(first - begin, end - begin, chunk, lambda row: [number(row)]):
+            if sector is None:
+                yield Run(begin + at, begin + at + count, self._part("parity", above.volume))
+            elif sector < length:
+                upper = above.volume
+                yield Run(begin + at, begin + at + count, self.path(upper), to + sector, self.on(upper))
+
+    def _part(self, role: str, name: bytes) -> str:
+        """What is a part of a volume, and which volumes that a user sees are above that."""
+        found, waiting = [], [name]
+        while waiting:
+            uppers = dict.fromkeys(above.volume for above in self._above.get(waiting.pop(), ()))
+            new = [upper for upper in uppers if upper not in found]
+            found, waiting = found + new, waiting + new
+        seen = [shown(other) for other in found if other in self._visible]
+        return f"{role} of {self.path(name)}" + (f", below {', '.join(seen)}" if seen else "")
+
+    def _read(self, upper: bytes, lower: bytes, first: int, end: int) -> Iterator[Run]:
+        """The sectors of a volume that another one reads, which its own layer says. A snapshot's are its own."""
+        called, over = self.side.path(upper), None if upper in self._stores else self.on(upper)
+        try:
+            reading = self._reading(upper)
+            for at, extent in joined(self.side.plain(lower), first * SECTOR, (end - first) * SECTOR):
+                for begin, stop, place in reading.meeting(extent.source, extent.start, extent.size):
+                    moved = at - extent.start
+                    yield Run((begin + moved) // SECTOR, (stop + moved) // SECTOR, called, place // SECTOR, over)
+            why = reading.lacks
+        except NoProgram:
+            raise
+        except Refusal as refusal:
+            why = refusal.why
+        if why and why != snapshot.INVALID:
+            yield Run(first, end, unknown(f"whether {called} has it: {why}"))
+
+
+class Groups:
+    """All groups, to be asked for the sectors of physical volumes."""
+
+    def __init__(self, groups: Sequence[Group]) -> None:
+        doubts = {group.side: group.doubt for group in groups if group.state != REMOVED}
+        self._stacks = [Stack(side, doubt) for side, doubt in doubts.items()]
+        self._removed: Dict[str, List[Run]] = {}
+        for volume in (volume for group in groups for volume in group.volumes if volume.is_removed):
+            for identity, first, end in volume.side.uses(volume.key):
+                self._removed.setdefault(identity, []).append(Run(first, end, f"{volume.path}, removed"))
+
+    def of(self, volume: PhysicalVolume) -> Ground:
+        """Who has the sectors of a physical volume."""
+        sector, area = volume.label.sector, "metadata area of LVM"
+        claims = [Run(sector, sector + 1, "label of LVM")]
+        claims += [Run(at // SECTOR, -(-(at + size) // SECTOR), area) for at, size in volume.label.areas]
+        keys = [(stack, key) for stack in self._stacks for key, identity in stack.side.physical_ids.items()
+                if identity == volume.identity]
+        grounds = [self._extents(stack, key, volume) for stack, key in keys]
+        grounds = grounds or [self._and_once(without_group(volume), volume)]
+        return claimed(claims, lambda first, end: [run for ground in grounds for run in ground(first, end)])
+
+    def _extents(self, stack: Stack, key: bytes, volume: PhysicalVolume) -> Ground:
+        """Who has the sectors of a physical volume by the text of one group."""
+        group, node = stack.side.name, stack.group.physicals[key]
+        start, count = node.value(b"pe_start", int), node.value(b"pe_count", int)
+        if start is None or count is None or start < 0 or count < 0:
+            return all_of(unknown(f"the text of {group} doesn't say where the extents of {shown(key)} are"))
+        free = unknown(f"no volume of {group} has it, but {stack.doubt}") if stack.doubt else f"free in {group}"
+        extents = filled(stack.on(key), self._and_once(free, volume))
+        return claimed([Run(start, start + count * stack.extent, "", start, extents)],
+                       all_of(f"physical volume of {group}, outside of its extents"))
+
+    def _and_once(self, name: str, volume: PhysicalVolume) -> Ground:
+        """The same for all, and the volumes that were removed, and had some of the sectors."""
+        once = self._removed.get(volume.identity, ())
+        return lambda first, end: [Run(first, end, name), *within(once, first, end)]
+
+
+def without_group(volume: PhysicalVolume) -> str:
+    if volume.faults:
+        return unknown(volume.faults[0])
+    if volume.current:
+        group = volume.current[0].group
+        return unknown(f"the current text of {group} doesn't name this physical volume, whose own is older")
+    if volume.label.is_used is False:
+        return "physical volume of no group"
+    return unknown("nothing says to which group this physical volume belongs: give the images of the others")

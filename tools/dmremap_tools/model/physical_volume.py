@@ -16,8 +16,7 @@ from typing import Dict, Iterator, List, NamedTuple, Optional, Tuple
 from dmremap_tools.base import disk_image, streams
 from dmremap_tools.base.numbers import SECTOR
 from dmremap_tools.metadata.group_text import Text, text_of, texts_of_ring
-from dmremap_tools.model.device import Device, Part, Run
-from dmremap_tools.model.image import Image, Lenient
+from dmremap_tools.model.device import Device, Image, Lenient, Part, Run
 
 LABEL, TYPE, LABEL_SECTORS = b"LABELONE", b"LVM2 001", 4
 MAGIC, VERSION, INITIAL = b" LVM2 x[5A%r0N*>", 1, 0xF597A6CF

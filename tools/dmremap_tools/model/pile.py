@@ -9,9 +9,8 @@ from dmremap_tools.base.partition_table import Table
 from dmremap_tools.base.refusal import Refusal
 from dmremap_tools.model import mapping, md_superblock, physical_volume
 from dmremap_tools.model.contents import BIG_SECTOR, file_system_of, partitions_of
-from dmremap_tools.model.device import Device, Run
+from dmremap_tools.model.device import Device, Image, Lenient, Run
 from dmremap_tools.model.groups import REMOVED, Group, Texts, Volume, same_id
-from dmremap_tools.model.image import Image, Lenient
 from dmremap_tools.model.md_array import Array
 from dmremap_tools.model.md_superblock import Member
 from dmremap_tools.model.physical_volume import PhysicalVolume

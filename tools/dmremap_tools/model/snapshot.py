@@ -12,8 +12,7 @@ from dmremap_tools.base.refusal import Refusal
 from dmremap_tools.layers import store_states
 from dmremap_tools.layers.store_states import DAMAGED
 from dmremap_tools.metadata.volume_group import Record
-from dmremap_tools.model.device import Device
-from dmremap_tools.model.image import Lenient
+from dmremap_tools.model.device import Device, Lenient
 from dmremap_tools.model.layout import Layout
 from dmremap_tools.model.mapping import Mapped
 
