@@ -40,19 +40,14 @@ class Member(NamedTuple):
     size: int
     superblock: Superblock
 
-    def check(self, others: "Iterable[Member]") -> None:
-        """Refuses a member that doesn't have all data of its array, or is older than another one."""
-        why = fault_of(self.superblock)
+    def check(self, others: "Iterable[Member]" = (), is_age_alone: bool = False) -> None:
+        """Refuses a member that doesn't have all data of its array, or is older than another one of it."""
+        mine = self.superblock
+        newer = ((it.image.path, it.superblock.events) for it in others if it.superblock.array == mine.array)
+        ages = (OLDER.format(mine.events, path, events) for path, events in newer if events > mine.events)
+        why = not is_age_alone and fault_of(mine) or next(ages, None)
         if why:
             raise Refusal(self.image.path, why)
-        self.check_age(others)
-
-    def check_age(self, others: "Iterable[Member]") -> None:
-        """Refuses a member that is older than another one of its array."""
-        mine = self.superblock
-        for image, _, other in others:
-            if other.array == mine.array and other.events > mine.events:
-                raise Refusal(self.image.path, OLDER.format(mine.events, image.path, other.events))
 
     def has_volume(self) -> bool:
         return label_of(self.image.part(self.superblock.start * SECTOR, self.image.size))[0] is not None
@@ -87,7 +82,7 @@ def check_newest(paths: Iterable[str]) -> None:
     """Refuses a member with a physical volume that is older than another one in these images."""
     members = [member for path in dict.fromkeys(paths) if path != "-" for member in members_of(path)]
     for member in filter(Member.has_volume, members):
-        member.check_age(members)
+        member.check(members, True)
 
 
 def members_of(path: str) -> List[Member]:
@@ -139,7 +134,7 @@ def check_mirrored(image: Image) -> None:
     is_labelled = label_of(image)[0] is not None
     for superblock in md_superblock.superblocks(image):
         if not (is_labelled and superblock.start):
-            Member(image, image.size, superblock).check(())
+            Member(image, image.size, superblock).check()
     for at in md_superblock.damaged(image):
         if not is_labelled or at > LAST_BEFORE_DATA:
             raise Refusal(image.path, DAMAGED.format(image.base + at))

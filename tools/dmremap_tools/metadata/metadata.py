@@ -29,8 +29,8 @@ from dmremap_tools.base.disk_image import Image, open_image
 from dmremap_tools.base.paths import Place, place_of
 from dmremap_tools.base.refusal import Refusal, WrongWords
 from dmremap_tools.metadata.chosen_part import check_newest, chosen_parts, taken_from_array
-from dmremap_tools.metadata.group_text import text_of
 from dmremap_tools.metadata.valid_text import areas_of, older_text, texts_in, valid_text
+from dmremap_tools.model.physical_volume import text_of
 
 EXAMPLE = "dmremap-tools metadata vg0-head.img > vg0.backup && dmremap table lvm vg0.backup"
 

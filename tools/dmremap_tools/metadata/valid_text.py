@@ -8,9 +8,8 @@ from dmremap_tools.base.luks_header import is_container
 from dmremap_tools.base.numbers import SECTOR
 from dmremap_tools.base.refusal import Refusal
 from dmremap_tools.metadata.chosen_part import where_volumes_begin
-from dmremap_tools.metadata.group_text import Text, texts_of_ring
 from dmremap_tools.model import physical_volume
-from dmremap_tools.model.physical_volume import EMPTY, MISSING, MOST_AREAS, SEARCHED, Area, area_at, label_of
+from dmremap_tools.model.physical_volume import EMPTY, MISSING, MOST_AREAS, SEARCHED, Area, Text, area_at, label_of
 
 OTHER = "try another physical volume of the group, or a file in /etc/lvm/backup"
 OLDER = "see what is left of older texts with --list"
@@ -36,9 +35,7 @@ def _searched_areas(image: Image, why: List[str]) -> List[Area]:
     """The sound areas in the first and the last bytes. Each says where it begins, so that no area of another
     physical volume passes for one, as of a guest's disk that lies on this one."""
     areas: List[Area] = []
-    for at, header in physical_volume.search(image):
-        belongs, size = physical_volume.place_in(header)
-        fault = physical_volume.header_fault(header, belongs)
+    for at, belongs, size, fault in physical_volume.search(image):
         misplaced = f"the metadata area at byte {at} belongs at byte {belongs}, so "
         if fault:
             why.append(f"the metadata area at byte {at}: {fault}")
@@ -91,7 +88,7 @@ def _places(areas: List[Area]) -> str:
 
 def texts_in(image: Image) -> List[Text]:
     """The older texts in the areas of an image, or at its beginning where these aren't known; no empty list."""
-    texts = physical_volume.older_texts(image) or texts_of_ring(image.base, image.read(0, HEAD), False)
+    texts = physical_volume.older_texts(image) or physical_volume.texts_of_ring(image.base, image.read(0, HEAD), False)
     if not texts:
         raise Refusal(image.path, "there is no text of a group: "
                       "take another physical volume, or a file in /etc/lvm/archive")

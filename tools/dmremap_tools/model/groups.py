@@ -9,12 +9,11 @@ from typing import Callable, Dict, Iterable, Iterator, List, NamedTuple, Optiona
 from dmremap_tools.base.config_text import shown
 from dmremap_tools.base.numbers import SECTOR
 from dmremap_tools.base.refusal import Refusal
-from dmremap_tools.metadata.group_text import Text
 from dmremap_tools.model.contents import file_system_of
 from dmremap_tools.model.device import Device, Missing
 from dmremap_tools.model.layout import Layout, Use
 from dmremap_tools.model.mapping import NoProgram
-from dmremap_tools.model.physical_volume import PhysicalVolume
+from dmremap_tools.model.physical_volume import PhysicalVolume, Text
 from dmremap_tools.model.snapshot import INVALID as INVALID_SNAPSHOT
 
 COMPLETE, LACKING, TRUNCATED, FORKED = "complete", "missing", "truncated", "forked"

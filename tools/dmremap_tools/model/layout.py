@@ -9,10 +9,10 @@ from dmremap_tools.base import names, tables
 from dmremap_tools.base.config_text import Node, shown
 from dmremap_tools.base.numbers import SECTOR
 from dmremap_tools.base.refusal import Refusal
-from dmremap_tools.metadata.group_text import Text
 from dmremap_tools.metadata.volume_group import Group, Record, Segment, Volume
 from dmremap_tools.model.device import Device, Extent, Missing
 from dmremap_tools.model.mapping import Mapped, Tables
+from dmremap_tools.model.physical_volume import Text
 
 # The most sectors of an extent, and extents of a volume: more than lvm2 makes.
 MOST_EXTENT, MOST_EXTENTS = 1 << 34, 1 << 32
