@@ -24,16 +24,16 @@ from typing import Iterable
 
 from dmremap_tools.base import paths, program, streams
 from dmremap_tools.base.refusal import Refusal
-from dmremap_tools.explaining import asked, name_words, texts
+from dmremap_tools.explaining import asked
 from dmremap_tools.explaining.finding import Finding, shell
-from dmremap_tools.explaining.levels import Levels
 from dmremap_tools.explaining.refusals import Told
-from dmremap_tools.explaining.steps import Way
+from dmremap_tools.explaining.ways import Levels, Way
 from dmremap_tools.layers import stack
 from dmremap_tools.model import mapping
 
 EXAMPLE = "dmremap-tools explain map lvm vg0.backup 'R vg0-lv0 8000 16'"
-MOST_REQUESTS = 16
+# How many requests are answered, and how many bytes of them are taken.
+MOST_REQUESTS, MOST_BYTES = 16, 1 << 24
 
 
 def add_words(parser: argparse.ArgumentParser) -> None:
@@ -53,8 +53,8 @@ def run(words: argparse.Namespace) -> None:
 
 def _explained(words: argparse.Namespace, room: str) -> "Iterable[Finding | Way]":
     one = program.dmremap(words.program)
-    if words.words[0] in name_words.COMMANDS:
-        return [name_words.why(one, words.words)]
+    if words.words[0] in asked.OF_NAMES:
+        return [asked.why_names(one, words.words)]
     typed = asked.typed(words.words)
     if isinstance(typed, Finding):
         return [typed]
@@ -63,7 +63,7 @@ def _explained(words: argparse.Namespace, room: str) -> "Iterable[Finding | Way]
     # What is loaded is looked at first, so that no request is waited for where it is refused.
     message, requests = told.ask(b""), "".join(it + "\n" for it in typed.requests).encode("utf-8", "surrogateescape")
     if not message and not requests and typed.command in ("map", "replay") and not os.isatty(0):
-        requests = texts.standard_input()
+        requests = _standard_input()
     message = message or told.ask(requests)
     if message:
         return [told.why(message, requests)]
@@ -78,3 +78,14 @@ def _explained(words: argparse.Namespace, room: str) -> "Iterable[Finding | Way]
     command = " ".join(["dmremap-tools explain map", *map(shell, typed.given.words())])
     return [Finding("nothing is refused: dmremap loads %d device%s" % (len(names), "s" * (len(names) != 1)),
                     ["for the way of a request, add it:", "  %s 'R %s 0 8'" % (command, (names or ["NAME"])[0])])]
+
+
+def _standard_input() -> bytes:
+    """What standard input brings, to the byte."""
+    content = bytearray()
+    for chunk in streams.chunks("-"):
+        content += chunk
+        if len(content) > MOST_BYTES:
+            why = "it has more than %d bytes: give the requests around the one that is refused" % MOST_BYTES
+            raise Refusal("standard input", why)
+    return bytes(content)

@@ -7,8 +7,8 @@ from typing import Dict, List, Optional
 from dmremap_tools.base import program
 from dmremap_tools.base.given import Given, put
 from dmremap_tools.base.refusal import Refusal
-from dmremap_tools.explaining import group_texts, kinds, request_lines, table_texts, texts
-from dmremap_tools.explaining.asked import Typed, line
+from dmremap_tools.explaining import group_texts, request_lines, table_texts, texts
+from dmremap_tools.explaining.asked import Typed, general, line
 from dmremap_tools.explaining.finding import Finding, Place, shell
 from dmremap_tools.explaining.texts import Text
 from dmremap_tools.layers import refused, stack
@@ -82,27 +82,27 @@ class Told:
     def _why_kind(self, part: str, text: Text) -> Optional[Finding]:
         """What a file is that isn't what it stands for."""
         kind, (wanted, file, disks) = text.kind, self.typed.given
-        converted = kinds.unpacked(text.name, kind, text.changed)
-        right = [kinds.DISKS, kinds.EMPTY] if part == "disks" else [kinds.KIND_OF[wanted]]
-        if converted or kind in (kinds.UNKNOWN, *right):
+        converted = text.unpacked(text.name)
+        right = [texts.DISKS, texts.EMPTY] if part == "disks" else [texts.KIND_OF[wanted]]
+        if converted or kind in (texts.UNKNOWN, *right):
             return converted
-        form = kinds.FORM_OF.get(self._texts["disks"].kind)
-        if form and self._texts["source"].kind == kinds.DISKS:
-            return Finding("FILE and DISKS stand the wrong way round: %s is %s" % (file, kinds.DISKS),
+        form = texts.FORM_OF.get(self._texts["disks"].kind)
+        if form and self._texts["source"].kind == texts.DISKS:
+            return Finding("FILE and DISKS stand the wrong way round: %s is %s" % (file, texts.DISKS),
                            [line(self.typed.command, form, disks, file)])
         if part == "disks":
             do = ["a line is DISK LEN; make the list, as root:", table_texts.list_of(self._named(), "DISK ..")]
             return Finding("%s is %s, and no list of disks" % (text.name, kind), do)
-        if kind not in kinds.FORM_OF:
-            return kinds.OF[kind]._replace(why="%s %s" % (text.name, kinds.OF[kind].why))
-        form = kinds.FORM_OF[kind]
+        if kind not in texts.FORM_OF:
+            return texts.OF[kind]._replace(why="%s %s" % (text.name, texts.OF[kind].why))
+        form = texts.FORM_OF[kind]
         return Finding("%s is %s, and the format %s is another" % (text.name, kind, wanted),
                        [line(self.typed.command, form, file, disks or "DISKS")])
 
     def _named(self) -> List[str]:
         """The disks that FILE names, if it has tables."""
         file = self._texts["source"]
-        return table_texts.disks_named(file) if file.kind in (kinds.TABLE, kinds.CONCISE) else []
+        return table_texts.disks_named(file) if file.kind in (texts.TABLE, texts.CONCISE) else []
 
     def _is_loaded(self, copy: bytes) -> bool:
         path = os.path.join(self._room, "copy")
@@ -117,7 +117,7 @@ class Told:
         if word == "long":
             return None
         if word in OF_SNAPSHOTS:
-            known = refused.told(text.name, form, text.decoded(), disks.sizes, message + "\n")[1]
+            known = refused.told(form, text, disks, message + "\n")
         if form == "lvm":
             found = group_texts.why(word, number, text, self._is_loaded)
             is_more = known not in ("", refused.OTHER_COPY, refused.ODD_RECORD)
@@ -131,7 +131,7 @@ class Told:
     def _why_disks_or_none(self) -> Finding:
         """DISKS is there with metadata, or isn't there."""
         (wanted, file, disks), kind, named = self.typed.given, self._texts["source"].kind, self._named()
-        form = kinds.FORM_OF.get(kind, wanted)
+        form = texts.FORM_OF.get(kind, wanted)
         again = line(self.typed.command, form, file, "disks" if disks is None else disks)
         if form == "lvm" and disks is None:
             return Finding("%s is %s, which needs no DISKS, with another format" % (file, kind), [again])
@@ -141,12 +141,12 @@ class Told:
             return Finding("%s is %s, and the format lvm is another" % (file, kind), [again])
         why = "DISKS is missing: the list of the disks with their lengths"
         if any(re.fullmatch("[0-9]+:[0-9]+", it) for it in named):
-            do = ["as root, this makes both for a whole machine:", *kinds.GET_MACHINE]
+            do = ["as root, this makes both for a whole machine:", *texts.GET_MACHINE]
             return Finding(why + "; FILE names the kernel's numbers", do)
         return Finding(why, ["make it, as root:", table_texts.list_of(named, "DISK .."), "and give it:", again])
 
     def _why_request(self, word: str, number: int, requests: Text) -> Finding:
-        converted = kinds.unpacked("the file with the requests", requests.kind, lambda by: request_lines.PLAIN % by)
+        converted = requests.unpacked("the file with the requests", request_lines.PLAIN)
         if converted:
             return converted
         try:
@@ -154,14 +154,3 @@ class Told:
         except Refusal:
             return general(self.asked, "dmremap: request %d: %s" % (number, word))
         return request_lines.why(word, requests.place(number), loaded)
-
-
-def general(asked: str, message: str, otherwise: str = "dmremap fails with this message") -> Finding:
-    """What dmremap's own help says of a message, in lines. Its entries begin with the messages that they are about."""
-    lines: List[str] = []
-    for entry in program.ask_quietly([asked, "help", message])[0].split("\n\n"):
-        rows = entry.splitlines()
-        heads = (re.escape(it).replace("NAME", ".+") for it in rows if not it.startswith(" "))
-        if any(re.fullmatch(re.sub(r"\b(NUMBER|LINE|N)\b", "[0-9]+", it), message) for it in heads):
-            lines += [it.strip() for it in rows if it.startswith(" ")]
-    return Finding("\n".join(lines) or otherwise, [])

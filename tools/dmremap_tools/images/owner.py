@@ -26,7 +26,6 @@ from dmremap_tools.base.luks_header import Container
 from dmremap_tools.base.numbers import SECTOR
 from dmremap_tools.base.partition_table import Table
 from dmremap_tools.base.refusal import Refusal
-from dmremap_tools.layers import arrays
 from dmremap_tools.layouts import rescue_map
 from dmremap_tools.model.device import ALL, Device, Part
 from dmremap_tools.model.mapping import Mapped
@@ -193,7 +192,7 @@ def places(array: Array, member: Member, first: int, end: int) -> Iterator[Tuple
                         yield start + at, some, line.start + to
     else:
         role = next(role for role, other in array.by_role.items() if other is member)
-        one, many = functools.partial(array.shape().number, role), functools.partial(copies_in, array, role)
+        one, many = functools.partial(array.number, role), functools.partial(copies_in, array, role)
         numbers = many if array.level == "raid10" else lambda row: [one(row)]
         yield from chunks_of(first, min(end, array.chunks * chunk), chunk, numbers)
 
@@ -206,6 +205,6 @@ def copies_in(array: Array, role: int, row: int) -> List[int]:
         base = (row - turn * stride) // (far if is_offset else 1)
         about = (base * array.count + (role - turn * near) % array.count) // near
         for number in range(max(0, about - near), min(end, about + near + 1)):
-            if any(arrays.place(array, number, copy) == (role, row) for copy in range(near * far)):
+            if any(array.place(number, copy) == (role, row) for copy in range(near * far)):
                 found.add(number)
     return sorted(found)

@@ -1,11 +1,14 @@
-"""Members of md arrays, as `mdadm --examine` prints them."""
+"""Arrays and their members, as `mdadm --examine` prints them."""
 
+import functools
 import re
-from typing import Dict, List, NoReturn, Optional, Sequence, Set, Tuple
+from typing import Dict, Iterator, List, NoReturn, Optional, Sequence, Set, Tuple
 
-from dmremap_tools.base import quoting, streams
+from dmremap_tools.base import names, quoting, streams, tables
 from dmremap_tools.base.refusal import Refusal
-from dmremap_tools.model.md_superblock import BAD_BLOCKS, BITMAP, JOURNAL, LAYOUT_SAID, MOST_DEVICES
+from dmremap_tools.model import md_chunks
+from dmremap_tools.model.md_chunks import START
+from dmremap_tools.model.md_superblock import BAD_BLOCKS, HARMLESS, JOURNAL, MOST_DEVICES
 
 HEAD = re.compile(r"(/\S+|[^\s:][^:]*):")
 FIELD = re.compile(r" *([A-Z][A-Za-z0-9 ']*?) : (.*)")
@@ -17,13 +20,15 @@ ROLE = re.compile(r"Active device (\d{1,4})")
 AMOUNT = re.compile(r"(\d{1,18})(?: (?:sectors|KiB))?(?: \(.*)?")
 EVENTS = re.compile(r"\d{1,20}(?:\.\d{1,20})?")
 CHUNK = re.compile(r"(\d{1,9})K")
-# What a feature map is, what stands for another one, and the bits that don't change where data lies.
+# What a feature map is, and what stands for another one.
 FEATURES, UNKNOWN = re.compile("0x[0-9a-f]{1,8}"), 1 << 32
-HARMLESS = BITMAP | BAD_BLOCKS | LAYOUT_SAID
-# What to do about a text with faults, and about an array that no table says.
-ANEW, START = "make the text anew by `mdadm --examine`", "start it by `mdadm --assemble --readonly`"
+# What to do about a text with faults.
+ANEW = "make the text anew by `mdadm --examine`"
 CHANGING = ("Reshape pos'n", "Delta Devices", "New Level", "New Layout", "New Chunksize", "Recovery Offset")
 OF_JOURNAL = ("Journal Offset", "Journal")
+# Metadata 0.90 lies in the last 64 KiB of a member that begin at a multiple of that.
+OLD_ROOM = 128
+FOLLOW = "which no table can say: follow the answers with --follow"
 
 
 class Member:
@@ -120,19 +125,20 @@ def same(members: Sequence[Member], *keys: str) -> str:
     """What all members say of a field."""
     values = {it.get(*keys) for it in members}
     if len(values) > 1:
-        members[0].refuse("the members differ in '%s' (%s): give those of one array" % (keys[0], quoting.shown(", ".join(sorted(values)))))
+        said = quoting.shown(", ".join(sorted(values)))
+        members[0].refuse(f"the members differ in '{keys[0]}' ({said}): give those of one array")
     return values.pop()
 
 
 def by_role(members: Sequence[Member]) -> Tuple[Dict[int, Member], int]:
     """The members by their roles, all of the last state that any of them tells, and how many roles there are."""
     first = members[0]
-    for keys in ("Array UUID", "UUID"), ("Raid Level",), ("Raid Devices",):
-        same(members, *keys)
+    same(members, "Array UUID", "UUID")
+    level, _ = same(members, "Raid Level"), same(members, "Raid Devices")
     count, version = first.number("Raid Devices"), same(members, "Version")
     if version not in ("1.0", "1.1", "1.2") and not OLD_VERSION.fullmatch(version):
         first.refuse(f"metadata of version {quoting.shown(version)}, and only 0.90 and 1.0 to 1.2 are known: {START}")
-    if not 0 < count <= MOST_DEVICES:
+    if not md_chunks.PARITY.get(level, 0) < count <= MOST_DEVICES:
         first.refuse(f"no array has {count} devices: {ANEW}")
     newest = max(it.events() for it in members)
     found: Dict[int, Member] = {}
@@ -151,3 +157,105 @@ def by_role(members: Sequence[Member]) -> Tuple[Dict[int, Member], int]:
     for role in [it for it in found if it in dropped]:
         streams.tell(f"left out: {quoting.shown(found.pop(role).path)}, which the array has dropped")
     return found or first.refuse("no member of it is active: give those that are, or " + START), count
+
+
+class Array(md_chunks.Members):
+    """An array of the members that are there, by their roles. `disks` has the name of each member in the table, where
+    it isn't its path, and `sizes` the sectors of members whose metadata doesn't say them."""
+
+    def __init__(self, members: Sequence[Member], disks: Dict[str, str], sizes: Dict[str, int]) -> None:
+        for path in [*disks, *sizes]:
+            if path not in (it.path for it in members):
+                raise Refusal(quoting.shown(path), "no member of the array has this path: give one that "
+                              "`mdadm --examine` printed")
+        self._disks, self._sizes = disks, sizes
+        self.by_role, count = by_role(members)
+        there = list(self.by_role.values())
+        self.label, level = there[0].place, same(there, "Raid Level")
+        layout = same(there, "Layout") if any("Layout" in it.fields for it in there) else ""
+        super().__init__(level, count, layout, 0)
+        if level not in ("linear", "raid1"):
+            chunk = CHUNK.fullmatch(same(there, "Chunk Size"))
+            self.chunk = 2 * int(chunk[1]) if chunk else 0
+            if not self.chunk:
+                self.refuse("no size of chunks: " + ANEW)
+        if level == "raid10":
+            self.copies = self._copies()
+        if level in (*md_chunks.PARITY, "raid10"):
+            self.chunks = min(it.used() for it in there) // self.chunk
+
+    def _copies(self) -> md_chunks.Copies:
+        said = dict(it.split("=", 1) for it in self.layout.split(", ") if "=" in it)
+        near, far = said.get("near", "1"), said.get("far", said.get("offset", "1"))
+        is_number = (near + far).isdecimal() and len(near + far) <= 6
+        if not said or not is_number or not 0 < int(near) * int(far) <= self.count:
+            self.refuse(f"no layout of raid10 ({quoting.shown(self.layout)}): {ANEW}")
+        return md_chunks.Copies(int(near), int(far), "offset" in said)
+
+    def member(self, role: int) -> Member:
+        """The member that has this role, which is refused if it is missing."""
+        if role not in self.by_role:
+            self.refuse(f"device {role} of the array is missing: add what `mdadm --examine` prints of it")
+        return self.by_role[role]
+
+    @functools.lru_cache(maxsize=None)
+    def beginning(self, role: int) -> Tuple[str, int]:
+        """A member's disk, and its first sector of data."""
+        member = self.member(role)
+        name = self._disks.get(member.path, member.path)
+        if not names.DISK.fullmatch(name) and not name.startswith(names.MAPPER):
+            self.refuse("no name of a disk, give --path %s=DISK" % quoting.shown(name))
+        return name, member.number("Data Offset") if "Data Offset" in member.fields else 0
+
+    def spot(self, role: int, row: int = 0) -> List[str]:
+        disk, start = self.beginning(role)
+        return [disk, str(start + row)]
+
+    def whole(self, role: int) -> int:
+        member = self.member(role)
+        if not member.is_old():
+            size = member.number("Avail Dev Size")
+        elif member.path in self._sizes:
+            size = max(0, self._sizes[member.path] // OLD_ROOM * OLD_ROOM - OLD_ROOM)
+        else:
+            member.refuse("metadata 0.90 doesn't say how long a member is, give --size %s=SECTORS"
+                          % quoting.shown(member.path))
+        rounding = CHUNK.fullmatch(member.fields.get("Rounding", ""))
+        return size - size % (self.chunk or (2 * int(rounding[1]) if rounding else 0) or 1)
+
+    def lines_of(self, copy: Optional[int]) -> Iterator[tables.Line]:
+        """The lines of the array, of this copy or of the first that is there."""
+        near, far, is_offset = self.copies
+        if self.level in ("linear", "raid0"):
+            return self.lines()
+        if self.level == "raid1":
+            role = min(self.by_role) if copy is None else copy
+            return iter([tables.Line(0, 2 * self.member(role).number("Array Size"), "linear", self.spot(role))])
+        if self.level == "raid4":
+            return self._rows(range(self.data), 0)
+        if self.level != "raid10":
+            self.refuse(f"{quoting.shown(self.level)}, whose chunks no table can say: follow the answers with --follow")
+        if self.count % near or near > 1 and far > 1 or is_offset and far > 1:
+            self.refuse(f"raid10 of {self.count} devices with the layout {self.layout}, {FOLLOW}")
+        self.check_copy(copy)
+        copies = range(near * far) if copy is None else [copy]
+        if far > 1:
+            # Each copy needs all members, so that of one that is missing the last copy tells.
+            each = copies[0 if len(self.by_role) == self.count else -1]
+            return self._rows([(it + each) % self.count for it in range(self.count)],
+                              each * (self.chunks // far) * self.chunk)
+        groups = ([first + it for it in copies] for first in range(0, self.count, near))
+        return self._rows([next((it for it in group if it in self.by_role), group[0]) for group in groups], 0)
+
+    def check_copy(self, copy: Optional[int]) -> None:
+        copies = self.copies.near * self.copies.far
+        if copy is not None and copy >= copies:
+            self.refuse(f"it has {copies} copies, counted from 0: give a lower --copy")
+
+    def _rows(self, roles: Sequence[int], row: int) -> Iterator[tables.Line]:
+        """Whole rows of chunks over these members, and line by line what is left of another row."""
+        whole = self.sectors - self.sectors % (self.chunk * len(roles))
+        if whole:
+            yield self.striped(0, whole, roles, row)
+        for role, start in zip(roles, range(whole, self.sectors, self.chunk)):
+            yield tables.Line(start, self.chunk, "linear", self.spot(role, row + whole // len(roles)))

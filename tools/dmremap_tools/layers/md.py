@@ -22,8 +22,9 @@ from typing import Dict, Iterator, List, Tuple
 
 from dmremap_tools.base import names, numbers, pieces, quoting, requests, streams
 from dmremap_tools.base.refusal import WrongWords
-from dmremap_tools.layers import arrays, examine
+from dmremap_tools.layers import examine
 from dmremap_tools.model.device import blocks_of
+from dmremap_tools.model.md_chunks import PARITY, START
 
 # The name of a disk, a sector of it, and how many follow.
 Run = Tuple[str, int, int]
@@ -44,11 +45,12 @@ def add_words(parser: argparse.ArgumentParser) -> None:
 
 
 def run(words: argparse.Namespace) -> None:
-    sizes = {path: numbers.check_length("--size", streams.whole("--size", size)) for path, size in _pairs(words.size, "--size MEMBER=SECTORS").items()}
-    array = arrays.Array(examine.read(words.examined), _pairs(words.path, "--path MEMBER=DISK"), sizes)
+    given = _pairs(words.size, "--size MEMBER=SECTORS")
+    sizes = {path: numbers.check_length("--size", streams.whole("--size", size)) for path, size in given.items()}
+    array = examine.Array(examine.read(words.examined), _pairs(words.path, "--path MEMBER=DISK"), sizes)
     if words.name is not None:
         name = names.Names().device(words.name, "--name")
-        streams.out.write("".join([f"{name}: {line}\n" for line in arrays.lines_of(array, words.copy)]))
+        streams.out.write("".join([f"{name}: {line}\n" for line in array.lines_of(words.copy)]))
     else:
         follow(array, words.follow, words.copy, pieces.Answers(words.file))
 
@@ -63,36 +65,38 @@ def _pairs(given: List[str], form: str) -> Dict[str, str]:
     return found
 
 
-def follow(array: arrays.Array, disk: str, copy: "int | None", source: pieces.Answers) -> None:
+def follow(array: examine.Array, disk: str, copy: "int | None", source: pieces.Answers) -> None:
     copies, shown = array.copies.near * array.copies.far, quoting.shown(disk)
-    if array.level not in (*arrays.PARITY, "raid10"):
+    if array.level not in (*PARITY, "raid10"):
         array.refuse(f"--follow isn't for {quoting.shown(array.level)}: make its table with --name")
-    if copy is not None and copy >= copies:
-        array.refuse(f"it has {copies} copies, counted from 0: give a lower --copy")
+    array.check_copy(copy)
     for piece in source:
         if disk not in (piece.disk, piece.to):
             streams.out.write(source.line + "\n")
             continue
-        if piece.what not in ("R", "W") or piece.what == "W" and array.level in arrays.PARITY:
+        if piece.what not in ("R", "W") or piece.what == "W" and array.level in PARITY:
             source.refuse_line(f"on {shown} only reads are followed, leave others out")
         if piece.count > requests.MOST:
             source.refuse_line("longer than a request is, give what `dmremap map` prints")
         if piece.start + piece.count > array.sectors:
             source.refuse_line(f"{shown} has {array.sectors} sectors, make the answers with that in DISKS")
-        runs = _joined(_read(array, piece, copies, copy or 0) if piece.what == "R" else _written(array, piece, copies))
+        if not array.is_known:
+            array.refuse(f"no layout of {array.level} that is known ({quoting.shown(array.layout)}): {START}")
+        found = _read(array, piece, copies, copy or 0) if piece.what == "R" else _written(array, piece, copies)
+        runs = _joined(found)
         lines = (f"{piece.request} {piece.what} {name} {start} {count}\n" for name, start, count in runs)
         for some in iter(lambda: "".join(itertools.islice(lines, AT_ONCE)), ""):
             streams.out.write(some)
 
 
-def _read(array: arrays.Array, piece: pieces.Piece, copies: int, first: int) -> Iterator[Run]:
+def _read(array: examine.Array, piece: pieces.Piece, copies: int, first: int) -> Iterator[Run]:
     """Where a piece is read: in one of the copies, or in the next one that is there. After a period of chunks their places
     come again, as many sectors later."""
     period, sectors = array.period
 
     @functools.lru_cache(MOST_KNOWN)
     def beginning_of(number: int) -> Tuple[str, int]:
-        places = [arrays.place(array, number, (first + it) % copies) for it in range(copies)]
+        places = [array.place(number, (first + it) % copies) for it in range(copies)]
         role, row = next((it for it in places if it[0] in array.by_role), places[0])
         disk, start = array.beginning(role)
         return disk, start + row * array.chunk
@@ -103,14 +107,14 @@ def _read(array: arrays.Array, piece: pieces.Piece, copies: int, first: int) -> 
         yield disk, start + turn * sectors + at, count
 
 
-def _written(array: arrays.Array, piece: pieces.Piece, copies: int) -> Iterator[Run]:
+def _written(array: examine.Array, piece: pieces.Piece, copies: int) -> Iterator[Run]:
     """Where a piece is written: in each copy that is there, one after the other."""
     for number, _, _ in blocks_of(piece.start, piece.count, array.chunk):
-        if not any(arrays.place(array, number, it)[0] in array.by_role for it in range(copies)):
-            array.member(arrays.place(array, number, 0)[0])
+        if not any(array.place(number, it)[0] in array.by_role for it in range(copies)):
+            array.member(array.place(number, 0)[0])
     for copy in range(copies):
         for number, at, count in blocks_of(piece.start, piece.count, array.chunk):
-            role, row = arrays.place(array, number, copy)
+            role, row = array.place(number, copy)
             if role in array.by_role:
                 disk, start = array.beginning(role)
                 yield disk, start + row * array.chunk + at, count

@@ -1,11 +1,12 @@
 """Why dmremap loads no stack with this snapshot or this store, and what a kernel does with it, in words."""
 
-import functools
 import re
-from typing import Callable, Dict, Iterator, List, NamedTuple, Optional
+from typing import Optional
 
-from dmremap_tools.base import names, quoting, store_places, tables
+from dmremap_tools.base import quoting, store_places, tables
 from dmremap_tools.base.config_text import Document
+from dmremap_tools.explaining.table_texts import Line, Tables
+from dmremap_tools.explaining.texts import Text
 from dmremap_tools.metadata.volume_group import Group
 
 SAID = re.compile(r"dmremap: source: (text|field|syntax|extents|snapshot|store|limit) at ([0-9]{1,20})\n")
@@ -35,83 +36,51 @@ COPY = "; dmremap-tools lvm2-text makes a copy without it"
 OF_STORE = {"store": NOTHING_KEPT, "limit": PLACES}
 ODD_RECORD = "lvm2 writes no such record of a snapshot: take an older text, from /etc/lvm/archive"
 OTHER_COPY = "dmremap can't follow what stands there; dmremap-tools lvm2-text makes a copy without it"
-# A line as it stands in a text, whose words may make no sense, with the path and the flags of its device.
-Row = NamedTuple("Row", [("path", str), ("flags", str), ("words", List[str]), ("target", str)])
 
 
-def told(name: str, form: str, text: str, sizes: Callable[[], Dict[str, int]], said: str) -> "tuple[str, str]":
-    """Where in a text of this name and form that stands which dmremap refuses with these words, and what a kernel does with
-    it, or nothing if it is no such matter. `sizes` reads the sectors of the disks."""
+def told(form: str, text: Text, disks: Text, said: str) -> str:
+    """What a kernel does with what dmremap refuses with these words in a text of this form, or nothing if it is no such
+    matter."""
     match = SAID.fullmatch(said)
     if not match:
-        return name, ""
-    where, number = "%s:%s" % (name, match[2]), int(match[2])
+        return ""
+    word, number = match[1], int(match[2])
     if form == "lvm":
-        return where, _why_of_group(match[1], number, Document(name, text.encode("utf-8", "surrogateescape")))
-    rows = Rows(form, text, sizes)
-    for row in rows.by_number.get(number, ()):
-        why = rows.why(match[1], row)
-        if why:
-            return where, "%s: %s" % (why, quoting.shown(" ".join(row.words)))
-    return where, ""
+        return _why_of_group(word, number, Document(text.name, text.content))
+    stack = Tables(form, text, disks)
+    whys = ((_why(stack, word, line), line) for line in stack.at(number))
+    return next(("%s: %s" % (why, quoting.shown(" ".join(line.typed))) for why, line in whys if why), "")
 
 
-class Rows:
-    """The lines of a text, by the numbers that dmremap gives them and by the paths of their devices."""
-
-    def __init__(self, form: str, text: str, sizes: Callable[[], Dict[str, int]]) -> None:
-        self.by_number: Dict[int, List[Row]] = {}
-        self._by_path: Dict[str, List[Row]] = {}
-        self._sizes, is_table = functools.lru_cache(None)(sizes), form == "table"
-        for number, said in enumerate(text.rstrip("\n").split("\n" if is_table else ";"), 1):
-            device, *fields = said.partition(": ") if is_table else said.split(",")
-            for words in map(str.split, fields[1 if is_table else 3:]):
-                row = Row(names.MAPPER + device, "" if is_table else fields[2], words, "".join(words[2:3]))
-                self.by_number.setdefault(number, []).append(row)
-                self._by_path.setdefault(row.path, []).append(row)
-
-    def why(self, word: str, row: Row) -> Optional[str]:
-        """What a kernel does with a line that dmremap refuses with this word, or None."""
-        firsts = [rows[0] for rows in self._by_path.values()]
-        if word == "field":
-            if row.target == "snapshot-merge":
-                return MERGING
-            if row.target == "snapshot" and len(row.words) > 6:
-                return _why_kind(row.words[5]) or (FEATURES if len(row.words) > 7 else None)
-            stores = [store for it in firsts for store in it.words[4:5] if it.target == "snapshot"]
-            if row.target not in tables.TARGETS and any(it is row for it in self._below(stores)):
-                return ON_ANOTHER % f"a device of {quoting.shown(row.target)}"
-        if row.target not in ("snapshot", "snapshot-origin"):
-            return None
-        if word == "snapshot":
-            if len(self._by_path[row.path]) > 1:
-                return BESIDE
-            why = _why_chunk(int(row.words[6])) if row.target == "snapshot" else None
-            return why or (LONGER if int(row.words[1]) > self._length(row.words[3]) else ORIGIN_BETWEEN)
-        if word == "store":
-            for lower in self._below([row.words[4]]):
-                if lower.flags == "ro":
-                    return READ_ONLY
-                if lower.target not in ("linear", "striped"):
-                    return STORES.get(lower.target, ON_ANOTHER % "a snapshot")
-        if word == "limit":
-            snapshots = [it.words for it in firsts if it.target == "snapshot"]
-            if sum(store_places.places(int(it[6]), self._length(it[4])) for it in snapshots) > store_places.MOST:
-                return STORE_BETWEEN
+def _why(stack: Tables, word: str, line: Line) -> Optional[str]:
+    """What a kernel does with a line that dmremap refuses with this word, or None."""
+    firsts = [lines[0] for lines in stack.by_path.values()]
+    if word == "field":
+        if line.target == "snapshot-merge":
+            return MERGING
+        if line.target == "snapshot" and len(line.words) > 3:
+            return _why_kind(line.words[2]) or (FEATURES if len(line.words) > 4 else None)
+        stores = [store for it in firsts for store in it.words[1:2] if it.target == "snapshot"]
+        if line.target not in tables.TARGETS and any(it is line for it in stack.below(stores)):
+            return ON_ANOTHER % f"a device of {quoting.shown(line.target)}"
+    if line.target not in ("snapshot", "snapshot-origin"):
         return None
-
-    def _length(self, path: str) -> int:
-        rows = self._by_path.get(path)
-        return int(rows[-1].words[0]) + int(rows[-1].words[1]) if rows else self._sizes().get(path, 0)
-
-    def _below(self, paths: List[str]) -> Iterator[Row]:
-        seen = set(paths)
-        while paths:
-            for row in self._by_path.get(paths.pop(), ()):
-                yield row
-                more = {it for it in row.words[3:] if it.startswith(names.MAPPER)} - seen
-                seen |= more
-                paths += more
+    if word == "snapshot":
+        if len(stack.by_path[line.path]) > 1:
+            return BESIDE
+        why = _why_chunk(int(line.words[3])) if line.target == "snapshot" else None
+        return why or (LONGER if line.length > stack.length(line.words[0]) else ORIGIN_BETWEEN)
+    if word == "store":
+        for lower in stack.below([line.words[1]]):
+            if lower.flags == "ro":
+                return READ_ONLY
+            if lower.target not in ("linear", "striped"):
+                return STORES.get(lower.target, ON_ANOTHER % "a snapshot")
+    if word == "limit":
+        snapshots = [it.words for it in firsts if it.target == "snapshot"]
+        if sum(store_places.places(int(it[3]), stack.length(it[1])) for it in snapshots) > store_places.MOST:
+            return STORE_BETWEEN
+    return None
 
 
 def _why_kind(kind: str) -> Optional[str]:

@@ -7,6 +7,7 @@ from typing import Dict, Iterable, List, NamedTuple, Optional, Set, Tuple
 from dmremap_tools.base import disks, names, program, streams, tables
 from dmremap_tools.base.given import Given, put
 from dmremap_tools.base.refusal import Refusal
+from dmremap_tools.explaining import texts
 from dmremap_tools.layers import refused
 from dmremap_tools.machines.placed import disks_of
 
@@ -54,10 +55,10 @@ def load(asked: str, given: Given, room: str) -> Stack:
         except (Refusal, streams.OutputFailed):
             said.seek(0)
             message = said.read().decode("utf-8", "surrogateescape")
-            name, content = streams.name_of(given.file), streams.read(copy.file)
-            where, why = refused.told(name, copy.form, content, lambda: disks.read(copy.disks), message)
+            text = texts.read(copy.file)._replace(path=streams.name_of(given.file))
+            why = refused.told(copy.form, text, texts.read(copy.disks), message)
             if why:
-                raise Refusal(where, why)
+                raise Refusal("%s:%s" % (text.path, message.split()[-1]), why)
             if message:
                 streams.tell(message.rstrip("\n"))
             raise

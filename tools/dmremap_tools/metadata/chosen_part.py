@@ -11,9 +11,8 @@ from dmremap_tools.base.numbers import SECTOR
 from dmremap_tools.base.partition_table import GPT_SECTORS, DamagedTable, Partition, Table, backup_of, table_of
 from dmremap_tools.base.paths import Place
 from dmremap_tools.base.refusal import Refusal
-from dmremap_tools.layers.examine import HARMLESS
 from dmremap_tools.model import md_superblock
-from dmremap_tools.model.md_superblock import BAD_BLOCKS, Superblock, has_all
+from dmremap_tools.model.md_superblock import BAD_BLOCKS, HARMLESS, Superblock, has_all
 from dmremap_tools.model.physical_volume import Label, label_of, volumes_begin
 
 # What tables call an array, and a partition of one.

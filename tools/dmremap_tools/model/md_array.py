@@ -1,46 +1,38 @@
 """md arrays: which members count, and the bytes of the array, also where members are missing."""
 
 import functools
-from typing import Dict, Iterator, List, NoReturn, Optional, Sequence, Tuple
+from typing import Dict, Iterator, List, Optional, Sequence, Tuple
 
 from dmremap_tools.base.numbers import SECTOR
 from dmremap_tools.base.refusal import Refusal
-from dmremap_tools.layers import arrays
-from dmremap_tools.model import md_superblock
+from dmremap_tools.model import md_chunks, md_superblock
 from dmremap_tools.model.device import ALL, Copies, Device, Extent, Missing, Part, Run, blocks_of
 from dmremap_tools.model.mapping import Mapped, Tables
 from dmremap_tools.model.md_superblock import Member, level_name
-from dmremap_tools.model.parity import Rows, Shape
+from dmremap_tools.model.parity import Rows
 
 # Sectors of a chunk, and members of an array that is followed.
 MOST_CHUNK, MOST_MEMBERS = 1 << 21, 384
 START = "assemble it with mdadm --readonly"
-RAID5_LAYOUTS = dict(enumerate(("left-asymmetric", "right-asymmetric", "left-symmetric", "right-symmetric",
-                                "parity-first", "parity-last")))
-LAYOUTS: Dict[str, Dict[int, str]] = {
-    "raid0": {1: "original", 2: "alternate"}, "raid5": RAID5_LAYOUTS,
-    "raid6": {**RAID5_LAYOUTS, 8: "ddf-zero-restart", 9: "ddf-N-restart", 10: "ddf-N-continue",
-              **{16 + number: f"{name}-6" for number, name in RAID5_LAYOUTS.items() if number < 5}}}
+NO_CHUNK = "its members have no whole chunk: " + START
 
 
-class Array(arrays.Array):
-    """An array of members with one id, by their superblocks in place of mdadm's text: `arrays` says where its chunks
-    lie. `device` has its bytes, unless `why` says why nobody can say them."""
+class Array(md_chunks.Members):
+    """An array of members with one id, by their superblocks. `device` has its bytes, unless `why` says why nobody can
+    say them."""
 
     def __init__(self, members: Sequence[Member]) -> None:
         self.members, self.tables = members, Tables()
         self.best = max(members, key=lambda member: member.superblock.events)
-        superblock = self.best.superblock
-        self.level, self.count, self.identity = level_name(superblock), superblock.places, superblock.array.hex()
+        superblock, level = self.best.superblock, level_name(self.best.superblock)
+        layout, chunk = superblock.layout, superblock.chunk
+        copies = md_chunks.Copies(layout & 0xFF, layout >> 8 & 0xFF, bool(layout >> 16 & 1))
+        named = md_chunks.LAYOUTS.get(level, {}).get(layout, "")
+        used = superblock.used // chunk if chunk else 0
+        super().__init__(level, superblock.places, named, chunk, used, *[copies] * (level == "raid10"))
+        self.identity = superblock.array.hex()
         self.label = f"md:{superblock.name.rpartition(':')[2] or self.identity}"
-        self.layout, self.chunk = LAYOUTS.get(self.level, {}).get(superblock.layout, ""), superblock.chunk
-        near, far, is_offset = superblock.layout & 0xFF, superblock.layout >> 8 & 0xFF, superblock.layout >> 16 & 1
-        self.copies = arrays.Copies(near, far, bool(is_offset))
-        # The whole chunks that the array uses of each member, and to which size each member of a linear array is
-        # rounded.
-        self.chunks = superblock.used // self.chunk if self.chunk else 0  # type: ignore[misc]
-        self.fields = {"Rounding": f"{self.chunk // 2}K"}
-        self.by_role: Dict[int, Member] = {}  # type: ignore[assignment]
+        self.by_role: Dict[int, Member] = {}
         self.stale: List[Member] = []
         self.why: Optional[str] = None
         self.device: Optional[Device] = None
@@ -60,16 +52,11 @@ class Array(arrays.Array):
     def may_be_old(self) -> bool:
         """Whether so many members are missing that these may have run on without those that are here."""
         copies = max(self.copies.near * self.copies.far, 1)
-        fewest = {"raid1": 1, "raid4": self.count - 1, "raid5": self.count - 1, "raid6": self.count - 2,
-                  "raid10": -(-self.count // copies)}
-        return self.missing >= fewest.get(self.level, self.count)
+        return self.missing >= (1 if self.level == "raid1" else -(-self.data // copies))
 
     def give_up(self, why: str) -> None:
         """Says why nobody can say its bytes."""
         self.device, self.why = None, why
-
-    def refuse(self, why: str) -> NoReturn:
-        raise Refusal(self.label, why)
 
     def _take(self) -> None:
         """Those with the most events, or one less, count, in the role that the freshest superblock gives them."""
@@ -103,24 +90,23 @@ class Array(arrays.Array):
             self.refuse(f"it has more than {MOST_MEMBERS} members, which isn't followed: {START}")
         if self.level == "raid10" and (superblock.layout >> 17 or not 0 < copies <= self.count):
             self.refuse(f"no layout of raid10 that is known: {superblock.layout}: {START}")
+        if not self.is_known:
+            self.refuse(f"no layout of {self.level} that is known: none: {START}")
+        if self.level in (*md_chunks.PARITY, "raid10") and not self.sectors:
+            self.refuse(NO_CHUNK)
 
     def _made(self) -> Device:
         if self.level == "raid1":
             # The freshest first, as one event less is let pass.
             order = sorted(self.by_role, key=lambda role: -self.by_role[role].superblock.events)
             return Copies(self.label, [self._data[role] for role in order], self.best.superblock.used * SECTOR)
-        if self.level in ("raid5", "raid6") or self.level == "raid4" and self.missing:
-            shape, resync = self.shape(), self.best.superblock.resync
-            shape.place(0)
+        if self.level in md_chunks.PARITY:
+            resync = self.best.superblock.resync
             doubtful = [] if resync == md_superblock.CLEAN else [(resync * SECTOR, ALL)]
-            return Rows(self.label, shape, self._data, self.sectors * SECTOR, doubtful)
-        near, far, is_offset = self.copies
-        # Which raid10 no table can say.
-        is_untabled = self.level == "raid10" and (self.count % near or far > 1 and (near > 1 or is_offset))
-        if is_untabled or self.level == "raid10" and self.missing:
+            return Rows(self.label, self, self._data, self.sectors * SECTOR, doubtful)
+        if self.level == "raid10":
             return CopiedChunks(self, self._data)
-        lines = list(arrays.lines_of(self, None))
-        self.tables.add("array", lines or self.refuse(f"its members have no whole chunk: {START}"))
+        self.tables.add("array", list(self.lines()) or self.refuse(NO_CHUNK))
         return Mapped(self.label, self.tables, "array")
 
     def length(self, member: Member) -> int:
@@ -141,23 +127,14 @@ class Array(arrays.Array):
         why = f"{name} lacks these bytes, as its log of bad blocks says: give the other members"
         return Part(name, member.device, first, self.length(member) * SECTOR, runs, why)
 
-    def member(self, role: int) -> "Array":  # type: ignore[override]
-        """What has the fields of a member, which is refused if it is missing."""
-        if role not in self.by_role:
-            self.refuse(f"member {role} of {self.label} is missing, and nothing else has its bytes: give its image")
-        return self
-
     def spot(self, role: int, row: int = 0) -> List[str]:
-        """A member's data, and a sector of it, as words of a line."""
-        self.member(role)
         return [self.tables.disk(self._data[role]), str(row)]
 
-    def available(self, role: int) -> int:
-        self.member(role)
-        return self.by_role[role].superblock.length
-
-    def shape(self) -> Shape:
-        return Shape(self.level, self.count, self.layout, self.chunk * SECTOR)
+    def whole(self, role: int) -> int:
+        if role not in self.by_role:
+            self.refuse(f"member {role} of {self.label} is missing, and nothing else has its bytes: give its image")
+        length = self.by_role[role].superblock.length
+        return length - length % (self.chunk or 1)
 
 
 class CopiedChunks(Device):
@@ -170,7 +147,7 @@ class CopiedChunks(Device):
     def _copies_of(self, number: int) -> Iterator[Tuple[Device, int]]:
         """The members that have a chunk, and where, in bytes."""
         for copy in range(self._array.copies.near * self._array.copies.far):
-            role, row = arrays.place(self._array, number, copy)
+            role, row = self._array.place(number, copy)
             yield self._members[role], row * self._chunk
 
     @functools.cached_property

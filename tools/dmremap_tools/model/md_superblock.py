@@ -23,6 +23,8 @@ NO_PLACE = 0xFFF0
 # Bits of their feature map: a bitmap, a member that is being filled, a reshape, bad blocks, a member that is being
 # replaced, a journal, and the layout of raid0 that is said.
 BITMAP, RECOVERING, RESHAPING, BAD_BLOCKS, REPLACEMENT, JOURNAL, LAYOUT_SAID = 0x1, 0x2, 0x4, 0x8, 0x10, 0x200, 0x1000
+# Those that don't change where data lies.
+HARMLESS = BITMAP | BAD_BLOCKS | LAYOUT_SAID
 CLEAN = (1 << 64) - 1
 # Version 0.90: it lies in the last 64 KiB of a member that begin at a multiple of that, and has the bytes of a page.
 OLD, OLD_ROOM, OLD_MINOR, OLD_RESHAPING = "0.90", 1 << 16, 90, 91

@@ -16,7 +16,7 @@ from dmremap_tools.model.device import ALL, ZEROS, Device, Gap, blocks_of, joine
 from dmremap_tools.model.groups import REMOVED, Group
 from dmremap_tools.model.layout import LOWER, Layout
 from dmremap_tools.model.mapping import NoProgram
-from dmremap_tools.model.parity import Shape
+from dmremap_tools.model.md_chunks import Shape
 from dmremap_tools.model.physical_volume import PhysicalVolume
 
 # How many things may lie on each other, and how many ways up there are beside some for each sector.
@@ -251,7 +251,7 @@ class Stack:
         elif field in (b"stripes", b"mirrors") or is_leg and kind == b"raid1" or (field, kind) == INTEGRITY:
             yield from self._of(above, first, end, ALL, 1, lambda row: row)
         elif is_leg and kind in RAID5 and chunk and legs > 1:
-            shape = Shape("raid5", legs, "left-symmetric", chunk * SECTOR)
+            shape = Shape("raid5", legs, "left-symmetric", chunk)
             yield from self._of(above, first, end, chunk, None, functools.partial(shape.number, leg))
         elif field == b"raids":
             yield Run(first, end, self._part("part" if is_leg else "superblock", upper))

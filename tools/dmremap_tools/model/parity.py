@@ -4,54 +4,15 @@ the others: P is the sum of a row's data, Q the sum of g^d D_d in GF(2^8) with t
 import bisect
 import functools
 import itertools
-from typing import Iterator, List, NamedTuple, Optional, Sequence, Tuple
+from typing import Iterator, List, Optional, Sequence, Tuple
 
 from dmremap_tools.base import quoting
-from dmremap_tools.layers import arrays
+from dmremap_tools.base.numbers import SECTOR
 from dmremap_tools.model.device import ALL, Copies, Device, Extent, Gap, Run, blocks_of, lacking
+from dmremap_tools.model.md_chunks import Shape
 
 POLYNOMIAL = 0x11D
 UNCLEAN = "the array wasn't shut down cleanly, so that its parity may be old: give the missing member"
-# The roles of a row: those of its data in their order, and those of P and Q where the rule for these is known.
-Row = NamedTuple("Row", [("data", List[int]), ("parity", Optional[int]), ("syndrome", Optional[int])])
-
-
-class Shape(NamedTuple):
-    """How an array lays its chunks out, with `chunk` in bytes."""
-
-    level: str
-    count: int
-    layout: str
-    chunk: int
-
-    @property
-    def data(self) -> int:
-        """How many chunks of a row are data."""
-        return self.count - (2 if self.level == "raid6" else 1)
-
-    def place(self, number: int) -> Tuple[int, int]:
-        """The role and the row of a chunk of data."""
-        row, column = divmod(number, self.data)
-        if self.level == "raid4":
-            return column, row
-        role_of = arrays._role_of_raid5 if self.level == "raid5" else arrays._role_of_raid6
-        role = role_of(self.layout, self.count, row, column)
-        if role is None:
-            raise Gap(self.level, f"no layout of {self.level} that is known: {self.layout or 'none'}: assemble it with "
-                      "mdadm --readonly")
-        return role, row
-
-    def row(self, row: int) -> Row:
-        data = [self.place(row * self.data + column)[0] for column in range(self.data)]
-        if self.level != "raid6":
-            return Row(data, next(role for role in range(self.count) if role not in data), None)
-        parity = (data[0] - 2) % self.count if self.layout == "left-symmetric" else None
-        return Row(data, parity, None if parity is None else (parity + 1) % self.count)
-
-    def number(self, role: int, row: int) -> Optional[int]:
-        """The number of the chunk of data that a member has in a row, or None where that has parity there."""
-        data = self.row(row).data
-        return row * self.data + data.index(role) if role in data else None
 
 
 class Rows(Device):
@@ -59,7 +20,7 @@ class Rows(Device):
 
     def __init__(self, name: str, shape: Shape, members: Sequence[Device], size: int, doubtful: Sequence[Run]) -> None:
         super().__init__(name, size)
-        self.shape, self.members, self.doubtful = shape, members, doubtful
+        self.shape, self.members, self.doubtful, self._chunk = shape, members, doubtful, shape.chunk * SECTOR
         # The data of each member, or what is computed in their place.
         self._columns = [Copies(name, [member, Computed(self, role)], ALL) for role, member in enumerate(members)]
 
@@ -72,8 +33,8 @@ class Rows(Device):
 
     def parts(self, start: int, size: int) -> Iterator[Tuple[int, int, int]]:
         """The parts of chunks in some bytes of a member: the row of each, its first byte there, and how many."""
-        for row, offset, count in blocks_of(start, size, self.shape.chunk):
-            at = row * self.shape.chunk + offset
+        for row, offset, count in blocks_of(start, size, self._chunk):
+            at = row * self._chunk + offset
             within = self._edges[bisect.bisect_right(self._edges, at):bisect.bisect_left(self._edges, at + count)]
             for begin, end in zip([at, *within], [*within, at + count]):
                 yield row, begin, end - begin
@@ -81,11 +42,11 @@ class Rows(Device):
     @functools.cached_property
     def _why(self) -> Optional[str]:
         """What the members lack of all. Between edges rows come again after as many of them as there are members."""
-        chunk = self.shape.chunk
         for begin, end in zip(self._edges, self._edges[1:]):
-            for row, offset, count in itertools.islice(blocks_of(begin, end - begin, chunk), self.shape.count + 1):
+            blocks = blocks_of(begin, end - begin, self._chunk)
+            for row, offset, count in itertools.islice(blocks, self.shape.count + 1):
                 columns = (self._columns[role] for role in self.shape.row(row).data)
-                why = next(filter(None, (column.lack(row * chunk + offset, count) for column in columns)), None)
+                why = next(filter(None, (column.lack(row * self._chunk + offset, count) for column in columns)), None)
                 if why:
                     return why
         return None
@@ -95,9 +56,9 @@ class Rows(Device):
         return self._why if is_known else super().lack(start, size)
 
     def _extents(self, start: int, size: int) -> Iterator[Extent]:
-        for number, offset, count in blocks_of(start, size, self.shape.chunk):
+        for number, offset, count in blocks_of(start, size, self._chunk):
             role, row = self.shape.place(number)
-            yield from self._columns[role].extents(row * self.shape.chunk + offset, count)
+            yield from self._columns[role].extents(row * self._chunk + offset, count)
 
 
 class Computed(Device):

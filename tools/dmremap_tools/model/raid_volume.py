@@ -10,7 +10,8 @@ from dmremap_tools.base.refusal import Refusal
 from dmremap_tools.metadata.volume_group import Segment
 from dmremap_tools.model.device import ALL, Copies, Device, Gap, Missing, Part, Run
 from dmremap_tools.model.layout import Layout
-from dmremap_tools.model.parity import Rows, Shape
+from dmremap_tools.model.md_chunks import Shape
+from dmremap_tools.model.parity import Rows
 
 FORM, MAGIC, V190 = struct.Struct("<4L4Q3L4xQ12xl8xQ16x"), 0x64526D44, 1
 Superblock = namedtuple("Superblock", "magic compat_features num_devices array_position events failed_devices "
@@ -41,7 +42,7 @@ def parity_of(layout: Layout, name: str, segment: Segment, size: int) -> Device:
                       "it with lvm2")
     resync = best.array_resync_offset
     doubtful = dirty_runs(meta) if resync == CLEAN else [(resync * SECTOR, ALL)]
-    return Rows(name, Shape("raid5", len(legs), "left-symmetric", chunk * SECTOR), legs, size, doubtful)
+    return Rows(name, Shape("raid5", len(legs), "left-symmetric", chunk), legs, size, doubtful)
 
 
 def legs_of(layout: Layout, name: str, segment: Segment,

@@ -1,0 +1,139 @@
+"""Where an md array keeps its chunks: the role and the row of each, and the lines of a table where one can say it."""
+
+from typing import Dict, Iterator, List, NamedTuple, NoReturn, Optional, Sequence, Tuple
+
+from dmremap_tools.base import tables
+from dmremap_tools.base.refusal import Refusal
+
+# What to do about an array that no table says.
+START = "start it by `mdadm --assemble --readonly`"
+# How many chunks of a row are parity.
+PARITY = {"raid4": 1, "raid5": 1, "raid6": 2}
+# The layouts of each level by their numbers. Those that end in -6 have the second parity on the last device.
+RAID5 = dict(enumerate(("left-asymmetric", "right-asymmetric", "left-symmetric", "right-symmetric", "parity-first",
+                        "parity-last")))
+LAYOUTS: Dict[str, Dict[int, str]] = {
+    "raid0": {1: "original", 2: "alternate"}, "raid5": RAID5,
+    "raid6": {**RAID5, 8: "ddf-zero-restart", 9: "ddf-N-restart", 10: "ddf-N-continue",
+              **{16 + number: f"{name}-6" for number, name in RAID5.items() if number < 5}}}
+# The layout of raid10: how many near copies, how many far ones, and whether these lie in the next row.
+Copies = NamedTuple("Copies", [("near", int), ("far", int), ("is_offset", bool)])
+# The roles of a row: those of its data in their order, and those of P and Q where the rule for these is known.
+Row = NamedTuple("Row", [("data", List[int]), ("parity", Optional[int]), ("syndrome", Optional[int])])
+
+
+class Shape:
+    """How an array of so many members lays out its chunks, whose length is in sectors, and of which it uses so many of
+    each member."""
+
+    def __init__(self, level: str, count: int, layout: str, chunk: int, chunks: int = 0,
+                 copies: Copies = Copies(1, 1, False)) -> None:
+        self.level, self.count, self.layout, self.chunk, self.chunks = level, count, layout, chunk, chunks
+        self.copies, self.data = copies, count - PARITY.get(level, 0)
+        self.is_known = level not in ("raid5", "raid6") or layout in LAYOUTS[level].values()
+
+    @property
+    def sectors(self) -> int:
+        """The length of an array whose chunks have copies or parity."""
+        near, far, _ = self.copies
+        return self.chunks // far * self.data // near * self.chunk
+
+    @property
+    def period(self) -> Tuple[int, int]:
+        """After how many chunks their places come again, and how many sectors later on each member."""
+        near, far, is_offset = self.copies
+        if self.level == "raid10":
+            return self.count, near * (far if is_offset else 1) * self.chunk
+        # Layouts that end in -6 come again after one row less.
+        rows = self.count - self.layout.endswith("-6")
+        return rows * self.data, rows * self.chunk
+
+    def place(self, number: int, copy: int = 0) -> Tuple[int, int]:
+        """The role and the row of a chunk. In raid10 the far copies of each near one have consecutive numbers."""
+        if self.level != "raid10":
+            row, column = divmod(number, self.data)
+            return role_of(self.level, self.layout, self.count, row, column), row
+        near, far, is_offset = self.copies
+        row, role = divmod(number * near, self.count)
+        at, turn = divmod(copy, far)
+        row = (row * far if is_offset else row) + (role + at) // self.count
+        return (role + at + turn * near) % self.count, row + turn * (1 if is_offset else self.chunks // far)
+
+    def row(self, row: int) -> Row:
+        data = [self.place(row * self.data + column)[0] for column in range(self.data)]
+        if self.level != "raid6":
+            return Row(data, next(role for role in range(self.count) if role not in data), None)
+        parity = (data[0] - 2) % self.count if self.layout == "left-symmetric" else None
+        return Row(data, parity, None if parity is None else (parity + 1) % self.count)
+
+    def number(self, role: int, row: int) -> Optional[int]:
+        """The number of the chunk of data that a member has in a row, or None where that has parity there."""
+        data = self.row(row).data
+        return row * self.data + data.index(role) if role in data else None
+
+
+def role_of(level: str, layout: str, count: int, row: int, column: int) -> int:
+    """The role of a column of data in a row, beside one of parity, or beside two that follow each other."""
+    parities, turn = PARITY[level], row % count
+    if level == "raid4" or layout == "parity-last":
+        return column
+    if layout.endswith("-6"):
+        # That of raid5, with the second parity on the last device.
+        return role_of("raid5", layout[:-2], count - 1, row, column)
+    if layout == "parity-first":
+        return column + parities
+    if layout == "ddf-N-continue":
+        return (count - turn + column) % count
+    if layout == "ddf-N-restart":
+        turn = (row + 1) % count
+    parity = count - 1 - turn if layout.startswith(("left", "ddf-N")) else turn
+    if layout.endswith("-symmetric"):
+        return (parity + parities + column) % count
+    # Of two of which the first is on the last device the second is on the first one.
+    return column + (1 if parity + parities > count else parities * (column >= parity))
+
+
+class Members(Shape):
+    """An array whose members are looked at, and what messages call it."""
+
+    label: str
+
+    def refuse(self, why: str) -> NoReturn:
+        raise Refusal(self.label, why)
+
+    def whole(self, role: int) -> int:
+        """The sectors of a member of linear or raid0 that make whole chunks."""
+        raise NotImplementedError
+
+    def spot(self, role: int, row: int = 0) -> List[str]:
+        """A member's disk, and a sector of its data, as words of a line."""
+        raise NotImplementedError
+
+    def lines(self) -> Iterator[tables.Line]:
+        """The lines of linear, member after member, or of raid0: rows over all members, then rows over those that are
+        longer, and so on."""
+        size = {role: self.whole(role) for role in range(self.count)}
+        row = start = 0
+        if self.level == "linear":
+            for role in size:
+                yield tables.Line(start, size[role], "linear", self.spot(role))
+                start += size[role]
+            return
+        for end in sorted(set(size.values()) - {0}):
+            longer = [role for role in size if size[role] > row]
+            if row and self.layout not in ("original", "alternate") and len(longer) > 1:
+                self.refuse("members of several lengths, and no layout that is said: write it by `mdadm --assemble "
+                            "--update=layout-original`, or -alternate for one that was written to since Linux 3.14")
+            # The original layout goes on with the number of the chunk in the array.
+            turn = start // self.chunk % len(longer) if self.layout == "original" else 0
+            yield self.striped(start, (end - row) * len(longer), longer[turn:] + longer[:turn], row)
+            start, row = start + (end - row) * len(longer), end
+
+    def striped(self, start: int, length: int, roles: Sequence[int], row: int) -> tables.Line:
+        """A line of whole rows over the members of these roles."""
+        spots = [word for role in roles for word in self.spot(role, row)]
+        if len(roles) == 1:
+            return tables.Line(start, length, "linear", spots)
+        if len(roles) > tables.MOST_COLUMNS:
+            self.refuse(f"more than {tables.MOST_COLUMNS} columns, which dmremap doesn't take: {START}")
+        return tables.Line(start, length, "striped", [str(len(roles)), str(self.chunk), *spots])
