@@ -127,8 +127,7 @@ class Document:
             elif text:
                 node = self._node(text, start, tokens, len(opened))
                 opened[-1].children.append(node)
-                if node.children is not None:
-                    opened.append(node)
+                opened += [node] if node.children is not None else []
         if len(opened) > 1:
             raise self.refused(len(self.content), f"the end is missing: {shown(opened[-1].key)}, "
                                f"line {self.line_at(opened[-1].start)}, isn't closed: {ANEW}")
@@ -155,25 +154,21 @@ class Document:
 
     def _read_values(self, node: Node, tokens: Iterator[Token]) -> None:
         text, start = next(tokens)
-        is_list, node.value_at = text == b"[", start
-        if not is_list:
-            node.items.append(self._item(text, start))
-        for text, start in tokens if is_list else ():
-            last = node.items[-1] if node.items else None
-            if text == b"]":
+        is_list, node.value_at, last = text == b"[", start, None
+        for text, start in tokens if is_list else [(text, start)]:
+            if is_list and text == b"]":
                 break
             if text == b"," and last and last.comma < 0:
-                node.items[-1] = last._replace(comma=start)
-            else:
+                last = node.items[-1] = last._replace(comma=start)
+                continue
+            # Only a string may come where a comma is missing.
+            if text in SIGNS or text[:1] not in QUOTES and last and last.comma < 0:
+                raise self.refused(start, f"no value, {ANEW}: {shown(text) or 'the end'}")
+            if is_list:
                 self._count_part(start)
-                # Only a string may come where a comma is missing.
-                node.items.append(self._item(text, start, not last or last.comma >= 0))
+            last = Item(text, start)
+            node.items.append(last)
         node.end = start + len(text)
-
-    def _item(self, text: bytes, start: int, may_be_word: bool = True) -> Item:
-        if text in SIGNS or text[:1] not in QUOTES and not may_be_word:
-            raise self.refused(start, f"no value, {ANEW}: {shown(text) or 'the end'}")
-        return Item(text, start)
 
     def _count_part(self, at: int) -> None:
         self._parts += 1

@@ -20,8 +20,8 @@ BLANK = b" \t\v\f\r"
 REST_OF_LINE = re.compile(rb"[ \t\v\f\r]*(?:#[^\n]*)?(?=\n)")
 # Carriage returns at the end of a line, and white space that dmremap doesn't take for such outside of comments.
 AT_END, OTHER = re.compile(rb"\r+(?=\n|\Z)"), re.compile(rb"(#[^\n]*)|[\r\v\f]")
-# What is written for a byte that is no UTF-8, or a newline in a string.
-UNKNOWN = "\ufffd"
+# A byte that is no UTF-8, as Python reads it, and what is written for it and for a newline in a string.
+UNREADABLE, UNKNOWN = re.compile("[\udc80-\udcff]"), "\ufffd"
 # What dmremap reads of a section: fields, and sections by their keys, with None for any.
 Form = NamedTuple("Form", [("fields", Collection[bytes]), ("sections", Dict[Optional[bytes], "Form"])])
 
@@ -126,7 +126,7 @@ class Copy:
 
     def content(self, given: bytes) -> bytes:
         """The copy of what was given, with white space as dmremap reads it. Says what it lacks of that."""
-        content, made, is_odd = self.document.content, [], not _is_readable(self.document.content)
+        content, made = self.document.content, []
         if given.startswith(MARK):
             self.say(0, "changed: a byte order mark is taken out")
         if b"\0" in given:
@@ -150,23 +150,21 @@ class Copy:
                 continue
             if last and not between and WITHIN_WORD.match(content, start - 1):
                 self.say(start, "changed: a space is missing")
-            space = b"".join(spaces)
-            plain = self._plain_space(space, start)
-            if not plain and WITHIN_WORD.match(last[-1:] + new[:1]):
-                plain = b" "
-            if is_odd and not _is_readable(space + new):
+            space = self._plain_space(b"".join(spaces), start)
+            if not space and WITHIN_WORD.match(last[-1:] + new[:1]):
+                space = b" "
+            piece = (space + new).decode("utf-8", "surrogateescape")
+            if UNREADABLE.search(piece):
                 self.say(start, "changed: bytes that are no UTF-8")
-            made += [plain, new]
+            made.append(UNREADABLE.sub(UNKNOWN, piece))
             spaces, last = [], new
         if any(self._returned):
             what = f"changed: carriage returns are taken out of {sum(self._returned)} lines"
             self._said.append((self._returned.index(1), what))
-        return re.sub("[\udc80-\udcff]", UNKNOWN, b"".join(made).decode("utf-8", "surrogateescape")).encode()
+        return "".join(made).encode()
 
     def _plain_space(self, space: bytes, start: int) -> bytes:
         """The white space before the token that begins at a byte, as dmremap reads it."""
-        if not re.search(rb"[\r\v\f]", space):
-            return space
         if b"\r" in space:
             first = self.document.line_at(start) - space.count(b"\n")
             for line, part in enumerate(space.split(b"\n"), first):
@@ -188,7 +186,3 @@ def unreadable(item: Item) -> Iterator[str]:
         yield "a number with a fraction" if b"." in text else "a number with a sign"
     elif len(text) > 19 or int(text) >= 1 << 63:
         yield "a number that is too large"
-
-
-def _is_readable(content: bytes) -> bool:
-    return content.decode("utf-8", "ignore").encode() == content

@@ -253,11 +253,9 @@ class Texts:
 
     def _refused(self, side: Layout, name: bytes, texts: Sequence[Text], doubt: Optional[str]) -> Optional[str]:
         """Why a removed volume of a group that has these texts can't be given, or None."""
-        if doubt:
-            return doubt
-        why = self._why(side, name, [text for text in texts if text.seqno > side.text.seqno])
-        restored = f"restore the text with the seqno {side.text.seqno} on copies (vgcfgrestore)"
-        return why and f"{why}: to see what is left, {restored}"
+        why = doubt or self._why(side, name, [text for text in texts if text.seqno > side.text.seqno])
+        restored = f"to see what is left, restore the text with the seqno {side.text.seqno} on copies (vgcfgrestore)"
+        return why if doubt or not why else f"{why}: {restored}"
 
     def _why(self, side: Layout, name: bytes, later: Sequence[Text]) -> Optional[str]:
         numbers, below = {text.seqno for text in later}, {side.ids[lower] for lower in side.below(name)}
