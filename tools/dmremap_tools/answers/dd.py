@@ -16,7 +16,6 @@ import tempfile
 from argparse import ArgumentParser, Namespace
 from typing import Iterator, Optional, Tuple
 
-from dmremap_tools.answers.mapped import Mapped
 from dmremap_tools.base import disk_image, given, names, numbers, paths, pieces, quoting, requests, streams, written
 from dmremap_tools.base.refusal import Refusal, WrongWords
 from dmremap_tools.layers import started
@@ -48,7 +47,7 @@ def run(words: Namespace) -> None:
         given.put(kept, asked())
         # What is written to an origin goes to the stores of its snapshots, too.
         begun = started.start(words, source, None if "W" in operations else sorted(devices), room)
-        with open(kept, encoding="utf-8", errors="surrogateescape") as lines, Mapped(begun.words, lines) as mapped:
+        with open(kept, encoding="utf-8", errors="surrogateescape") as lines, pieces.Mapped(begun.words, lines) as mapped:
             writer = Writer(mapped.answers, image, begun.places)
             streams.out.write("set -e\n")
             for piece in mapped.answers:

@@ -29,19 +29,17 @@ class Image:
 
     def read(self, at: int, count: int) -> bytes:
         """The bytes from `at` on, fewer where the image ends. Whoever asks sees to it that they aren't too many."""
-        left, parts = min(count, self.size - at), []
+        content, size = b"", min(count, self.size - at)
         try:
-            self.file.seek(self.base + at if left > 0 else 0)
-            while left > 0:
-                part = self.file.read(left)
+            while len(content) < size:
+                part = os.pread(self.file.fileno(), size - len(content), self.base + at + len(content))
                 if not part:
                     break
-                parts.append(part)
-                left -= len(part)
+                content += part
         except OSError as fault:
-            raise Unreadable(self.path, f"byte {self.file.tell()} and those after it can't be read "
+            raise Unreadable(self.path, f"byte {self.base + at + len(content)} and those after it can't be read "
                              f"({streams.why(fault)}): take an image of it by ddrescue")
-        return b"".join(parts)
+        return content
 
     def next_data(self, at: int) -> int:
         """The next byte from `at` on that isn't in a hole of a file, where the file system tells of holes."""

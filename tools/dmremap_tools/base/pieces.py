@@ -1,9 +1,15 @@
 """Pieces, as `dmremap map` answers."""
 
+import contextlib
+import os
 import re
-from typing import Callable, Iterator, List, NamedTuple, Optional, Pattern, Sequence, Tuple
+import select
+import subprocess
+import tempfile
+from typing import Callable, Iterable, Iterator, List, NamedTuple, Optional, Pattern, Sequence, Tuple, Type
 
-from dmremap_tools.base import numbers, streams
+from dmremap_tools.base import numbers, program, streams
+from dmremap_tools.base.refusal import Refusal
 
 # Of a piece the request, if TO comes, what is done, disk and start, what else is done, the count, TO and its start.
 Fields = Tuple[str, ...]
@@ -118,3 +124,27 @@ def _moves(requests: Sequence[str] = (), whats: Sequence[str] = (), disks: Seque
            starts: Sequence[str] = (), counts: Sequence[str] = ()) -> Moves:
     """Moves by their columns, of which there are none without moves."""
     return Moves(list(map(int, requests)), whats, disks, list(map(int, starts)), list(map(int, counts)))
+
+
+class Mapped(contextlib.AbstractContextManager):
+    """`dmremap map` while it answers the requests of a generator: `answers` has the pieces as they come. How it fails is
+    told at the end."""
+
+    def __init__(self, command: Sequence[str], requests: Iterable[str]) -> None:
+        with tempfile.TemporaryFile() as given:
+            given.writelines(it.encode("utf-8", "surrogateescape") for it in requests)
+            given.seek(0)
+            self._child = program.start(command, stdin=given, stdout=subprocess.PIPE)
+        self.answers = Answers(f"/dev/fd/{self._child.stdout.fileno()}")
+        self.answers.name = command[0]
+
+    def __exit__(self, kind: Optional[Type[BaseException]], *_: object) -> None:
+        answers = self._child.stdout
+        # Nothing comes any more if dmremap ended.
+        is_ended = kind is None or bool(select.select([answers], [], [], 0)[0]) and not os.read(answers.fileno(), 1)
+        if not is_ended:
+            self._child.kill()
+        answers.close()
+        status = self._child.wait()
+        if (kind is None or kind is Refusal) and (status > 0 or status and is_ended):
+            program.fail(self.answers.name, status)

@@ -57,17 +57,17 @@ def ask_quietly(words: Sequence[str], given: Optional[int] = None) -> Tuple[str,
 
 def start(words: Sequence[str], **how: Any) -> "subprocess.Popen[bytes]":
     """Starts a program, whose path may have any bytes, under a name that is text, as dmremap wants all its words."""
+    streams.flush()
     path, *others = (it.encode("utf-8", "surrogateescape") for it in words)
-    return subprocess.Popen([words[0].encode("utf-8", "replace"), *others], executable=path, **how)
+    try:
+        return subprocess.Popen([words[0].encode("utf-8", "replace"), *others], executable=path, **how)
+    except OSError as fault:
+        raise Refusal(quoting.shown(words[0]), streams.why(fault))
 
 
 def _asked(words: Sequence[str], given: Optional[int], said: Optional[IO[bytes]]) -> Tuple[str, int]:
-    streams.flush()
-    try:
-        child = start(words, stdout=subprocess.PIPE, stderr=said, stdin=subprocess.DEVNULL if given is None else given,
-                      env=dict(os.environ, LC_ALL="C"))
-    except OSError as fault:
-        raise Refusal(quoting.shown(words[0]), streams.why(fault))
+    child = start(words, stdout=subprocess.PIPE, stderr=said, stdin=subprocess.DEVNULL if given is None else given,
+                  env=dict(os.environ, LC_ALL="C"))
     try:
         printed = child.stdout.read(streams.MOST_TEXT + 1)
         if len(printed) > streams.MOST_TEXT:

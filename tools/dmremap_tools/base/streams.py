@@ -149,6 +149,8 @@ def chunks(path: str, is_written: bool = False) -> Iterator[bytes]:
     try:
         descriptor = take_input() if path == "-" else os.open(path, os.O_RDONLY)
     except OSError as fault:
+        if is_written:
+            raise OutputFailed(f"{name}: {why(fault)}")
         raise Refusal(name, why(fault))
     if not is_written:
         written.note_input(descriptor)

@@ -44,10 +44,6 @@ def note_input(file: Union[int, str]) -> None:
                 place.refuse()
 
 
-def note_path(path: str) -> None:
-    note_input(path)
-
-
 def discard() -> None:
     """Removes what was begun and isn't in its place."""
     for place in _places:
@@ -70,7 +66,7 @@ class Place:
         self.path, self.shown = file_of(path), quoting.shown(path)
         self._beside: Optional[str] = None
         self._descriptor: Optional[int] = None
-        with self._failing():
+        with self.failing():
             self._there = self._look(is_word)
             self.known = identity(self._there) if self._there else None
             self.is_special = self._there is not None and not self.known
@@ -90,7 +86,7 @@ class Place:
 
     def begin(self) -> int:
         """Makes the file beside its place, and returns its descriptor. What is no file is opened as it is."""
-        with self._failing():
+        with self.failing():
             if self.is_special:
                 self._descriptor = descriptor = os.open(self.path, os.O_WRONLY)
                 return descriptor
@@ -108,13 +104,13 @@ class Place:
         return descriptor
 
     def go_on(self) -> int:
-        with self._failing():
+        with self.failing():
             self._descriptor = descriptor = os.open(self.path, os.O_RDWR | os.O_NOFOLLOW)
         return descriptor
 
     def write(self, content: bytes) -> None:
         """Writes the whole of it, and puts it in its place."""
-        with self._failing(), open(self.begin(), "wb", closefd=False) as file:
+        with self.failing(), open(self.begin(), "wb", closefd=False) as file:
             file.write(content)
         self.close()
         self.put()
@@ -124,7 +120,7 @@ class Place:
         descriptor, self._descriptor = self._descriptor, None
         if descriptor is None:
             return
-        with self._failing():
+        with self.failing():
             if not self.is_special:
                 os.fsync(descriptor)
             os.close(descriptor)
@@ -133,7 +129,7 @@ class Place:
         """Puts what was made beside in its place; one that `is_new` over nothing that is there."""
         if self._beside is None:
             return
-        with self._failing():
+        with self.failing():
             try:
                 if is_new:
                     os.link(self._beside, self.path, follow_symlinks=False)
@@ -161,10 +157,10 @@ class Place:
         raise OutputFailed(f"{self.shown}: {getattr(fault, 'strerror', None) or fault}")
 
     @contextlib.contextmanager
-    def _failing(self) -> Iterator[None]:
+    def failing(self) -> Iterator[None]:
         try:
             yield
-        except (OSError, ValueError) as fault:
+        except (OSError, OverflowError, ValueError) as fault:
             self.fail(fault)
 
     def _look(self, is_word: bool) -> Optional[os.stat_result]:

@@ -24,9 +24,9 @@ from argparse import ArgumentParser, Namespace
 from collections import Counter
 from typing import Optional, Sequence
 
+from dmremap_tools.answers.saved import parts_of
 from dmremap_tools.base import program, streams
 from dmremap_tools.base.numbers import SECTOR
-from dmremap_tools.images.save import parts_of
 from dmremap_tools.layouts import rescue_map, systems
 from dmremap_tools.layouts.file_system import Run
 from dmremap_tools.model.device import Image, joined, lacking

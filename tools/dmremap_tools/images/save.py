@@ -18,16 +18,14 @@ to take a file from it, `debugfs -R 'dump /FILE OUT' OUT`.
 """
 
 from argparse import ArgumentParser, Namespace
-from typing import Generator, Iterator, Optional, Tuple
+from typing import Iterator, Optional, Tuple
 
 from dmremap_tools.answers import save as by_tables
-from dmremap_tools.answers.saved import PARTLY, Part, SavedMap, put_together
+from dmremap_tools.answers.saved import PARTLY, SavedMap, put_together
 from dmremap_tools.base import given, names, quoting, streams
-from dmremap_tools.base.numbers import SECTOR
 from dmremap_tools.base.refusal import INCOMPLETE, Refusal, WrongWords
 from dmremap_tools.layers import started
-from dmremap_tools.layouts.rescue_map import BAD, FINISHED
-from dmremap_tools.model.device import BLOCK, ZEROS, Extent, Image, cut, joined, read_blocks
+from dmremap_tools.model.device import Extent, joined
 from dmremap_tools.model.pile import Pile, Target
 
 EXAMPLE = "dmremap-tools save vg0/home home.img sda.img sdb.img --map home.map"
@@ -71,31 +69,11 @@ def copy(words: Namespace) -> bool:
     if why:
         streams.tell(f"{quoting.shown(target.name)}: {why}")
     saved = SavedMap(words.map, target.size, [(0, target.size)])
-    return put_together(words.target, saved, parts(target, saved))
+    return put_together(words.target, saved, extents_of(target, saved))
 
 
-def parts(target: Target, saved: SavedMap) -> "Generator[Part, None, None]":
-    """What is left to do, as it is read."""
-    for begin, end in list(saved.left(0, target.size)):
+def extents_of(target: Target, saved: SavedMap) -> Iterator[Tuple[int, Extent]]:
+    """Where what is left to do lies, each part with its first byte."""
+    for begin, end in saved.left(0, target.size):
         for start in range(begin, end, WINDOW):
-            first = start // SECTOR * SECTOR
-            stop = -(-min(end, start + WINDOW) // SECTOR) * SECTOR
-            for at, extent in joined(target.device, first, stop - first):
-                for size, content, is_there in parts_of(extent):
-                    yield Part(at, size, content, FINISHED if is_there else BAD, max(start, at))
-                    at += size
-
-
-def parts_of(extent: Extent) -> Iterator[Tuple[int, bytes, bool]]:
-    """The bytes of an extent in blocks: how many, the bytes unless they are zeros, and whether they are there."""
-    source = extent.source
-    if source is ZEROS:
-        yield extent.size, b"", True
-    elif source.lack(extent.start, extent.size) is not None:
-        yield extent.size, b"", False
-    else:
-        begin, end = extent.start, extent.start + extent.size
-        # Holes of an image aren't read.
-        has_holes = isinstance(source, Image) and extent.size >= BLOCK
-        for first, stop, run in cut(list(source.runs(begin, end)) if has_holes else [(begin, end)], begin, end):
-            yield from read_blocks(source.load, first, stop) if run else [(stop - first, b"", True)]
+            yield from joined(target.device, start, min(end, start + WINDOW) - start)

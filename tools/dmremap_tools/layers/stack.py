@@ -22,6 +22,13 @@ class Stack(NamedTuple):
     def by_path(self) -> Dict[str, tables.Device]:
         return {names.MAPPER + it.name: it for it in self.devices}
 
+    def length(self, name: str, file: str) -> int:
+        """The sectors of a device of FILE."""
+        device = self.by_path().get(names.MAPPER + name)
+        if device is None:
+            raise Refusal(streams.name_of(file), f"no device {name}: `dmremap table` prints their names")
+        return device.end()
+
     def below(self, paths: Iterable[str]) -> Tuple[Set[str], Set[str]]:
         """Of devices and disks by their paths, and what they stand on: the devices, and the disks."""
         lower, found, left = self.by_path(), set(), list(paths)

@@ -6,8 +6,7 @@ import os
 import stat
 from typing import Dict, Iterable, Iterator, List, NamedTuple, Optional
 
-from dmremap_tools.answers.sources import opened
-from dmremap_tools.base import paths, program, quoting, streams
+from dmremap_tools.base import disk_image, paths, program, quoting, streams, written
 from dmremap_tools.base.given import Given, put
 from dmremap_tools.base.refusal import Refusal
 from dmremap_tools.layers import stack, store_states
@@ -67,3 +66,18 @@ def rows_of(places: Dict[str, paths.Place]) -> Iterator[str]:
                          "image that was read with O_DIRECT, as `dd iflag=direct` does")
         os.close(descriptor)
         yield f"{disk} {place.path}?offset={place.start}\n"
+
+
+def opened(path: str) -> int:
+    """The descriptor of a disk or an image of one, which has its bytes in their order."""
+    try:
+        descriptor = os.open(path, os.O_RDONLY | os.O_NONBLOCK)
+    except OSError as fault:
+        raise Refusal(quoting.shown(path), streams.why(fault))
+    kind = os.fstat(descriptor).st_mode
+    if not stat.S_ISREG(kind) and not stat.S_ISBLK(kind):
+        os.close(descriptor)
+        raise Refusal(quoting.shown(path), "neither a file nor a disk: give the path of one")
+    written.note_input(descriptor)
+    disk_image.check_form(descriptor, quoting.shown(path))
+    return descriptor

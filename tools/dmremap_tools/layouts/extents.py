@@ -9,7 +9,6 @@ import argparse
 import itertools
 import tempfile
 
-from dmremap_tools.answers.mapped import Mapped
 from dmremap_tools.base import given, names, pieces, requests, streams
 from dmremap_tools.base.refusal import Refusal
 from dmremap_tools.layers import started
@@ -29,13 +28,11 @@ def run(words: argparse.Namespace) -> None:
     name = names.Names(words.ls).device(words.volume, "VOLUME")
     with tempfile.TemporaryDirectory(prefix="dmremap-tools-") as room:
         begun = started.start(words, source, [name], room)
-        device = begun.loaded.by_path().get(names.MAPPER + name)
-        if device is None:
-            raise Refusal(streams.name_of(words.file), f"no device {name}: `dmremap table` prints their names")
-        if device.end() > requests.LONGEST:
+        end = begun.loaded.length(name, words.file)
+        if end > requests.LONGEST:
             raise Refusal(streams.name_of(words.file), "%s is %s: give `dmremap map` requests for parts of it" % (name, requests.TOO_LONG))
-        asked = ("R %s %d %d\n" % (name, at, count) for at, count in requests.parts(0, device.end()))
-        with Mapped(begun.words, asked) as mapped:
+        asked = ("R %s %d %d\n" % (name, at, count) for at, count in requests.parts(0, end))
+        with pieces.Mapped(begun.words, asked) as mapped:
             write(mapped.answers)
 
 

@@ -2,7 +2,7 @@
 
 import re
 from argparse import ArgumentParser
-from typing import Dict, Iterator, List, NamedTuple, Sequence, Tuple
+from typing import Dict, List, NamedTuple, Sequence, Tuple
 
 from dmremap_tools.base import numbers, quoting, streams
 from dmremap_tools.base.refusal import WrongWords
@@ -16,8 +16,12 @@ AREA = re.compile(NUMBER + r"\s+" + NUMBER + r"\s+([?*/+-])")
 Area = NamedTuple("Area", [("begin", int), ("end", int), ("status", str)])
 
 
-def areas_in(source: streams.Lines, rows: Iterator[str]) -> Iterator[Area]:
-    """The areas that the rows after the first one have. Each begins where the one before ends."""
+def read(path: str, anew: str, is_written: bool = False) -> List[Area]:
+    """The areas of a map. Each begins where the one before ends."""
+    source, areas = streams.Lines(path, is_written), []
+    rows = (row for row in source if row and not row.startswith("#"))
+    if not CURRENT.fullmatch(next(rows, "")):
+        source.refuse("not a map of ddrescue: " + anew)
     end = None
     for row in rows:
         match = AREA.fullmatch(row)
@@ -25,7 +29,8 @@ def areas_in(source: streams.Lines, rows: Iterator[str]) -> Iterator[Area]:
         if not match or not size or end not in (None, begin) or begin + size > numbers.LIMIT:
             source.refuse("not the area that comes next, give the map as ddrescue wrote it: " + quoting.shown(row))
         end = begin + size
-        yield Area(begin, end, match[3])
+        areas.append(Area(begin, end, match[3]))
+    return areas
 
 
 def add_words(parser: ArgumentParser) -> None:
@@ -39,10 +44,6 @@ def unread_in(given: Sequence[str], images: Sequence[str]) -> Dict[str, List[Tup
         path, is_given, map_path = word.rpartition("=")
         if not is_given or path in found or path not in images:
             raise WrongWords(f"--map: not IMAGE=MAP of one of the images, or given twice: {quoting.shown(word)}")
-        source = streams.Lines(map_path)
-        rows = (row for row in source if row and not row.startswith("#"))
-        if not CURRENT.fullmatch(next(rows, "")):
-            source.refuse("not a map of ddrescue: give the file that it wrote")
         found[path] = [(area.begin // numbers.SECTOR * numbers.SECTOR, -(-area.end // numbers.SECTOR) * numbers.SECTOR)
-                       for area in areas_in(source, rows) if area.status != FINISHED]
+                       for area in read(map_path, "give the file that it wrote") if area.status != FINISHED]
     return found

@@ -20,8 +20,7 @@ from argparse import ArgumentParser, Namespace
 from collections import Counter, defaultdict
 from typing import Dict, Iterator, List, Tuple
 
-from dmremap_tools.answers.mapped import Mapped
-from dmremap_tools.base import given, names, numbers, program, requests, store_places, streams
+from dmremap_tools.base import given, names, numbers, pieces, program, requests, store_places, streams
 from dmremap_tools.base.refusal import Refusal, WrongWords
 from dmremap_tools.layers import stack, started
 from dmremap_tools.layouts.file_system import Run
@@ -109,7 +108,7 @@ class Runs:
         if size not in self._known:
             streams.show_progress(f"run {len(self._known) + 1}, over {size} of {self.size} bytes")
             parts = (self.text[at:min(at + CHUNK, size)] for at in range(0, size, CHUNK))
-            with Mapped(self._command, (it.decode("utf-8", "surrogateescape") for it in parts)) as mapped:
+            with pieces.Mapped(self._command, (it.decode("utf-8", "surrogateescape") for it in parts)) as mapped:
                 found = [it for block in mapped.answers.blocks() for it in STATUS.findall(block)]
             self._known[size] = dict(found)
         return self._known[size]

@@ -8,9 +8,9 @@ import re
 from collections import namedtuple
 from typing import Dict, List, Optional, Sequence, Tuple
 
-from dmremap_tools.answers.sources import opened
 from dmremap_tools.base import numbers, paths, program, quoting, streams
 from dmremap_tools.base.refusal import Refusal
+from dmremap_tools.layers.started import opened
 from dmremap_tools.layouts.ext_system import ExtSystem
 from dmremap_tools.layouts.file_system import FileSystem, Run, asked, refusal, tell
 

@@ -11,7 +11,7 @@ import tempfile
 import weakref
 from typing import Callable, Dict, Iterator, List, NamedTuple, NoReturn, Optional, Sequence, Tuple
 
-from dmremap_tools.base import names, numbers, program, quoting, streams, tables
+from dmremap_tools.base import names, numbers, program, quoting, tables
 from dmremap_tools.base.given import put
 from dmremap_tools.base.numbers import SECTOR
 from dmremap_tools.base.refusal import Refusal
@@ -146,11 +146,10 @@ class Child:
         with tempfile.TemporaryDirectory(prefix="dmremap-tools-") as room:
             words = source.words(room)
             self.chunks = store_states.chunks_in(words, source.devices.values()) if source.stores else {}
-            streams.flush()
             try:
                 self._child = program.start(words, stdin=subprocess.PIPE, stdout=subprocess.PIPE, stderr=self._said)
-            except OSError as fault:
-                raise NoProgram(quoting.shown(self._name), f"{streams.why(fault)}: {ASKED}")
+            except Refusal as refusal:
+                raise NoProgram(refusal.where, f"{refusal.why}: {ASKED}")
             # It ends once nobody may ask it any more.
             weakref.finalize(self, end, self._child)
             self.ask(next(iter(source.devices)), 0, 1)

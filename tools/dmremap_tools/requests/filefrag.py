@@ -49,7 +49,7 @@ LEAF = re.compile(r" *([0-9]+) - +([0-9]+) +([0-9]+) - +([0-9]+) +([0-9]+)( Unin
 INNER = re.compile(r" *[0-9]+ - +[0-9]+ +[0-9]+ +[0-9]+")
 MOST_LEVELS = 64
 LIST_ANEW = "make the text anew by `debugfs -R 'ex /FILE' IMAGE`"
-# The sector of the file, that of the device, and how many there are; at the end of a file its length and ENDED.
+# The sector of the file, that of the device, and how many there are; at the end of a file its bytes and ENDED.
 Extent = Tuple[int, int, int]
 ENDED = (-1, 0)
 
@@ -93,7 +93,7 @@ def lines_of(source: streams.Lines, extents: Iterable[Extent], disk: str) -> Ite
     end = files = size = 0
     for at, first, count in extents:
         if (first, count) == ENDED:
-            files, size = files + 1, at
+            files, size = files + 1, numbers.sectors_touched(0, at)[1]
             continue
         if at > end:
             yield tables.Line(end, at - end, "zero", [])
@@ -137,7 +137,7 @@ def read_filefrag(source: streams.Lines, known: Set[str]) -> Iterator[Extent]:
         elif opened and FOUND.search(line):
             if not is_last and (number or not NONE_FOUND.search(line)):
                 source.refuse_line("an extent is missing before, " + ANEW)
-            yield (numbers.sectors_touched(0, size)[1], *ENDED)
+            yield (size, *ENDED)
             opened = ""
         elif not GROUPS.fullmatch(line) and not (opened and HEAD.fullmatch(line)):
             source.refuse_line("not a line of filefrag -v, " + ANEW)
@@ -180,7 +180,7 @@ def read_list(source: streams.Lines, block: int, size: int) -> Iterator[Extent]:
         source.refuse("entries are missing at the end, " + LIST_ANEW)
     if not is_listed:
         source.refuse("no list of extents, which only files with extents have: " + LIST_ANEW)
-    yield (numbers.sectors_touched(0, size)[1], *ENDED)
+    yield (size, *ENDED)
 
 
 def refuse_if(source: streams.Lines, text: str, anew: str, faults: Dict[str, bool]) -> None:
