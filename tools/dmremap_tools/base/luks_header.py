@@ -3,6 +3,7 @@
 import hashlib
 import json
 import struct
+from collections import namedtuple
 from typing import List, NamedTuple, Optional
 
 from dmremap_tools.base import numbers, streams
@@ -23,30 +24,18 @@ SECOND_ALONE = "its first header is damaged, the second one is sound: repair a c
 UNSAID = "its header of LUKS doesn't say where the data is: see `cryptsetup luksDump`"
 
 
-class Container(NamedTuple):
+# A sound header of version 2: where it is, its size, how often it was written, the id, and its text.
+Header = NamedTuple("Header", [("place", int), ("size", int), ("sequence", int), ("uuid", str), ("text", bytes)])
+
+
+class Container(namedtuple("Container", "version identity start length header fault",
+                           defaults=("", None, None, 0, None))):
     """A container: its version and id, in sectors where its data begins, how long that is, if it doesn't go on to the
     end of the disk, and what headers and keys take; and what is wrong with it."""
-
-    version: int
-    identity: str = ""
-    start: Optional[int] = None
-    length: Optional[int] = None
-    header: int = 0
-    fault: Optional[str] = None
 
     def is_detached(self) -> bool:
         """Whether the data lies on another disk, as it would lie where the header does."""
         return self.start < self.header
-
-
-class Header(NamedTuple):
-    """A sound header of version 2: where it is, its size, how often it was written, the id, and its text."""
-
-    place: int
-    size: int
-    sequence: int
-    uuid: str
-    text: bytes
 
 
 def container_in(image: Image) -> Optional[Container]:

@@ -3,7 +3,8 @@ extended partitions, numbered as Linux does."""
 
 import struct
 import zlib
-from typing import Any, List, NamedTuple, Optional, Tuple
+from collections import namedtuple
+from typing import List, NamedTuple, Optional
 
 from dmremap_tools.base.disk_image import Image
 from dmremap_tools.base.numbers import SECTOR
@@ -28,18 +29,9 @@ FIRST_LOGICAL, LAST_LOGICAL, MOST_EMPTY = 5, 255, 100
 Partition = NamedTuple("Partition", [("number", int), ("start", int), ("size", int)])
 # An entry of an MBR: its first byte, the type of a partition, its first sector, and its sectors.
 Entry = NamedTuple("Entry", [("flags", int), ("kind", int), ("start", int), ("size", int)])
-
-
-class Table(NamedTuple):
-    """A partition table; `copy` says which one of a GPT was read, `taken` what it takes itself: starts and ends in
-    bytes, and `fault` how it is damaged."""
-
-    kind: str
-    copy: str
-    sector: int
-    partitions: Any
-    taken: List[Tuple[int, int]]
-    fault: Optional[str] = None
+# A partition table: its kind, which copy was read of a GPT, the bytes of a sector, its partitions, what it takes
+# itself: starts and ends in bytes, and how it is damaged.
+Table = namedtuple("Table", "kind copy sector partitions taken fault", defaults=(None,))
 
 
 class DamagedTable(Refusal):

@@ -19,9 +19,8 @@ from dmremap_tools.base.pieces import Answers, Piece
 from dmremap_tools.base.refusal import Refusal
 from dmremap_tools.explaining.refusals import Told
 from dmremap_tools.layers.stack import Stack
-from dmremap_tools.model import snapshot
 from dmremap_tools.model.device import Image, Missing, Part as DiskPart
-from dmremap_tools.model.mapping import Mapped, Tables
+from dmremap_tools.model.mapping import Mapped, Tables, copy_store
 
 TAKEN, NOT_TAKEN, TAKEN_NOW = "taken", "not taken yet", "taken now"
 SNAPSHOT, ORIGIN = "snapshot", "snapshot-origin"
@@ -339,7 +338,7 @@ class Levels:
     def _copied(self, disk: str, chunk: int) -> str:
         """Copies what the store says of itself that is a disk here, and has its line of PATHS."""
         path, copy = self._meant[disk], os.path.join(self._room, disk)
-        snapshot.copy(self._source.disks.get(path) or Mapped(path, self._source, names.of_path(path)), chunk, copy)
+        copy_store(self._source.disks.get(path) or Mapped(path, self._source, names.of_path(path)), chunk, copy)
         return "%s %s?offset=0" % (disk, copy)
 
     def _cut_line(self, line: tables.Line, kept: Optional[str]) -> tables.Line:

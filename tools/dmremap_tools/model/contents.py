@@ -1,16 +1,12 @@
-"""What a device holds: a partition table, a LUKS container, or a file system, as its beginning says."""
+"""What a device holds, as its beginning says, and how a LUKS container is opened."""
 
 import shlex
 import struct
 from typing import List, Optional
 
 from dmremap_tools.base.luks_header import Container
-from dmremap_tools.base.numbers import SECTOR
-from dmremap_tools.base.partition_table import Table, backup_of, table_of
-from dmremap_tools.base.refusal import Refusal
-from dmremap_tools.model.device import Device, Gap, Lenient, Part
+from dmremap_tools.model.device import Device, Gap
 
-BIG_SECTOR = 4096
 # What is read of a device: the last magic of those below ends there.
 READ = 68 << 10
 # Bytes at a place by which a file system is known.
@@ -29,19 +25,6 @@ EXT_AT, EXT_MAGIC = 0x400, b"\x53\xef"
 HAS_JOURNAL = 0x4
 EXT4_INCOMPATIBLE = 0x40 | 0x80 | 0x100 | 0x200 | 0x400 | 0x1000 | 0x4000 | 0x8000 | 0x10000
 EXT4_READ_ONLY = 0x8 | 0x10 | 0x20 | 0x40 | 0x400
-
-
-def partitions_of(device: Device, may_use_backup: bool, sector: int = SECTOR) -> Optional[Table]:
-    """The partition table of a device, with these by their numbers, or None. The backup of a GPT alone, without
-    anything at the beginning that speaks of it, is taken where nothing else is known of the device. `sector` has the
-    bytes of a sector for an MBR."""
-    image = Lenient(device)
-    try:
-        table = table_of(image, sector) or (backup_of(image) if may_use_backup else None)
-    except Refusal as refusal:
-        return Table("GPT", "", SECTOR, {}, [], refusal.why)
-    return table and table._replace(partitions={
-        number: Part(f"{device.name}:{number}", device, start, size) for number, start, size in table.partitions})
 
 
 def ways_in(container: Container, name: str, image: Optional[str], partition: int) -> List[str]:

@@ -12,9 +12,8 @@ from dmremap_tools.base.refusal import Refusal
 from dmremap_tools.model.contents import file_system_of
 from dmremap_tools.model.device import Device, Missing
 from dmremap_tools.model.layout import Layout, Use
-from dmremap_tools.model.mapping import NoProgram
+from dmremap_tools.model.mapping import INVALID_SNAPSHOT, NoProgram
 from dmremap_tools.model.physical_volume import PhysicalVolume, Text
-from dmremap_tools.model.snapshot import INVALID as INVALID_SNAPSHOT
 
 COMPLETE, LACKING, TRUNCATED, FORKED = "complete", "missing", "truncated", "forked"
 TWO_SIDES = ("disks of this group were changed apart from each other, and both sides have a volume of this name: give "

@@ -11,7 +11,7 @@ from dmremap_tools.base.numbers import SECTOR
 from dmremap_tools.base.refusal import Refusal
 from dmremap_tools.metadata.volume_group import Group, Record, Segment, Volume
 from dmremap_tools.model.device import Device, Extent, Missing
-from dmremap_tools.model.mapping import Mapped, Tables
+from dmremap_tools.model.mapping import Mapped, Tables, snapshot_of
 from dmremap_tools.model.physical_volume import Text
 
 # The most sectors of an extent, and extents of a volume: more than lvm2 makes.
@@ -83,7 +83,6 @@ class Layout:
                 and (name in self.origins or b"VISIBLE" in volume.node.values(b"status"))]
 
     def _volume(self, name: bytes) -> Device:
-        from dmremap_tools.model import snapshot
         record = self.records.get(name)
         if record is None or record.is_merging:
             record = next((other for other in self.group.records if other.is_merging and other.origin == name), None)
@@ -92,7 +91,7 @@ class Layout:
         self._snapshots += 1
         if self._snapshots > MOST_SNAPSHOTS:
             raise Refusal(self.path(name), MANY)
-        return snapshot.device_of(self, record)
+        return snapshot_of(self, record)
 
     def plain(self, name: bytes) -> Device:
         """The bytes that the segments of a volume have."""
@@ -239,9 +238,9 @@ class Deferred(Device):
 @functools.lru_cache(None)
 def layers() -> Dict[bytes, Callable[[Layout, str, Segment, int], Device]]:
     """What makes the device of a segment of each type, of the layout, the volume's name, the segment and its bytes."""
-    from dmremap_tools.model import integrity, pools, raid_volume
+    from dmremap_tools.model import pools, raid_volume
     return {b"thin": pools.thin_of, b"cache": pools.cached_of, b"cache+CACHE_USES_CACHEVOL": pools.cached_of,
-            b"integrity": integrity.device_of, b"raid1": raid_volume.mirror_of, b"raid5": raid_volume.parity_of,
+            b"integrity": raid_volume.integrity_of, b"raid1": raid_volume.mirror_of, b"raid5": raid_volume.parity_of,
             b"raid5_ls": raid_volume.parity_of}
 
 

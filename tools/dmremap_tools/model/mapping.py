@@ -6,20 +6,24 @@ import functools
 import itertools
 import os
 import re
+import struct
 import subprocess
 import tempfile
 import weakref
-from typing import Callable, Dict, Iterator, List, NamedTuple, NoReturn, Optional, Sequence, Tuple
+from typing import Any, Callable, Dict, Iterator, List, NamedTuple, NoReturn, Optional, Sequence, Tuple
 
-from dmremap_tools.base import names, numbers, program, quoting, tables
+from dmremap_tools.base import names, numbers, program, quoting, store_places, tables
+from dmremap_tools.base.config_text import shown
 from dmremap_tools.base.given import put
 from dmremap_tools.base.numbers import SECTOR
 from dmremap_tools.base.refusal import Refusal
 from dmremap_tools.layers import store_states
-from dmremap_tools.model.device import ZEROS, Device, Extent, Gap, Missing
+from dmremap_tools.layers.store_states import DAMAGED
+from dmremap_tools.metadata.volume_group import Record
+from dmremap_tools.model.device import ZEROS, Device, Extent, Gap, Lenient, Missing
 
-# Sectors that one request asks for, those of a window, and windows that are kept.
-MOST_SECTORS, WINDOW, MOST_WINDOWS = 1 << 20, 1 << 14, 64
+# Sectors that one request asks for, and answers to these that are kept.
+WINDOW, MOST_WINDOWS = 1 << 15, 20
 # Devices that are loaded together, of which the program takes 1,024 with what they lie on, and programs that run.
 MOST_DEVICES, MOST_CHILDREN = 400, 16
 ANSWER = re.compile(r"([0-9]+) (?:R ([^ ]+) ([0-9]+)|(zero|error)) ([0-9]+)\n")
@@ -27,6 +31,14 @@ READ, ZERO = "R", "zero"
 FILES = ("FILE", "DISKS", "PATHS")
 FAILS = "reads fail there, as the tables say"
 ASKED = "it is asked where volumes lie: build it, put it beside this tool, or give --program"
+# What a snapshot is called in tables of its own, and why one is refused.
+NAME, NEXT, OLDER = "snapshot", "activate it with lvm2, or save the origin", "give an older image of its disk"
+INVALID_SNAPSHOT = ("the snapshot is invalid: its store was full, and chunks that the origin overwrote since are lost; "
+                    "save the origin instead")
+LOST = f"the store: its header is zeros, and what follows isn't, so that it isn't new: save the origin, or {OLDER}"
+UNKNOWN = f"the store: its header is zeros, and nothing tells whether the merge ended: {OLDER}"
+ODD = f"the store: its header says neither that it is valid nor that it isn't, {DAMAGED}: {OLDER}"
+BROKEN = f"the store: its list goes on behind a free place, {DAMAGED}: {OLDER}"
 # Sectors of an answer: a disk and a start there, unless they are zeros or fail.
 Piece = NamedTuple("Piece", [("what", str), ("disk", str), ("start", int), ("count", int)])
 
@@ -78,29 +90,14 @@ class Tables:
         """What the lines use of disks: the first sector, and how many, or None for all."""
         return (span for line in self.lines() for span in line.spans() if span[0] in self.disks)
 
-    def pieces(self, name: str, first: int, count: int) -> List[Piece]:
-        """Where so many sectors are read as one request may have. A few are taken from a window, which is kept."""
-        if count > WINDOW // 4:
-            return self._asked(name, first, count)
-        found: List[Piece] = []
-        for at in range(first // WINDOW * WINDOW, first + count, WINDOW):
-            for piece in self._window(name, at):
-                begin, stop = max(first, at), min(first + count, at + piece.count)
-                if begin < stop:
-                    found.append(Piece(piece.what, piece.disk, piece.start + begin - at, stop - begin))
-                at += piece.count
-        return found
-
     @functools.lru_cache(MOST_WINDOWS)
-    def _window(self, name: str, start: int) -> List[Piece]:
-        return self._asked(name, start, min(WINDOW, self.devices[name].end() - start))
-
-    def _asked(self, name: str, first: int, count: int) -> List[Piece]:
+    def window(self, name: str, start: int) -> List[Piece]:
+        """Where the sectors of a window are read. Where the program was ended meanwhile, it is asked once more."""
+        count = min(WINDOW, self.devices[name].end() - start)
         with contextlib.suppress(Refusal):
-            return self.child_of(name).ask(name, first, count)
-        # Where it was ended meanwhile, it is asked once more.
+            return self.child_of(name).ask(name, start, count)
         self._child.cache_clear()
-        return self.child_of(name).ask(name, first, count)
+        return self.child_of(name).ask(name, start, count)
 
     def child_of(self, name: str) -> "Child":
         """The program that knows a device and others around it, or this one alone where it refuses another."""
@@ -225,13 +222,89 @@ class Mapped(Device):
     def _extents(self, start: int, size: int) -> Iterator[Extent]:
         if start % SECTOR or size % SECTOR:
             raise Gap(self.name, "no whole sectors: ask for these")
-        end = (start + size) // SECTOR
-        for first in range(start // SECTOR, end, MOST_SECTORS):
-            for piece in self.source.pieces(self.key, first, min(MOST_SECTORS, end - first)):
-                if piece.what == READ:
-                    yield from self.source.disks[piece.disk].extents(piece.start * SECTOR, piece.count * SECTOR)
-                else:
-                    yield Extent(ZEROS if piece.what == ZERO else Missing(FAILS), 0, piece.count * SECTOR)
+        first, end = start // SECTOR, (start + size) // SECTOR
+        for at in range(first // WINDOW * WINDOW, end, WINDOW):
+            for what, disk, place, count in self.source.window(self.key, at):
+                begin, stop = max(first, at), min(end, at + count)
+                if begin < stop and what == READ:
+                    place += begin - at
+                    yield from self.source.disks[disk].extents(place * SECTOR, (stop - begin) * SECTOR)
+                elif begin < stop:
+                    yield Extent(ZEROS if what == ZERO else Missing(FAILS), 0, (stop - begin) * SECTOR)
+                at += count
+
+
+def snapshot_of(layout: Any, record: Record) -> Device:
+    """The device of a snapshot, or of the origin that it is merged into, whose store dmremap takes and is valid."""
+    origin, store, chunk = record.origin or b"", record.store or b"", record.chunk or 0
+    name = layout.path(origin if record.is_merging else store)
+    merging = [other for other in layout.group.records if other.is_merging and other.origin == origin]
+    other = next((shown(other.store or b"") for other in merging if other is not record), None)
+    if other is not None:
+        raise Refusal(name, f"a snapshot of {shown(origin)}, into which {other} is being merged, isn't followed: save "
+                      "the origin instead")
+    if origin not in layout.group.volumes or record.volume.extents != layout.group.volumes[origin].extents:
+        raise Refusal(name, f"its origin {shown(origin)} isn't there, or was resized since: {NEXT}")
+    if not store_places.is_chunk(chunk) or chunk > store_places.MOST_IN_CHUNK:
+        raise Refusal(name, f"its text says chunks of {chunk} sectors, which aren't followed: {NEXT}")
+    kept, key = layout.plain(store), layout.key_of(origin)
+    source = layout.tables.closure([key])
+    disk = source.disk(kept)
+    source.stores[disk] = lambda path: copy_store(kept, chunk, path)
+    words = [names.MAPPER + key, disk, "P", str(chunk)]
+    source.add(NAME, [tables.Line(0, layout.size_of(origin) // SECTOR, "snapshot", words)])
+    try:
+        chunks = source.child_of(NAME).chunks[NAME]
+    except store_states.Unread as refusal:
+        raise Refusal(name, refusal.word == "read" and kept.lack(0, kept.size) or f"the store: {refusal.why}")
+    fault = INVALID_SNAPSHOT if chunks is None else store_fault(kept, chunk, record.is_merging)
+    if fault:
+        raise Refusal(name, fault)
+    made = Mapped(name, source, NAME)
+    made.chunks_used = chunks
+    return made
+
+
+def copy_store(store: Device, chunk: int, path: str) -> None:
+    """Writes what a store says of itself to a file for dmremap to read: the header and the areas of its list in their
+    places, and holes between them. It ends before the first sector that can't be read, so that zeros are never taken
+    for that."""
+    with open(path, "wb") as file:
+        for start, length, content in list_of(store, chunk):
+            file.seek(start)
+            file.write(content)
+            is_whole = len(content) == length
+        if is_whole:
+            file.truncate(store.size)
+
+
+def store_fault(store: Device, chunk: int, is_merging: bool) -> Optional[str]:
+    """Why a store that dmremap takes as valid is none that a kernel leaves: it writes the header of a new one at once,
+    with a 1 for valid, and nothing behind the first free place of the list."""
+    is_new = False
+    for start, _, content in list_of(store, chunk):
+        is_new = is_new if start else not any(content[:4])
+        if is_new and (is_merging or any(content)):
+            return UNKNOWN if is_merging else LOST
+        if not start and not is_new and content[4:8] != b"\1\0\0\0":
+            return ODD
+        used = len(content.rstrip(b"\0")) + 15 & ~15
+        if start and 0 in struct.unpack_from(f"<{used // 8}Q", content)[1::2]:
+            return BROKEN
+    return None
+
+
+def list_of(store: Device, chunk: int) -> Iterator[Tuple[int, int, bytes]]:
+    """The header and the areas up to the end of the list: where each begins, its length, and its bytes up to the first
+    sector that can't be read, after which there are no more."""
+    size, step = chunk * SECTOR, (32 * chunk + 1) * chunk * SECTOR
+    areas = ((start, size) for start in range(size, store.size - size + 1, step))
+    for start, length in itertools.chain([(0, SECTOR)], areas):
+        content = Lenient(store).read(start, length)
+        yield start, length, content
+        # Whose last entry is free, that ends the list.
+        if len(content) < length or start and not any(content[-8:]):
+            return
 
 
 DISKS = itertools.count()

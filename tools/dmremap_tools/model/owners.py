@@ -11,11 +11,10 @@ from dmremap_tools.base.config_text import shown
 from dmremap_tools.base.numbers import SECTOR
 from dmremap_tools.base.refusal import Refusal
 from dmremap_tools.metadata.volume_group import Segment
-from dmremap_tools.model import snapshot
 from dmremap_tools.model.device import ALL, ZEROS, Device, Gap, blocks_of, joined
 from dmremap_tools.model.groups import REMOVED, Group
 from dmremap_tools.model.layout import LOWER, Layout
-from dmremap_tools.model.mapping import NoProgram
+from dmremap_tools.model.mapping import INVALID_SNAPSHOT, NoProgram
 from dmremap_tools.model.md_chunks import Shape
 from dmremap_tools.model.physical_volume import PhysicalVolume
 
@@ -305,7 +304,7 @@ class Stack:
             raise
         except Refusal as refusal:
             why = refusal.why
-        if why and why != snapshot.INVALID:
+        if why and why != INVALID_SNAPSHOT:
             yield Run(first, end, unknown(f"whether {called} has it: {why}"))
 
 

@@ -5,17 +5,17 @@ from typing import Dict, List, NamedTuple, Optional, Sequence, Tuple
 from dmremap_tools.base import quoting
 from dmremap_tools.base.luks_header import Container, container_in
 from dmremap_tools.base.numbers import SECTOR
-from dmremap_tools.base.partition_table import Table
+from dmremap_tools.base.partition_table import Table, backup_of, table_of
 from dmremap_tools.base.refusal import Refusal
 from dmremap_tools.model import mapping, md_superblock, physical_volume
-from dmremap_tools.model.contents import BIG_SECTOR, file_system_of, partitions_of
-from dmremap_tools.model.device import Device, Image, Lenient, Run
+from dmremap_tools.model.contents import file_system_of
+from dmremap_tools.model.device import Device, Image, Lenient, Part, Run
 from dmremap_tools.model.groups import REMOVED, Group, Texts, Volume, same_id
 from dmremap_tools.model.md_array import Array
 from dmremap_tools.model.md_superblock import Member
 from dmremap_tools.model.physical_volume import PhysicalVolume
 
-NOTHING, SCAN = "nothing is found in it", "`scan` lists what is there"
+NOTHING, SCAN, BIG_SECTOR = "nothing is found in it", "`scan` lists what is there", 4096
 # The most disks, partitions and arrays that are looked at, and the most levels of arrays that are members of others.
 MOST_SPOTS, MOST_LEVELS = 1 << 13, 8
 MANY = f"no more than {MOST_SPOTS} disks, partitions and arrays are looked at: give fewer images"
@@ -259,13 +259,21 @@ def known_in(device: Device) -> Optional[str]:
 
 
 def table_in(device: Device, known: Optional[str]) -> Optional[Table]:
-    """The partition table of a device. An MBR, which has no sum, is one if something is in its partitions, with sectors
-    of 512 or of 4096 bytes, or if nothing is known of the device itself."""
-    first = partitions_of(device, known is None)
-    if not first or first.kind != "MBR":
-        return first
-    for table in (first, partitions_of(device, False, BIG_SECTOR)):
-        devices = table.partitions.values() if table else ()
-        if any(known_in(each) or md_superblock.members_in(each)[0] for each in devices):
+    """The partition table of a device, with these by their numbers. The backup of a GPT alone, without anything at the
+    beginning that speaks of it, is one if nothing is known of the device itself, and an MBR, which has no sum, if then
+    or if something is in its partitions, with sectors of 512 or of 4096 bytes."""
+    image = Lenient(device)
+    try:
+        found = [table_of(image) or (backup_of(image) if known is None else None)]
+    except Refusal as refusal:
+        return Table("GPT", "", SECTOR, {}, [], refusal.why)
+    if found[0] and found[0].kind == "MBR":
+        found.append(table_of(image, BIG_SECTOR))
+    tables = [table._replace(partitions={
+        number: Part(f"{device.name}:{number}", device, start, size) for number, start, size in table.partitions})
+        for table in found if table]
+    for table in tables:
+        devices = table.partitions.values()
+        if table.kind != "MBR" or any(known_in(each) or md_superblock.members_in(each)[0] for each in devices):
             return table
-    return None if known else first
+    return tables[0] if tables and not known else None
