@@ -1,25 +1,55 @@
-"""The file system in an image, by what stands at its beginning: one of the kinds of ext, or XFS, of which xfs_db of
-xfsprogs says which files have its blocks. It only reads here."""
+"""The file system in an image, by what stands at its beginning: XFS, or one of the kinds ext2, ext3 and ext4, of which debugfs
+of e2fsprogs says which files have its blocks, and which it has for itself.
 
+What debugfs can't read for damage is told, and asked again without sums and bitmaps, and then by the copies of the
+superblock. What it answers is taken. It prints a name as it stands on the disk, so one with a line feed may look like the
+line of another inode. What is told here is only what was asked for, and leads to its inode where it is looked up.
+"""
+
+import bisect
 import contextlib
 import itertools
 import os
 import re
-from collections import namedtuple
-from typing import Dict, List, Optional, Sequence, Tuple
+from typing import Collection, Dict, Iterable, Iterator, List, Optional, Sequence, Set, Tuple
 
-from dmremap_tools.base import numbers, paths, program, quoting, streams
+from dmremap_tools.base import paths, program, quoting, streams
+from dmremap_tools.base.numbers import SECTOR
 from dmremap_tools.base.refusal import Refusal
 from dmremap_tools.layers.started import opened
-from dmremap_tools.layouts.ext_system import ExtSystem
-from dmremap_tools.layouts.file_system import FileSystem, Run, asked, refusal, tell
+from dmremap_tools.layouts.file_system import (
+    MOST_COMPLAINTS, XFS_DB, FileSystem, Run, XfsSystem, asked, refusal, tell)
 
-XFS_DB = "xfs_db"
 XFS, BTRFS, BTRFS_AT = b"XFSB", b"_BHRfS_M", 65536 + 64
-# What the superblock says: sizes in bytes, numbers of blocks, and logarithms of blocks and inodes.
-Geometry = namedtuple("Geometry", "blocksize dblocks agblocks agblklog inopblog inodesize")
-FIGURE = re.compile(r"^(%s) = ([0-9]{1,20})$" % "|".join(Geometry._fields), re.M)
-USE = re.compile(r"^block [0-9]{1,20} \(([0-9]{1,10})/([0-9]{1,10})\) type ([a-z0-9]+)(?: inode ([0-9]{1,20}))?$", re.M)
+# Bytes of one request, of which the system takes 131,071, and debugfs 8,191 where it reads many.
+LONGEST, LONGEST_OF_MANY, MOST_AT_ONCE = 100000, 8000, 4096
+NO_ANSWER = b"pwd"
+ECHO, NOT_OPEN = "debugfs: ", ": Filesystem not open"
+OWNED = re.compile(r"([0-9]{1,20})\t([1-9][0-9]{0,9}|<block not found>)")
+USED = re.compile(r"^(?:Block|Inode) ([0-9]{1,20}) (?:is )?marked in use$", re.M)
+NAMED = re.compile(r"([1-9][0-9]{0,9})\t/*(/.*)")
+# The inode that a path leads to, as `imap` answers.
+LEADS_TO = re.compile(r"Inode ([1-9][0-9]{0,9}) is part of ")
+FOLDER = re.compile(r"Type: directory")
+ROOT = 2
+# debugfs ends its search once it has as many names as the inodes say that they have, and one that is lost says none.
+# The root counts as one and has no name: asked for as well, and as often, it lets the search go on.
+NCHECK = "ncheck" + " %d" % ROOT * 1000
+# Where copies of the superblock are, by the size of a block.
+COPIES = ((4096, 32768), (4096, 98304), (1024, 8193), (1024, 24577), (2048, 16384), (2048, 49152), (65536, 65528))
+# The options that debugfs is tried with: without any, and without bitmaps and sums, with the copies of the superblock.
+TRIES = [[], ["-c", "-n"], *(["-c", "-n", "-s", str(copy), "-b", str(size)] for size, copy in COPIES)]
+FIGURE = re.compile(r"^([A-Z][A-Za-z ]+):\s+(.*)$", re.M)
+GROUP = re.compile(r"^ Group +([0-9]{1,10}): block bitmap at {0}, inode bitmap at {0}, inode table at {0}$"
+                   .replace("{0}", "([0-9]{1,20})"), re.M)
+WHOLE = re.compile(r"[0-9]{1,20}")
+NOT_ZERO = {"Block size", "Blocks per group", "Inodes per group"}
+NEEDED = {"Block count", "First block", *NOT_ZERO}
+# With these, blocks may be in use that are neither an inode's nor in places that are known here.
+UNSURE = {"bigalloc", "meta_bg"}
+# With one of these only some groups have a superblock: with the first these are, and the second says which.
+SPARSE_FEATURES = {"sparse_super", "sparse_super2"}
+SPARSE = {0, *(base ** power for base in (3, 5, 7) for power in range(41))}
 
 
 def system_in(image: str, volume: str, runs: Sequence[Run]) -> FileSystem:
@@ -43,74 +73,160 @@ def system_in(image: str, volume: str, runs: Sequence[Run]) -> FileSystem:
     return XfsSystem(place.path, volume, runs)
 
 
-class XfsSystem(FileSystem):
+class ExtSystem(FileSystem):
+    """Where a system has what is its own, is as `stats` of debugfs prints it. It `is_sure` that each block in use is an
+    inode's, or its own by what is known here."""
+
     def __init__(self, image: str, volume: str, runs: Sequence[Run]) -> None:
         super().__init__(image, volume, runs)
-        self._geometry = self._read_geometry()
-        self.sectors, self.end = self._geometry.blocksize // numbers.SECTOR, self._geometry.dblocks
-        self._kinds: Dict[int, str] = {}
-        self._read_uses(self.blocks())
-        self.names = self._read_names(sorted({*filter(None, self.inodes.values()), *self.tabled()}))
+        self._open()
+        tabled = self.tabled()
+        self.names = self._names_of(sorted({*self.inodes.values(), *tabled}))
+        self.used_inodes = self._used("testi <%d>", tabled)
+        self._used_blocks = self._used("testb %d", [it for it in self.blocks() if it not in self.inodes])
 
-    def inodes_at(self, block: int, first: int, end: int) -> Optional[range]:
-        if self._kinds.get(block) != "inode":
+    def inodes_at(self, block: int, first: int, end: int) -> Optional[Iterable[int]]:
+        """But for the root, inodes before the first aren't of files."""
+        place = bisect.bisect_right(self._tables, (block, len(self._tables))) - 1
+        if place < 0 or block >= self._tables[place][0] + self._table_blocks:
             return None
-        geometry = self._geometry
-        group, place = divmod(block, geometry.agblocks)
-        begin = ((group << geometry.agblklog) | place) << geometry.inopblog
-        at = block * geometry.blocksize
-        stop = -(-(end * numbers.SECTOR - at) // geometry.inodesize)
-        return range(begin + (first * numbers.SECTOR - at) // geometry.inodesize, begin + stop)
+        start, group = self._tables[place]
+        begin = (first - start * self.sectors) * SECTOR // self._inode_size
+        stop = min(-(-(end - start * self.sectors) * SECTOR // self._inode_size), self._per_table)
+        found = range(group * self._per_table + begin + 1, group * self._per_table + stop + 1)
+        return [it for it in found if it == ROOT or it >= self._first_inode]
 
     def other_use(self, block: int) -> str:
-        kind = self._kinds[block]
-        if kind == "unknown":
-            return "no inode"
-        return "unused" if kind.startswith("free") and kind != "freelist" else "in use"
+        group, place = divmod(block - self._first, self._per_group)
+        if place < self._head and group in self._backups or block < self._first or block in self._bitmaps:
+            return "in use"
+        if self._options:
+            return "no file"
+        if block not in self._used_blocks:
+            return "unused"
+        return "no inode" if self._is_sure else "in use"
 
-    def _read_geometry(self) -> Geometry:
-        printed, complaints = self._ask(["sb 0", "print " + " ".join(Geometry._fields)])
-        figures = {name: int(figure) for name, figure in FIGURE.findall(printed)}
-        it = Geometry(*(figures.get(name, 0) for name in Geometry._fields))
-        is_block = numbers.SECTOR <= it.blocksize <= 1 << 16 and it.blocksize % numbers.SECTOR == 0
-        is_inode = 0 < it.inodesize <= it.blocksize and max(it.agblklog, it.inopblog) < 64
-        if len(figures) < len(it) or not is_block or not is_inode or not it.agblocks:
-            raise refusal(self.image, XFS_DB, complaints, "xfs_repair -n")
-        return it
+    def folders(self, paths: Iterable[str]) -> Set[str]:
+        files = [it for it in paths if it.startswith("/")]
+        answers = self._ask_many("stat " + quoted(it) for it in files)
+        return {file for file, answer in zip(files, answers) if FOLDER.search(answer)}
 
-    def _read_uses(self, blocks: Sequence[int]) -> None:
-        """Finds as what each of these blocks is used, and its inode, or 0."""
-        per_group = self._geometry.agblocks
-        commands = ["blockget"] * bool(blocks)
-        # Runs of blocks of one group: those that follow each other differ as much from their places in the list.
-        for _, run in itertools.groupby(enumerate(blocks), lambda it: (it[1] // per_group, it[1] - it[0])):
-            _, first = next(run)
-            commands.append("daddr %d\nblockuse -c %d" % (first * self.sectors, 1 + sum(1 for _ in run)))
-        streams.show_progress("reading all of %s" % self.image)
-        printed, complaints = self._ask(commands)
-        for group, place, kind, inode in USE.findall(printed):
-            block = int(group) * per_group + int(place)
-            self._kinds[block], self.inodes[block] = kind, int(inode or 0)
-        if not self._kinds.keys() >= set(blocks):
-            raise refusal(self.image, XFS_DB, complaints or printed.splitlines(), "xfs_repair -n")
-        tell(complaints, XFS_DB)
+    def _open(self) -> None:
+        """Finds the first options by which debugfs answers for all blocks."""
+        complaints: List[str] = []
+        failed: Optional[streams.OutputFailed] = None
+        for self._options in TRIES:
+            try:
+                printed, said = self._ask("-R", "stats")
+                is_answered = self._take_layout(printed) and self._find_inodes(said)
+            except streams.OutputFailed as fault:
+                failed = fault
+                continue
+            complaints = complaints or said
+            if is_answered:
+                tell([str(failed)] * bool(failed) + complaints)
+                if self._options:
+                    streams.tell("read by debugfs with " + " ".join(self._options))
+                return
+        raise failed or refusal(self.image, "debugfs", complaints, "e2fsck -n")
 
-    def _read_names(self, inodes: Sequence[int]) -> Dict[int, List[str]]:
-        """The path of each of these inodes that has one. A line that nobody can foretell stands between two answers, as
-        a name may hold whatever looks like an answer. Where xfs_db complains, a folder above may be lost: ?/PATH."""
-        mark = os.urandom(16).hex()
-        commands = ["echo %s\nncheck -i %d" % (mark, it) for it in inodes]
-        printed, complaints = self._ask(["blockget -n"] * bool(inodes) + commands)
-        found = {}
-        said, *answers = printed.split(mark)
-        for inode, answer in zip(inodes, answers):
-            number, _, path = answer.partition("\n")[2].lstrip(" ").partition(" ")
-            if number == str(inode):
-                # A folder has a dot at the end, and the root nothing else.
-                path = "" if path == ".\n" else path[:-3] if path.endswith("/.\n") else path[:-1]
-                found[inode] = [("?/" if said or complaints else "/") + path]
+    def _take_layout(self, printed: str) -> bool:
+        """Takes what `stats` says, if it says all of it, and each group has its table of inodes."""
+        said = dict(FIGURE.findall(printed))
+        figure = {name: int(value) for name, value in said.items() if WHOLE.fullmatch(value)}
+        groups = [tuple(map(int, it)) for it in GROUP.findall(printed)]
+        is_said = groups and all(it[3] for it in groups) and NEEDED <= figure.keys() and all(map(figure.get, NOT_ZERO))
+        if not is_said or figure["Block size"] % SECTOR:
+            return False
+        size, features = figure["Block size"], set(said.get("Filesystem features", "").split())
+        self.sectors, self.end = size // SECTOR, figure["Block count"]
+        self._first, self._per_group, self._per_table = (figure[it] for it in (
+            "First block", "Blocks per group", "Inodes per group"))
+        self._inode_size, self._first_inode = figure.get("Inode size") or 128, figure.get("First inode", 11)
+        self._is_sure = not UNSURE & features
+        self._table_blocks = -(-self._per_table * self._inode_size // size)
+        self._tables = sorted((table, number) for number, _, _, table in groups)
+        self._bitmaps = {it for _, blocks, inodes, _ in groups for it in (blocks, inodes)}
+        descriptors = -(-len(groups) * figure.get("Group descriptor size", 32) // size)
+        self._head = 1 + descriptors + figure.get("Reserved GDT blocks", 0)
+        self._backups: Collection[int] = SPARSE if SPARSE_FEATURES & features else range(self.end)
+        if "sparse_super2" in features:
+            self._backups = {0, *map(int, re.findall(r"[0-9]{1,10}", said.get("Backup block groups", "")))}
+        return True
+
+    def _find_inodes(self, complaints: List[str]) -> bool:
+        """Finds the inodes of blocks, and says whether there is an answer about all. Adds what debugfs complains of."""
+        self.inodes, done = {}, 0
+        blocks = self.blocks()
+        for some, printed, said in self._ask_for("icheck", blocks):
+            rows = dict(match.groups() for match in map(OWNED.fullmatch, printed.split("\n")) if match)
+            complaints += said[:MOST_COMPLAINTS]
+            if {int(it) for it in rows} != set(some):
+                return False
+            self.inodes.update((int(block), int(inode)) for block, inode in rows.items() if inode.isdigit())
+            done += len(some)
+            streams.show_progress("looked for the inodes of %d blocks of %d" % (done, len(blocks)))
+        return True
+
+    def _used(self, request: str, numbers: Sequence[int]) -> Set[int]:
+        """Those of these blocks or inodes that the bitmaps have as in use."""
+        answers = [] if self._options or not numbers else self._ask_many(request % it for it in numbers)
+        return {int(it) for each in answers for it in USED.findall(each)}
+
+    def _names_of(self, inodes: Sequence[int]) -> Dict[int, List[str]]:
+        """The paths of each of these inodes, which may be none."""
+        found: Dict[int, List[str]] = {it: [] for it in inodes}
+        for _, printed, complaints in self._ask_for(NCHECK, [it for inode in inodes for it in (ROOT, inode)]):
+            tell(complaints)
+            for match in map(NAMED.fullmatch, printed.split("\n")):
+                if match and int(match[1]) in found:
+                    found[int(match[1])].append(match[2])
+        pairs = [(inode, path) for inode, paths in found.items() for path in paths]
+        answers = itertools.chain(self._ask_many("imap " + quoted(path) for _, path in pairs), itertools.repeat(""))
+        for inode in {it for (it, _), answer in zip(pairs, answers) if LEADS_TO.findall(answer)[:1] != [str(it)]}:
+            found[inode] = self._names_alone(inode)
+        if ROOT in found:
+            found[ROOT] = ["/"]
         return found
 
-    def _ask(self, commands: Sequence[str]) -> Tuple[str, List[str]]:
-        options = ["-r", *(["-f"] if os.path.isfile(self.image) else []), "-c", "source /dev/stdin"]
-        return asked([program.found(XFS_DB), *options, "--", self.image], map(str.encode, commands))
+    def _names_alone(self, inode: int) -> List[str]:
+        """The paths of an inode that is asked for alone. A path that leads elsewhere goes on the name before it."""
+        begin = "\n%d\t" % inode
+        printed = ("\n" + self._ask("-R", "%s %d" % (NCHECK, inode))[0]).partition(begin)[2]
+        paths: List[str] = []
+        for path in (re.sub("^/+", "/", it) for it in printed[:-1].split(begin)):
+            if paths and LEADS_TO.findall(self._ask("-R", "imap " + quoted(path))[0])[:1] != [str(inode)]:
+                paths[-1] += begin + path
+            else:
+                paths.append(path)
+        return [it for it in paths if it.startswith("/")]
+
+    def _ask(self, *request: str, lines: Iterable[bytes] = ()) -> Tuple[str, List[str]]:
+        """What debugfs answers to -R and a request, or to -f and lines of requests, and what it complains of."""
+        printed, said = asked([program.found("debugfs"), *self._options, *request, "--", self.image], lines)
+        complaints = [it[len(ECHO):] if it.startswith(ECHO) else it for it in said]
+        return printed, [it for it in complaints if not it.startswith("debugfs ") and not it.endswith(NOT_OPEN)]
+
+    def _ask_for(self, command: str, wanted: Sequence[int]) -> Iterator[Tuple[Sequence[int], str, List[str]]]:
+        """The same for a command about numbers, of which as many as there is room for are asked for at once."""
+        first = size = 0
+        for place, number in enumerate(wanted):
+            size += len(str(number)) + 1
+            if size > LONGEST or place + 1 == len(wanted):
+                some = wanted[first:place + 1]
+                yield (some, *self._ask("-R", "%s %s" % (command, " ".join(map(str, some)))))
+                first, size = place + 1, 0
+
+    def _ask_many(self, requests: Iterable[str]) -> Iterator[str]:
+        """What it answers to each of many requests, none of which has a line feed. One that is too long has no answer. What
+        it complains of is not told. No answer may have a line that looks like a request."""
+        rest = iter(requests)
+        for some in iter(lambda: list(itertools.islice(rest, MOST_AT_ONCE)), []):
+            lines = (request.encode("utf-8", "surrogateescape") for request in some)
+            printed, _ = self._ask("-f", "-", lines=(it if len(it) <= LONGEST_OF_MANY else NO_ANSWER for it in lines))
+            yield from ("\n" + printed).split("\n" + ECHO)[1:]
+
+
+def quoted(path: str) -> str:
+    """A path as a word of a request."""
+    return '"%s"' % path.replace('"', '""')
