@@ -32,19 +32,15 @@ def run(words: argparse.Namespace) -> None:
         if end > requests.LONGEST:
             raise Refusal(streams.name_of(words.file), "%s is %s: give `dmremap map` requests for parts of it" % (name, requests.TOO_LONG))
         asked = ("R %s %d %d\n" % (name, at, count) for at, count in requests.parts(0, end))
+        at, last = 0, None
         with pieces.Mapped(begun.words, asked) as mapped:
-            write(mapped.answers)
-
-
-def write(answers: pieces.Answers) -> None:
-    """Prints the extents of a device that is read from its first sector to its last."""
-    at, last = 0, None
-    for piece in itertools.chain(answers, [None]):
-        follows = last and (last.what, last.disk, last.start + last.count if last.disk else 0)
-        if piece and (piece.what, piece.disk, piece.start) == follows:
-            last = last._replace(count=last.count + piece.count)
-            continue
-        if last:
-            streams.out.write("%d %d %s\n" % (at, last.count, "%s %d" % (last.disk, last.start) if last.what == "R" else last.what))
-            at += last.count
-        last = piece
+            for piece in itertools.chain(mapped.answers, [None]):
+                follows = last and (last.what, last.disk, last.start + last.count if last.disk else 0)
+                if piece and (piece.what, piece.disk, piece.start) == follows:
+                    last = last._replace(count=last.count + piece.count)
+                    continue
+                if last:
+                    place = f"{last.disk} {last.start}" if last.what == "R" else last.what
+                    streams.out.write(f"{at} {last.count} {place}\n")
+                    at += last.count
+                last = piece

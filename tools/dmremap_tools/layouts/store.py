@@ -14,6 +14,7 @@ chunk numbers. Writes to the snapshot and to its origin take the same chunks. Re
 snapshots.
 """
 
+import functools
 import re
 import tempfile
 from argparse import ArgumentParser, Namespace
@@ -61,7 +62,7 @@ def run(words: Namespace) -> None:
             loaded, ends = stack.load(program.dmremap(words.program), source, room), []
         else:
             begun = started.start(words, source, None, room)
-            loaded, ends = begun.loaded, list(ends_of(Runs(text, [*begun.words, "--status"])))
+            loaded, ends = begun.loaded, list(Runs(text, [*begun.words, "--status"]).ends())
     streams.out.write("".join([*places_of(loaded, streams.name_of(words.file)), *ends]))
 
 
@@ -85,41 +86,34 @@ def places_of(loaded: stack.Stack, name: str) -> Iterator[str]:
         yield f"{device.name}: {chunks} chunks, {places} places in its store: {said}\n"
 
 
-def ends_of(runs: "Runs") -> Iterator[str]:
-    """A line for each snapshot: when it becomes invalid."""
-    for name, status in runs.statuses(runs.size).items():
-        if status == INVALID:
-            low, high = runs.last_valid(name)
-            number = runs.text.count(b"\n", 0, high)
-            yield f"{name}: invalid by request {number}, before it {runs.statuses(low)[name]}\n"
-        else:
-            yield f"{name}: valid to the end, {status}\n"
-
-
 class Runs:
     """dmremap over the beginnings of a text of requests, in bytes. Each run is made once."""
 
     def __init__(self, text: bytes, command: List[str]) -> None:
-        self.text, self.size, self._command = text, len(text), command
-        self._known: Dict[int, Dict[str, str]] = {}
+        self._text, self._command, self._count = text, command, 0
+        self.statuses = functools.lru_cache(None)(self._statuses)
 
-    def statuses(self, size: int) -> Dict[str, str]:
+    def _statuses(self, size: int) -> Dict[str, str]:
         """The status of each snapshot after the requests in so many bytes."""
-        if size not in self._known:
-            streams.show_progress(f"run {len(self._known) + 1}, over {size} of {self.size} bytes")
-            parts = (self.text[at:min(at + CHUNK, size)] for at in range(0, size, CHUNK))
-            with pieces.Mapped(self._command, (it.decode("utf-8", "surrogateescape") for it in parts)) as mapped:
-                found = [it for block in mapped.answers.blocks() for it in STATUS.findall(block)]
-            self._known[size] = dict(found)
-        return self._known[size]
+        self._count += 1
+        streams.show_progress(f"run {self._count}, over {size} of {len(self._text)} bytes")
+        parts = (self._text[at:min(at + CHUNK, size)] for at in range(0, size, CHUNK))
+        with pieces.Mapped(self._command, (it.decode("utf-8", "surrogateescape") for it in parts)) as mapped:
+            return {name: status for block in mapped.answers.blocks() for name, status in STATUS.findall(block)}
 
-    def last_valid(self, name: str) -> Tuple[int, int]:
-        """The end of the last request after which the snapshot is valid, and that of the next one."""
-        low, high = 0, self.size
-        while self.text.find(b"\n", low) + 1 < high:
-            middle = self.text.rfind(b"\n", low, (low + high) // 2) + 1 or self.text.find(b"\n", low) + 1
-            low, high = (middle, high) if self.statuses(middle)[name] != INVALID else (low, middle)
-        return low, high
+    def ends(self) -> Iterator[str]:
+        """A line for each snapshot: when it becomes invalid."""
+        for name, status in self.statuses(len(self._text)).items():
+            if status != INVALID:
+                yield f"{name}: valid to the end, {status}\n"
+                continue
+            # The end of the last request after which it is valid, and that of the next one.
+            low, high = 0, len(self._text)
+            while self._text.find(b"\n", low) + 1 < high:
+                middle = self._text.rfind(b"\n", low, (low + high) // 2) + 1 or self._text.find(b"\n", low) + 1
+                low, high = (middle, high) if self.statuses(middle)[name] != INVALID else (low, middle)
+            number = self._text.count(b"\n", 0, high)
+            yield f"{name}: invalid by request {number}, before it {self.statuses(low)[name]}\n"
 
 
 def write_sizes(path: str, chunk: int, kind: str) -> None:
@@ -133,7 +127,7 @@ def write_sizes(path: str, chunk: int, kind: str) -> None:
         if not match:
             source.refuse_line(requests.NO_REQUEST)
         if match[1] == "W" and match[4] != "0":
-            chunks = Run(int(match[3]), int(match[4])).blocks(chunk)
+            chunks = Run(source.whole(match[3]), source.whole(match[4])).blocks(chunk)
             for number, first, end in Run(chunks.start, chunks.stop - chunks.start).parts(PAGE):
                 pages[match[2], number][first % PAGE:first % PAGE + end - first] = b"\1" * (end - first)
                 if len(pages) > MOST_PAGES:

@@ -54,10 +54,9 @@ def run(words: argparse.Namespace) -> None:
     if words.losetup:
         streams.out.write("".join(losetup(name, device, path_of) for device in devices))
         return
-    for place in places.values():
-        if place.start:
-            raise Refusal(streams.name_of(words.paths), "a device needs a path of its own: make one by losetup -r -o "
-                          f"{place.start} {quoting.shown(place.path)}")
+    for place in (it for it in places.values() if it.start):
+        raise Refusal(streams.name_of(words.paths), "a device needs a path of its own: make one by losetup -r -o "
+                      f"{place.start} {quoting.shown(place.path)}")
     path_of = {disk: place.path for disk, place in places.items()}
     streams.out.write(tables.text_of(moved(name + ":1", devices, path_of, words.prefix, words.missing), True))
 
@@ -68,8 +67,13 @@ def moved(source: str, devices: List[tables.Device], path_of: Dict[str, str], pr
     `source` is the text that names the disks."""
     taken = {prefix + device.name for device in devices}
     free = (name for name in (f"{prefix}missing{number}" for number in itertools.count()) if name not in taken)
-    if target == "zero":
-        check_stores(source, Stack(devices, {}), path_of)
+    for device in devices if target == "zero" else ():
+        store = device.lines[0].words[1] if device.lines[0].target == "snapshot" else ""
+        lost = sorted(Stack(devices, {}).below([store])[1] - path_of.keys()) if store.startswith(names.MAPPER) else []
+        if lost:
+            # A kernel takes a store that begins with zeros for new.
+            raise Refusal(source, f"the store of {device.name} lies on {quoting.shown(lost[0])}, and would read as "
+                          "one that has nothing in it: give --missing error")
     stand_ins: Dict[str, tables.Device] = {}
 
     def lower(path: str) -> str:
@@ -93,17 +97,6 @@ def moved(source: str, devices: List[tables.Device], path_of: Dict[str, str], pr
         device.name, device.flags = prefix + device.name, "ro"
         device.lines = [line.with_lowers(lower) for line in device.lines]
     return [*stand_ins.values(), *devices]
-
-
-def check_stores(source: str, stack: Stack, path_of: Dict[str, str]) -> None:
-    """Refuses a snapshot whose store would read as zeros: a kernel takes one that begins so for new."""
-    for device in stack.devices:
-        line = device.lines[0]
-        if line.target == "snapshot" and line.words[1].startswith(names.MAPPER):
-            lost = sorted(stack.below([line.words[1]])[1] - path_of.keys())
-            if lost:
-                raise Refusal(source, f"the store of {device.name} lies on {quoting.shown(lost[0])}, and would read as "
-                              "one that has nothing in it: give --missing error")
 
 
 def losetup(source: str, device: tables.Device, path_of: Optional[Dict[str, str]]) -> str:

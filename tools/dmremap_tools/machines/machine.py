@@ -34,7 +34,7 @@ Refuses a text that isn't what one of these commands prints, and a machine of wh
 
 import argparse
 import re
-from typing import Dict, Iterable, Iterator, List, Optional, Set, Tuple
+from typing import Dict, Iterable, List, Optional, Set, Tuple
 
 from dmremap_tools.base import disk_image, listings, names, numbers, paths, quoting, streams, tables
 from dmremap_tools.base.refusal import Refusal, WrongWords
@@ -120,10 +120,6 @@ class Stack:
         """What stands in FILE for this number."""
         return next((names.MAPPER + it.name for it in self.kept([number])), self._paths.get(number, number))
 
-    def disks_below(self, devices: Iterable[Found]) -> Dict[str, Optional[int]]:
-        lowers = dict.fromkeys(it for device in devices for it in device.lowers())
-        return {self.lower(it): self.length(it) for it in lowers if not self.kept([it])}
-
     def keep_only(self, wanted: List[str]) -> None:
         """Leaves out all but the devices of these names, and what they stand on."""
         number_of = {device.name: number for number, device in self.devices.items()}
@@ -145,22 +141,21 @@ class Stack:
         waiting = list(self.devices.values())[::-1]
         while waiting:
             device = waiting[-1]
+            lowers = self.kept(device.lowers()) if not device.why else []
+            left = [it for it in lowers if not it.level]
             if device.why or device.level:
                 waiting.pop()
             elif device.number in begun:
-                self._judge(device, self.kept(device.lowers()))
+                device.level = 1 + max((it.level for it in lowers), default=0)
+                is_plain = device.flags != "ro" and device.has("linear", "striped")
+                device.is_store = is_plain and all(it.is_store for it in lowers)
+                device.why = TOO_DEEP if device.level > DEEPEST else self._fault(device)
             else:
                 begun.add(device.number)
-                left = [it for it in self.kept(device.lowers()) if not it.level]
-                if not begun.isdisjoint(it.number for it in left):
-                    device.leave(TOO_DEEP)
-                else:
+                if begun.isdisjoint(it.number for it in left):
                     waiting += left
-
-    def _judge(self, device: Found, lowers: List[Found]) -> None:
-        device.level = 1 + max((it.level for it in lowers), default=0)
-        device.is_store = device.flags != "ro" and device.has("linear", "striped") and all(it.is_store for it in lowers)
-        device.why = TOO_DEEP if device.level > DEEPEST else self._fault(device)
+                else:
+                    device.why = TOO_DEEP
 
     def _fault(self, device: Found) -> str:
         if device.end() != self._sizes.get(device.number, device.end()):
@@ -210,7 +205,11 @@ def run(words: argparse.Namespace) -> None:
     beside = streams.beside(words.disks)
     devices = {number: Found(name, number) for name, number in listings.read_ls(words.ls)}
     stored = [it.partition("=")[0] for it in words.store]
-    is_known = {**read_status(words.status), **dict.fromkeys(stored, True)}
+    statuses = listings.rows_of(words.status, streams.rows(words.status), ROW, "dmsetup status")
+    # Of each snapshot, whether nothing was copied to its store yet, or that is read.
+    is_known = {name: len(status) == 5 and status[3].split("/")[0] == status[4]
+                for name, status in ((name, line.split()) for name, line in statuses if line) if status[2] == "snapshot"}
+    is_known.update(dict.fromkeys(stored, True))
     stack = Stack(devices, *lengths_of(words))
     is_concise = read_tables(words.table, devices)
     for name in stored:
@@ -227,7 +226,8 @@ def run(words: argparse.Namespace) -> None:
         stack.keep_only(words.only)
     stack.settle()
     kept = stack.kept(devices)
-    disks = stack.disks_below(kept)
+    lowers = [it for device in kept for it in device.lowers() if not stack.kept([it])]
+    disks = {stack.lower(it): stack.length(it) for it in lowers}
     say_left_out(stack, kept, disks)
     if not kept:
         raise Refusal(streams.name_of(words.table), "no device is left that dmremap can follow: see above what was left out")
@@ -237,43 +237,29 @@ def run(words: argparse.Namespace) -> None:
     streams.out.write(tables.text_of(kept, is_concise))
 
 
-def read_status(path: str) -> Dict[str, bool]:
-    """Of each snapshot, whether nothing was copied to its store yet."""
-    rows = listings.rows_of(path, streams.rows(path), ROW, "dmsetup status")
-    said = [(name, line.split()) for name, line in rows if line]
-    return {name: len(words) == 5 and words[3].split("/")[0] == words[4] for name, words in said if words[2] == "snapshot"}
-
-
 def read_tables(path: str, devices: Dict[str, Found]) -> bool:
     """Gives the devices their flags and lines, and says whether the text of these is the concise form."""
     rows = streams.rows(path)
     is_concise = any(map(IS_CONCISE.search, rows))
-    # In this form a number has to fit its name.
-    of = {(it.name, it.number.split(":")[1] if is_concise else ""): it for it in devices.values()}
-    for key, flags, lines, told in (concise_rows if is_concise else table_rows)(path, rows):
-        if key not in of:
-            streams.tell("left out: " + told)
-            continue
-        of[key].flags, of[key].is_described = flags, True
-        for line in filter(None, lines):
-            of[key].add(line)
-    return is_concise
-
-
-Row = Tuple[Tuple[str, str], str, List[Optional[str]], str]
-
-
-def table_rows(path: str, rows: List[str]) -> Iterator[Row]:
-    for name, line in listings.rows_of(path, rows, ROW, "dmsetup table"):
-        yield (name, ""), "", [line], quoting.shown(name) + ", which `dmsetup ls` has not"
-
-
-def concise_rows(path: str, rows: List[str]) -> Iterator[Row]:
-    for place, row in enumerate(re.split(r"(?<!\\);", "\n".join(rows).rstrip("\n")), 1):
+    found = []
+    for place, row in enumerate(re.split(r"(?<!\\);", "\n".join(rows).rstrip("\n")) if is_concise else (), 1):
         match = DEVICE.fullmatch(row)
         name, minor, flags, lines = match.groups("") if match else [""] * 4
         told = f"device {place} of {streams.name_of(path)}, which `dmsetup ls` has not: {quoting.shown(row)}"
-        yield (re.sub(r"\\([,;\\])", r"\1", name), minor), flags, re.split(r",(?=\d+ \d+ \S)", lines), told
+        found.append((re.sub(r"\\([,;\\])", r"\1", name), minor, flags, re.split(r",(?=\d+ \d+ \S)", lines), told))
+    for name, line in listings.rows_of(path, rows, ROW, "dmsetup table") if not is_concise else ():
+        found.append((name, "", "", [line], quoting.shown(name) + ", which `dmsetup ls` has not"))
+    # In the concise form a number has to fit its name.
+    of = {(it.name, it.number.split(":")[1] if is_concise else ""): it for it in devices.values()}
+    for name, minor, flags, lines, told in found:
+        device = of.get((name, minor))
+        if device is None:
+            streams.tell("left out: " + told)
+            continue
+        device.flags, device.is_described = flags, True
+        for line in filter(None, lines):
+            device.add(line)
+    return is_concise
 
 
 def lengths_of(words: argparse.Namespace) -> Tuple[Dict[str, Optional[int]], Dict[str, str]]:
@@ -294,10 +280,10 @@ def length_in(path: str, number: str, known: Optional[int], sector: int) -> int:
     lsblk says."""
     place = paths.place_of(path)
     length = sectors_at(place, sector)
+    if place.is_said and known not in (None, length):
+        raise Refusal(quoting.shown(path), "lsblk says that %s has %d sectors, and there it has %d: give its own image"
+                      % (quoting.shown(number), known, length))
     if place.is_said or length == known:
-        if known not in (None, length):
-            raise Refusal(quoting.shown(path), "lsblk says that %s has %d sectors, and there it has %d: give its own image"
-                          % (quoting.shown(number), known, length))
         return length
     kind, partitions = partitioned(disk_image.raw_image(place.path), sector)
     if known in (it.size // numbers.SECTOR for it in partitions):

@@ -72,10 +72,10 @@ def run(words: Namespace) -> None:
 
 
 class Kept:
-    """The devices that will be asked, of some tables or of DISKS. Requests to others are left out, counted, and told at the end."""
+    """The devices that will be asked, of some tables or of DISKS. What is left out is counted, and told at the end."""
 
     def __init__(self, path: str, are_disks: bool = False) -> None:
-        self.are_disks = are_disks
+        self.are_disks, self.made, self.others = are_disks, 0, 0
         self.names = set(disks.read(path)) if are_disks else {it.name for it in tables.read(path)[0]}
         self._left: Dict[str, int] = Counter()
         if not self.names:
@@ -85,20 +85,18 @@ class Kept:
     def leave(self, to: str, is_known: bool = True) -> None:
         """Counts a request that is left out, as the list of numbers or else the tables lack what it goes to."""
         lacking = ("DISKS has" if is_known else "lsblk has") if self.are_disks else "the tables have" if is_known else "dmsetup ls has"
-        self._left[f"{to}, which {lacking} not"] += 1
+        self._left[f"requests to {quoting.shown(f'{to}, which {lacking} not')}"] += 1
 
-    def tell(self, made: int, others: str, count: int, hint: str = "") -> None:
+    def tell(self, others: str, hint: str = "") -> None:
         """Tells what was left out, these others, too, and if no request was made."""
-        left = [(times, f"requests to {quoting.shown(to)}") for to, times in self._left.items()]
-        streams.tell(*(f"left out: {times} {what}" for times, what in [*left, (count, others)] if times))
-        if not made:
-            asked = "disk of DISKS" if self.are_disks else f"device of the tables{hint}"
-            streams.tell("no request came to a " + asked)
+        left = [*self._left.items(), (others, self.others)]
+        streams.tell(*(f"left out: {times} {what}" for what, times in left if times))
+        if not self.made:
+            streams.tell("no request came to a " + ("disk of DISKS" if self.are_disks else f"device of the tables{hint}"))
 
 
 def read_log(source: streams.Lines, kept: Kept, known: names.Names) -> None:
     """Prints the requests of a log as they come, and tells what was left out."""
-    trims = made = 0
     lines = iter(source)
     first = LOG_FIRST.fullmatch(next(lines, ""))
     if not source.number:
@@ -111,47 +109,44 @@ def read_log(source: streams.Lines, kept: Kept, known: names.Names) -> None:
         if what in LOG_OPERATIONS and len(words) == 4:
             name = known.known(words[0], source)
             if name in kept.names:
-                made += 1
-                requests.write_bytes(source, LOG_OPERATIONS[what], name, source.whole(words[2]), source.whole(words[3]))
+                kept.made += 1
+                requests.write_bytes(source, LOG_OPERATIONS[what], name, *map(source.whole, words[2:]))
             else:
                 kept.leave(words[0])
         elif len(words) in LOG_OTHERS.get(what, ()):
-            trims += what == "trim"
+            kept.others += what == "trim"
         else:
             source.refuse_line("not a line of a log, leave it out")
-    kept.tell(made, "trims", trims)
+    kept.tell("trims")
 
 
 def read_trace(source: streams.Lines, known: Dict[str, str], kept: Kept, times: Optional[streams.Output]) -> None:
     """Prints the requests of a trace as they come, and tells what was left out. Devices are known by their numbers."""
-    events = passed = dropped = made = 0
+    events = passed = 0
     for line in source:
         event = event_in(source, line)
-        if not event:
-            passed += not BESIDE.fullmatch(line)
-            continue
-        events += 1
-        number, time, what, first, count = event
+        events += event is not None
+        passed += event is None and not BESIDE.fullmatch(line)
+        number, time, what, first, count = event or [""] * 5
         if not what:
             continue
         name, start, sectors = known.get(number), source.whole(first), source.whole(count)
         if name not in kept.names:
             kept.leave(number if name is None else f"{name} ({number})", name is not None)
         elif EITHER.fullmatch(what):
-            parts = requests.write(source, "W" if "W" in what else "R", name, start, sectors)
-            made += parts
+            made = requests.write(source, "W" if "W" in what else "R", name, start, sectors)
+            kept.made += made
             if times:
-                times.write((time + "\n") * parts)
+                times.write((time + "\n") * made)
         elif NEITHER.fullmatch(what):
-            dropped += 1
+            kept.others += 1
         else:
             source.refuse_line("neither a read nor a write, leave it out")
     if not events:
         source.refuse("no request in the trace: give what `blkparse` prints of the devices")
     if passed:
         streams.tell(f"left out: {passed} lines that tell of no request")
-    kept.tell(made, "requests that are neither reads nor writes", dropped,
-              ": a trace of the disks below them takes --lower")
+    kept.tell("requests that are neither reads nor writes", ": a trace of the disks below them takes --lower")
 
 
 def event_in(source: streams.Lines, line: str) -> Optional[Sequence[str]]:
