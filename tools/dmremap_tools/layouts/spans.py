@@ -19,14 +19,14 @@ multiple of 2048 sectors, which is 1 MiB, or of --to SECTORS.
 
 import heapq
 from argparse import ArgumentParser, Namespace
-from typing import Dict, Iterable, Iterator, List, Optional, Sequence, Set
+from typing import Dict, Iterable, Iterator, List, Optional, Sequence
 
 from dmremap_tools.base import disk_image, disks, names, numbers, paths, quoting, streams, tables
 from dmremap_tools.base.disk_image import Image
 from dmremap_tools.base.numbers import SECTOR
 from dmremap_tools.base.paths import Place
 from dmremap_tools.base.refusal import Refusal, WrongWords
-from dmremap_tools.layouts.taken import ALLOCATED, OF_LVM, OUTER, Span, heads_of, physical_volumes
+from dmremap_tools.layouts.taken import ALLOCATED, OF_LVM, OUTER, Span, heads_of, spans_of_groups
 from dmremap_tools.layouts.tree import devices_in
 from dmremap_tools.metadata.chosen_part import check_places, volume_label
 
@@ -61,11 +61,43 @@ def run(words: Namespace) -> None:
     devices = devices_in(words.file)
     ends = disks.read(words.disks)
     sizes = {**ends, **{names.MAPPER + it.name: it.end() for it in devices}}
-    spans = list(spans_of(devices, sizes))
+    spans: List[Span] = []
+    for device, line in ((device, line) for device in devices for line in device.lines):
+        for place, (lower, first, count) in enumerate(line.spans()):
+            if lower not in sizes:
+                raise Refusal(quoting.shown(lower), "neither a disk nor a device: add it to DISKS")
+            kind = line.target if line.target != "snapshot" else (ORIGIN, "store")[place]
+            end = sizes[lower] if count is None else first + count
+            spans.append(Span(lower, first, end, device.name, str(line.start), kind))
     if not sizes:
         streams.tell("no disk and no device came")
     images = images_of(paths.places(words.paths), ends, devices)
-    add_physicals(words.metadata, {it.name for it in devices}, images, sizes, spans)
+    labels = {on: volume_label(image) for on, image in images.items()}
+    labelled = {label.identity: on for on, label in labels.items() if label}
+    described = set()
+
+    def place_of(key: str, path: str, identity: Optional[bytes]) -> str:
+        """Where a physical volume is: by its label, or else by its path or key, unless the label there is that of another."""
+        named = (it for it in [*tables.names_in(path), key] if it in sizes and not labels.get(it))
+        on = labelled.get(identity) or next(named, "")
+        if not on:
+            streams.tell("left out: the physical volume %s (%s), which is neither a disk nor a device here"
+                         % (quoting.shown(key), quoting.shown(path)))
+        described.add(on)
+        return on
+
+    for path in words.metadata:
+        spans += spans_of_groups(path, {it.name for it in devices}, place_of)
+    for on, image in images.items():
+        for first, end, what in heads_of(image):
+            end = min(end, sizes[on])
+            # What metadata tells of, and partitions in which something lies, are told already.
+            if what.startswith(OUTER):
+                is_told = any(it.on == on and it.first < end and first < it.end for it in spans)
+            else:
+                is_told = what.endswith(OF_LVM) and on in described
+            if first < end and not is_told:
+                spans.append(Span(on, first, end, what, "-", ALLOCATED))
     ends = {on: sizes[on] for on in [*ends, *(it.on for it in spans)]}
     spans = sorted(spans + [Span(on, end, end, "-", "-", END) for on, end in ends.items()])
     if words.clashes:
@@ -77,46 +109,6 @@ def run(words: Namespace) -> None:
         lines = with_free(spans) if words.free else (LINE % it for it in spans)
     for line in lines:
         streams.out.write(line)
-
-
-def spans_of(devices: Iterable[tables.Device], sizes: Dict[str, int]) -> Iterator[Span]:
-    """What the lines of devices use."""
-    for device, line in ((device, line) for device in devices for line in device.lines):
-        for place, (lower, first, count) in enumerate(line.spans()):
-            if lower not in sizes:
-                raise Refusal(quoting.shown(lower), "neither a disk nor a device: add it to DISKS")
-            kind = line.target if line.target != "snapshot" else (ORIGIN, "store")[place]
-            end = sizes[lower] if count is None else first + count
-            yield Span(lower, first, end, device.name, str(line.start), kind)
-
-
-def add_physicals(texts: Iterable[str], named: Set[str], images: Dict[str, Image], sizes: Dict[str, int], spans: List[Span]
-                  ) -> None:
-    """Adds what metadata says is taken of physical volumes that are disks or devices here: by their labels, or else by their
-    paths or their keys, unless the label there is that of another one. Then what the beginnings of disks and devices say is
-    taken, and those partitions in which nothing lies. Volumes with the names of devices are left out."""
-    labels = {on: volume_label(image) for on, image in images.items()}
-    labelled = {label.identity: on for on, label in labels.items() if label}
-    described = set()
-    for physical in (it for path in texts for it in physical_volumes(path, named)):
-        words = [*tables.names_in(physical.path), physical.key]
-        on = next((it for it in words if it in sizes and not labels.get(it)), None)
-        on = labelled.get(physical.identity, on)
-        if on is None:
-            streams.tell("left out: the physical volume %s (%s), which is neither a disk nor a device here"
-                         % (quoting.shown(physical.key), quoting.shown(physical.path)))
-            continue
-        described.add(on)
-        spans += [taken._replace(on=on) for taken in physical.taken]
-    for on, image in images.items():
-        for first, end, what in heads_of(image):
-            end = min(end, sizes[on])
-            if what.startswith(OUTER):
-                is_told = any(it.on == on and it.first < end and first < it.end for it in spans)
-            else:
-                is_told = what.endswith(OF_LVM) and on in described
-            if first < end and not is_told:
-                spans.append(Span(on, first, end, what, "-", ALLOCATED))
 
 
 def kind_of(span: Span) -> str:

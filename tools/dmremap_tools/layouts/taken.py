@@ -1,7 +1,7 @@
 """What is taken though no line names it: of physical volumes, as the metadata of a group says it, and of a disk, a
 partition or a device, as it says itself: superblocks of md, a partition table, a header of LUKS, a label of LVM."""
 
-from typing import Collection, Dict, Iterator, List, NamedTuple, Optional, Tuple
+from typing import Callable, Collection, Iterator, List, NamedTuple, Optional, Tuple
 
 from dmremap_tools.base import config_text, luks_header, partition_table, quoting
 from dmremap_tools.base.config_text import Node
@@ -10,7 +10,7 @@ from dmremap_tools.base.numbers import SECTOR
 from dmremap_tools.base.refusal import Refusal
 from dmremap_tools.machines.placed import groups_in
 from dmremap_tools.metadata.chosen_part import found_table, volume_label
-from dmremap_tools.metadata.volume_group import Group, Segment
+from dmremap_tools.metadata.volume_group import Group
 from dmremap_tools.model import md_superblock
 from dmremap_tools.model.md_superblock import Superblock
 from dmremap_tools.model.physical_volume import Label, label_of
@@ -27,25 +27,27 @@ OUTER = (PARTITION, MEMBER, CONTAINER)
 GPT_SECTORS, LUKS_SECTORS, SUPERBLOCK_SECTORS = 34, 32768, 8
 # The first sector of what is taken, the one after its last, and what it is.
 Head = Tuple[int, int, str]
-# A physical volume: its key, path and id in the metadata, and what is taken of it, wherever it is.
-PhysicalVolume = NamedTuple("PhysicalVolume", [
-    ("key", str), ("path", str), ("identity", Optional[bytes]), ("taken", List[Span])])
 
-
-def physical_volumes(path: str, named: Collection[str]) -> Iterator[PhysicalVolume]:
-    """The physical volumes in a text of lvm2. Volumes with these names of devices have lines, and are left out here."""
+def spans_of_groups(path: str, named: Collection[str], place_of: Callable[[str, str, Optional[bytes]], str]) -> Iterator[Span]:
+    """What a text of lvm2 says is taken of physical volumes. `place_of` knows the disk or the device of one by its key, its
+    path and its id, if it is here. Volumes with the names of devices have lines, and are left out here."""
     document, groups = groups_in(path)
     for group in groups:
-        found = {}
-        for key, node in group.physicals.items():
-            device = word_of(node.value(b"device", bytes) or b"no path")
-            found[key] = PhysicalVolume(word_of(key), device, node.value(b"id", bytes), own(document.path, group, node))
+        owned = {key: own(document.path, group, node) for key, node in group.physicals.items()}
+        on = {key: place_of(word_of(key), word_of(node.value(b"device", bytes) or b"no path"), node.value(b"id", bytes))
+              for key, node in group.physicals.items()}
+        yield from (span._replace(on=on[key]) for key, spans in owned.items() if on[key] for span in spans)
         for name, volume in group.volumes.items():
             device = word_of(b"-".join(it.replace(b"-", b"--") for it in (group.name, name)))
-            if device not in named and group.extent_size:
-                for segment in volume.segments:
-                    add_segment(group, segment, device, found)
-        yield from found.values()
+            for segment in volume.segments if device not in named and group.extent_size else ():
+                begin, count = segment.node.value(b"start_extent", int), segment.count or 0
+                stripes, legs = segment.stripes, segment.node.values(b"mirrors")
+                # As far as the figures make sense.
+                for key, place in [*stripes, *zip(legs[::2], legs[1::2])] if count > 0 and (begin or 0) >= 0 else ():
+                    if on.get(key) and isinstance(place, int) and place >= 0 and begin is not None:
+                        first = group.physicals[key].value(b"pe_start", int) + place * group.extent_size
+                        end = first + (-(-count // len(stripes)) if stripes else count) * group.extent_size
+                        yield Span(on[key], first, end, device, str(begin * group.extent_size), ALLOCATED)
 
 
 def own(text: str, group: Group, node: Node) -> List[Span]:
@@ -53,26 +55,10 @@ def own(text: str, group: Group, node: Node) -> List[Span]:
     start, count, size = (node.value(it, int) for it in (b"pe_start", b"pe_count", b"dev_size"))
     if start is None or start < 0:
         raise Refusal(text, f"no pe_start of {config_text.shown(node.key)}: take an older text, of /etc/lvm/archive")
-    name, end = word_of(group.name), size
-    if count is not None and count >= 0 and group.extent_size:
-        end = start + count * group.extent_size
-    found = [Span("", 0, start, name, "-", "label+metadata")]
-    if size is not None:
-        found.append(Span("", end, size, "end-of-" + name, "-", ALLOCATED))
+    found = [Span("", 0, start, word_of(group.name), "-", "label+metadata")]
+    if count is not None and count >= 0 and size is not None and group.extent_size:
+        found.append(Span("", start + count * group.extent_size, size, "end-of-" + found[0].device, "-", ALLOCATED))
     return [it for it in found if it.first < it.end]
-
-
-def add_segment(group: Group, segment: Segment, device: str, found: Dict[bytes, PhysicalVolume]) -> None:
-    """Adds the extents that a segment has on physical volumes, as far as its figures make sense."""
-    begin = segment.node.value(b"start_extent", int)
-    if begin is None or begin < 0 or not segment.count or segment.count < 0:
-        return
-    stripes, legs = segment.stripes, segment.node.values(b"mirrors")
-    for key, place in [*stripes, *zip(legs[::2], legs[1::2])]:
-        length = (-(-segment.count // len(stripes)) if stripes else segment.count) * group.extent_size
-        if key in found and isinstance(place, int) and place >= 0:
-            first = group.physicals[key].value(b"pe_start", int) + place * group.extent_size
-            found[key].taken.append(Span("", first, first + length, device, str(begin * group.extent_size), ALLOCATED))
 
 
 def word_of(content: bytes) -> str:
