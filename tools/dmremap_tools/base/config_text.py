@@ -5,7 +5,7 @@ that are missing or left over, keys in quotes, other white space."""
 import functools
 import itertools
 import re
-from typing import Iterator, List, NamedTuple, Optional, Tuple, Union
+from typing import Dict, Iterator, List, NamedTuple, Optional, Tuple, Union
 
 from dmremap_tools.base import quoting
 from dmremap_tools.base.refusal import Refusal
@@ -56,17 +56,17 @@ class Node:
     def __init__(self, key: bytes, start: int, value_at: int, level: int) -> None:
         self.key, self.start, self.value_at, self.end, self.level = key, start, value_at, value_at, level
         self.items: List[Item] = []
-        self.children: Optional[List["Node"]] = None
+        self.children: Optional[Dict[bytes, "Node"]] = None
 
     @property
     def is_list(self) -> bool:
         return not self.items or self.items[0].start > self.value_at
 
     def child(self, key: bytes) -> Optional["Node"]:
-        return next((it for it in self.children or () if it.key == key), None)
+        return (self.children or {}).get(key)
 
     def sections(self) -> List["Node"]:
-        return [it for it in self.children or () if it.children is not None]
+        return [it for it in (self.children or {}).values() if it.children is not None]
 
     def sections_in(self, key: bytes) -> List["Node"]:
         """The sections in the section of this key."""
@@ -85,11 +85,13 @@ class Node:
 
 
 class Document:
-    """A text and the tree that it says, without what is after a NUL, as for lvm2."""
+    """A text and the tree that it says, without what is after a NUL, as for lvm2. Of several values of one key the last
+    counts; `twice` has the others, each with its section."""
 
     def __init__(self, path: str, content: bytes) -> None:
         self.path, self.content = path, content.split(b"\0", 1)[0] if b"\0" in content else content
         self._parts = 0
+        self.twice: List[Tuple[Node, Node]] = []
         self.top = self._tree(self.tokens())
 
     @functools.cached_property
@@ -120,13 +122,15 @@ class Document:
     def _tree(self, tokens: Iterator[Token]) -> Node:
         """The section without a key that holds the text."""
         top = Node(b"", 0, 0, 0)
-        top.children, opened = [], [top]
+        top.children, opened = {}, [top]
         for text, start in tokens:
             if text == b"}" and len(opened) > 1:
                 opened.pop().end = start + 1
             elif text:
                 node = self._node(text, start, tokens, len(opened))
-                opened[-1].children.append(node)
+                section, before = opened[-1], opened[-1].children.get(node.key)
+                self.twice += [(section, before)] if before else []
+                section.children[node.key] = node
                 opened += [node] if node.children is not None else []
         if len(opened) > 1:
             raise self.refused(len(self.content), f"the end is missing: {shown(opened[-1].key)}, "
@@ -147,7 +151,7 @@ class Document:
         if sign == b"=":
             self._read_values(node, tokens)
         elif sign == b"{":
-            node.children = []
+            node.children = {}
         else:
             raise self.refused(at, f"neither a brace nor an equals sign after {shown(key)}: {ANEW}")
         return node

@@ -101,18 +101,12 @@ def group_of(copy: Copy) -> Group:
     """The group of a text, without what is there twice: lvm2 reads the first section alone, and the last of several
     values of one key. It puts sections of one key together; here that isn't done."""
     document = copy.document
-    waiting = [document.top]
-    while waiting:
-        section = waiting.pop()
-        last = {it.key: it for it in section.children}
-        for node in (it for it in section.children if last[it.key] is not it):
-            counting = last[node.key]
-            if node.children is not None or counting.children is not None:
-                raise document.refused(counting.start, f"{shown(node.key)} is there twice, first in line "
-                                       f"{document.line_at(node.start)}: put the two together")
-            copy.drop(node, f"it is there again in line {document.line_at(counting.start)}, which counts")
-        section.children = [it for it in section.children if last[it.key] is it]
-        waiting += section.sections()
+    for section, node in document.twice:
+        counting = section.children[node.key]
+        if node.children is not None or counting.children is not None:
+            raise document.refused(counting.start, f"{shown(node.key)} is there twice, first in line "
+                                   f"{document.line_at(node.start)}: put the two together")
+        copy.drop(node, f"it is there again in line {document.line_at(counting.start)}, which counts")
     group, *others = document.top.sections() or [document.top]
     if group.child(b"physical_volumes") is None:
         raise Refusal(document.path, "no metadata of a group: give a text of /etc/lvm/backup, or what `metadata` "

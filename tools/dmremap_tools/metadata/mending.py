@@ -63,7 +63,7 @@ class Copy:
 
     def mend(self, section: Node, form: Form) -> None:
         """Mends what dmremap reads of a section, and leaves out what it can't pass over."""
-        for node in section.children or ():
+        for node in (section.children or {}).values():
             inner = form.sections.get(node.key) or form.sections.get(None)
             if node in self.left_out:
                 continue
@@ -121,7 +121,7 @@ class Copy:
             yield from unreadable(item)
             if node.is_list and (item.comma >= 0) != (item is not node.items[-1]):
                 yield "a comma too many or too few"
-        for child in reversed(node.children or ()):
+        for child in reversed(list((node.children or {}).values())):
             yield from self._faults_of(child)
 
     def content(self, given: bytes) -> bytes:
