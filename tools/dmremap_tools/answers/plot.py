@@ -3,7 +3,7 @@
 import bisect
 import functools
 import re
-from collections import Counter, defaultdict
+from collections import Counter
 from operator import add
 from typing import Dict, Iterator, List, Optional, Tuple
 
@@ -12,10 +12,9 @@ from dmremap_tools.base.refusal import Refusal
 from dmremap_tools.layouts import svg
 
 COLUMNS, ROWS, CELL, MARGIN = 450, 150, 2, 20
-DARKEST = 16
+# A column has a byte for each cell, with how often it was read, up to the darkest, and then how often it was written.
+COLUMN, DARKEST = 2 * ROWS, 16
 CLAMPED = bytes(min(it, DARKEST) for it in range(256))
-# How often each cell of a column was read, and how often written, up to the darkest.
-BOTH = bytes(2 * ROWS)
 COLOURS = ((31, 95, 191), (192, 48, 32))
 STEP = 1e-6
 # More take more memory than a picture is worth.
@@ -52,27 +51,26 @@ class Moments:
             self.of[number] = self.last
 
 
-def halved(columns: List[bytes]) -> List[bytes]:
-    halves = [bytes(map(add, *both)).translate(CLAMPED) if all(both) else both[0] or both[1]
-              for both in zip(columns[::2], columns[1::2])]
-    return halves + [b""] * (COLUMNS - len(halves))
-
-
-def pixels(columns: List[bytes]) -> List[bytes]:
-    """The rows of the picture, the last sectors above."""
-    rows = [bytearray(4 * len(columns)) for _ in range(ROWS)]
-    for column, counts in enumerate(columns):
-        for row, both in zip(reversed(rows), zip(counts[:ROWS], counts[ROWS:])):
-            if both != (0, 0):
-                row[4 * column:4 * column + 4] = _pixel(*both)
-    return [bytes(it) for it in rows]
-
-
 @functools.lru_cache(maxsize=None)
-def _pixel(read: int, written: int) -> bytes:
+def pixel(read: int, written: int) -> bytes:
     most = read + written
+    if not most:
+        return bytes(4)
     mixed = [(one * read + other * written) // most for one, other in zip(*COLOURS)]
     return bytes([*mixed, 64 + 191 * min(most, DARKEST) // DARKEST])
+
+
+def pixels(field: bytearray) -> List[bytes]:
+    """The rows of the picture, the last sectors above."""
+    return [b"".join(map(pixel, field[row::COLUMN], field[row + ROWS::COLUMN])) for row in reversed(range(ROWS))]
+
+
+def halve(field: bytearray) -> None:
+    """Puts every two columns of a field into one."""
+    for at in range(0, len(field), 2 * COLUMN):
+        both = map(add, field[at:at + COLUMN], field[at + COLUMN:at + 2 * COLUMN])
+        field[at // 2:at // 2 + COLUMN] = bytes(both).translate(CLAMPED)
+    field[len(field) // 2:] = bytes(len(field) // 2)
 
 
 class Fields:
@@ -81,21 +79,17 @@ class Fields:
     def __init__(self, sizes: Dict[str, int], moments: Moments) -> None:
         self._sizes, self._moments = sizes, moments
         self._step, self._used = STEP if moments.are_times else 1, 0
-        # The columns of each disk, without counts where nothing was done.
-        self._fields: Dict[str, List[bytes]] = {}
-        # The column that pieces stand in, and how often what is done with a disk touches which cells of it.
-        self._column = 0
-        self._touched: Dict[Tuple[str, str], Dict[int, int]] = defaultdict(Counter)
+        self._fields: Dict[str, bytearray] = {}
 
     def columns(self, requests: List[int]) -> Iterator[Tuple[int, int, int]]:
         """Which of some requests, from one up to another, stand in which column."""
         places = [self._moments.of[it] for it in requests] if self._moments.are_times else requests
         first = self._moments.first
         while places[-1] - first >= self._step * COLUMNS:
-            self._settle(0)
             self._step *= 2
             self._used = (self._used + 1) // 2
-            self._fields = {disk: halved(columns) for disk, columns in self._fields.items()}
+            for field in self._fields.values():
+                halve(field)
         begin = 0
         while begin < len(places):
             column = int((places[begin] - first) / self._step)
@@ -111,30 +105,18 @@ class Fields:
             if len(self._fields) == MOST_FIELDS:
                 raise Refusal(source.name, f"pieces on more than {MOST_FIELDS} disks, too many for a picture: "
                               "give those of fewer")
-            self._fields[disk] = [b""] * COLUMNS
-        if column != self._column:
-            self._settle(column)
-        size, touched = self._sizes[disk], self._touched[disk, what]
+            self._fields[disk] = bytearray(COLUMNS * COLUMN)
+        field, size, at = self._fields[disk], self._sizes[disk], column * COLUMN + (what == "W") * ROWS
         cells, lasts = [start * ROWS // size for start in starts], [(end - 1) * ROWS // size for end in ends]
-        touched.update(cells)
+        touched = Counter(cells)
         if cells != lasts:
             for cell, last in zip(cells, lasts):
                 if last > cell:
                     touched.update(range(cell + 1, last + 1))
-
-    def _settle(self, column: int) -> None:
-        """Marks what was touched in the column so far, and goes on with another one."""
-        for (disk, what), touched in self._touched.items():
-            columns, first = self._fields[disk], ROWS if what == "W" else 0
-            counts = bytearray(columns[self._column] or BOTH)
-            for cell, times in touched.items():
-                counts[first + cell] = min(DARKEST, counts[first + cell] + times)
-            columns[self._column] = bytes(counts)
-        self._touched.clear()
-        self._column = column
+        for cell, times in touched.items():
+            field[at + cell] = min(DARKEST, field[at + cell] + times)
 
     def draw(self, out: streams.Output) -> None:
-        self._settle(0)
         width, high = COLUMNS * CELL, ROWS * CELL
         reach = f"{self._moments.last:g} seconds" if self._moments.are_times else f"requests 1 to {self._moments.last}"
         shown = [it for it in self._sizes if it in self._fields]
@@ -142,7 +124,7 @@ class Fields:
         out.write(svg.head(width + 2 * MARGIN, end + MARGIN))
         for top, disk in zip(range(MARGIN, end, high + 40), shown):
             out.write(svg.text(MARGIN, top, f"{disk}: sectors 0 (below) to {self._sizes[disk] - 1} (above), {reach}"))
-            out.write(svg.image(MARGIN, top + 6, width, high, pixels(self._fields[disk][:self._used])))
+            out.write(svg.image(MARGIN, top + 6, width, high, pixels(self._fields[disk][:self._used * COLUMN])))
             out.write(f'<rect x="{MARGIN}" y="{top + 6}" width="{width}" height="{high}" fill="none" stroke="#888"/>\n')
         out.write(f'<g fill="#1f5fbf">{svg.text(MARGIN, end, "read")}</g>\n'
                   f'<g fill="#c03020">{svg.text(MARGIN + 60, end, "written")}</g>\n</svg>\n')
