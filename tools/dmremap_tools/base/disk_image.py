@@ -4,6 +4,7 @@ import contextlib
 import errno
 import os
 import stat
+import struct
 from typing import BinaryIO, Optional
 
 from dmremap_tools.base import plain_text, streams, written
@@ -13,6 +14,24 @@ from dmremap_tools.base.refusal import Refusal
 # What the images of virtual machines begin with that aren't the bytes of a disk in their order.
 FORMS = {b"QFI\xfb": "qcow2", b"KDMV": "VMDK", b"vhdxfile": "VHDX"}
 LONGEST_MAGIC = 8
+# What is read of an image: the last magic of those below ends there.
+READ = 68 << 10
+# Bytes at a place by which a file system is known.
+MAGICS = [
+    ("luks", 0, b"LUKS\xba\xbe"), ("xfs", 0, b"XFSB"), ("btrfs", 0x10040, b"_BHRfS_M"),
+    ("f2fs", 0x400, b"\x10\x20\xf5\xf2"), ("ntfs", 3, b"NTFS    "), ("exfat", 3, b"EXFAT   "),
+    ("bitlocker", 3, b"-FVE-FS-"), ("squashfs", 0, b"hsqs"), ("iso9660", 0x8001, b"CD001"), ("udf", 0x8001, b"BEA01"),
+    ("reiserfs", 0x10034, b"ReIsEr"), ("jfs", 0x8000, b"JFS1"),
+    ("bcachefs", 0x1018, b"\xc6\x85\x73\xf6\x4e\x1a\x45\xca\x82\x65\xf5\x7f\x48\xba\x6d\x81"),
+    ("vfat", 0x52, b"FAT32   "), ("vfat", 0x36, b"FAT1"), ("erofs", 0x400, b"\xe2\xe1\xf5\xe0"),
+    ("nilfs2", 0x406, b"\x34\x34"), ("lvm2", 0x200, b"LABELONE"), ("zfs", 0x4000, b"\x0c\xb1\xba\0\0\0\0\0")]
+# A swap area says what it is at the end of its first page.
+PAGES, SWAPS = (4096, 8192, 16384, 65536), (b"SWAPSPACE2", b"SWAP-SPACE")
+EXT_AT, EXT_MAGIC = 0x400, b"\x53\xef"
+# Features that ext3 and ext4 have: bits of compat, incompat and ro_compat.
+HAS_JOURNAL = 0x4
+EXT4_INCOMPATIBLE = 0x40 | 0x80 | 0x100 | 0x200 | 0x400 | 0x1000 | 0x4000 | 0x8000 | 0x10000
+EXT4_READ_ONLY = 0x8 | 0x10 | 0x20 | 0x40 | 0x400
 
 
 class Unreadable(Refusal):
@@ -103,3 +122,18 @@ def other_form(beginning: bytes) -> str:
         return f"it is compressed ({compression}): unpack it"
     form = next((form for magic, form in FORMS.items() if beginning.startswith(magic)), "")
     return form and f"it is an image of {form}: convert it with qemu-img convert -O raw"
+
+
+def file_system_of(image: Image) -> Optional[str]:
+    """What begins an image, or None where nothing known does or its first bytes aren't there."""
+    head = image.read(0, READ)
+    if len(head) < min(READ, image.size):
+        return None
+    if head[EXT_AT + 56:EXT_AT + 58] == EXT_MAGIC and len(head) >= EXT_AT + 0x80:
+        inodes, blocks, block, compatible, incompatible, read_only = struct.unpack_from("<2L16xL64x3L", head, EXT_AT)
+        if inodes and blocks and block <= 6:
+            is_ext4 = incompatible & EXT4_INCOMPATIBLE or read_only & EXT4_READ_ONLY
+            return "ext4" if is_ext4 else "ext3" if compatible & HAS_JOURNAL else "ext2"
+    if any(head[page - 10:page] in SWAPS for page in PAGES if page <= len(head)):
+        return "swap"
+    return next((name for name, at, content in MAGICS if head.startswith(content, at)), None)

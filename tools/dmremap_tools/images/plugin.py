@@ -2,8 +2,9 @@
 arguments of nbdkit-python-plugin(3)."""
 
 import errno
+import itertools
 import os
-from typing import Callable, Dict, List, Tuple, TypeVar
+from typing import Any, Callable, Dict, List, Tuple
 
 import nbdkit  # type: ignore
 
@@ -13,12 +14,9 @@ from dmremap_tools.base.refusal import Refusal
 from dmremap_tools.model.device import ZEROS, joined
 from dmremap_tools.model.pile import Pile, Target
 
-__all__ = ["API_VERSION", "thread_model", "config", "get_ready", "open", "get_size", "can_multi_conn", "can_extents", "pread", "extents"]
-
 API_VERSION = 2
 # Of how many bytes a client is told at once what reads as zeros, and in how many extents: it goes on asking.
 MOST_BYTES, MOST_EXTENTS = 1 << 26, 1 << 10
-Answer = TypeVar("Answer")
 _given: Dict[str, List[str]] = {}
 _target: Target
 
@@ -55,36 +53,29 @@ def can_multi_conn(handle: int) -> bool:
     return True
 
 
-def can_extents(handle: int) -> bool:
-    """It is known what reads as zeros."""
-    return True
+def answered(ask: Callable[..., Any]) -> Callable[..., Any]:
+    """Has a read fail of what isn't there."""
+    def answer(*asked: Any) -> Any:
+        try:
+            return ask(*asked)
+        except (Refusal, streams.OutputFailed) as fault:
+            nbdkit.set_error(errno.EIO)
+            raise RuntimeError(str(fault)) from None
+    return answer
 
 
+@answered
 def pread(handle: int, buffer: bytearray, offset: int, flags: int) -> None:
-    buffer[:] = answered(_target.device.read, offset, len(buffer))
+    buffer[:] = _target.device.read(offset, len(buffer))
 
 
+@answered
 def extents(handle: int, count: int, offset: int, flags: int) -> List[Tuple[int, int, int]]:
-    return answered(found_extents, count, offset)
-
-
-def found_extents(count: int, offset: int) -> List[Tuple[int, int, int]]:
     """What reads as zeros, and what doesn't, of these bytes, as far as it is told at once."""
     first = offset // SECTOR * SECTOR
     end = min(-(-(offset + count) // SECTOR) * SECTOR, _target.size, first + MOST_BYTES)
     found: List[Tuple[int, int, int]] = []
-    for at, extent in joined(_target.device, first, end - first):
-        begin, kind = max(at, offset), nbdkit.EXTENT_HOLE | nbdkit.EXTENT_ZERO if extent.source is ZEROS else 0
-        found.append((begin, at + extent.size - begin, kind))
-        if len(found) == MOST_EXTENTS:
-            break
+    for at, extent in itertools.islice(joined(_target.device, first, end - first), MOST_EXTENTS):
+        kind = nbdkit.EXTENT_HOLE | nbdkit.EXTENT_ZERO if extent.source is ZEROS else 0
+        found.append((max(at, offset), at + extent.size - max(at, offset), kind))
     return found
-
-
-def answered(ask: Callable[[int, int], Answer], first: int, second: int) -> Answer:
-    """What is asked of the volume. What isn't there fails."""
-    try:
-        return ask(first, second)
-    except (Refusal, streams.OutputFailed) as fault:
-        nbdkit.set_error(errno.EIO)
-        raise RuntimeError(str(fault)) from None

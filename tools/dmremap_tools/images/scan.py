@@ -19,13 +19,13 @@ followed.
 """
 
 import json
+import shlex
 from argparse import ArgumentParser, Namespace
-from typing import Any, Dict, Iterator, List
+from typing import Any, Dict, Iterator, List, Optional
 
 from dmremap_tools.base import program, quoting, streams
-from dmremap_tools.base.luks_header import container_in
+from dmremap_tools.base.luks_header import Container, container_in
 from dmremap_tools.base.numbers import SECTOR
-from dmremap_tools.model.contents import ways_in
 from dmremap_tools.model.device import Device, Lenient
 from dmremap_tools.model.groups import WHOLE, Group, Volume
 from dmremap_tools.model.md_array import Array
@@ -73,6 +73,19 @@ def luks_rows(pile: Pile) -> Iterator[Row]:
         yield {"name": name, "image": image or name, "partition": partition, "version": container.version,
                "id": container.identity, "start": container.start, "sectors": container.length,
                "why": container.fault, "ways": ways_in(container, name, image, partition)}
+
+
+def ways_in(container: Container, name: str, image: Optional[str], partition: int) -> List[str]:
+    """The commands that open a container: as root, and without root on a copy of it, which `save` makes by this name.
+    That way takes version 2 only where its sectors have 512 bytes and its area for keys the usual size."""
+    device = "/dev/loopN" + (f"p{partition}" if partition else "")
+    opened = f"cryptsetup open --readonly {device if image else shlex.quote(name)} opened"
+    root = f"losetup --show -rPf {shlex.quote(image)} && {opened}" if image else opened
+    copy = [f"dmremap-tools save {shlex.quote(name)} part.img IMAGE.."]
+    if container.version == 2:
+        copy += ["cryptsetup luksConvertKey --pbkdf pbkdf2 part.img", "cryptsetup convert --type luks1 part.img"]
+    copy.append("nbdkit -U - file part.img --filter=luks passphrase=- --run 'nbdcopy \"$uri\" opened.img'")
+    return [f"{root} && dmremap-tools scan /dev/mapper/opened", " && ".join(copy) + " && dmremap-tools scan opened.img"]
 
 
 def image_row(pile: Pile, spot: Spot) -> Row:

@@ -22,11 +22,6 @@ from dmremap_tools.base.refusal import Refusal
 from dmremap_tools.model.pile import Pile
 
 EXAMPLE = "dmremap-tools serve vg0/home sda.img sdb.img"
-PLUGIN = """import sys
-sys.path.insert(0, {package!r})
-sys.argv = [{tool!r}]
-from dmremap_tools.images.plugin import *
-"""
 # How long the server may take to begin, in steps of so many seconds.
 STEPS, STEP = 200, 0.05
 LINES = """copy it:    nbdcopy {uri} volume.img    (or: qemu-img convert -f raw -O raw {uri} volume.img)
@@ -54,18 +49,17 @@ def run(words: Namespace) -> None:
     if why:
         streams.tell(f"{target.name}: {why}: reads of that fail")
     asked = os.path.abspath(shutil.which(program.dmremap(words.program)) or "dmremap")
+    plugin = os.path.join(os.path.dirname(os.path.abspath(__file__)), "plugin.py")
+    given = [f"program={asked}", f"volume={words.volume}", *(f"image={os.path.abspath(path)}" for path in words.images)]
     with tempfile.TemporaryDirectory(prefix="dmremap-tools-") as room:
-        plugin, socket = os.path.join(room, "volume.py"), os.path.abspath(words.socket or os.path.join(room, "socket"))
-        with open(plugin, "w", encoding="utf-8", errors="surrogateescape") as file:
-            package = os.path.dirname(os.path.dirname(os.path.dirname(os.path.abspath(__file__))))
-            file.write(PLUGIN.format(package=package, tool=os.path.join(os.path.dirname(asked), "dmremap-tools")))
-        images = [f"image={os.path.abspath(path)}" for path in words.images]
-        serve([nbdkit, "-f", "-r", "-U", socket, "python", plugin, f"program={asked}", f"volume={words.volume}", *images], socket)
+        socket = os.path.abspath(words.socket or os.path.join(room, "socket"))
+        serve([nbdkit, "-f", "-r", "-U", socket, "python", plugin, *given], socket)
 
 
 def serve(command: List[str], socket: str) -> None:
-    """Runs the server until it ends, and says how to read from it once it listens."""
-    child = subprocess.Popen(command, stdin=subprocess.DEVNULL)
+    """Runs the server, whose Python finds these modules, until it ends, and says how to read once it listens."""
+    package = os.path.dirname(os.path.dirname(os.path.dirname(os.path.abspath(__file__))))
+    child = subprocess.Popen(command, stdin=subprocess.DEVNULL, env={**os.environ, "PYTHONPATH": package})
     try:
         for _ in range(STEPS):
             if os.path.exists(socket) or child.poll() is not None:

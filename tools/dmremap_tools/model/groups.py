@@ -7,10 +7,10 @@ import re
 from typing import Callable, Dict, Iterable, Iterator, List, NamedTuple, Optional, Sequence, Set, Tuple
 
 from dmremap_tools.base.config_text import shown
+from dmremap_tools.base.disk_image import file_system_of
 from dmremap_tools.base.numbers import SECTOR
 from dmremap_tools.base.refusal import Refusal
-from dmremap_tools.model.contents import file_system_of
-from dmremap_tools.model.device import Device, Missing
+from dmremap_tools.model.device import Device, Lenient, Missing
 from dmremap_tools.model.layout import Layout, Use
 from dmremap_tools.model.mapping import INVALID_SNAPSHOT, NoProgram
 from dmremap_tools.model.physical_volume import PhysicalVolume, Text
@@ -80,7 +80,7 @@ class Volume:
 
     def file_system(self) -> Optional[str]:
         try:
-            return file_system_of(self._made)
+            return file_system_of(Lenient(self._made))
         except NoProgram:
             raise
         except Refusal:

@@ -3,12 +3,12 @@
 from typing import Dict, List, NamedTuple, Optional, Sequence, Tuple
 
 from dmremap_tools.base import quoting
+from dmremap_tools.base.disk_image import file_system_of
 from dmremap_tools.base.luks_header import Container, container_in
 from dmremap_tools.base.numbers import SECTOR
 from dmremap_tools.base.partition_table import Table, backup_of, table_of
 from dmremap_tools.base.refusal import Refusal
 from dmremap_tools.model import mapping, md_superblock, physical_volume
-from dmremap_tools.model.contents import file_system_of
 from dmremap_tools.model.device import Device, Image, Lenient, Part, Run
 from dmremap_tools.model.groups import REMOVED, Group, Texts, Volume, same_id
 from dmremap_tools.model.md_array import Array
@@ -255,7 +255,8 @@ class Pile:
 
 
 def known_in(device: Device) -> Optional[str]:
-    return "lvm2" if physical_volume.label_of(Lenient(device))[0] else file_system_of(device)
+    image = Lenient(device)
+    return "lvm2" if physical_volume.label_of(image)[0] else file_system_of(image)
 
 
 def table_in(device: Device, known: Optional[str]) -> Optional[Table]:
