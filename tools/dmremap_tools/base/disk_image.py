@@ -50,8 +50,9 @@ class Image:
         """The bytes from `at` on, fewer where the image ends. Whoever asks sees to it that they aren't too many."""
         content, size = b"", min(count, self.size - at)
         try:
+            self.file.seek(self.base + at if size > 0 else 0)
             while len(content) < size:
-                part = os.pread(self.file.fileno(), size - len(content), self.base + at + len(content))
+                part = self.file.read(size - len(content))
                 if not part:
                     break
                 content += part
