@@ -14,7 +14,7 @@ from dmremap_tools.layouts import svg
 COLUMNS, ROWS, CELL, MARGIN = 450, 150, 2, 20
 # A column has a byte for each cell, with how often it was read, up to the darkest, and then how often it was written.
 COLUMN, DARKEST = 2 * ROWS, 16
-CLAMPED = bytes(min(it, DARKEST) for it in range(256))
+CLAMPED, UNTOUCHED = bytes(min(it, DARKEST) for it in range(256)), bytes(2 * COLUMN)
 COLOURS = ((31, 95, 191), (192, 48, 32))
 STEP = 1e-6
 # More take more memory than a picture is worth.
@@ -65,12 +65,14 @@ def pixels(field: bytearray) -> List[bytes]:
     return [b"".join(map(pixel, field[row::COLUMN], field[row + ROWS::COLUMN])) for row in reversed(range(ROWS))]
 
 
-def halve(field: bytearray) -> None:
-    """Puts every two columns of a field into one."""
+def halved(field: bytearray) -> bytearray:
+    """A field with every two columns in one."""
+    made = bytearray(len(field))
     for at in range(0, len(field), 2 * COLUMN):
-        both = map(add, field[at:at + COLUMN], field[at + COLUMN:at + 2 * COLUMN])
-        field[at // 2:at // 2 + COLUMN] = bytes(both).translate(CLAMPED)
-    field[len(field) // 2:] = bytes(len(field) // 2)
+        if not field.startswith(UNTOUCHED, at):
+            both = map(add, field[at:at + COLUMN], field[at + COLUMN:at + 2 * COLUMN])
+            made[at // 2:at // 2 + COLUMN] = bytes(both).translate(CLAMPED)
+    return made
 
 
 class Fields:
@@ -88,8 +90,8 @@ class Fields:
         while places[-1] - first >= self._step * COLUMNS:
             self._step *= 2
             self._used = (self._used + 1) // 2
-            for field in self._fields.values():
-                halve(field)
+            for disk in self._fields:
+                self._fields[disk] = halved(self._fields[disk])
         begin = 0
         while begin < len(places):
             column = int((places[begin] - first) / self._step)
