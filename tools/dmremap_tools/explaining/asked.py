@@ -9,13 +9,13 @@ from typing import List, NamedTuple
 from dmremap_tools.base import names, program, quoting
 from dmremap_tools.base.given import FORMATS, Given
 from dmremap_tools.explaining import texts
-from dmremap_tools.explaining.finding import Finding, shell
+from dmremap_tools.explaining.texts import Finding, shell
 
 COMMANDS, OF_NAMES = ("map", "replay", "check", "table", "concise"), ("name", "splitname")
 REQUEST = re.compile(r"(?:[RWrw]|read|write) .*", re.S)
 ABOUT_NAME = re.compile(r"dmremap: name: (\w+)")
 LETTERS = re.compile(r"[-A-Za-z0-9+_.]*")
-NAME = "  dmremap name VG LV"
+NAME, LOST = "  dmremap name VG LV", "look for a word that is missing"
 
 
 class Typed(NamedTuple):
@@ -28,10 +28,10 @@ class Typed(NamedTuple):
 
 def line(command: str, form: str, file: str = "FILE", disks: str = "DISKS") -> str:
     """A command as it is to be typed. Metadata needs no DISKS."""
-    return _line(command, form, file, *[disks] * (form != "lvm"))
+    return _line([command, form, file] + [disks] * (form != "lvm"))
 
 
-def _line(*words: str) -> str:
+def _line(words: List[str]) -> str:
     return "  " + " ".join(map(shell, ["dmremap", *words]))
 
 
@@ -57,10 +57,10 @@ def typed(words: List[str]) -> "Typed | Finding":
 def _no_command(name: str, rest: List[str]) -> Finding:
     if name in FORMATS or (rest and rest[0] in COMMANDS):
         found = next((it for it in rest if it in COMMANDS), "map")
-        return Finding("the command comes first", [_line(found, *(it for it in [name, *rest] if it != found))])
+        return Finding("the command comes first", [_line([found, *(it for it in [name, *rest] if it != found)])])
     near = difflib.get_close_matches(name, COMMANDS, 1) or ["map"]
     return Finding("%s is no command that explain knows: they are %s" % (quoting.shown(name), ", ".join(COMMANDS)),
-                   [_line(*near, *rest)])
+                   [_line(near + rest)])
 
 
 def _no_format(name: str, rest: List[str]) -> Finding:
@@ -71,11 +71,11 @@ def _no_format(name: str, rest: List[str]) -> Finding:
     if form is not None:
         at = rest.index(form)
         return Finding("FORMAT comes before FILE, and %s is no format" % quoting.shown(rest[0]),
-                       [_line(name, form, *rest[:at], *rest[at + 1:])])
+                       [_line([name, form, *rest[:at], *rest[at + 1:]])])
     near = difflib.get_close_matches(rest[0], FORMATS, 1) if len(rest) > 1 and not os.path.exists(rest[0]) else []
     if near:
         return Finding("%s is no format: they are %s" % (quoting.shown(rest[0]), ", ".join(FORMATS)),
-                       [_line(name, *near, *rest[1:])])
+                       [_line([name, *near, *rest[1:]])])
     # The format by what the first file has.
     why, file = "there is no FORMAT before FILE", next((it for it in rest if os.path.isfile(it)), None)
     kind = texts.read(file).kind
@@ -84,11 +84,11 @@ def _no_format(name: str, rest: List[str]) -> Finding:
     form = texts.FORM_OF[kind]
     others = [it for it in rest if os.path.exists(it)]
     others += ["DISKS"] * (form != "lvm" and len(others) < 2)
-    return Finding("%s; %s is %s" % (why, quoting.shown(file), kind), [_line(name, form, *others)])
+    return Finding("%s; %s is %s" % (why, quoting.shown(file), kind), [_line([name, form, *others])])
 
 
 def why_names(asked: str, words: List[str]) -> Finding:
-    """What dmremap says of some words, and why."""
+    """What dmremap says of a name or of the parts of one, and why."""
     printed, said = program.ask_quietly([asked, *words])
     if not said:
         return Finding("nothing is refused: dmremap prints %s" % printed.strip(), [])
@@ -99,29 +99,25 @@ def why_names(asked: str, words: List[str]) -> Finding:
     elif words[0] == "name" and len(parts) == 1:
         found = Finding("group and volume are two words", _apart(parts[0]) if "/" in parts[0] else [NAME])
     elif option:
-        found = Finding("%s begins with a hyphen, as no part does" % option, ["look for a word that is missing"])
+        found = Finding("%s begins with a hyphen, as no part does" % option, [LOST])
     else:
         found = general(asked, message, "dmremap doesn't take these words")
     return found._replace(message=message)
 
 
 def _why_name(word: str, parts: List[str]) -> Finding:
-    if word == "letter":
-        bad = next((it for it in parts if not LETTERS.fullmatch(it)), None)
-        if bad is None:
-            return Finding("a layer begins with an underscore", ["give it without that"])
-        letter = next(it for it in bad if not LETTERS.fullmatch(it))
-        return Finding("%s has the character '%s'; a part has letters, digits and +_.-" % (
-            quoting.shown(bad), quoting.escaped(letter)), _apart(bad))
-    if word == "hyphen":
-        part = next((it for it in parts if it.startswith("-")), "a part")
-        return Finding("%s begins with a hyphen" % part, ["look for a word that is missing"])
-    if word == "empty":
-        return Finding("a part is empty", ["look for a variable of the shell that has no value"])
-    if word == "long":
-        size = len("-".join(it.replace("-", "--") for it in parts).encode("utf-8", "surrogateescape"))
-        return Finding("the name has %d bytes, with hyphens doubled, and a device 127 at most" % size, ["take shorter parts"])
-    name = "".join(parts)
+    name, bad = "".join(parts), next((it for it in parts if not LETTERS.fullmatch(it)), None)
+    if word == "letter" and bad is not None:
+        letter = quoting.escaped(next(it for it in bad if not LETTERS.fullmatch(it)))
+        why = "%s has the character '%s'; a part has letters, digits and +_.-" % (quoting.shown(bad), letter)
+        return Finding(why, _apart(bad))
+    size = len("-".join(it.replace("-", "--") for it in parts).encode("utf-8", "surrogateescape"))
+    odd = {"letter": ("a layer begins with an underscore", "give it without that"),
+           "hyphen": ("%s begins with a hyphen" % next((it for it in parts if it.startswith("-")), "a part"), LOST),
+           "empty": ("a part is empty", "look for a variable of the shell that has no value"),
+           "long": ("the name has %d bytes, with hyphens doubled, and a device 127 at most" % size, "take shorter parts")}
+    if word in odd:
+        return Finding(odd[word][0], [odd[word][1]])
     if name.startswith(names.MAPPER):
         return Finding("a name stands without its path", ["  dmremap splitname %s" % shell(name[len(names.MAPPER):])])
     single = len(re.findall(r"(?<!-)(?:--)*-(?!-)", name))

@@ -25,7 +25,7 @@ from typing import Iterable
 from dmremap_tools.base import paths, program, streams
 from dmremap_tools.base.refusal import Refusal
 from dmremap_tools.explaining import asked
-from dmremap_tools.explaining.finding import Finding, shell
+from dmremap_tools.explaining.texts import Finding, shell
 from dmremap_tools.explaining.refusals import Told
 from dmremap_tools.explaining.ways import Levels, Way
 from dmremap_tools.layers import stack

@@ -5,8 +5,7 @@ from typing import Callable, List
 
 from dmremap_tools.base.config_text import Document, shown
 from dmremap_tools.base.refusal import Refusal
-from dmremap_tools.explaining.finding import Finding
-from dmremap_tools.explaining.texts import Text
+from dmremap_tools.explaining.texts import Finding, Text
 from dmremap_tools.metadata import lvm2_text
 from dmremap_tools.metadata.mending import Copy
 from dmremap_tools.metadata.volume_group import TYPES

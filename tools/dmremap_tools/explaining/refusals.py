@@ -1,16 +1,18 @@
-"""Why dmremap refuses what it is given: it is asked about copies of the files, and its message says where to look."""
+"""Why dmremap refuses what it is given: it is asked about copies of the files, and its message says where to look, and which
+word of a request is meant."""
 
+import difflib
 import os
 import re
 from typing import Dict, List, Optional
 
-from dmremap_tools.base import program
+from dmremap_tools.base import names, program
 from dmremap_tools.base.given import Given, put
 from dmremap_tools.base.refusal import Refusal
-from dmremap_tools.explaining import group_texts, request_lines, table_texts, texts
+from dmremap_tools.base.requests import MOST
+from dmremap_tools.explaining import group_texts, table_texts, texts
 from dmremap_tools.explaining.asked import Typed, general, line
-from dmremap_tools.explaining.finding import Finding, Place, shell
-from dmremap_tools.explaining.texts import Text
+from dmremap_tools.explaining.texts import HOW_MANY, Finding, Place, Text, shell, why_no_device, why_no_number
 from dmremap_tools.layers import refused, stack
 
 ABOUT_TEXT = re.compile(r"dmremap: (source|disks): (\w+)(?: at ([0-9]+))?")
@@ -18,6 +20,18 @@ ABOUT_REQUEST = re.compile(r"dmremap: request ([0-9]+): (.+)")
 ABOUT_EARLIER = re.compile(r"dmremap: before: (.+) at ([0-9]+)")
 # What refused.told knows of a kernel, which says more than the words of a line.
 OF_SNAPSHOTS = ("field", "snapshot", "store", "limit")
+REQUEST = "a request is R or W, a device, a first sector and a number of sectors, with single spaces"
+# What makes a plain copy of requests.
+COPY = "  %s REQUESTS > plain"
+CRLF = Finding("the line ends in CR LF", [COPY % r"tr -d '\r' <"])
+WHOLE = [HOW_MANY + "; of bytes, this makes requests:", COPY % "dmremap-tools cut --bytes <"]
+NONE = Finding("a request has one sector at least", ["take it out, or give a length"])
+MANY = Finding("a request has %d sectors at most" % MOST,
+               ["cut it into several:", "  dmremap-tools cut < REQUESTS > short"])
+UNENDED = Finding("the last line has no newline, so it may be cut off",
+                  ["if it is whole, end it:", "  echo >> REQUESTS"])
+LONG = Finding("the line has more than 4096 bytes", ["look for a newline that is missing"])
+OPERATIONS = ("R", "W")
 
 
 class Told:
@@ -146,11 +160,72 @@ class Told:
         return Finding(why, ["make it, as root:", table_texts.list_of(named, "DISK .."), "and give it:", again])
 
     def _why_request(self, word: str, number: int, requests: Text) -> Finding:
-        converted = requests.unpacked("the file with the requests", request_lines.PLAIN)
+        converted = requests.unpacked("the file with the requests", COPY)
         if converted:
             return converted
         try:
             loaded = stack.load(self.asked, self.given, self._room)
         except Refusal:
             return general(self.asked, "dmremap: request %d: %s" % (number, word))
-        return request_lines.why(word, requests.place(number), loaded)
+        return why_request(word, requests.place(number), loaded)
+
+
+def why_request(word: str, place: Place, loaded: stack.Stack) -> Finding:
+    """Why a line with a request for a device of a stack is refused."""
+    words, at = place.text.split(" "), None
+    if word == "form":
+        found = _why_request_form(place.text, words, loaded)
+        at = int(words[0] in OPERATIONS) if len(words) == 4 else None
+    elif word == "number":
+        at, what = (2, "the first sector") if why_no_number(words[2]) else (3, "the number of sectors")
+        found = Finding("%s, where %s stands" % (why_no_number(words[at]), what), WHOLE)
+        found = CRLF if words[at].endswith("\r") else found
+    elif word == "length":
+        found, at = NONE if words[3] == "0" else MANY, 3
+    elif word in ("unknown", "not top"):
+        found, at = _why_device(words, loaded), 1
+    else:
+        found = UNENDED if word == "unended" else LONG
+    return found._replace(place=place._replace(end=max(1, place.end)) if at is None else place.of_words(words, at))
+
+
+def _why_request_form(row: str, words: List[str], loaded: stack.Stack) -> Finding:
+    if not row.strip() or row.startswith("#"):
+        return Finding("the line is a comment" if row.startswith("#") else "the line is empty",
+                       ["take such lines out:", COPY % "grep '^[RW] '"])
+    if row.endswith("\r"):
+        return CRLF
+    if re.search(r"  |\t|^ | $", row):
+        return Finding("there are tabs, or more spaces than one", [REQUEST + ":", "  " + " ".join(row.split())])
+    is_clear = words[0] in ("r", "w", "read", "write", "READ", "WRITE")
+    if len(words) != 4 and not is_clear:
+        return Finding("there are %d words, and not four" % len(words), [REQUEST])
+    if words[0] not in OPERATIONS:
+        return Finding("%s is no operation" % words[0], ["write %s" % words[0][0].upper() if is_clear else REQUEST])
+    name = names.of_path(words[1])
+    if name != words[1] and any(it.name == name for it in loaded.devices):
+        return Finding("a device is given by its name, without a path",
+                       ["write %s:" % name, "  " + " ".join([words[0], name, *words[2:]])])
+    do = ["for /dev/VG/LV, this prints the name:", "  dmremap name VG LV"] if words[1].startswith("/dev/") else [REQUEST]
+    return Finding(why_no_device(words[1]) or "this is no name of a device", do)
+
+
+def _why_device(words: List[str], loaded: stack.Stack) -> Finding:
+    name, devices = words[1], [it.name for it in loaded.devices]
+    if name in devices:
+        lowers = {it for device in loaded.devices for it in device.lowers()}
+        tops = [it for it in devices if names.MAPPER + it not in lowers]
+        return Finding("another device lies on %s, and a replay asks only for those that none lies on" % name,
+                       ["ask for one of these, or use map: " + ", ".join(tops[:8])])
+    if name in loaded.sizes or "/dev/" + name in loaded.sizes:
+        return Finding("%s is a disk, and requests are for devices" % name,
+                       ["ask for a device of FILE: " + ", ".join(devices[:8]), "or, of what lies on sectors of a disk:",
+                        "  dmremap-tools owner --help"])
+    volumes = [it for it in devices if it.endswith("-" + name.replace("-", "--"))]
+    near = volumes or difflib.get_close_matches(name, devices, 3)
+    do = ["FILE has: " + ", ".join(devices[:8]) + ", .." * (len(devices) > 8)]
+    if near:
+        do = ["near are: " + ", ".join(near[:8]), "  " + " ".join([words[0], near[0], *words[2:]])]
+    group = "" if "-" in name or not near else "; a volume's device has the name of its group in front"
+    return Finding("FILE has no device %s%s" % (name, group),
+                   do + ["all of them:", "  dmremap table FORMAT FILE | cut -d: -f1 | uniq"])

@@ -7,9 +7,8 @@ from typing import Dict, Iterator, List, Optional, Tuple
 
 from dmremap_tools.base import names, tables
 from dmremap_tools.base.quoting import for_shell
-from dmremap_tools.explaining.finding import (HOW_MANY, NUMBER, Finding, Place, shell, why_no_device, why_no_disk,
-                                              why_no_number)
-from dmremap_tools.explaining.texts import GET_DISKS, GET_MACHINE, GET_TABLE, Text
+from dmremap_tools.explaining.texts import (GET_DISKS, GET_MACHINE, GET_TABLE, HOW_MANY, NUMBER, Finding, Place, Text, shell,
+                                            why_no_device, why_no_disk, why_no_number)
 
 FORMS = {"linear": "DEV OFFSET", "striped": "COLUMNS CHUNK DEV OFFSET ..", "zero": "", "error": "",
          "snapshot": "ORIGIN STORE KIND CHUNK", "snapshot-origin": "DEV"}
@@ -69,9 +68,9 @@ class Line(tables.Line):
                 return self.found(at - 3, "%s, where %s stands" % (why, what), [HOW_MANY])
         if self.target not in FORMS:
             return self._why_target()
-        count, columns = tables.TARGETS[self.target], "".join(self.words[:1])
-        if self.target == "striped" and NUMBER.fullmatch(columns):
-            count = 2 + 2 * int(columns)
+        count = tables.TARGETS[self.target]
+        if self.target == "striped" and self.words and NUMBER.fullmatch(self.words[0]):
+            count = 2 + 2 * int(self.words[0])
         if len(self.words) != count and (count is not None or not self.words):
             return self._why_count(count)
         for at, word in enumerate(self.words):
@@ -174,8 +173,7 @@ class Tables:
         """Why a line, or a device of concise text, is refused by a word."""
         check = {"field": Line.why_field, "name": Line.why_name, "empty": Line.why_empty, "stripe": Line.why_stripe,
                  "unknown": self._why_unknown, "range": self._why_range, "twice": self._why_twice,
-                 "cycle": self._why_cycle, "gap": lambda it: self._why_place(it, True),
-                 "overlap": lambda it: self._why_place(it, False)}.get(word)
+                 "cycle": self._why_cycle, "gap": self._why_place, "overlap": self._why_place}.get(word)
         return next(filter(None, map(check, self.at(number))), None) if check else None
 
     def _why_unknown(self, line: Line) -> Optional[Finding]:
@@ -213,16 +211,17 @@ class Tables:
                 return line.found(at, why, do, 2)
         return None
 
-    def _why_place(self, line: Line, is_gap: bool) -> Optional[Finding]:
+    def _why_place(self, line: Line) -> Optional[Finding]:
         """A line that doesn't begin where the one before ends."""
         at = self.lines.index(line)
         before = next((it for it in self.lines[at - 1:at] if it.device == line.device), None)
         end = before.start + before.length if before else 0
-        if line.start == end or (line.start > end) != is_gap:
+        if line.start == end:
             return None
         what = "the line before ends at %d" % end if before else "the first line of a device begins at 0"
-        where = "after" if is_gap else "before"
-        do = "a line may be missing: compare" if is_gap else "a line may be there twice, or a number wrong: compare"
+        where, do = "before", "a line may be there twice, or a number wrong: compare"
+        if line.start > end:
+            where, do = "after", "a line may be missing: compare"
         return line.found(-3, "%s, and this one begins %s that, at %d" % (what, where, line.start),
                           [do, "  dmsetup table %s" % line.device])
 
@@ -306,31 +305,25 @@ def _why_concise(text: Text, number: int) -> Finding:
 
 def why_disks(word: str, number: int, disks: Text, file: Text) -> Optional[Finding]:
     """Why DISKS is refused at a line."""
-    place = disks.place(number)
-    disk, _, length = place.text.partition(" ")
-    of_disk = place._replace(end=len(disk))
-    anew = ["a line is DISK LEN, with a space between; make the list anew, as root:",
-            list_of(disks_named(file), "DISK")]
     if word == "text":
         return why_letter(disks)
-    if word == "syntax":
-        count = len(place.text.split())
-        odd = "the line has %d words, and not two: DISK LEN" % count if count else "the line is empty"
-        why = "there are more spaces than one, or some at the end" if count == 2 else odd
-        return _unended(disks, number) or Finding(why, anew, place)
-    if word == "field":
-        why = why_no_number(length) or "this is no number"
-        return Finding(why, [HOW_MANY + ";", *anew], place._replace(first=len(disk) + 1))
-    if word == "name":
-        why = why_no_disk(disk) or "this is no name of a disk"
-        return Finding(why, ["write another name here, and in FILE"], of_disk)
-    if word == "twice":
-        first = next(it.number for it in disks.places() if it.text.split(" ")[0] == disk)
-        return Finding("the disk is there before, at line %d" % first, ["delete one of the two"], of_disk)
-    if word == "empty":
-        do = ["take its length, as root:", "  blockdev --getsz %s" % shell(disk)]
-        return Finding("the disk has no sectors", do, place)
-    return None
+    place = disks.place(number)
+    disk, _, length = place.text.partition(" ")
+    of_disk, count = place._replace(end=len(disk)), len(place.text.split())
+    anew = ["a line is DISK LEN, with a space between; make the list anew, as root:",
+            list_of(disks_named(file), "DISK")]
+    odd = "the line has %d words, and not two: DISK LEN" % count if count else "the line is empty"
+    first = next((it.number for it in disks.places() if it.text.split(" ")[0] == disk), 0)
+    return word == "syntax" and _unended(disks, number) or {
+        "syntax": Finding("there are more spaces than one, or some at the end" if count == 2 else odd, anew, place),
+        "field": Finding(why_no_number(length) or "this is no number", [HOW_MANY + ";", *anew],
+                         place._replace(first=len(disk) + 1)),
+        "name": Finding(why_no_disk(disk) or "this is no name of a disk",
+                        ["write another name here, and in FILE"], of_disk),
+        "twice": Finding("the disk is there before, at line %d" % first, ["delete one of the two"], of_disk),
+        "empty": Finding("the disk has no sectors",
+                         ["take its length, as root:", "  blockdev --getsz %s" % shell(disk)], place),
+    }.get(word)
 
 
 def list_of(disks: List[str], without: str) -> str:

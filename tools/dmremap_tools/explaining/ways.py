@@ -170,11 +170,11 @@ class Asked(NamedTuple):
         if self.line.target == ORIGIN:
             return "%s hadn't taken this chunk" % stores.get(piece.to, "a snapshot") if piece.to else ""
         size = int(self.line.words[3])
-        first, last = at // size, (at + piece.count - 1) // size
         if self.is_watched:
             was_taken = all(it.disk in stores for it in got[0])
             new = NOT_TAKEN if piece.to else TAKEN_NOW
             return "chunk %d, %s" % (self.start // size, TAKEN if was_taken else new)
+        first, last = at // size, (at + piece.count - 1) // size
         chunks = "chunk %d" % first if first == last else "chunks %d to %d" % (first, last)
         return "%s, %s" % (chunks, TAKEN if piece.disk in stores else NOT_TAKEN)
 
@@ -328,26 +328,22 @@ class Levels:
                 _, store, kind, chunk = changed.lines[0].words
                 stores[store] = "%s and %s" % (stores[store], device.name) if store in stores else device.name
                 if self._told.listed and kind != "N":
-                    copies[store] = self._copied(store, int(chunk))
+                    # What the store says of itself, which is a disk here.
+                    path, copy = self._meant[store], os.path.join(self._room, store)
+                    below = self._source.disks.get(path) or Mapped(path, self._source, names.of_path(path))
+                    copy_store(below, int(chunk), copy)
+                    copies[store] = "%s %s?offset=0" % (store, copy)
         folder, paths_here = os.path.join(self._room, "level"), os.path.join(self._room, "PATHS")
         os.makedirs(folder, exist_ok=True)
         put(paths_here, (it + "\n" for it in [*self._listed, *copies.values()]))
         words = Stack(list(devices.values()), sizes).write(folder)
         return words + (["--paths", paths_here] if self._told.listed else []), stores
 
-    def _copied(self, disk: str, chunk: int) -> str:
-        """Copies what the store says of itself that is a disk here, and has its line of PATHS."""
-        path, copy = self._meant[disk], os.path.join(self._room, disk)
-        copy_store(self._source.disks.get(path) or Mapped(path, self._source, names.of_path(path)), chunk, copy)
-        return "%s %s?offset=0" % (disk, copy)
-
     def _cut_line(self, line: tables.Line, kept: Optional[str]) -> tables.Line:
-        words = list(line.words)
-        for at in line.places():
-            is_store = line.target == SNAPSHOT and at == 1
-            if is_store or words[at] in self._by_path and words[at] != kept:
-                words[at] = self._disks[words[at]]
-        return tables.Line(line.start, line.length, line.target, words)
+        """A line with disks for what it names, save what is kept, which is no store."""
+        cut = [it for it in line.lowers() if it in self._by_path and it != kept]
+        cut += line.words[1:2] * (line.target == SNAPSHOT)
+        return line.with_lowers(lambda it: self._disks[it] if it in cut else it)
 
     def _answers(self, words: List[str], requests: List[str]) -> List[List[Piece]]:
         given, got = os.path.join(self._room, "requests"), os.path.join(self._room, "answers")

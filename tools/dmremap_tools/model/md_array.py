@@ -9,7 +9,6 @@ from dmremap_tools.model import md_chunks, md_superblock
 from dmremap_tools.model.device import ALL, Copies, Device, Extent, Missing, Part, Run, blocks_of
 from dmremap_tools.model.mapping import Mapped, Tables
 from dmremap_tools.model.md_superblock import Member, level_name
-from dmremap_tools.model.parity import Rows
 
 # Sectors of a chunk, and members of an array that is followed.
 MOST_CHUNK, MOST_MEMBERS = 1 << 21, 384
@@ -103,7 +102,7 @@ class Array(md_chunks.Members):
         if self.level in md_chunks.PARITY:
             resync = self.best.superblock.resync
             doubtful = [] if resync == md_superblock.CLEAN else [(resync * SECTOR, ALL)]
-            return Rows(self.label, self, self._data, self.sectors * SECTOR, doubtful)
+            return md_chunks.Rows(self.label, self, self._data, self.sectors * SECTOR, doubtful)
         if self.level == "raid10":
             return CopiedChunks(self, self._data)
         self.tables.add("array", list(self.lines()) or self.refuse(NO_CHUNK))

@@ -16,8 +16,7 @@ from dmremap_tools.base.refusal import Refusal
 from dmremap_tools.metadata.volume_group import Segment
 from dmremap_tools.model.device import ALL, Copies, Device, Gap, Known, Missing, Overlaid, Part, Run, sorted_entries
 from dmremap_tools.model.layout import Layout
-from dmremap_tools.model.md_chunks import Shape
-from dmremap_tools.model.parity import Rows
+from dmremap_tools.model.md_chunks import Rows, Shape
 from dmremap_tools.model.pools import sum_of
 
 FORM, MAGIC, V190 = struct.Struct("<4L4Q3L4xQ12xl8xQ16x"), 0x64526D44, 1
