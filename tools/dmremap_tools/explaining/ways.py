@@ -340,10 +340,11 @@ class Levels:
         return words + (["--paths", paths_here] if self._told.listed else []), stores
 
     def _cut_line(self, line: tables.Line, kept: Optional[str]) -> tables.Line:
-        """A line with disks for what it names, save what is kept, which is no store."""
-        cut = [it for it in line.lowers() if it in self._by_path and it != kept]
-        cut += line.words[1:2] * (line.target == SNAPSHOT)
-        return line.with_lowers(lambda it: self._disks[it] if it in cut else it)
+        words = list(line.words)
+        for at in line.places():
+            if (line.target, at) == (SNAPSHOT, 1) or words[at] in self._by_path and words[at] != kept:
+                words[at] = self._disks[words[at]]
+        return tables.Line(line.start, line.length, line.target, words)
 
     def _answers(self, words: List[str], requests: List[str]) -> List[List[Piece]]:
         given, got = os.path.join(self._room, "requests"), os.path.join(self._room, "answers")

@@ -6,10 +6,10 @@ import os
 import stat
 from typing import Dict, Iterable, Iterator, List, NamedTuple, Optional
 
-from dmremap_tools.base import disk_image, paths, program, quoting, streams, written
+from dmremap_tools.base import disk_image, paths, program, quoting, store_places, streams, written
 from dmremap_tools.base.given import Given, put
 from dmremap_tools.base.refusal import Refusal
-from dmremap_tools.layers import stack, store_states
+from dmremap_tools.layers import stack
 from dmremap_tools.machines.placed import by_ids
 
 NEXT = "--paths says where disks are, and --fresh takes every snapshot as new"
@@ -44,8 +44,8 @@ def start(words: argparse.Namespace, source: Given, devices: Optional[Iterable[s
         command += ["--paths", os.path.join(room, "PATHS")]
         put(command[-1], rows_of(here))
         try:
-            found = store_states.chunks_in(command, snapshots)
-        except store_states.Unread as refusal:
+            found = store_places.chunks_in(command, snapshots)
+        except store_places.Unread as refusal:
             absent = quoting.some([quoting.shown(disk) for disk in stores if disk not in here])
             which = f" ({absent})" if refusal.word == "missing" else ""
             raise Refusal(refusal.where, f"{refusal.why}{which}; {NEXT}")

@@ -17,8 +17,6 @@ from dmremap_tools.base.config_text import shown
 from dmremap_tools.base.given import put
 from dmremap_tools.base.numbers import SECTOR
 from dmremap_tools.base.refusal import Refusal
-from dmremap_tools.layers import store_states
-from dmremap_tools.layers.store_states import DAMAGED
 from dmremap_tools.metadata.volume_group import Record
 from dmremap_tools.model.device import ZEROS, Device, Extent, Gap, Lenient, Missing
 
@@ -37,8 +35,8 @@ INVALID_SNAPSHOT = ("the snapshot is invalid: its store was full, and chunks tha
                     "save the origin instead")
 LOST = f"the store: its header is zeros, and what follows isn't, so that it isn't new: save the origin, or {OLDER}"
 UNKNOWN = f"the store: its header is zeros, and nothing tells whether the merge ended: {OLDER}"
-ODD = f"the store: its header says neither that it is valid nor that it isn't, {DAMAGED}: {OLDER}"
-BROKEN = f"the store: its list goes on behind a free place, {DAMAGED}: {OLDER}"
+ODD = f"the store: its header says neither that it is valid nor that it isn't, {store_places.DAMAGED}: {OLDER}"
+BROKEN = f"the store: its list goes on behind a free place, {store_places.DAMAGED}: {OLDER}"
 # Sectors of an answer: a disk and a start there, unless they are zeros or fail.
 Piece = NamedTuple("Piece", [("what", str), ("disk", str), ("start", int), ("count", int)])
 
@@ -142,7 +140,7 @@ class Child:
         self._name, self._number, self._said = program.dmremap(Child.program), 0, tempfile.TemporaryFile()
         with tempfile.TemporaryDirectory(prefix="dmremap-tools-") as room:
             words = source.words(room)
-            self.chunks = store_states.chunks_in(words, source.devices.values()) if source.stores else {}
+            self.chunks = store_places.chunks_in(words, source.devices.values()) if source.stores else {}
             try:
                 self._child = program.start(words, stdin=subprocess.PIPE, stdout=subprocess.PIPE, stderr=self._said)
             except Refusal as refusal:
@@ -255,7 +253,7 @@ def snapshot_of(layout: Any, record: Record) -> Device:
     source.add(NAME, [tables.Line(0, layout.size_of(origin) // SECTOR, "snapshot", words)])
     try:
         chunks = source.child_of(NAME).chunks[NAME]
-    except store_states.Unread as refusal:
+    except store_places.Unread as refusal:
         raise Refusal(name, refusal.word == "read" and kept.lack(0, kept.size) or f"the store: {refusal.why}")
     fault = INVALID_SNAPSHOT if chunks is None else store_fault(kept, chunk, record.is_merging)
     if fault:
