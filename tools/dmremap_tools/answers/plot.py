@@ -5,7 +5,7 @@ import functools
 import re
 from collections import Counter
 from operator import add
-from typing import Dict, Iterator, List, Optional, Tuple
+from typing import Dict, Iterator, List, Optional, Sequence, Tuple
 
 from dmremap_tools.base import pieces, streams
 from dmremap_tools.base.refusal import Refusal
@@ -14,7 +14,7 @@ from dmremap_tools.layouts import svg
 COLUMNS, ROWS, CELL, MARGIN = 450, 150, 2, 20
 # A column has a byte for each cell, with how often it was read, up to the darkest, and then how often it was written.
 COLUMN, DARKEST = 2 * ROWS, 16
-CLAMPED, UNTOUCHED = bytes(min(it, DARKEST) for it in range(256)), bytes(2 * COLUMN)
+CLAMPED, UNTOUCHED = bytes(min(it, DARKEST) for it in range(256)), bytes(COLUMN)
 COLOURS = ((31, 95, 191), (192, 48, 32))
 STEP = 1e-6
 # More take more memory than a picture is worth.
@@ -60,18 +60,18 @@ def pixel(read: int, written: int) -> bytes:
     return bytes([*mixed, 64 + 191 * min(most, DARKEST) // DARKEST])
 
 
-def pixels(field: bytearray) -> List[bytes]:
+def pixels(columns: Sequence[Sequence[int]]) -> List[bytes]:
     """The rows of the picture, the last sectors above."""
-    return [b"".join(map(pixel, field[row::COLUMN], field[row + ROWS::COLUMN])) for row in reversed(range(ROWS))]
+    cells = list(zip(*columns))
+    return [b"".join(map(pixel, cells[row], cells[row + ROWS])) for row in reversed(range(ROWS))]
 
 
-def halved(field: bytearray) -> bytearray:
-    """A field with every two columns in one."""
-    made = bytearray(len(field))
-    for at in range(0, len(field), 2 * COLUMN):
-        if not field.startswith(UNTOUCHED, at):
-            both = map(add, field[at:at + COLUMN], field[at + COLUMN:at + 2 * COLUMN])
-            made[at // 2:at // 2 + COLUMN] = bytes(both).translate(CLAMPED)
+def halved(columns: Dict[int, bytearray]) -> Dict[int, bytearray]:
+    """Every two columns as one."""
+    made: Dict[int, bytearray] = {}
+    for place, counts in columns.items():
+        first = made.get(place // 2)
+        made[place // 2] = bytearray(map(add, first, counts)).translate(CLAMPED) if first else counts
     return made
 
 
@@ -81,7 +81,8 @@ class Fields:
     def __init__(self, sizes: Dict[str, int], moments: Moments) -> None:
         self._sizes, self._moments = sizes, moments
         self._step, self._used = STEP if moments.are_times else 1, 0
-        self._fields: Dict[str, bytearray] = {}
+        # The columns of each disk in which something was done.
+        self._fields: Dict[str, Dict[int, bytearray]] = {}
 
     def columns(self, requests: List[int]) -> Iterator[Tuple[int, int, int]]:
         """Which of some requests, from one up to another, stand in which column."""
@@ -90,8 +91,7 @@ class Fields:
         while places[-1] - first >= self._step * COLUMNS:
             self._step *= 2
             self._used = (self._used + 1) // 2
-            for disk in self._fields:
-                self._fields[disk] = halved(self._fields[disk])
+            self._fields = {disk: halved(columns) for disk, columns in self._fields.items()}
         begin = 0
         while begin < len(places):
             column = int((places[begin] - first) / self._step)
@@ -107,16 +107,17 @@ class Fields:
             if len(self._fields) == MOST_FIELDS:
                 raise Refusal(source.name, f"pieces on more than {MOST_FIELDS} disks, too many for a picture: "
                               "give those of fewer")
-            self._fields[disk] = bytearray(COLUMNS * COLUMN)
-        field, size, at = self._fields[disk], self._sizes[disk], column * COLUMN + (what == "W") * ROWS
+            self._fields[disk] = {}
+        counts, size = self._fields[disk].setdefault(column, bytearray(COLUMN)), self._sizes[disk]
         cells, lasts = [start * ROWS // size for start in starts], [(end - 1) * ROWS // size for end in ends]
         touched = Counter(cells)
         if cells != lasts:
             for cell, last in zip(cells, lasts):
                 if last > cell:
                     touched.update(range(cell + 1, last + 1))
+        first = (what == "W") * ROWS
         for cell, times in touched.items():
-            field[at + cell] = min(DARKEST, field[at + cell] + times)
+            counts[first + cell] = min(DARKEST, counts[first + cell] + times)
 
     def draw(self, out: streams.Output) -> None:
         width, high = COLUMNS * CELL, ROWS * CELL
@@ -126,7 +127,8 @@ class Fields:
         out.write(svg.head(width + 2 * MARGIN, end + MARGIN))
         for top, disk in zip(range(MARGIN, end, high + 40), shown):
             out.write(svg.text(MARGIN, top, f"{disk}: sectors 0 (below) to {self._sizes[disk] - 1} (above), {reach}"))
-            out.write(svg.image(MARGIN, top + 6, width, high, pixels(self._fields[disk][:self._used * COLUMN])))
+            columns = [self._fields[disk].get(it, UNTOUCHED) for it in range(self._used)]
+            out.write(svg.image(MARGIN, top + 6, width, high, pixels(columns)))
             out.write(f'<rect x="{MARGIN}" y="{top + 6}" width="{width}" height="{high}" fill="none" stroke="#888"/>\n')
         out.write(f'<g fill="#1f5fbf">{svg.text(MARGIN, end, "read")}</g>\n'
                   f'<g fill="#c03020">{svg.text(MARGIN + 60, end, "written")}</g>\n</svg>\n')
