@@ -161,15 +161,12 @@ def chosen_parts(disk: Image) -> List[Image]:
         raise Refusal(disk.path, f"there are both a partition table ({table.kind}) and the label of a physical volume, "
                       "which lvm2 doesn't take then: IMAGE?offset=BYTES takes a partition, and IMAGE?offset=0 the disk "
                       "itself")
-    volumes = with_volumes(disk, table.partitions)
-    if not volumes and table.kind == "MBR":
-        # It doesn't say in which sectors it counts, and labels do.
-        larger = table_of(disk, LARGE_SECTOR)
-        volumes = with_volumes(disk, larger.partitions if larger else [])
+    # An MBR doesn't say in which sectors it counts, and labels do.
+    larger = table_of(disk, LARGE_SECTOR) if table.kind == "MBR" else None
+    volumes = with_volumes(disk, table.partitions) or with_volumes(disk, larger.partitions if larger else [])
     found = f"the image of a whole disk ({table.kind})"
     if not volumes and any(partition.start >= disk.size for partition in table.partitions):
-        starts = [f"{partition.number} from sector {partition.start // SECTOR} on" for partition in table.partitions]
-        others = quoting.some(starts)
+        others = quoting.some([f"{it.number} from sector {it.start // SECTOR} on" for it in table.partitions])
         raise Refusal(disk.path, f"{found}, which ends before its partitions do ({others}): take more of the disk")
     numbers = quoting.some([str(partition.number) for partition in volumes or table.partitions])
     if not volumes:

@@ -169,10 +169,8 @@ def _mend_part(copy: Copy, volume: Volume) -> None:
     """lvm2 loads all parts of raid volumes as writable, whatever their status is."""
     status, words = volume.node.child(b"status"), [*volume.node.values(b"status"), *volume.node.values(b"flags")]
     if status and status.children is None and b"WRITE" not in words and b"WRITE_LOCKED" not in words:
-        if status.items:
-            copy.put_behind(status.items[-1].start, b', "WRITE"')
-        else:
-            copy.put_behind(status.value_at, b'"WRITE"')
+        at, more = (status.items[-1].start, b', "WRITE"') if status.items else (status.value_at, b'"WRITE"')
+        copy.put_behind(at, more)
         why = f"{shown(volume.name)} is part of a raid volume, which lvm2 loads as writable"
         copy.say_changed(status.start, status.key, why)
 
@@ -187,13 +185,12 @@ def _mend_physical(copy: Copy, group: Group, node: Node) -> None:
     if least == 0 and not size:
         copy.drop(node, "it has no sectors")
         return
-    long = f"at least {least} sectors long, where its extents end"
-    if node.child(b"device") is None:
-        copy.put_behind(node.value_at, b' device = ""')
-        copy.say_changed(node.start, b"device", f"{name} has none, so that the disk has this name")
-    size_field = node.child(b"dev_size")
-    if size_field is None:
-        copy.put_behind(node.value_at, b" dev_size = %d" % least)
-        copy.say_changed(node.start, b"dev_size", f"{name} has none, and is {long}")
-    elif size is not None and size < least:
-        copy.put(size_field.items[0].start, b"%d" % least, b"dev_size", f"{name} is {long}, and not {size}")
+    long = f"is at least {least} sectors long, where its extents end"
+    missing = (b"device", b'""', "so that the disk has this name"), (b"dev_size", b"%d" % least, f"and {long}")
+    for key, value, why in missing:
+        if node.child(key) is None:
+            copy.put_behind(node.value_at, b" %s = %s" % (key, value))
+            copy.say_changed(node.start, key, f"{name} has none, {why}")
+    if size is not None and size < least:
+        at = node.child(b"dev_size").items[0].start
+        copy.put(at, b"%d" % least, b"dev_size", f"{name} {long}, and not {size}")

@@ -53,10 +53,8 @@ class Volume:
         store = node.value(b"merging_store" if is_merging else b"cow_store", bytes)
         return Record(self, node.value(b"origin", bytes), store, is_merging, node.value(b"chunk_size", int))
 
-    def leave(self, why: str) -> bool:
-        """Notes why it can't stay, unless something was said before."""
-        is_news, self.why = not self.why, self.why or why
-        return is_news
+    def leave(self, why: str) -> None:
+        self.why = self.why or why
 
 
 # A snapshot: `store` is the volume that has its name; one that `is_merging` is written back to its origin.
@@ -95,8 +93,12 @@ class Group:
         others = [it for it in self.records if not it.is_merging and {it.origin, it.store} <= self.volumes.keys()]
         for _ in range(MOST_LEVELS):
             # All are looked at anew where one is gone, as it may be the origin of another.
-            are_gone = [self._leave_snapshot(it, self._record_fault(it, merging)) for it in others]
-            if not any(are_gone) and not self._leave_places(others):
+            before = [it.why for it in self.volumes.values()]
+            for record in others:
+                self._leave_snapshot(record, self._record_fault(record, merging))
+            if before == [it.why for it in self.volumes.values()]:
+                self._leave_places(others)
+            if before == [it.why for it in self.volumes.values()]:
                 break
 
     def _own_fault(self, volume: Volume) -> Optional[str]:
@@ -131,12 +133,11 @@ class Group:
             if name in self.volumes:
                 self.volumes[name].leave(why)
 
-    def _leave_snapshot(self, record: Record, why: Optional[str]) -> bool:
-        """Leaves out a snapshot and its record, if there is a reason; says whether they were there before."""
-        if not why:
-            return False
-        is_news = record.volume.leave(f"the record of the snapshot {shown(record.store)}")
-        return self.volumes[record.store].leave(why) or is_news
+    def _leave_snapshot(self, record: Record, why: Optional[str]) -> None:
+        """Leaves out a snapshot and its record, if there is a reason."""
+        if why:
+            record.volume.leave(f"the record of the snapshot {shown(record.store)}")
+            self.volumes[record.store].leave(why)
 
     def _record_fault(self, record: Record, merging: Dict[Optional[bytes], Optional[bytes]]) -> Optional[str]:
         """Why dmremap can't follow a snapshot, as said of its store; `merging` has what is merged into origins."""
@@ -152,9 +153,9 @@ class Group:
             (are_too_long, f"{snapshot}, and the name of one of their devices has more than {NAME} bytes"))
         return next((why for is_so, why in faults if is_so), None)
 
-    def _leave_places(self, records: List[Record]) -> bool:
-        """Leaves out the snapshots that have more places for chunks than dmremap counts in all; says if there are."""
-        order, left, is_news = {name: at for at, name in enumerate(self.volumes)}, store_places.MOST, False
+    def _leave_places(self, records: List[Record]) -> None:
+        """Leaves out the snapshots that have more places for chunks than dmremap counts in all."""
+        order, left = {name: at for at, name in enumerate(self.volumes)}, store_places.MOST
         for record in sorted((it for it in records if not it.volume.why), key=lambda it: order[it.store]):
             size = self.volumes[record.store].extents * (self.extent_size or 0)
             wanted = store_places.places(record.chunk, size)
@@ -162,8 +163,7 @@ class Group:
                 left -= wanted
             else:
                 why = f"with places for {wanted} chunks, and dmremap counts {store_places.MOST} in all"
-                is_news |= self._leave_snapshot(record, f"it is a snapshot of {shown(record.origin)} {why}")
-        return is_news
+                self._leave_snapshot(record, f"it is a snapshot of {shown(record.origin)} {why}")
 
 
 def disk_names(physicals: List[Node]) -> List[str]:

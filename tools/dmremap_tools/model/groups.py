@@ -118,12 +118,10 @@ class Group:
 
     def volume(self, name: str) -> Optional[Volume]:
         """A volume by its name or its id, also a hidden one. One that is there goes before one that was removed."""
-        for volume in sorted(self.volumes, key=lambda volume: volume.is_removed):
-            if name == volume.name or same_id(name, volume.identity):
-                return volume
         key = name.encode("utf-8", "surrogateescape")
         is_hidden = self.state != REMOVED and key in self.side.group.volumes
-        return Volume(self.side, key, lambda: self.doubt) if is_hidden else None
+        hidden = Volume(self.side, key, lambda: self.doubt) if is_hidden else None
+        return next((it for it in self.volumes if name == it.name or same_id(name, it.identity)), hidden)
 
 
 class Holder(NamedTuple):
