@@ -22,9 +22,6 @@ from argparse import ArgumentParser, Namespace
 from typing import Dict, Iterable, Iterator, List, Optional, Sequence
 
 from dmremap_tools.base import disk_image, disks, names, numbers, paths, quoting, streams, tables
-from dmremap_tools.base.disk_image import Image
-from dmremap_tools.base.numbers import SECTOR
-from dmremap_tools.base.paths import Place
 from dmremap_tools.base.refusal import Refusal, WrongWords
 from dmremap_tools.layouts.taken import ALLOCATED, OF_LVM, OUTER, Span, heads_of, spans_of_groups
 from dmremap_tools.layouts.tree import devices_in
@@ -40,6 +37,8 @@ MEET = {ORIGIN: (OTHER,), SERVES: (SERVES, OTHER), OTHER: (ORIGIN, SERVES, OTHER
 # How many clashes are printed: nested ranges have as many as their number squared.
 MOST = 1000000
 LINE = "%s %d %d %s %s %s\n"
+# Images of disks and devices by their names in tables.
+Images = Dict[str, disk_image.Image]
 
 
 def add_words(parser: ArgumentParser) -> None:
@@ -150,7 +149,7 @@ def with_free(spans: List[Span]) -> Iterator[str]:
             yield LINE % span
 
 
-def images_of(places: Dict[str, Place], disks: Iterable[str], devices: Sequence[tables.Device]) -> Dict[str, Image]:
+def images_of(places: Dict[str, paths.Place], disks: Iterable[str], devices: Sequence[tables.Device]) -> Images:
     """The images of disks, each by its name, and those of the first lines of devices on them by their paths."""
     check_places(places)
     images = {disk: disk_image.image_at(places[disk]) for disk in disks if disk in places}
@@ -159,12 +158,12 @@ def images_of(places: Dict[str, Place], disks: Iterable[str], devices: Sequence[
     return {**images, **{names.MAPPER + name: image for name, image in found if image}}
 
 
-def part_of(line: tables.Line, first: int, count: int, devices: Dict[str, tables.Device], images: Dict[str, Image]
-            ) -> Optional[Image]:
+def part_of(line: tables.Line, first: int, count: int, devices: Dict[str, tables.Device], images: Images
+            ) -> Optional[disk_image.Image]:
     """Some sectors of a first line, if it is linear and they lie on an image, perhaps through other such lines."""
     if line.target != "linear" or first + count > line.length:
         return None
     lower, start = line.words[0], int(line.words[1]) + first
     if lower in images:
-        return images[lower].part(start * SECTOR, count * SECTOR)
+        return images[lower].part(start * numbers.SECTOR, count * numbers.SECTOR)
     return part_of(devices[lower].lines[0], start, count, devices, images) if lower in devices else None

@@ -54,9 +54,6 @@ class Element(NamedTuple):
             self.refuse(f"{key} is no whole number below 2^64")
         return value
 
-    def block_size(self, key: str) -> int:
-        return self.number(key) or self.refuse("blocks of no sectors")
-
     def refuse(self, reason: str) -> NoReturn:
         said = "".join(f' {key}="{value}"' for key, value in self.said.items())
         raise Refusal(self.name, f"{reason}, {ANEW}: " + quoting.shown(f"<{self.tag}{said}>"))
@@ -150,7 +147,8 @@ def read_pool(path: str, wanted: Set[int]) -> Tuple[int, Dict[int, Runs]]:
     for element in elements(path, "thin_dump", OF_POOL):
         name = element.said.get("name", "")
         if element.tag == "superblock":
-            size, most = element.block_size("data_block_size"), element.number("nr_data_blocks")
+            size = element.number("data_block_size") or element.refuse("blocks of no sectors")
+            most = element.number("nr_data_blocks")
         elif element.tag == "device":
             number, mapped = element.number("dev_id"), element.number("mapped_blocks")
             into = devices.setdefault(number, Runs()) if number in wanted else None
@@ -191,7 +189,8 @@ def read_cache(path: str, is_all: bool) -> Tuple[int, Iterator[Run]]:
     origins, cached, is_dirty = array.array("Q"), array.array("Q"), bytearray()
     for element in elements(path, "cache_dump", OF_CACHE):
         if element.tag == "superblock":
-            size, most = element.block_size("block_size"), element.number("nr_cache_blocks")
+            size = element.number("block_size") or element.refuse("blocks of no sectors")
+            most = element.number("nr_cache_blocks")
         elif element.tag == "mapping":
             if element.number("cache_block") >= most or len(cached) == MOST_BLOCKS:
                 element.refuse(f"past the end of the cache, of {min(most, MOST_BLOCKS)} blocks")
@@ -201,8 +200,8 @@ def read_cache(path: str, is_all: bool) -> Tuple[int, Iterator[Run]]:
             cached.append(element.number("cache_block"))
             is_dirty.append(is_all or element.said["dirty"] == "true")
     for where, blocks in (("origin", origins), ("cache", cached)):
-        for block, run in itertools.groupby(sorted(blocks)):
-            if len(list(run)) > 1:
+        for block, same in itertools.groupby(sorted(blocks)):
+            if len(list(same)) > 1:
                 raise Refusal(streams.name_of(path), f"block {block} of the {where} is there twice: {ANEW}")
     dirty = sorted(filter(is_dirty.__getitem__, range(len(origins))), key=origins.__getitem__)
     return size, runs_of((origins[it], cached[it]) for it in dirty)

@@ -78,7 +78,11 @@ def run(words: Namespace) -> None:
         extents = read_filefrag(source, BTRFS if words.addresses else KNOWN)
     else:
         size = streams.whole("--size", "0" if words.size is None else words.size)
-        extents = read_list(source, block_of(words.debugfs), size)
+        printed = streams.Lines(words.debugfs)
+        blocks = [printed.whole(match[1]) for match in map(BLOCK.fullmatch, printed) if match]
+        if not blocks:
+            printed.refuse("no line 'Block size': give what `dumpe2fs -h` prints")
+        extents = read_list(source, blocks[-1], size)
     if words.device is None:
         for _, first, count in extents:
             if (first, count) != ENDED:
@@ -196,11 +200,3 @@ def in_sectors(source: streams.Lines, text: str, block: int, extent: Extent, is_
         return
     first, start, length = (it * requests.sectors_of(source, block) for it in extent)
     yield first, start, length
-
-
-def block_of(path: str) -> int:
-    source = streams.Lines(path)
-    found = [source.whole(match[1]) for match in map(BLOCK.fullmatch, source) if match]
-    if not found:
-        source.refuse("no line 'Block size': give what `dumpe2fs -h` prints")
-    return found[-1]
