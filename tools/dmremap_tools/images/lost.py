@@ -27,8 +27,8 @@ from typing import Optional, Sequence
 from dmremap_tools.answers.saved import parts_of
 from dmremap_tools.base import program, streams
 from dmremap_tools.base.numbers import SECTOR
-from dmremap_tools.layouts import rescue_map, systems
-from dmremap_tools.layouts.file_system import Run
+from dmremap_tools.layouts import rescue_map
+from dmremap_tools.layouts.file_systems import Run, system_in
 from dmremap_tools.model.device import Image, joined, lacking
 from dmremap_tools.model.pile import Pile, Target
 
@@ -81,7 +81,7 @@ def copied(target: Target, path: str) -> str:
 
 def lines_of(path: str, volume: str, runs: Sequence[Run]) -> "list[str]":
     """A line for each file that some of these sectors belong to."""
-    system = systems.system_in(path, volume, runs)
+    system = system_in(path, volume, runs)
     counts: "Counter[str]" = Counter()
     for each in runs:
         for block, first, end in each.parts(system.sectors):

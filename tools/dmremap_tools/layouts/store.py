@@ -24,7 +24,7 @@ from typing import Dict, Iterator, List, Tuple
 from dmremap_tools.base import given, names, numbers, pieces, program, requests, store_places, streams
 from dmremap_tools.base.refusal import Refusal, WrongWords
 from dmremap_tools.layers import stack, started
-from dmremap_tools.layouts.file_system import Run
+from dmremap_tools.layouts.file_systems import Run
 
 EXAMPLE = "dmremap-tools store table snaps.table snaps.disks"
 STATUS = re.compile(r"^([^ \n]+): 0 [0-9]+ snapshot (.*)$", re.M)
