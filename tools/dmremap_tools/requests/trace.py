@@ -125,9 +125,11 @@ def read_trace(source: streams.Lines, known: Dict[str, str], kept: Kept, times: 
     events = passed = 0
     for line in source:
         event = event_in(source, line)
-        events += event is not None
-        passed += event is None and not BESIDE.fullmatch(line)
-        number, time, what, first, count = event or [""] * 5
+        if not event:
+            passed += not BESIDE.fullmatch(line)
+            continue
+        events += 1
+        number, time, what, first, count = event
         if not what:
             continue
         name, start, sectors = known.get(number), source.whole(first), source.whole(count)
