@@ -58,7 +58,7 @@ def _explained(words: argparse.Namespace, room: str) -> "Iterable[Finding | Way]
     typed = asked.typed(words.words)
     if isinstance(typed, Finding):
         return [typed]
-    mapping.use(words.program)
+    mapping.Child.program = words.program
     told = Told(one, typed, words.before, words.paths, room)
     # What is loaded is looked at first, so that no request is waited for where it is refused.
     message, requests = told.ask(b""), "".join(it + "\n" for it in typed.requests).encode("utf-8", "surrogateescape")

@@ -19,7 +19,7 @@ import functools
 import itertools
 import re
 from argparse import ArgumentParser, Namespace
-from typing import Dict, Iterator, List, Optional, Tuple
+from typing import Dict, Iterator, List, Tuple
 
 from dmremap_tools.base import numbers, program, quoting, streams
 from dmremap_tools.base.luks_header import Container
@@ -170,31 +170,23 @@ def of_member(array: Array, member: Member, above: Ground) -> Ground:
 
 def of_data(array: Array, member: Member, above: Ground, first: int, end: int) -> Iterator[Run]:
     """Who has sectors of a member's data: sectors of the array, or parity."""
-    for at, count, sector in places(array, member, first, end):
-        is_data = sector is not None
-        name = array.label if is_data else f"parity of {array.label}"
-        yield Run(at, at + count, name, sector, above if is_data else None)
-
-
-def places(array: Array, member: Member, first: int, end: int) -> Iterator[Tuple[int, int, Optional[int]]]:
-    """Where a member's data are in the array: the first of each run, how many, and where; None stands for parity."""
-    device, chunk = array.device, array.chunk
+    device, chunks = array.device, functools.partial(chunks_of, name=array.label, above=above)
     if array.level == "raid1":
-        yield first, end - first, first
+        yield Run(first, end, array.label, first, above)
     elif array.level in ("linear", "raid0"):
         for line in device.source.devices[device.key].lines if isinstance(device, Mapped) else ():
+            columns, chunk = len(line.places()), int(line.words[1]) if line.target == "striped" else ALL
             for place, (disk, start, count) in enumerate(line.spans()):
-                part, begin, until = device.source.disks[disk], max(first, start), min(end, start + (count or 0))
+                part = device.source.disks[disk]
                 if isinstance(part, Part) and part.lower is member.device:
-                    columns, chunk = len(line.places()), int(line.words[1]) if line.target == "striped" else ALL
-                    numbers = functools.partial(lambda columns, place, row: [row * columns + place], columns, place)
-                    for at, some, to in chunks_of(begin - start, until - start, chunk, numbers):
-                        yield start + at, some, line.start + to
+                    begin, until = max(first, start), min(end, start + (count or 0))
+                    yield from chunks(begin, until, chunk, lambda row: [row * columns + place], begin=start, to=line.start)
     else:
         role = next(role for role, other in array.by_role.items() if other is member)
-        one, many = functools.partial(array.number, role), functools.partial(copies_in, array, role)
-        numbers = many if array.level == "raid10" else lambda row: [one(row)]
-        yield from chunks_of(first, min(end, array.chunks * chunk), chunk, numbers)
+        is_copied, until = array.level == "raid10", min(end, array.chunks * array.chunk)
+        yield from chunks(first, until, array.chunk,
+                          lambda row: copies_in(array, role, row) if is_copied else [array.number(role, row)],
+                          parity=f"parity of {array.label}")
 
 
 def copies_in(array: Array, role: int, row: int) -> List[int]:

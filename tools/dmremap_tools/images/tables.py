@@ -86,28 +86,26 @@ class GroupTables(Tables):
         return self._renamed(self._layout.tables, self._layout.key_of(name), called)
 
     def _renamed(self, source: Tables, key: str, called: str) -> Devices:
+        """A device of some tables and what it lies on, with new names: disks are places in images, or arrays that are
+        tables themselves."""
         found: Devices = {}
         closure = source.closure([key])
         new = {other: f"{called}-below-{number}" for number, other in enumerate(closure.devices)}
         new[key] = called
         for other, device in closure.devices.items():
             made = tables.Device(new[other])
-            made.lines += [self._placed(closure, line, new, found) for line in device.lines]
+            for line in device.lines:
+                words, has_starts = list(line.words), line.target in ("linear", "striped")
+                for place in line.places():
+                    lower = words[place]
+                    words[place], start = (self._disk(closure.disks[lower], found) if lower in closure.disks
+                                           else (names.MAPPER + new[names.of_path(lower)], 0))
+                    if has_starts:
+                        words[place + 1] = str(int(words[place + 1]) + start)
+                made.lines.append(tables.Line(line.start, line.length, line.target, words))
             found[made.name] = made
         # What others name comes first.
         return dict(reversed(list(found.items())))
-
-    def _placed(self, source: Tables, line: tables.Line, new: Dict[str, str], found: Devices) -> tables.Line:
-        """A line with disks that are places in images, or arrays that are tables themselves."""
-        words = list(line.words)
-        for place in line.places():
-            if words[place] not in source.disks:
-                words[place] = names.MAPPER + new[names.of_path(words[place])]
-                continue
-            words[place], start = self._disk(source.disks[words[place]], found)
-            if line.target in ("linear", "striped"):
-                words[place + 1] = str(int(words[place + 1]) + start)
-        return tables.Line(line.start, line.length, line.target, words)
 
     def _disk(self, device: Device, found: Devices) -> Tuple[str, int]:
         """What a line names for a device, and the sector at which the device begins there."""

@@ -71,13 +71,6 @@ class Device:
         yield Extent(self, start, size)
 
 
-class Zeros(Device):
-    """Bytes that nobody wrote, and that read as zeros."""
-
-    def load(self, start: int, size: int) -> bytes:
-        return bytes(size)
-
-
 class Missing(Device):
     """Bytes that aren't there; the name says why."""
 
@@ -89,14 +82,11 @@ class Missing(Device):
 
 
 class Known(Device):
-    """Bytes that are known already."""
+    """Bytes that are known already, as a function gives them."""
 
-    def __init__(self, name: str, content: bytes) -> None:
-        super().__init__(name, len(content))
-        self._content = content
-
-    def load(self, start: int, size: int) -> bytes:
-        return self._content[start:start + size]
+    def __init__(self, name: str, size: int, load: Callable[[int, int], bytes]) -> None:
+        super().__init__(name, size)
+        self.load = load  # type: ignore[method-assign]
 
 
 class Part(Device):
@@ -314,16 +304,15 @@ def lacking(device: Device, size: int) -> List[Run]:
 def joined(device: Device, start: int, size: int) -> Iterator[Tuple[int, Extent]]:
     """Where some bytes of a device lie, with those that go on in their source in one: the first of each, and those."""
     last: Optional[Extent] = None
-    for extent in device.extents(start, size):
-        if last and last.source is extent.source and last.start + last.size == extent.start:
+    for extent in itertools.chain(device.extents(start, size), [None]):
+        if last and extent and last.source is extent.source and last.start + last.size == extent.start:
             last = last._replace(size=last.size + extent.size)
             continue
         if last:
             yield start, last
             start += last.size
         last = extent
-    if last:
-        yield start, last
 
 
-ZEROS = Zeros("zeros")
+# Bytes that nobody wrote.
+ZEROS = Known("zeros", ALL, lambda start, size: bytes(size))

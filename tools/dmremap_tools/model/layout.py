@@ -10,6 +10,7 @@ from dmremap_tools.base.config_text import Node, shown
 from dmremap_tools.base.numbers import SECTOR
 from dmremap_tools.base.refusal import Refusal
 from dmremap_tools.metadata.volume_group import Group, Record, Segment, Volume
+from dmremap_tools.model import pools, raid_volume
 from dmremap_tools.model.device import Device, Extent, Missing
 from dmremap_tools.model.mapping import Mapped, Tables, snapshot_of
 from dmremap_tools.model.physical_volume import Text
@@ -24,6 +25,11 @@ MOST_LEVELS = 40
 LOWER = (b"stripes", b"mirrors", b"raids", b"raid0_lvs", b"origin", b"cow_store", b"merging_store", b"external_origin",
          b"thin_pool", b"metadata", b"pool", b"data", b"cache_pool", b"cache_vol", b"meta_dev", b"mirror_log",
          b"writecache", b"vdo_pool")
+# What makes the device of a segment of each type, of the layout, the volume's name, the segment and its bytes.
+LAYERS: Dict[bytes, Callable[["Layout", str, Segment, int], Device]] = {
+    b"thin": pools.thin_of, b"cache": pools.cached_of, b"cache+CACHE_USES_CACHEVOL": pools.cached_of,
+    b"integrity": raid_volume.integrity_of, b"raid1": raid_volume.mirror_of, b"raid5": raid_volume.parity_of,
+    b"raid5_ls": raid_volume.parity_of}
 POOLS = (b"thin-pool", b"cache-pool", b"vdo-pool")
 NEXT = "activate the group's copy on a machine with lvm2 for this volume; the others are followed here"
 ODD = "restore an older text by vgcfgrestore on copies of the disks (`metadata --list` shows what there is)"
@@ -155,7 +161,7 @@ class Layout:
                 self.refuse(name, f"its {which} says no two legs")
             # The second one if all extents were moved. The first is written all the time, while the second isn't whole.
             return tables.Line(first, length, "linear", self._area(name, *legs[moved == segment.count], length))
-        maker = layers().get(kind)
+        maker = LAYERS.get(kind)
         if maker is None:
             raise Refusal(self.path(name), f"its {which} is of type {shown(kind)}, which isn't followed: {NEXT}")
         size = length * SECTOR
@@ -233,15 +239,6 @@ class Deferred(Device):
 
     def _extents(self, start: int, size: int) -> Iterator[Extent]:
         return self._made.extents(start, size)
-
-
-@functools.lru_cache(None)
-def layers() -> Dict[bytes, Callable[[Layout, str, Segment, int], Device]]:
-    """What makes the device of a segment of each type, of the layout, the volume's name, the segment and its bytes."""
-    from dmremap_tools.model import pools, raid_volume
-    return {b"thin": pools.thin_of, b"cache": pools.cached_of, b"cache+CACHE_USES_CACHEVOL": pools.cached_of,
-            b"integrity": raid_volume.integrity_of, b"raid1": raid_volume.mirror_of, b"raid5": raid_volume.parity_of,
-            b"raid5_ls": raid_volume.parity_of}
 
 
 def lower_in(volume: Volume) -> Iterator[object]:

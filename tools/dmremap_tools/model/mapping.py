@@ -134,6 +134,7 @@ class Tables:
 class Child:
     """The program, which knows devices of tables. It answers each request before it takes the next."""
 
+    # The one that is asked, if it is given.
     program: Optional[str] = None
 
     def __init__(self, source: Tables) -> None:
@@ -146,7 +147,7 @@ class Child:
             except Refusal as refusal:
                 raise NoProgram(refusal.where, f"{refusal.why}: {ASKED}")
             # It ends once nobody may ask it any more.
-            weakref.finalize(self, end, self._child)
+            weakref.finalize(self, self._child.kill)
             self.ask(next(iter(source.devices)), 0, 1)
 
     def ask(self, name: str, first: int, count: int) -> List[Piece]:
@@ -178,20 +179,8 @@ class Child:
         raise Refusal(quoting.shown(self._name), f"{said} (status {status}): see what `dmremap-tools explain` says")
 
 
-def end(child: "subprocess.Popen[bytes]") -> None:
-    child.kill()
-    child.wait()
-
-
-def use(given: Optional[str]) -> None:
-    """Has this program asked, if one is given."""
-    Child.program = given
-
-
 class Mapped(Device):
-    """A device of tables. A snapshot has so many chunks in its store."""
-
-    chunks_used: Optional[int] = None
+    """A device of tables. One that is a snapshot has `chunks_used`, which says how many are in its store."""
 
     def __init__(self, name: str, source: Tables, key: str) -> None:
         super().__init__(name, source.devices[key].end() * SECTOR)

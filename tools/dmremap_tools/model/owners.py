@@ -5,6 +5,7 @@ import functools
 import itertools
 from array import array
 from bisect import bisect_right
+from collections import namedtuple
 from typing import Callable, Dict, Iterable, Iterator, List, NamedTuple, Optional, Sequence, Tuple
 
 from dmremap_tools.base.config_text import shown
@@ -34,35 +35,14 @@ POOL_DATA, CACHE = (b"pool", b"data"), (b"cache_pool", b"cache_vol")
 # What lies on a volume or a physical volume: a volume with its segment, the field that names the lower one, its number
 # in that field, and the sector from which on it is named.
 Above = NamedTuple("Above", [("volume", bytes), ("segment", Segment), ("field", bytes), ("place", int), ("start", int)])
-# What has sectors, and which of its own they begin with, where it counts them.
-Step = Tuple[str, Optional[int]]
-
-
-class Run(NamedTuple):
-    """Sectors up to an end, the name of what has them, which of its own they begin with, where it counts them, and who
-    has these. Without a name nothing is said of them, as of an origin's that its snapshots read."""
-
-    first: int
-    end: int
-    name: str = ""
-    sector: Optional[int] = None
-    above: "Optional[Ground]" = None
-
-
+# Sectors up to an end, the name of what has them, which of its own they begin with, where it counts them, and who has
+# these. Without a name nothing is said of them, as of an origin's that its snapshots read.
+Run = namedtuple("Run", "first end name sector above", defaults=("", None, None))
 # Who has sectors of a device, from the first one up to an end. What no run has goes no further up.
 Ground = Callable[[int, int], Iterable[Run]]
-
-
-class Way(NamedTuple):
-    """Sectors that go one way up."""
-
-    first: int
-    count: int
-    steps: Tuple[Step, ...]
-
-    def after(self) -> Tuple[Step, ...]:
-        """The steps of the sectors after these that go the same way."""
-        return tuple((name, None if sector is None else sector + self.count) for name, sector in self.steps)
+# Sectors that go one way up: the first, how many, and each thing that has them, with which of its own they begin.
+Step = Tuple[str, Optional[int]]
+Way = NamedTuple("Way", [("first", int), ("count", int), ("steps", Tuple[Step, ...])])
 
 
 def ways(ground: Ground, first: int, end: int) -> Iterator[Way]:
@@ -73,13 +53,15 @@ def ways(ground: Ground, first: int, end: int) -> Iterator[Way]:
         for number, way in enumerate(ways_at_once(ground, start, stop)):
             if number > MOST_WAYS + MOST_OF_SECTOR * (stop - start):
                 raise Refusal(f"sector {start}", "too many ways lead up from there: ask for fewer sectors at once")
-            known = before.pop(way.steps, None) if way.first == start else None
+            # By this it goes on with one that ends where it begins.
+            key = tuple((name, None if sector is None else sector - way.first) for name, sector in way.steps)
+            known = before.pop(key, None) if way.first == start else None
             if known:
                 way = Way(known.first, known.count + way.count, known.steps)
-            if way.first + way.count < stop or way.after() in waiting:
+            if way.first + way.count < stop or key in waiting:
                 yield way
             else:
-                waiting[way.after()] = way
+                waiting[key] = way
         yield from before.values()
     yield from waiting.values()
 
@@ -155,13 +137,17 @@ def free(device: Device, what: str) -> Ground:
     return ground
 
 
-def chunks_of(first: int, end: int, chunk: int,
-              numbers: Callable[[int], Iterable[Optional[int]]]) -> Iterator[Tuple[int, int, Optional[int]]]:
-    """Sectors of one column of chunks: the first of each run, how many, and where they are in the whole; `numbers`
-    says which of its chunks a row of the column has, or None for parity."""
-    for row, skipped, count in blocks_of(first, end - first, chunk):
+def chunks_of(first: int, end: int, chunk: int, numbers: Callable[[int], Iterable[Optional[int]]], name: str,
+              above: Ground, parity: str = "", begin: int = 0, to: int = 0, length: int = ALL) -> Iterator[Run]:
+    """Sectors of a column that begins at one: `numbers` says which chunks of so many sectors of what has them are in a
+    row of the column, or None for parity."""
+    for row, skipped, count in blocks_of(first - begin, end - first, chunk):
+        at = begin + row * chunk + skipped
         for number in numbers(row):
-            yield row * chunk + skipped, count, None if number is None else number * chunk + skipped
+            if number is None:
+                yield Run(at, at + count, parity)
+            elif number * chunk + skipped < length:
+                yield Run(at, at + count, name, to + number * chunk + skipped, above)
 
 
 class Reading:
@@ -240,18 +226,23 @@ class Stack:
 
     def _through(self, lower: bytes, above: Above, first: int, end: int) -> Iterator[Run]:
         """Who has sectors of a volume by way of one that lies on it."""
-        upper, segment, field, place, _ = above
-        kind, chunk, columns = segment.kind or b"", segment.stripe_size or 0, len(segment.stripes)
+        upper, segment, field, place, begin = above
+        kind, columns, chunk = segment.kind or b"", len(segment.stripes), segment.stripe_size or 0
         leg, legs, is_leg = place // 2, len(segment.node.values(b"raids")) // 2, field == b"raids" and place % 2 == 1
-        if field == b"stripes" and columns > 1:
-            name = unknown(f"the text says no stripes of {self.path(upper)}")
-            yield from self._of(above, first, end, chunk, columns, lambda row: row * columns + place) \
-                if chunk else [Run(first, end, name)]
+        length, to = (segment.count or 0) * self.extent, (segment.node.value(b"start_extent", int) or 0) * self.extent
+        chunks = functools.partial(chunks_of, name=self.path(upper), above=self.on(upper), begin=begin, to=to,
+                                   length=length)
+        if field == b"stripes" and columns > 1 and not chunk:
+            yield Run(first, end, unknown(f"the text says no stripes of {self.path(upper)}"))
         elif field in (b"stripes", b"mirrors") or is_leg and kind == b"raid1" or (field, kind) == INTEGRITY:
-            yield from self._of(above, first, end, ALL, 1, lambda row: row)
+            if field != b"stripes" or columns == 1:
+                columns, chunk, place = 1, ALL, 0
+            first, end = max(first, begin), min(end, begin - -length // columns)
+            yield from chunks(first, end, chunk, lambda row: [row * columns + place])
         elif is_leg and kind in RAID5 and chunk and legs > 1:
             shape = Shape("raid5", legs, "left-symmetric", chunk)
-            yield from self._of(above, first, end, chunk, None, functools.partial(shape.number, leg))
+            parity = self._part("parity", upper)
+            yield from chunks(first, end, chunk, lambda row: [shape.number(leg, row)], parity=parity)
         elif field == b"raids":
             yield Run(first, end, self._part("part" if is_leg else "superblock", upper))
         elif field not in SNAPSHOT or kind.startswith(b"cache"):
@@ -265,20 +256,6 @@ class Stack:
             # Where nobody can be sure of a volume, it is told as well what is sure.
             for gap in gaps([run for run in runs if run.above], first, end):
                 yield Run(*gap, self._part(ROLES.get(field, "part"), upper))
-
-    def _of(self, above: Above, first: int, end: int, chunk: int, columns: Optional[int],
-            number: Callable[[int], Optional[int]]) -> Iterator[Run]:
-        """Who has those of some sectors that one of these columns of a segment has, or that have parity."""
-        begin, length = above.start, (above.segment.count or 0) * self.extent
-        to = (above.segment.node.value(b"start_extent", int) or 0) * self.extent
-        if columns:
-            first, end = max(first, begin), min(end, begin - -length // columns)
-        for at, count, sector in chunks_of(first - begin, end - begin, chunk, lambda row: [number(row)]):
-            if sector is None:
-                yield Run(begin + at, begin + at + count, self._part("parity", above.volume))
-            elif sector < length:
-                upper = above.volume
-                yield Run(begin + at, begin + at + count, self.path(upper), to + sector, self.on(upper))
 
     def _part(self, role: str, name: bytes) -> str:
         """What is a part of a volume, and which volumes that a user sees are above that."""

@@ -59,7 +59,7 @@ class Pile:
 
     def __init__(self, paths: Sequence[str], program: Optional[str],
                  unread: Optional[Dict[str, List[Run]]] = None) -> None:
-        mapping.use(program)
+        mapping.Child.program = program
         self.found: List[Found] = []
         self.tables: Dict[Device, Table] = {}
         self.arrays: List[Array] = []

@@ -13,7 +13,6 @@ from dmremap_tools.base.numbers import SECTOR
 from dmremap_tools.base.refusal import Refusal
 from dmremap_tools.metadata.volume_group import Segment
 from dmremap_tools.model.device import ZEROS, Device, Entry, Gap, Overlaid, Part, Run, sorted_entries
-from dmremap_tools.model.layout import Layout
 
 BLOCK, WORD = 4096, 8
 # struct node_header and struct array_block, and what the sum of a block of each kind is changed by.
@@ -134,7 +133,7 @@ for _ in range(8):
     TABLE = [value >> 1 ^ (POLYNOMIAL if value & 1 else 0) for value in TABLE]
 
 
-def thin_of(layout: Layout, name: str, segment: Segment, size: int) -> Device:
+def thin_of(layout: Any, name: str, segment: Segment, size: int) -> Device:
     """The device of a thin segment: the tree of devices of its pool leads to its own."""
     node, volumes = segment.node, layout.group.volumes
     device, pool = node.value(b"device_id", int), volumes.get(node.value(b"thin_pool", bytes))
@@ -171,7 +170,7 @@ def thin_of(layout: Layout, name: str, segment: Segment, size: int) -> Device:
     return Overlaid(name, ZEROS, data, block, entries, size)
 
 
-def cached_of(layout: Layout, name: str, segment: Segment, size: int) -> Device:
+def cached_of(layout: Any, name: str, segment: Segment, size: int) -> Device:
     """The device of a cached segment: a block that is mapped is read from the cache, any other from the origin. Which
     blocks are dirty needn't be asked: a mapped block is never older than the origin's."""
     pool, origin = (segment.node.value(key, bytes) for key in (b"cache_pool", b"origin"))
@@ -194,7 +193,7 @@ def cached_of(layout: Layout, name: str, segment: Segment, size: int) -> Device:
     return Overlaid(name, layout.plain(origin), data, block, sorted_entries(pairs), size)
 
 
-def cache_of(layout: Layout, segment: Segment, pool: bytes) -> Tuple[Optional[Device], Optional[Device], Segment]:
+def cache_of(layout: Any, segment: Segment, pool: bytes) -> Tuple[Optional[Device], Optional[Device], Segment]:
     """The metadata and the data of a cache, a pool's or runs of one volume, and the segment that says its blocks."""
     volume = layout.group.volumes.get(pool)
     if segment.node.child(b"metadata_start"):

@@ -8,14 +8,13 @@ does it: from the oldest on, up to one that wasn't written whole."""
 
 import struct
 from collections import namedtuple
-from typing import Dict, Iterator, List, NamedTuple, Optional, Set, Tuple
+from typing import Any, Dict, Iterator, List, NamedTuple, Optional, Set, Tuple
 
 from dmremap_tools.base.config_text import shown
 from dmremap_tools.base.numbers import SECTOR
 from dmremap_tools.base.refusal import Refusal
 from dmremap_tools.metadata.volume_group import Segment
 from dmremap_tools.model.device import ALL, Copies, Device, Gap, Known, Missing, Overlaid, Part, Run, sorted_entries
-from dmremap_tools.model.layout import Layout
 from dmremap_tools.model.md_chunks import Rows, Shape
 from dmremap_tools.model.pools import sum_of
 
@@ -43,7 +42,7 @@ Journal = NamedTuple("Journal", [
     ("salt", Optional[bytes])])
 
 
-def mirror_of(layout: Layout, name: str, segment: Segment, size: int) -> Device:
+def mirror_of(layout: Any, name: str, segment: Segment, size: int) -> Device:
     """A mirror: the first leg that has the bytes. Before the legs are alike, that is the first leg alone."""
     legs, best, _, faults = legs_of(layout, name, segment, 1)
     if faults:
@@ -54,7 +53,7 @@ def mirror_of(layout: Layout, name: str, segment: Segment, size: int) -> Device:
     return Copies(name, parts, size)
 
 
-def parity_of(layout: Layout, name: str, segment: Segment, size: int) -> Device:
+def parity_of(layout: Any, name: str, segment: Segment, size: int) -> Device:
     """Chunks with parity, where one leg may be missing."""
     (legs, best, meta, _), chunk = legs_of(layout, name, segment, 5), segment.stripe_size or 0
     if not 0 < chunk == best.stripe_sectors or best.layout != LEFT_SYMMETRIC:
@@ -65,7 +64,7 @@ def parity_of(layout: Layout, name: str, segment: Segment, size: int) -> Device:
     return Rows(name, Shape("raid5", len(legs), "left-symmetric", chunk), legs, size, doubtful)
 
 
-def legs_of(layout: Layout, name: str, segment: Segment,
+def legs_of(layout: Any, name: str, segment: Segment,
             level: int) -> Tuple[List[Device], Superblock, Device, List[str]]:
     """The data of each leg of a segment, or why it isn't to be read, the freshest superblock, the device that has it,
     and what is wrong with others. A leg counts if it has the most events, or one less, didn't fail, and is whole."""
@@ -128,7 +127,7 @@ def stale(superblock: Superblock, best: Superblock, leg: int) -> Optional[str]:
     return "it was being rebuilt" if superblock.disk_recovery_offset != CLEAN else None
 
 
-def integrity_of(layout: Layout, name: str, segment: Segment, size: int) -> Device:
+def integrity_of(layout: Any, name: str, segment: Segment, size: int) -> Device:
     data, meta = (layout.lower(segment, key) for key in (b"origin", b"meta_dev"))
     if not data or not meta:
         raise Refusal(name, f"its text doesn't say where its metadata is: {OTHER_LEG}")
@@ -154,7 +153,8 @@ def integrity_of(layout: Layout, name: str, segment: Segment, size: int) -> Devi
     journal = Journal(meta, sections, section, entry, sectors * SECTOR, ID_AT // entry, summed)
     blocks = (each for place in sections_in_order(journal) for each in blocks_in(journal, section_of(journal, place)))
     held = {block: content for block, content in blocks if (block + 1) * journal.block <= size}
-    known = Known(f"the journal of {name}", b"".join(held.values()))
+    content = b"".join(held.values())
+    known = Known(f"the journal of {name}", len(content), lambda start, size: content[start:start + size])
     pairs = sorted((block, place) for place, block in enumerate(held))
     return Overlaid(name, data, known, journal.block, sorted_entries(pairs), size)
 
