@@ -91,9 +91,9 @@ class Tables:
     @functools.lru_cache(MOST_WINDOWS)
     def window(self, name: str, start: int) -> List[Piece]:
         """Where the sectors of a window are read. Where the program was ended meanwhile, it is asked once more."""
-        count = min(WINDOW, self.devices[name].end() - start)
+        count, child = min(WINDOW, self.devices[name].end() - start), self.child_of(name)
         with contextlib.suppress(Refusal):
-            return self.child_of(name).ask(name, start, count)
+            return child.ask(name, start, count)
         self._child.cache_clear()
         return self.child_of(name).ask(name, start, count)
 
@@ -101,22 +101,19 @@ class Tables:
         """The program that knows a device and others around it, or this one alone where it refuses another."""
         known = list(self.devices)
         first = known.index(name) // MOST_DEVICES * MOST_DEVICES
-        with contextlib.suppress(Refusal):
-            return self._child(*known[first:first + MOST_DEVICES])
-        return self._child(name)
+        for wanted in (known[first:first + MOST_DEVICES], [name]):
+            child = self._child(*wanted)
+            if isinstance(child, Child):
+                return child
+        raise child
 
     @functools.lru_cache(MOST_CHILDREN)
-    def _child(self, *wanted: str) -> "Child":
-        return Child(self.closure(wanted))
-
-    def words(self, room: str) -> List[str]:
-        """The words with which the program maps by them, once what it reads is in a folder."""
-        copies = {name: os.path.join(room, name) for name in self.stores}
-        for name, path in copies.items():
-            self.stores[name](path)
-        file, disks, paths = self.write(room, {name: path + "?offset=0" for name, path in copies.items()})
-        words = [program.dmremap(Child.program), "map", "table", file, disks]
-        return words + ["--paths", paths] if self.stores else words
+    def _child(self, *wanted: str) -> Any:
+        """The program that knows some devices, or why it can't; that is kept, too, and isn't tried again."""
+        try:
+            return Child(self.closure(wanted))
+        except Refusal as refusal:
+            return refusal
 
     def write(self, folder: str, places: Dict[str, str]) -> List[str]:
         """Writes FILE, DISKS, and PATHS with these places; the paths of the three. A disk that is too short gets as
@@ -140,7 +137,11 @@ class Child:
     def __init__(self, source: Tables) -> None:
         self._name, self._number, self._said = program.dmremap(Child.program), 0, tempfile.TemporaryFile()
         with tempfile.TemporaryDirectory(prefix="dmremap-tools-") as room:
-            words = source.words(room)
+            copies = {name: os.path.join(room, name) for name in source.stores}
+            for name, path in copies.items():
+                source.stores[name](path)
+            file, disks, paths = source.write(room, {name: path + "?offset=0" for name, path in copies.items()})
+            words = [self._name, "map", "table", file, disks] + ["--paths", paths] * bool(copies)
             self.chunks = store_places.chunks_in(words, source.devices.values()) if source.stores else {}
             try:
                 self._child = program.start(words, stdin=subprocess.PIPE, stdout=subprocess.PIPE, stderr=self._said)
