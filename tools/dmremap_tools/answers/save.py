@@ -13,7 +13,7 @@ from dmremap_tools.base import given, names, pieces, quoting, requests, streams,
 from dmremap_tools.base.numbers import SECTOR
 from dmremap_tools.base.paths import Place
 from dmremap_tools.base.refusal import Refusal
-from dmremap_tools.layers import started
+from dmremap_tools.layers import stack
 from dmremap_tools.model import device
 from dmremap_tools.model.device import Device, Image, Missing, Part
 from dmremap_tools.requests import filefrag
@@ -29,7 +29,7 @@ def run(words: Namespace) -> bool:
     source = given.given_in(words, "VOLUME TARGET FORMAT FILE [DISKS]")
     with tempfile.TemporaryDirectory(prefix="dmremap-tools-") as room:
         volume = names.Names(words.ls).device(words.volume, "VOLUME")
-        begun = started.start(words, source, [volume], room)
+        begun = stack.start(words, source, [volume], room)
         if words.extents is not None:
             found = list(filefrag.read_filefrag(streams.Lines(words.extents), filefrag.KNOWN))
             extents = [it for it in found if it[1:] != filefrag.ENDED]
@@ -63,7 +63,7 @@ class Disks:
         """The whole sectors of a disk, or what says why it isn't there."""
         place = self._place(name)
         try:
-            os.close(started.opened(place.path))
+            os.close(stack.opened(place.path))
             image = Image(place.path)
         except Refusal as refusal:
             return Absent(refusal.why)

@@ -1,19 +1,23 @@
-"""Why dmremap refuses what it is given: it is asked about copies of the files, and its message says where to look, and which
-word of a request is meant."""
+"""Why dmremap refuses what it is given: it is asked about copies of the files, and its message says where to look: which word
+of a request is meant, or which field of the metadata of a group, and which of its volumes could be mapped."""
 
 import difflib
 import os
 import re
-from typing import Dict, List, Optional
+from typing import Callable, Dict, List, Optional
 
 from dmremap_tools.base import names, program
+from dmremap_tools.base.config_text import Document, shown
 from dmremap_tools.base.given import Given, put
 from dmremap_tools.base.refusal import Refusal
 from dmremap_tools.base.requests import MOST
-from dmremap_tools.explaining import group_texts, table_texts, texts
+from dmremap_tools.explaining import table_texts, texts
 from dmremap_tools.explaining.asked import Typed, general, line
 from dmremap_tools.explaining.texts import HOW_MANY, Finding, Place, Text, shell, why_no_device, why_no_number
 from dmremap_tools.layers import refused, stack
+from dmremap_tools.metadata import lvm2_text
+from dmremap_tools.metadata.mending import Copy
+from dmremap_tools.metadata.volume_group import TYPES
 
 ABOUT_TEXT = re.compile(r"dmremap: (source|disks): (\w+)(?: at ([0-9]+))?")
 ABOUT_REQUEST = re.compile(r"dmremap: request ([0-9]+): (.+)")
@@ -32,6 +36,19 @@ UNENDED = Finding("the last line has no newline, so it may be cut off",
                   ["if it is whole, end it:", "  echo >> REQUESTS"])
 LONG = Finding("the line has more than 4096 bytes", ["look for a newline that is missing"])
 OPERATIONS = ("R", "W")
+OLDER = ["the text is damaged, or was changed by hand: take it anew, or an older one from /etc/lvm/archive,",
+         "or that of another physical volume:", "  dmremap-tools metadata DISK > vg.backup"]
+MOST_NAMED = 12
+# What is wrong by the word, where the field itself doesn't say more.
+SAID = {
+    "field": "this field has a value of another kind than it may have, or the section lacks one",
+    "extents": "these extents don't fit: they leave a gap, pass the end of their physical volume, or are those of another segment",
+    "snapshot": "dmremap can't follow this snapshot", "store": "dmremap can't follow the store of this snapshot",
+    "limit": "a count or a number is larger than dmremap takes", "name": "the name of a device would be longer than 127 characters",
+    "twice": "this key is there twice", "empty": "it has no sectors", "text": "a byte that is no UTF-8, or no text",
+    "syntax": "here the text isn't what lvm2 writes: a sign, a string or a key is missing, or there is one too many",
+    "unknown": "the group has no physical volume, or no volume, of this name",
+}
 
 
 class Told:
@@ -85,13 +102,11 @@ class Told:
         return self._texts["paths"].fault or self._texts["before"].fault or general(self.asked, message)
 
     def _why_text(self, part: str, word: str, number: int, message: str) -> Finding:
-        text, is_device = self._texts[part], self.typed.given.form == "concise" and part == "source"
+        text = self._texts[part]
         found = text.fault or self._why_kind(part, text) or self._why_word(part, word, number, text, message)
-        if found:
-            return found
-        rows = dict(enumerate(text.decoded().split(";") if is_device else [it.text for it in text.places()], 1))
-        place = Place(text.name, number, rows[number], 0, len(rows[number]), is_device) if number in rows else None
-        return general(self.asked, message)._replace(place=place)
+        places = text.places(self.typed.given.form if part == "source" else "table")
+        place = next((it for it in places if it.number == number), None)
+        return found or general(self.asked, message)._replace(place=place)
 
     def _why_kind(self, part: str, text: Text) -> Optional[Finding]:
         """What a file is that isn't what it stands for."""
@@ -133,7 +148,7 @@ class Told:
         if word in OF_SNAPSHOTS:
             known = refused.told(form, text, disks, message + "\n")
         if form == "lvm":
-            found = group_texts.why(word, number, text, self._is_loaded)
+            found = why_group(word, number, text, self._is_loaded)
             is_more = known not in ("", refused.OTHER_COPY, refused.ODD_RECORD)
             return found._replace(why=known.replace(refused.COPY, "")) if is_more else found
         why, _, do = known.rpartition(": ")[0].partition(": ")
@@ -229,3 +244,57 @@ def _why_device(words: List[str], loaded: stack.Stack) -> Finding:
     group = "" if "-" in name or not near else "; a volume's device has the name of its group in front"
     return Finding("FILE has no device %s%s" % (name, group),
                    do + ["all of them:", "  dmremap table FORMAT FILE | cut -d: -f1 | uniq"])
+
+
+def why_group(word: str, number: int, file: Text, is_loaded: Callable[[bytes], bool]) -> Finding:
+    """Why the metadata is refused at a line. A copy without what is refused is only offered if dmremap loads it."""
+    place, fault = file.place(number), SAID.get(word, "dmremap refuses what stands here")
+    try:
+        document = Document(file.name, file.content)
+    except Refusal as refusal:
+        last = file.place(min(number, len(list(file.places()))))
+        return Finding("%s; here the text breaks off, or isn't that of lvm2" % refusal.why, OLDER, last)
+    kind = re.match(r'\s*type\s*=\s*("([^"]*)")', place.text)
+    place, owner = place._replace(first=len(place.text) - len(place.text.lstrip())), _owner(document, number)
+    if word == "field" and kind and kind[2].encode("utf-8", "surrogateescape") not in TYPES:
+        place = place._replace(first=kind.start(1), end=kind.end(1))
+        fault = "%s has a segment of the type %s, which dmremap doesn't follow" % (owner or "a volume", kind[2])
+    elif owner:
+        fault = "%s, in %s" % (fault, owner)
+    return Finding(fault, _remedy_of_group(file, document, is_loaded), place)
+
+
+def _owner(document: Document, number: int) -> str:
+    """The volume or the physical volume that a line is of."""
+    group = next(iter(document.top.sections()), None)
+    for part in group.sections() if group else ():
+        for node in part.sections() if part.key in (b"logical_volumes", b"physical_volumes") else ():
+            if document.line_at(node.start) <= number <= document.line_at(node.end - 1):
+                return "%s %s" % ("the volume" if part.key == b"logical_volumes" else "the physical volume", shown(node.key))
+    return ""
+
+
+def _remedy_of_group(file: Text, document: Document, is_loaded: Callable[[bytes], bool]) -> List[str]:
+    """What mends it, and what can be mapped then."""
+    copy = Copy(document)
+    try:
+        group = lvm2_text.group_of(copy)
+        group.judge()
+        records = {it.volume.name for it in group.records}
+        volumes = [it for it in group.volumes.values() if it.name not in records]
+        kept = [shown(it.name) for it in volumes if not it.why]
+        left = ["  %s: %s" % it for it in {shown(it.name): it.why for it in volumes if it.why}.items()]
+        if kept:
+            lvm2_text.drop_volumes(copy, group)
+            lvm2_text.mend_group(copy, group)
+        made = copy.content(file.content)
+    except Refusal as refusal:
+        return ["lvm2-text can't mend it: %s" % refusal.why, *OLDER]
+    reasons = left[:MOST_NAMED] + ["  .."] * (len(left) > MOST_NAMED)
+    if left and not kept:
+        return ["none of its volumes can be mapped:", *reasons]
+    if not is_loaded(made):
+        return OLDER
+    mapped = ", ".join(kept[:MOST_NAMED]) + ", .." * (len(kept) > MOST_NAMED)
+    return [file.changed("dmremap-tools lvm2-text"), "makes a copy, of which these can be mapped: " + mapped,
+            *["and these can't:"] * bool(left), *reasons]

@@ -24,7 +24,7 @@ from dmremap_tools.answers import save as by_tables
 from dmremap_tools.answers.saved import PARTLY, SavedMap, put_together
 from dmremap_tools.base import given, names, quoting, streams
 from dmremap_tools.base.refusal import INCOMPLETE, Refusal, WrongWords
-from dmremap_tools.layers import started
+from dmremap_tools.layers import stack
 from dmremap_tools.model.device import Extent, joined
 from dmremap_tools.model.pile import Pile, Target
 
@@ -42,7 +42,7 @@ def add_words(parser: ArgumentParser) -> None:
     parser.add_argument("--allow-missing", action="store_true", help="save what is there, and end with status 0")
     parser.add_argument("--extents", metavar="EXTENTS", help="with FORMAT: what filefrag -v printed of a file")
     names.add_words(parser)
-    started.add_words(parser)
+    stack.add_words(parser)
 
 
 def run(words: Namespace) -> Optional[int]:

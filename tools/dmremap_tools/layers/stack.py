@@ -1,15 +1,24 @@
-"""A stack as dmremap loads it from FILE and DISKS."""
+"""A stack as dmremap loads it from FILE and DISKS, and how a command starts dmremap for the devices that it reads: with these
+and what they stand on, and from the state that the stores of their snapshots hold, which dmremap reads from the disks. A store
+that nothing is read through isn't looked at."""
 
+import argparse
 import os
+import stat
 import tempfile
-from typing import Dict, Iterable, List, NamedTuple, Optional, Set, Tuple
+from typing import Dict, Iterable, Iterator, List, NamedTuple, Optional, Set, Tuple
 
-from dmremap_tools.base import disks, names, program, streams, tables
+from dmremap_tools.base import (disk_image, disks, names, paths, program, quoting, store_places, streams, tables,
+                                written)
 from dmremap_tools.base.given import Given, put
 from dmremap_tools.base.refusal import Refusal
 from dmremap_tools.explaining import texts
 from dmremap_tools.layers import refused
-from dmremap_tools.machines.placed import disks_of
+from dmremap_tools.machines.placed import by_ids, disks_of
+
+NEXT = "--paths says where disks are, and --fresh takes every snapshot as new"
+INVALID = ("it is invalid, as it was full once: what the origin overwrote since is lost, and nothing of the snapshot is read; --fresh "
+           "takes what the origin has")
 
 
 class Stack(NamedTuple):
@@ -29,9 +38,9 @@ class Stack(NamedTuple):
             raise Refusal(streams.name_of(file), f"no device {name}: `dmremap table` prints their names")
         return device.end()
 
-    def below(self, paths: Iterable[str]) -> Tuple[Set[str], Set[str]]:
+    def below(self, roots: Iterable[str]) -> Tuple[Set[str], Set[str]]:
         """Of devices and disks by their paths, and what they stand on: the devices, and the disks."""
-        lower, found, left = self.by_path(), set(), list(paths)
+        lower, found, left = self.by_path(), set(), list(roots)
         while left:
             path = left.pop()
             if path not in found:
@@ -41,9 +50,9 @@ class Stack(NamedTuple):
 
     def part(self, devices: Iterable[str]) -> "Stack":
         """These devices, by their names, and what they stand on."""
-        found, disks = self.below(names.MAPPER + it for it in devices)
-        devices = [it for it in self.devices if names.MAPPER + it.name in found]
-        return Stack(devices, {disk: size for disk, size in self.sizes.items() if disk in disks})
+        found, lowest = self.below(names.MAPPER + it for it in devices)
+        kept = [it for it in self.devices if names.MAPPER + it.name in found]
+        return Stack(kept, {disk: size for disk, size in self.sizes.items() if disk in lowest})
 
     def write(self, folder: str) -> List[str]:
         """Writes FILE, in the concise form, and DISKS into a folder; the words with which dmremap reads them."""
@@ -51,6 +60,10 @@ class Stack(NamedTuple):
         put(file, [tables.text_of(self.devices, True)])
         put(listed, ("%s %d\n" % it for it in self.sizes.items()))
         return ["concise", file, listed]
+
+
+# The words with which dmremap maps; the whole stack, and where its disks are.
+Started = NamedTuple("Started", [("words", List[str]), ("loaded", Stack), ("places", Dict[str, paths.Place])])
 
 
 def load(asked: str, given: Given, room: str) -> Stack:
@@ -62,13 +75,77 @@ def load(asked: str, given: Given, room: str) -> Stack:
         except (Refusal, streams.OutputFailed):
             said.seek(0)
             message = said.read().decode("utf-8", "surrogateescape")
-            text = texts.read(copy.file)._replace(path=streams.name_of(given.file))
-            why = refused.told(copy.form, text, texts.read(copy.disks), message)
+            name = streams.name_of(given.file)
+            why = refused.told(copy.form, texts.read(copy.file)._replace(path=name), texts.read(copy.disks), message)
             if why:
-                raise Refusal("%s:%s" % (text.path, message.split()[-1]), why)
+                raise Refusal("%s:%s" % (name, message.split()[-1]), why)
             if message:
                 streams.tell(message.rstrip("\n"))
             raise
     put(text, [printed])
     sizes = {name: size for name, size, _ in disks_of(copy.file)} if copy.disks is None else disks.read(copy.disks)
     return Stack(tables.read(text)[0], sizes, copy.file if copy.disks is None else None)
+
+
+def add_words(parser: argparse.ArgumentParser) -> None:
+    program.add_words(parser)
+    paths.add_words(parser)
+    parser.add_argument("--fresh", action="store_true", help="take every snapshot as new, with nothing in its store")
+
+
+def start(words: argparse.Namespace, source: Given, devices: Optional[Iterable[str]], room: str) -> Started:
+    """Starts for these devices of a source, or for all. Refuses snapshots whose stores can't be read or are invalid."""
+    asked, places = program.dmremap(words.program), paths.places(words.paths)
+    loaded = load(asked, source, room)
+    paths.check_known(words.paths, places, loaded.sizes)
+    places = by_ids(loaded.group, places, loaded.sizes)
+    part = loaded if devices is None else loaded.part(devices)
+    command = [asked, "map", *part.write(room)]
+    snapshots = [] if words.fresh else [it for it in part.devices if it.lines[0].target == "snapshot"]
+    for device in snapshots:
+        if device.lines[0].words[2] == "N":
+            raise Refusal("the store of " + device.name, "it isn't persistent, so no disk says what is in it; --fresh takes it as new")
+    if snapshots:
+        lowest = part.below(it.lines[0].words[1] for it in snapshots)[1]
+        stores = {disk: places.get(disk) or paths.Place(disk) for disk in sorted(lowest)}
+        here = {disk: place for disk, place in stores.items() if os.path.exists(place.path)}
+        command += ["--paths", os.path.join(room, "PATHS")]
+        put(command[-1], rows_of(here))
+        try:
+            found = store_places.chunks_in(command, snapshots)
+        except store_places.Unread as refusal:
+            absent = quoting.some([quoting.shown(disk) for disk in stores if disk not in here])
+            which = f" ({absent})" if refusal.word == "missing" else ""
+            raise Refusal(refusal.where, f"{refusal.why}{which}; {NEXT}")
+        for name, count in found.items():
+            if count is None:
+                raise Refusal("the store of " + name, INVALID)
+            streams.tell(f"{name}: its store has {count} chunk{'s' * (count != 1)}")
+    return Started(command, loaded, places)
+
+
+def rows_of(places: Dict[str, paths.Place]) -> Iterator[str]:
+    """PATHS, with these disks."""
+    for disk, place in places.items():
+        place.check_sectors(disk)
+        descriptor = opened(place.path)
+        if stat.S_ISBLK(os.fstat(descriptor).st_mode):
+            streams.tell(f"{quoting.shown(place.path)} is a block device: if a snapshot on it is in use, suspend it first, or give an "
+                         "image that was read with O_DIRECT, as `dd iflag=direct` does")
+        os.close(descriptor)
+        yield f"{disk} {place.path}?offset={place.start}\n"
+
+
+def opened(path: str) -> int:
+    """The descriptor of a disk or an image of one, which has its bytes in their order."""
+    try:
+        descriptor = os.open(path, os.O_RDONLY | os.O_NONBLOCK)
+    except OSError as fault:
+        raise Refusal(quoting.shown(path), streams.why(fault))
+    kind = os.fstat(descriptor).st_mode
+    if not stat.S_ISREG(kind) and not stat.S_ISBLK(kind):
+        os.close(descriptor)
+        raise Refusal(quoting.shown(path), "neither a file nor a disk: give the path of one")
+    written.note_input(descriptor)
+    disk_image.check_form(descriptor, quoting.shown(path))
+    return descriptor

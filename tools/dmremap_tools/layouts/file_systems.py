@@ -18,7 +18,7 @@ from typing import Callable, Collection, Dict, Iterable, Iterator, List, NamedTu
 from dmremap_tools.base import paths, program, quoting, streams
 from dmremap_tools.base.numbers import SECTOR
 from dmremap_tools.base.refusal import Refusal
-from dmremap_tools.layers.started import opened
+from dmremap_tools.layers.stack import opened
 
 MOST_BLOCKS = MOST_INODES = 1000000
 MOST_COMPLAINTS = 3

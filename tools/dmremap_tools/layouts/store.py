@@ -23,7 +23,7 @@ from typing import Dict, Iterator, List, Tuple
 
 from dmremap_tools.base import given, names, numbers, pieces, program, requests, store_places, streams
 from dmremap_tools.base.refusal import Refusal, WrongWords
-from dmremap_tools.layers import stack, started
+from dmremap_tools.layers import stack
 from dmremap_tools.layouts.file_systems import Run
 
 EXAMPLE = "dmremap-tools store table snaps.table snaps.disks"
@@ -44,7 +44,7 @@ def add_words(parser: ArgumentParser) -> None:
     asked.add_argument("--size", metavar="REQUESTS", help="the writes of a day, say, to devices that have no snapshot yet")
     parser.add_argument("--chunk", type=numbers.word, default=8, metavar="SECTORS", help="with --size: the chunk, a power of two; else 8")
     parser.add_argument("--kind", choices=("P", "N", "K"), default="P", help="with --size: the kind of the snapshot; else P")
-    started.add_words(parser)
+    stack.add_words(parser)
 
 
 def run(words: Namespace) -> None:
@@ -61,7 +61,7 @@ def run(words: Namespace) -> None:
         if text is None:
             loaded, ends = stack.load(program.dmremap(words.program), source, room), []
         else:
-            begun = started.start(words, source, None, room)
+            begun = stack.start(words, source, None, room)
             loaded, ends = begun.loaded, list(Runs(text, [*begun.words, "--status"]).ends())
     streams.out.write("".join([*places_of(loaded, streams.name_of(words.file)), *ends]))
 
