@@ -2,7 +2,7 @@
 
 import functools
 import re
-from typing import Dict, Iterator, List, NoReturn, Optional, Sequence, Set, Tuple
+from typing import Dict, List, NoReturn, Optional, Sequence, Set, Tuple
 
 from dmremap_tools.base import names, quoting, streams, tables
 from dmremap_tools.base.refusal import Refusal
@@ -28,7 +28,7 @@ CHANGING = ("Reshape pos'n", "Delta Devices", "New Level", "New Layout", "New Ch
 OF_JOURNAL = ("Journal Offset", "Journal")
 # Metadata 0.90 lies in the last 64 KiB of a member that begin at a multiple of that.
 OLD_ROOM = 128
-FOLLOW = "which no table can say: follow the answers with --follow"
+FOLLOW = "no table can say: follow the answers with --follow"
 
 
 class Member:
@@ -223,39 +223,30 @@ class Array(md_chunks.Members):
         rounding = CHUNK.fullmatch(member.fields.get("Rounding", ""))
         return size - size % (self.chunk or (2 * int(rounding[1]) if rounding else 0) or 1)
 
-    def lines_of(self, copy: Optional[int]) -> Iterator[tables.Line]:
+    def lines_of(self, copy: Optional[int]) -> List[tables.Line]:
         """The lines of the array, of this copy or of the first that is there."""
         near, far, is_offset = self.copies
         if self.level in ("linear", "raid0"):
-            return self.lines()
+            return list(self.lines())
         if self.level == "raid1":
             role = min(self.by_role) if copy is None else copy
-            return iter([tables.Line(0, 2 * self.member(role).number("Array Size"), "linear", self.spot(role))])
-        if self.level == "raid4":
-            return self._rows(range(self.data), 0)
-        if self.level != "raid10":
-            self.refuse(f"{quoting.shown(self.level)}, whose chunks no table can say: follow the answers with --follow")
+            return [tables.Line(0, 2 * self.member(role).number("Array Size"), "linear", self.spot(role))]
+        if self.level not in ("raid4", "raid10"):
+            self.refuse(f"{quoting.shown(self.level)}, whose chunks {FOLLOW}")
         if self.count % near or near > 1 and far > 1 or is_offset and far > 1:
-            self.refuse(f"raid10 of {self.count} devices with the layout {self.layout}, {FOLLOW}")
-        self.check_copy(copy)
-        copies = range(near * far) if copy is None else [copy]
-        if far > 1:
-            # Each copy needs all members, so that of one that is missing the last copy tells.
-            each = copies[0 if len(self.by_role) == self.count else -1]
-            return self._rows([(it + each) % self.count for it in range(self.count)],
-                              each * (self.chunks // far) * self.chunk)
-        groups = ([first + it for it in copies] for first in range(0, self.count, near))
-        return self._rows([next((it for it in group if it in self.by_role), group[0]) for group in groups], 0)
+            self.refuse(f"raid10 of {self.count} devices with the layout {self.layout}, which {FOLLOW}")
+        if self.level == "raid10":
+            self.check_copy(copy)
+        copies = range(near * far) if copy is None else range(copy, copy + 1)
+        if far > 1 and len(self.by_role) < self.count:
+            # Each copy needs all members, so the last one tells which is missing.
+            copies = copies[-1:]
+        columns = ([self.place(it, each) for each in copies[:near]] for it in range(self.data // near))
+        found = [next((it for it in column if it[0] in self.by_role), column[0]) for column in columns]
+        roles, row = [role for role, _ in found], found[0][1] * self.chunk
+        return [self.striped(0, self.sectors, roles, row)] if self.sectors else []
 
     def check_copy(self, copy: Optional[int]) -> None:
         copies = self.copies.near * self.copies.far
         if copy is not None and copy >= copies:
             self.refuse(f"it has {copies} copies, counted from 0: give a lower --copy")
-
-    def _rows(self, roles: Sequence[int], row: int) -> Iterator[tables.Line]:
-        """Whole rows of chunks over these members, and line by line what is left of another row."""
-        whole = self.sectors - self.sectors % (self.chunk * len(roles))
-        if whole:
-            yield self.striped(0, whole, roles, row)
-        for role, start in zip(roles, range(whole, self.sectors, self.chunk)):
-            yield tables.Line(start, self.chunk, "linear", self.spot(role, row + whole // len(roles)))
