@@ -153,10 +153,10 @@ class Copy:
             space = self._plain_space(b"".join(spaces), start)
             if not space and WITHIN_WORD.match(last[-1:] + new[:1]):
                 space = b" "
-            piece = (space + new).decode("utf-8", "surrogateescape")
-            if UNREADABLE.search(piece):
+            piece, count = UNREADABLE.subn(UNKNOWN, (space + new).decode("utf-8", "surrogateescape"))
+            if count:
                 self.say(start, "changed: bytes that are no UTF-8")
-            made.append(UNREADABLE.sub(UNKNOWN, piece))
+            made.append(piece)
             spaces, last = [], new
         if any(self._returned):
             what = f"changed: carriage returns are taken out of {sum(self._returned)} lines"
@@ -165,6 +165,8 @@ class Copy:
 
     def _plain_space(self, space: bytes, start: int) -> bytes:
         """The white space before the token that begins at a byte, as dmremap reads it."""
+        if not space.strip(b" \t\n"):
+            return space
         if b"\r" in space:
             first = self.document.line_at(start) - space.count(b"\n")
             for line, part in enumerate(space.split(b"\n"), first):
