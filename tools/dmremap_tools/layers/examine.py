@@ -2,7 +2,7 @@
 
 import functools
 import re
-from typing import Dict, List, NoReturn, Optional, Sequence, Set, Tuple
+from typing import Dict, Iterator, List, NoReturn, Optional, Sequence, Set, Tuple
 
 from dmremap_tools.base import names, quoting, streams, tables
 from dmremap_tools.base.refusal import Refusal
@@ -223,28 +223,21 @@ class Array(md_chunks.Members):
         rounding = CHUNK.fullmatch(member.fields.get("Rounding", ""))
         return size - size % (self.chunk or (2 * int(rounding[1]) if rounding else 0) or 1)
 
-    def lines_of(self, copy: Optional[int]) -> List[tables.Line]:
+    def lines_of(self, copy: Optional[int]) -> Iterator[tables.Line]:
         """The lines of the array, of this copy or of the first that is there."""
-        near, far, is_offset = self.copies
-        if self.level in ("linear", "raid0"):
-            return list(self.lines())
+        near, far, _ = self.copies
         if self.level == "raid1":
             role = min(self.by_role) if copy is None else copy
-            return [tables.Line(0, 2 * self.member(role).number("Array Size"), "linear", self.spot(role))]
-        if self.level not in ("raid4", "raid10"):
+            return iter([tables.Line(0, 2 * self.member(role).number("Array Size"), "linear", self.spot(role))])
+        if self.level not in ("linear", "raid0", "raid4", "raid10"):
             self.refuse(f"{quoting.shown(self.level)}, whose chunks {FOLLOW}")
-        if self.count % near or near > 1 and far > 1 or is_offset and far > 1:
+        if not self.is_tabled:
             self.refuse(f"raid10 of {self.count} devices with the layout {self.layout}, which {FOLLOW}")
         if self.level == "raid10":
             self.check_copy(copy)
         copies = range(near * far) if copy is None else range(copy, copy + 1)
-        if far > 1 and len(self.by_role) < self.count:
-            # Each copy needs all members, so the last one tells which is missing.
-            copies = copies[-1:]
-        columns = ([self.place(it, each) for each in copies[:near]] for it in range(self.data // near))
-        found = [next((it for it in column if it[0] in self.by_role), column[0]) for column in columns]
-        roles, row = [role for role, _ in found], found[0][1] * self.chunk
-        return [self.striped(0, self.sectors, roles, row)] if self.sectors else []
+        # Each far copy needs all members, so the last one tells which is missing.
+        return self.lines(copies[-1:] if far > 1 and len(self.by_role) < self.count else copies[:near])
 
     def check_copy(self, copy: Optional[int]) -> None:
         copies = self.copies.near * self.copies.far

@@ -99,11 +99,13 @@ class Array(md_chunks.Members):
             # The freshest first, as one event less is let pass.
             order = sorted(self.by_role, key=lambda role: -self.by_role[role].superblock.events)
             return Copies(self.label, [self._data[role] for role in order], self.best.superblock.used * SECTOR)
-        if self.level in md_chunks.PARITY:
+        # Where all members are there, a table that can say it does.
+        is_whole = self.is_tabled and not self.missing
+        if self.level in md_chunks.PARITY and not is_whole:
             resync = self.best.superblock.resync
             doubtful = [] if resync == md_superblock.CLEAN else [(resync * SECTOR, ALL)]
             return md_chunks.Rows(self.label, self, self._data, self.sectors * SECTOR, doubtful)
-        if self.level == "raid10":
+        if self.level == "raid10" and not is_whole:
             return CopiedChunks(self, self._data)
         self.tables.add("array", list(self.lines()) or self.refuse(NO_CHUNK))
         return Mapped(self.label, self.tables, "array")

@@ -5,7 +5,7 @@ of g^d D_d in GF(2^8) with the polynomial 0x11d and g = 2."""
 import bisect
 import functools
 import itertools
-from typing import Dict, Iterator, List, NamedTuple, NoReturn, Optional, Sequence, Tuple
+from typing import Any, Dict, Iterator, List, NamedTuple, NoReturn, Optional, Sequence, Tuple
 
 from dmremap_tools.base import quoting, tables
 from dmremap_tools.base.numbers import SECTOR
@@ -104,9 +104,10 @@ def role_of(level: str, layout: str, count: int, row: int, column: int) -> int:
 
 
 class Members(Shape):
-    """An array whose members are looked at, and what messages call it."""
+    """An array whose members are looked at, by the roles of those that are there, and what messages call it."""
 
     label: str
+    by_role: Dict[int, Any]
 
     def refuse(self, why: str) -> NoReturn:
         raise Refusal(self.label, why)
@@ -119,9 +120,22 @@ class Members(Shape):
         """A member's disk, and a sector of its data, as words of a line."""
         raise NotImplementedError
 
-    def lines(self) -> Iterator[tables.Line]:
-        """The lines of linear, member after member, or of raid0: rows over all members, then rows over those that are
-        longer, and so on."""
+    @property
+    def is_tabled(self) -> bool:
+        """Whether a table can say where its chunks lie."""
+        near, far, is_offset = self.copies
+        is_odd = self.count % near or far > 1 and (near > 1 or is_offset)
+        return self.level not in ("raid5", "raid6") and not is_odd
+
+    def lines(self, copies: Sequence[int] = (0,)) -> Iterator[tables.Line]:
+        """The lines of raid4 and raid10, of the first of these copies that is there for each column; of linear, member
+        after member; and of raid0, rows over all members, then rows over those that are longer, and so on."""
+        if self.level in ("raid4", "raid10"):
+            columns = [[self.place(it, copy) for copy in copies] for it in range(self.data // self.copies.near)]
+            found = [next((it for it in column if it[0] in self.by_role), column[0]) for column in columns]
+            if self.sectors:
+                yield self.striped(0, self.sectors, [role for role, _ in found], found[0][1] * self.chunk)
+            return
         size = {role: self.whole(role) for role in range(self.count)}
         row = start = 0
         if self.level == "linear":
