@@ -30,7 +30,7 @@ MOST_RUNS, MOST_TOGETHER, RUNS_OF_LIST = 1 << 20, 1 << 22, 32
 OF_CACHE = ("superblock", "mapping", "mappings", "hints", "hint", "discards", "discard")
 MOST_BLOCKS = 1 << 21
 # What a dump of a pool has, and where elements say which blocks they map, and how many; without a word it is one.
-OF_POOL = ("superblock", "device", "def", "ref", "single_mapping", "range_mapping")
+OF_POOL = ("single_mapping", "range_mapping", "superblock", "device", "def", "ref", "/device", "/def")
 MAPPINGS = {"single_mapping": ("origin_block", "data_block", ""), "range_mapping": ("origin_begin", "data_begin", "length")}
 # How many bytes the text has at most from the beginning of an element to the next one.
 MOST_BETWEEN = 1 << 20
@@ -77,7 +77,7 @@ def elements(path: str, tool: str, known: Iterable[str]) -> Iterator[Element]:
 
     parser = expat.ParserCreate("utf-8", "}")
     parser.StartElementHandler = start
-    parser.EndElementHandler = lambda tag: found.append(Element(name, "/" + tag, {}))
+    parser.EndElementHandler = lambda tag: "/" + tag in known and found.append(Element(name, "/" + tag, {}))
     parser.CharacterDataHandler = lambda text: text.strip() and refuse(text.strip())
     parser.StartDoctypeDeclHandler = lambda *_: refuse("<!DOCTYPE>")
     for chunk in itertools.chain(streams.chunks(path), [b""]):
@@ -90,7 +90,7 @@ def elements(path: str, tool: str, known: Iterable[str]) -> Iterator[Element]:
         if between > MOST_BETWEEN:
             refuse(f"{between} bytes without an element")
         for element in found:
-            if element.tag.lstrip("/") not in known:
+            if element.tag not in known:
                 element.refuse("an element that isn't known")
             yield element
         found.clear()
@@ -145,6 +145,13 @@ def read_pool(path: str, wanted: Set[int]) -> Tuple[int, Dict[int, Runs]]:
     lists: Dict[str, Runs] = {}
     into: Optional[Runs] = None
     for element in elements(path, "thin_dump", OF_POOL):
+        if element.tag in MAPPINGS:
+            first, place, count = (element.number(key) if key else 1 for key in MAPPINGS[element.tag])
+            if into is not None:
+                if place + count > most or not count:
+                    element.refuse(f"past the end of the data, of {most} blocks")
+                into.add(element, first, place, count)
+            continue
         name = element.said.get("name", "")
         if element.tag == "superblock":
             size = element.number("data_block_size") or element.refuse("blocks of no sectors")
@@ -162,12 +169,6 @@ def read_pool(path: str, wanted: Set[int]) -> Tuple[int, Dict[int, Runs]]:
             if into is not None and len(lists[name]):
                 into.lists.append(lists[name])
                 check(element, len(into), MOST_RUNS)
-        elif element.tag in MAPPINGS:
-            first, place, count = (element.number(key) if key else 1 for key in MAPPINGS[element.tag])
-            if into is not None:
-                if place + count > most or not count:
-                    element.refuse(f"past the end of the data, of {most} blocks")
-                into.add(element, first, place, count)
         elif element.tag in ("/device", "/def") and into is not None:
             check(element, together + RUNS_OF_LIST, MOST_TOGETHER, " in all")
             if element.tag == "/device":

@@ -198,5 +198,5 @@ def in_sectors(source: streams.Lines, text: str, block: int, extent: Extent, is_
     if is_unwritten:
         streams.tell("unwritten, so that it reads as zeros: " + quoting.shown(text))
         return
-    first, start, length = (it * requests.sectors_of(source, block) for it in extent)
-    yield first, start, length
+    sectors = requests.sectors_of(source, block)
+    yield extent[0] * sectors, extent[1] * sectors, extent[2] * sectors
