@@ -43,7 +43,7 @@ def by_ids(text: Optional[str], places: Dict[str, Place], sizes: Dict[str, int])
     disks = disks_of(text) if text is not None else ()
     named = {identity: name for name, _, identity in disks if identity is not None}
     check_places(places, bool(named))
-    found, decided = dict(places), set()
+    found = dict(places)
     for path in dict.fromkeys(place.path for place in places.values()):
         here = {name: place for name, place in places.items() if place.path == path}
         volumes = volumes_in(path, list(here.values())) if named and os.path.exists(path) else {}
@@ -54,10 +54,9 @@ def by_ids(text: Optional[str], places: Dict[str, Place], sizes: Dict[str, int])
             raise Refusal(quoting.shown(path), f"{wrong}, but has the id {ids}: give the path of that")
         for identity, start in volumes.items():
             if named.get(identity) in here:
-                found[named[identity]] = Place(path, start)
-                decided.add(named[identity])
-    for name, place in places.items():
-        if name in sizes and name not in decided and not place.is_said:
+                found[named[identity]] = Place(path, start, True)
+    for name, place in found.items():
+        if name in sizes and not place.is_said:
             check_partition(name, place.path, sizes[name])
     return found
 
