@@ -38,9 +38,11 @@ def run(words: Namespace) -> None:
     if group.doubt:
         raise Refusal(quoting.shown(words.group), group.doubt)
     made = GroupTables(group.side)
-    for volume in group.volumes:
-        if volume.side is group.side and not volume.is_removed:
-            made.add_volume(volume.key)
+    for volume in (volume for volume in group.volumes if volume.side is group.side and not volume.is_removed):
+        try:
+            made.devices.update(made.volume(volume.key))
+        except Refusal as refusal:
+            streams.tell(f"left out: {quoting.shown(volume.name)}: {refusal.why}")
     if not made.devices:
         raise Refusal(quoting.shown(words.group), "none of its volumes has a table: `save` and `serve` give those that are computed")
     made.put(words.to)
@@ -56,14 +58,8 @@ class GroupTables(Tables):
         self._layout = layout
         self._arrays: Dict[Device, str] = {}
 
-    def add_volume(self, name: bytes) -> None:
-        """Adds a volume, or tells why it can't be."""
-        try:
-            self.devices.update(self._volume(name))
-        except Refusal as refusal:
-            streams.tell(f"left out: {quoting.shown(name.decode('utf-8', 'replace'))}: {refusal.why}")
-
-    def _volume(self, name: bytes) -> Devices:
+    def volume(self, name: bytes) -> Devices:
+        """A volume with what it lies on."""
         layout, record, called = self._layout, self._layout.records.get(name), self._name_of(name)
         others = [other for other in layout.group.records if other.origin == name]
         if record and record.is_merging:

@@ -150,29 +150,6 @@ def chunks_of(first: int, end: int, chunk: int, numbers: Callable[[int], Iterabl
                 yield Run(at, at + count, name, to + number * chunk + skipped, above)
 
 
-class Reading:
-    """Where the bytes of a volume are read, asked the other way round."""
-
-    def __init__(self, device: Device) -> None:
-        self.lacks: Optional[str] = None
-        rows: Dict[Device, List[Tuple[int, int, int]]] = {}
-        for at, extent in joined(device, 0, device.size):
-            why = extent.source.lack(extent.start, extent.size)
-            self.lacks = self.lacks or why
-            if why is None and extent.source is not ZEROS:
-                rows.setdefault(extent.source, []).append((extent.start, extent.size, at))
-        # The starts, the sizes and the places in the volume, by their sources.
-        self._sources = {source: [array("Q", each) for each in zip(*sorted(found))] for source, found in rows.items()}
-
-    def meeting(self, source: Device, start: int, size: int) -> Iterator[Tuple[int, int, int]]:
-        """Those of these bytes that the volume has: the first of each run, the end, and which of its own."""
-        starts, sizes, places = self._sources.get(source, ((), (), ()))
-        for row in range(max(0, bisect_right(starts, start) - 1), bisect_right(starts, start + size - 1)):
-            begin, stop = max(start, starts[row]), min(start + size, starts[row] + sizes[row])
-            if begin < stop:
-                yield begin, stop, places[row] + begin - starts[row]
-
-
 class Stack:
     """The volumes of a text, from below. `doubt` says why nobody can be sure what is free."""
 
@@ -181,7 +158,7 @@ class Stack:
         self._above: Dict[bytes, List[Above]] = {}
         self._visible = set(side.visible())
         self._stores = {record.store for record in side.group.records}
-        self._reading = functools.lru_cache(None)(lambda name: Reading(side.volume(name)))
+        self._reading = functools.lru_cache(None)(lambda name: reading_of(side.volume(name)))
         # Who has sectors of a volume, or of a physical volume.
         self.on: Callable[[bytes], Ground] = functools.lru_cache(None)(lambda name: functools.partial(self._runs, name))
         doubts = [doubt, None if self.extent > 0 else "the text says no size of extents"]
@@ -271,18 +248,32 @@ class Stack:
         """The sectors of a volume that another one reads, which its own layer says. A snapshot's are its own."""
         called, over = self.side.path(upper), None if upper in self._stores else self.on(upper)
         try:
-            reading = self._reading(upper)
+            why, sources = self._reading(upper)
             for at, extent in joined(self.side.plain(lower), first * SECTOR, (end - first) * SECTOR):
-                for begin, stop, place in reading.meeting(extent.source, extent.start, extent.size):
-                    moved = at - extent.start
-                    yield Run((begin + moved) // SECTOR, (stop + moved) // SECTOR, called, place // SECTOR, over)
-            why = reading.lacks
+                stop, moved = extent.start + extent.size, at - extent.start
+                starts, sizes, places = sources.get(extent.source, ((), (), ()))
+                for row in range(max(0, bisect_right(starts, extent.start) - 1), bisect_right(starts, stop - 1)):
+                    begin, until = max(extent.start, starts[row]), min(stop, starts[row] + sizes[row])
+                    if begin < until:
+                        sector = (places[row] + begin - starts[row]) // SECTOR
+                        yield Run((begin + moved) // SECTOR, (until + moved) // SECTOR, called, sector, over)
         except NoProgram:
             raise
         except Refusal as refusal:
             why = refusal.why
         if why and why != INVALID_SNAPSHOT:
             yield Run(first, end, unknown(f"whether {called} has it: {why}"))
+
+
+def reading_of(device: Device) -> Tuple[Optional[str], Dict[Device, List["array[int]"]]]:
+    """What a volume lacks, and where its bytes are read: the starts, the sizes and the places in it, by the sources."""
+    lacks, rows = None, {}  # type: Optional[str], Dict[Device, List[Tuple[int, int, int]]]
+    for at, extent in joined(device, 0, device.size):
+        why = extent.source.lack(extent.start, extent.size)
+        lacks = lacks or why
+        if why is None and extent.source is not ZEROS:
+            rows.setdefault(extent.source, []).append((extent.start, extent.size, at))
+    return lacks, {source: [array("Q", each) for each in zip(*sorted(found))] for source, found in rows.items()}
 
 
 class Groups:
