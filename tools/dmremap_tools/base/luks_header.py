@@ -26,16 +26,10 @@ UNSAID = "its header of LUKS doesn't say where the data is: see `cryptsetup luks
 
 # A sound header of version 2: where it is, its size, how often it was written, the id, and its text.
 Header = NamedTuple("Header", [("place", int), ("size", int), ("sequence", int), ("uuid", str), ("text", bytes)])
-
-
-class Container(namedtuple("Container", "version identity start length header fault",
-                           defaults=("", None, None, 0, None))):
-    """A container: its version and id, in sectors where its data begins, how long that is, if it doesn't go on to the
-    end of the disk, and what headers and keys take; and what is wrong with it."""
-
-    def is_detached(self) -> bool:
-        """Whether the data lies on another disk, as it would lie where the header does."""
-        return self.start < self.header
+# A container: its version and id, in sectors where its data begins, how long that is, if it doesn't go on to the end of
+# the disk, and what headers and keys take; and what is wrong with it. Data that would begin within the header lies on
+# another disk.
+Container = namedtuple("Container", "version identity start length header fault", defaults=("", None, None, 0, None))
 
 
 def container_in(image: Image) -> Optional[Container]:

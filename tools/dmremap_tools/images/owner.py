@@ -151,8 +151,7 @@ def of_container(device: Device, container: Container) -> Ground:
         return all_of(f"{name} container: {container.fault}")
     end = device.size // SECTOR if container.length is None else start + container.length
     claims = [Run(0, max(start, container.header), f"{name} header")]
-    # A header whose data would lie within it is of a container on another disk.
-    claims += [Run(start, end, f"{name} data, encrypted")] * (not container.is_detached())
+    claims += [Run(start, end, f"{name} data, encrypted")] * (start >= container.header)
     return claimed(claims, free(device, "the container doesn't say that it has it"))
 
 

@@ -270,7 +270,7 @@ def container_heads(image: Image, size: int) -> Iterator[Head]:
         yield 0, min(LUKS_SECTORS, size // SECTOR), DAMAGED + "header" + OF_LUKS
         return
     yield 0, max(container.header, container.start), "header" + OF_LUKS
-    if not container.is_detached():
+    if container.start >= container.header:
         end = size // SECTOR if container.length is None else container.start + container.length
         yield container.start, end, CONTAINER
 
