@@ -16,7 +16,6 @@ from dmremap_tools.explaining.asked import Typed, general, line
 from dmremap_tools.explaining.texts import HOW_MANY, Finding, Place, Text, shell, why_no_device, why_no_number
 from dmremap_tools.layers import refused, stack
 from dmremap_tools.metadata import lvm2_text
-from dmremap_tools.metadata.mending import Copy
 from dmremap_tools.metadata.volume_group import TYPES
 
 ABOUT_TEXT = re.compile(r"dmremap: (source|disks): (\w+)(?: at ([0-9]+))?")
@@ -276,7 +275,7 @@ def _owner(document: Document, number: int) -> str:
 
 def _remedy_of_group(file: Text, document: Document, is_loaded: Callable[[bytes], bool]) -> List[str]:
     """What mends it, and what can be mapped then."""
-    copy = Copy(document)
+    copy = lvm2_text.Copy(document)
     try:
         group = lvm2_text.group_of(copy)
         group.judge()
