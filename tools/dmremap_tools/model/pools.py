@@ -19,7 +19,7 @@ BLOCK, WORD = 4096, 8
 NODE, NODE_SUM, INTERNAL, LEAF = struct.Struct("<LLQLLLL"), 121107, 1, 2
 ARRAY, ARRAY_SUM = struct.Struct("<LLLLQ"), 595846735
 # The most levels of a tree: with the fewest children a node may have, more don't fit into a device.
-MOST_LEVELS, MOST_KEPT, LAST_KEY = 16, 128, 1 << 64
+MOST_LEVELS, MOST_KEPT, ALL_KEYS = 16, 512, (0, 1 << 64)
 POLYNOMIAL, VERSIONS = 0x82F63B78, (1, 2)
 # The superblock of a pool or a cache: `trans_id` means something in a pool's, and `cache_blocks` in a cache's.
 Superblock = namedtuple("Superblock", "magic version trans_id mapping_root data_block_size metadata_block_size "
@@ -35,49 +35,43 @@ ONE_TIME = "give images of one time"
 ODD_CACHE = "the cache's metadata maps a block twice, or one that isn't there: run cache_check on a copy of it"
 
 
-class Tree:
-    """A tree in a device, whose root is this block."""
+def entries_of(device: Device, block: int, wanted: Run = ALL_KEYS, bounds: Run = ALL_KEYS,
+               level: int = 0) -> Iterator[Entry]:
+    """The entries with keys from a first one up to an end, in their order, of a tree in a device, whose root is this
+    block, or of what is below one of its blocks."""
+    try:
+        if level == MOST_LEVELS:
+            raise damage(device, "its tree has too many levels")
+        is_leaf, keys, values = node_of(device, block, level == 0)
+        if keys and not (bounds[0] <= keys[0] and keys[-1] < bounds[1]):
+            raise damage(device, f"the keys of block {block} of its tree lie in another place")
+    except Gap as gap:
+        yield Entry(max(bounds[0], wanted[0]), min(bounds[1], wanted[1]), 0, gap.why)
+        return
+    for key, end, value in zip(keys, [*keys[1:], bounds[1]], values):
+        if end > wanted[0] and key < wanted[1] and not is_leaf:
+            yield from entries_of(device, value, wanted, (key, end), level + 1)
+        elif wanted[0] <= key < wanted[1]:
+            yield Entry(key, key + 1, value, None)
 
-    def __init__(self, device: Device, root: int) -> None:
-        self._device, self._root = device, root
-        self._node = functools.lru_cache(MOST_KEPT)(self._read)
 
-    def entries(self, first: int = 0, end: int = LAST_KEY) -> Iterator[Entry]:
-        """The entries with keys from the first one up to the end, in their order."""
-        return self._below(self._root, (0, LAST_KEY), (first, end), 0)
-
-    def _below(self, block: int, bounds: Run, wanted: Run, level: int) -> Iterator[Entry]:
-        try:
-            if level == MOST_LEVELS:
-                raise damage(self._device, "its tree has too many levels")
-            is_leaf, keys, values = self._node(block)
-            if keys and not (bounds[0] <= keys[0] and keys[-1] < bounds[1]):
-                raise damage(self._device, f"the keys of block {block} of its tree lie in another place")
-        except Gap as gap:
-            yield Entry(max(bounds[0], wanted[0]), min(bounds[1], wanted[1]), 0, gap.why)
-            return
-        for key, end, value in zip(keys, [*keys[1:], bounds[1]], values):
-            if end > wanted[0] and key < wanted[1] and not is_leaf:
-                yield from self._below(value, (key, end), wanted, level + 1)
-            elif wanted[0] <= key < wanted[1]:
-                yield Entry(key, key + 1, value, None)
-
-    def _read(self, block: int) -> Tuple[bool, Tuple[int, ...], Tuple[int, ...]]:
-        """Whether a node is a leaf, its keys, and for each the block below it or a value."""
-        content = checked(self._device, block, NODE_SUM)
-        _, flags, _, count, most, size, _ = NODE.unpack_from(content)
-        is_fitting = size == WORD and count <= most and NODE.size + most * 2 * WORD <= BLOCK
-        if flags & (INTERNAL | LEAF) not in (INTERNAL, LEAF) or not is_fitting or not count and block != self._root:
-            raise damage(self._device, f"block {block} of its tree is no node")
-        keys = struct.unpack_from(f"<{count}Q", content, NODE.size)
-        if any(one >= other for one, other in zip(keys, keys[1:])):
-            raise damage(self._device, f"the keys of block {block} of its tree are out of order")
-        return flags & LEAF != 0, keys, struct.unpack_from(f"<{count}Q", content, NODE.size + most * WORD)
+@functools.lru_cache(MOST_KEPT)
+def node_of(device: Device, block: int, is_root: bool) -> Tuple[bool, Tuple[int, ...], Tuple[int, ...]]:
+    """Whether a node is a leaf, its keys, and for each the block below it or a value."""
+    content = checked(device, block, NODE_SUM)
+    _, flags, _, count, most, size, _ = NODE.unpack_from(content)
+    is_fitting = size == WORD and count <= most and NODE.size + most * 2 * WORD <= BLOCK
+    if flags & (INTERNAL | LEAF) not in (INTERNAL, LEAF) or not is_fitting or not count and not is_root:
+        raise damage(device, f"block {block} of its tree is no node")
+    keys = struct.unpack_from(f"<{count}Q", content, NODE.size)
+    if any(one >= other for one, other in zip(keys, keys[1:])):
+        raise damage(device, f"the keys of block {block} of its tree are out of order")
+    return flags & LEAF != 0, keys, struct.unpack_from(f"<{count}Q", content, NODE.size + most * WORD)
 
 
 def array_values(device: Device, root: int) -> Iterator[int]:
     """The values of an array of 64-bit numbers; a Gap where a block of it is damaged."""
-    for expected, entry in enumerate(Tree(device, root).entries()):
+    for expected, entry in enumerate(entries_of(device, root)):
         if entry.why:
             raise Gap(device.name, entry.why)
         if entry.key != expected:
@@ -153,17 +147,17 @@ def thin_of(layout: Any, name: str, segment: Segment, size: int) -> Device:
     told, here = pool.segments[0].node.value(b"transaction_id", int), superblock.trans_id
     if told is not None and abs(told - here) > 1:
         raise Refusal(name, f"the pool's metadata has the transaction {here}, and the text {told}: {ONE_TIME}")
-    root = next(Tree(meta, superblock.mapping_root).entries(device, device + 1), None)
+    root = next(entries_of(meta, superblock.mapping_root, (device, device + 1)), None)
     if root is None:
         raise Refusal(name, f"the pool's metadata has no device {device}: it was deleted from the pool, and `scan` "
                       "lists what is left")
     if root.why:
         raise Refusal(name, root.why)
-    tree, block = Tree(meta, root.value), superblock.data_block_size * SECTOR
+    block = superblock.data_block_size * SECTOR
     past = f"{name}: a block lies past the end of its pool: {ONE_TIME}"
 
     def entries(first: int, end: int) -> Iterator[Entry]:
-        for key, stop, value, why in tree.entries(first, end):
+        for key, stop, value, why in entries_of(meta, root.value, (first, end)):
             place = value >> TIME_BITS
             yield Entry(key, stop, place, why or (past if (place + 1) * block > data.size else None))
     # What nobody wrote reads as zeros.
