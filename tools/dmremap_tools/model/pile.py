@@ -85,12 +85,13 @@ class Pile:
             # A half of a mirror alone has all data.
             for spot, _ in self._damaged:
                 self._look_into(spot)
+        self._group()
         # What isn't known may be the other half of a mirror, with newer data.
-        if not any(array.device and array.may_be_old for array in self.arrays) or not self.search():
-            self._group()
+        if any(array.device and array.may_be_old for array in self.arrays):
+            self.search()
 
-    def search(self) -> bool:
-        """Looks through the whole of the images in which nothing sound was found, and says whether that was of use."""
+    def search(self) -> None:
+        """Looks through the whole of the images in which nothing sound was found."""
         waiting, self._unknown, known = self._unknown, [], len(self.volumes)
         for spot in waiting:
             for volume in physical_volume.volumes_within(spot.image):
@@ -98,10 +99,8 @@ class Pile:
                 self.volumes.append(volume)
                 self.found = [found for found in self.found if found.spot is not spot]
                 self._say(inner, "physical volume", f"found at byte {volume.start} by looking through the whole image")
-        is_of_use = len(self.volumes) > known
-        if is_of_use:
+        if len(self.volumes) > known:
             self._group()
-        return is_of_use
 
     def _group(self) -> None:
         """Puts the groups together. A physical volume that is longer than where it lies is doubted if it was looked
