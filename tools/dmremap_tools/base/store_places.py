@@ -1,5 +1,5 @@
-"""How long the chunks of snapshots are, how many their stores have places for, and what dmremap says of the stores that it
-reads: how many chunks each has, or why one is refused."""
+"""How long the chunks of snapshots are, how many their stores have places for, and what dmremap says of the stores that
+it reads: how many chunks each has, or why one is refused."""
 
 import re
 from typing import Dict, Iterable, Optional, Sequence

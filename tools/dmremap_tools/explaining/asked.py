@@ -1,5 +1,5 @@
-"""The words of dmremap that are to be explained, as they were typed, and what is wrong with them; for `dmremap name` and
-`dmremap splitname` also with the names."""
+"""The words of dmremap that are to be explained, as they were typed, and what is wrong with them, or with the names that
+`dmremap name` and `dmremap splitname` are given."""
 
 import difflib
 import os
@@ -115,7 +115,8 @@ def _why_name(word: str, parts: List[str]) -> Finding:
     odd = {"letter": ("a layer begins with an underscore", "give it without that"),
            "hyphen": ("%s begins with a hyphen" % next((it for it in parts if it.startswith("-")), "a part"), LOST),
            "empty": ("a part is empty", "look for a variable of the shell that has no value"),
-           "long": ("the name has %d bytes, with hyphens doubled, and a device 127 at most" % size, "take shorter parts")}
+           "long": ("the name has %d bytes, with hyphens doubled, and a device 127 at most" % size,
+                    "take shorter parts")}
     if word in odd:
         return Finding(odd[word][0], [odd[word][1]])
     if name.startswith(names.MAPPER):

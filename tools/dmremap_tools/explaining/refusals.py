@@ -1,5 +1,5 @@
-"""Why dmremap refuses what it is given: it is asked about copies of the files, and its message says where to look: which word
-of a request is meant, or which field of the metadata of a group, and which of its volumes could be mapped."""
+"""Why dmremap refuses what it is given: it is asked about copies of the files, and its message says where to look. Of a
+request a word is meant, and of the metadata of a group a field, without which some of its volumes may be mapped."""
 
 import difflib
 import os
@@ -220,8 +220,9 @@ def _why_request_form(row: str, words: List[str], loaded: stack.Stack) -> Findin
     if name != words[1] and any(it.name == name for it in loaded.devices):
         return Finding("a device is given by its name, without a path",
                        ["write %s:" % name, "  " + " ".join([words[0], name, *words[2:]])])
-    do = ["for /dev/VG/LV, this prints the name:", "  dmremap name VG LV"] if words[1].startswith("/dev/") else [REQUEST]
-    return Finding(why_no_device(words[1]) or "this is no name of a device", do)
+    named = ["for /dev/VG/LV, this prints the name:", "  dmremap name VG LV"]
+    return Finding(why_no_device(words[1]) or "this is no name of a device",
+                   named if words[1].startswith("/dev/") else [REQUEST])
 
 
 def _why_device(words: List[str], loaded: stack.Stack) -> Finding:
@@ -269,7 +270,7 @@ def _owner(document: Document, number: int) -> str:
     for part in group.sections() if group else ():
         for node in part.sections() if part.key in (b"logical_volumes", b"physical_volumes") else ():
             if document.line_at(node.start) <= number <= document.line_at(node.end - 1):
-                return "%s %s" % ("the volume" if part.key == b"logical_volumes" else "the physical volume", shown(node.key))
+                return "the %svolume %s" % ("physical " * (part.key == b"physical_volumes"), shown(node.key))
     return ""
 
 

@@ -1,5 +1,5 @@
-"""Why dmremap refuses table text or concise text, or a list of disks: its form, or which word of a line is meant, and what
-mends it."""
+"""Why dmremap refuses table text or concise text, or a list of disks: its form, or which word of a line is meant, and
+what mends it."""
 
 import difflib
 import re
@@ -7,8 +7,9 @@ from typing import Dict, Iterator, List, Optional, Tuple
 
 from dmremap_tools.base import names, tables
 from dmremap_tools.base.quoting import for_shell
-from dmremap_tools.explaining.texts import (GET_DISKS, GET_MACHINE, GET_TABLE, HOW_MANY, NUMBER, Finding, Place, Text, shell,
-                                            why_no_device, why_no_disk, why_no_number)
+from dmremap_tools.explaining.texts import (
+    GET_DISKS, GET_MACHINE, GET_TABLE, HOW_MANY, NUMBER, Finding, Place, Text, shell, why_no_device, why_no_disk,
+    why_no_number)
 
 FORMS = {"linear": "DEV OFFSET", "striped": "COLUMNS CHUNK DEV OFFSET ..", "zero": "", "error": "",
          "snapshot": "ORIGIN STORE KIND CHUNK", "snapshot-origin": "DEV"}
@@ -130,7 +131,8 @@ def lines_of(form: str, text: Text) -> Iterator[Line]:
     for place in text.places(form):
         if form == "concise":
             fields = place.text.split(",")
-            device, flags, begin, lines = fields[0], "".join(fields[3:4]), len(",".join(fields[:4])) + 1, fields[4:] or [""]
+            device, flags, lines = fields[0], "".join(fields[3:4]), fields[4:] or [""]
+            begin = len(",".join(fields[:4])) + 1
         else:
             device, colon, _ = place.text.partition(": " if ": " in place.text else ":")
             begin, flags = len(device) + 2, ""

@@ -1,6 +1,6 @@
-"""The files that dmremap was given: read once, to the byte, so that a pipe does, and what the system says where they can't be
-read; what each really is, by what it has: the forms that dmremap reads, and those that are taken for them; and how it is said
-what is found in one."""
+"""The files that dmremap was given: read once, to the byte, so that a pipe does, and what the system says where they
+can't be read; what each really is, by what it has: a form that dmremap reads, or one that is taken for such; and how it
+is shown what is found in one."""
 
 import difflib
 import errno
@@ -194,8 +194,8 @@ class Text(NamedTuple):
         return "  %s %s > %s" % (by, shell(self.path), shell(name + ".mended"))
 
     def unpacked(self, name: str, changed: str = "") -> Optional[Finding]:
-        """What to do with it, by the form of a command, if it has only to be converted, as it is compressed or of another
-        encoding."""
+        """What to do with it, by the form of a command, if it has only to be converted, as it is compressed or of
+        another encoding."""
         kind, by = self.kind, "iconv -f UTF-16 -t UTF-8"
         if kind.startswith(COMPRESSED):
             by = "unzip -p" if kind.endswith(" zip") else kind[len(COMPRESSED):] + " -dc"

@@ -3,9 +3,9 @@ together.
 
 Each level is an answer of dmremap itself, about the same stack in which what lies below some devices is disks: so
 earlier requests reach it as they do in the whole. Those that share their snapshots' state are asked for at once, in the
-order in which the whole comes to them. What is asked for a step is cut so that each answer has one line of the device and,
-where a snapshot is written, one of its chunks: so its pieces say whether a chunk was taken, and which cause an error has.
-Together the levels have to give what dmremap answers about the whole."""
+order in which the whole comes to them. What is asked for a step is cut so that each answer has one line of the device
+and, where a snapshot is written, one of its chunks: so its pieces say whether a chunk was taken, and which cause an
+error has. Together the levels have to give what dmremap answers about the whole."""
 
 import functools
 import itertools

@@ -90,8 +90,8 @@ def follow(array: examine.Array, disk: str, copy: "int | None", source: pieces.A
 
 
 def _read(array: examine.Array, piece: pieces.Piece, copies: int, first: int) -> Iterator[Run]:
-    """Where a piece is read: in one of the copies, or in the next one that is there. After a period of chunks their places
-    come again, as many sectors later."""
+    """Where a piece is read: in one of the copies, or in the next one that is there. After a period of chunks their
+    places come again, as many sectors later."""
     period, sectors = array.period
 
     @functools.lru_cache(MOST_KNOWN)

@@ -1,6 +1,6 @@
-"""A stack as dmremap loads it from FILE and DISKS, and how a command starts dmremap for the devices that it reads: with these
-and what they stand on, and from the state that the stores of their snapshots hold, which dmremap reads from the disks. A store
-that nothing is read through isn't looked at."""
+"""A stack as dmremap loads it from FILE and DISKS, and how a command starts dmremap for the devices that it reads: with
+these and what they stand on, and from the state that the stores of their snapshots hold, which dmremap reads from the
+disks. A store that nothing is read through isn't looked at."""
 
 import argparse
 import os

@@ -1,6 +1,6 @@
-"""Where an md array keeps its chunks: the role and the row of each, the lines of a table where one can say it, and the data
-of rows with parity. A member of these that is missing is computed from the others: P is the sum of a row's data, Q the sum
-of g^d D_d in GF(2^8) with the polynomial 0x11d and g = 2."""
+"""Where an md array keeps its chunks: the role and the row of each, the lines of a table where one can say it, and the
+data of rows with parity. A member of these that is missing is computed from the others: P is the sum of a row's data, Q
+the sum of g^d D_d in GF(2^8) with the polynomial 0x11d and g = 2."""
 
 import bisect
 import functools
@@ -170,7 +170,8 @@ class Rows(Device):
         super().__init__(name, size)
         self.shape, self.members, self.doubtful, self._chunk = shape, members, doubtful, shape.chunk * SECTOR
         # The data of each member, or what is computed in their place.
-        self._columns = [device.Copies(name, [member, Computed(self, role)], ALL) for role, member in enumerate(members)]
+        pairs = ([member, Computed(self, role)] for role, member in enumerate(members))
+        self._columns = [device.Copies(name, pair, ALL) for pair in pairs]
 
     @functools.cached_property
     def _edges(self) -> List[int]:
