@@ -4,8 +4,9 @@ import os
 import shutil
 import subprocess
 import sys
+import tempfile
 from argparse import ArgumentParser
-from typing import IO, Any, NoReturn, Optional, Sequence, Tuple
+from typing import Any, NoReturn, Optional, Sequence, Tuple
 
 from dmremap_tools.base import quoting, streams
 from dmremap_tools.base.refusal import Refusal
@@ -29,14 +30,6 @@ def dmremap(given: Optional[str]) -> str:
     return next((it for it in beside if os.access(it, os.X_OK)), None) or shutil.which("dmremap") or "dmremap"
 
 
-def ask(words: Sequence[str], given: Optional[int] = None, said: Optional[IO[bytes]] = None) -> str:
-    """What a program prints, at most 64 MiB; its messages are passed on, or go into the file `said`."""
-    printed, status = _asked(words, given, said)
-    if status:
-        fail(words[0], status)
-    return printed
-
-
 def found(name: str) -> str:
     """The path of a program, which may stand where only the administrator's programs do."""
     folders = (os.environ.get("PATH", "") + os.pathsep + os.defpath).split(os.pathsep)
@@ -44,15 +37,32 @@ def found(name: str) -> str:
     return shutil.which(name) or shutil.which(name, path=os.pathsep.join(beside)) or name
 
 
-def ask_quietly(words: Sequence[str], given: Optional[int] = None) -> Tuple[str, str]:
-    """What a program prints on its two outputs, whatever its status is, in English, unless it is killed."""
-    import tempfile
+def ask(words: Sequence[str], given: Optional[int] = None) -> Tuple[str, str, int]:
+    """What a program prints on its two outputs, in English, of each at most 64 MiB, and its status."""
     with tempfile.TemporaryFile() as said:
-        printed, status = _asked(words, given, said)
-        if status < 0:
-            fail(words[0], status)
+        child = start(words, stdout=subprocess.PIPE, stderr=said, stdin=subprocess.DEVNULL if given is None else given,
+                      env=dict(os.environ, LC_ALL="C"))
+        try:
+            printed = child.stdout.read(streams.MOST_TEXT + 1)
+            if len(printed) > streams.MOST_TEXT:
+                why = f"it printed more than {streams.MOST_TEXT} bytes: ask for less at once"
+                raise Refusal(quoting.shown(words[0]), why)
+            status = child.wait()
+        finally:
+            # One that wasn't awaited.
+            child.kill()
+            child.wait()
         said.seek(0)
-        return printed, said.read(streams.MOST_TEXT).decode("utf-8", "surrogateescape")
+        both = printed, said.read(streams.MOST_TEXT)
+    return (*(it.decode("utf-8", "surrogateescape") for it in both), status)
+
+
+def ask_quietly(words: Sequence[str], given: Optional[int] = None) -> Tuple[str, str]:
+    """The same whatever the status is, unless it is killed."""
+    printed, said, status = ask(words, given)
+    if status < 0:
+        fail(words[0], status)
+    return printed, said
 
 
 def start(words: Sequence[str], **how: Any) -> "subprocess.Popen[bytes]":
@@ -63,21 +73,6 @@ def start(words: Sequence[str], **how: Any) -> "subprocess.Popen[bytes]":
         return subprocess.Popen([words[0].encode("utf-8", "replace"), *others], executable=path, **how)
     except OSError as fault:
         raise Refusal(quoting.shown(words[0]), streams.why(fault))
-
-
-def _asked(words: Sequence[str], given: Optional[int], said: Optional[IO[bytes]]) -> Tuple[str, int]:
-    child = start(words, stdout=subprocess.PIPE, stderr=said, stdin=subprocess.DEVNULL if given is None else given,
-                  env=dict(os.environ, LC_ALL="C"))
-    try:
-        printed = child.stdout.read(streams.MOST_TEXT + 1)
-        if len(printed) > streams.MOST_TEXT:
-            why = f"it printed more than {streams.MOST_TEXT} bytes: ask for less at once"
-            raise Refusal(quoting.shown(words[0]), why)
-        return printed.decode("utf-8", "surrogateescape"), child.wait()
-    finally:
-        # One that wasn't awaited.
-        child.kill()
-        child.wait()
 
 
 def fail(name: str, status: int) -> NoReturn:

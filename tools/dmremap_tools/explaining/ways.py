@@ -12,10 +12,10 @@ import itertools
 import os
 from typing import Any, Dict, Iterator, List, NamedTuple, Optional, Tuple
 
-from dmremap_tools.base import names, paths, program, quoting, streams, tables
+from dmremap_tools.base import names, paths, quoting, streams, tables
 from dmremap_tools.base.given import put
 from dmremap_tools.base.numbers import SECTOR
-from dmremap_tools.base.pieces import Answers, Piece
+from dmremap_tools.base.pieces import Mapped as Answering, Piece
 from dmremap_tools.base.refusal import Refusal
 from dmremap_tools.explaining.refusals import Told
 from dmremap_tools.layers.stack import Stack
@@ -347,13 +347,11 @@ class Levels:
         return tables.Line(line.start, line.length, line.target, words)
 
     def _answers(self, words: List[str], requests: List[str]) -> List[List[Piece]]:
-        given, got = os.path.join(self._room, "requests"), os.path.join(self._room, "answers")
-        put(given, (it + "\n" for it in requests))
-        with open(given, "rb") as it:
-            put(got, [program.ask([self._told.asked, "map", *words, "--before", self._before], given=it.fileno())])
         found: List[List[Piece]] = [[] for _ in requests]
-        for piece in Answers(got):
-            found[piece.request - 1].append(piece)
+        command = [self._told.asked, "map", *words, "--before", self._before]
+        with Answering(command, (it + "\n" for it in requests)) as mapped:
+            for piece in mapped.answers:
+                found[piece.request - 1].append(piece)
         return found
 
 

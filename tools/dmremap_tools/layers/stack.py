@@ -5,7 +5,6 @@ disks. A store that nothing is read through isn't looked at."""
 import argparse
 import os
 import stat
-import tempfile
 from typing import Dict, Iterable, Iterator, List, NamedTuple, Optional, Set, Tuple
 
 from dmremap_tools.base import (disk_image, disks, names, paths, program, quoting, store_places, streams, tables,
@@ -69,19 +68,15 @@ Started = NamedTuple("Started", [("words", List[str]), ("loaded", Stack), ("plac
 def load(asked: str, given: Given, room: str) -> Stack:
     """Loads a stack. A snapshot or a store that dmremap refuses is refused with what a kernel does with it."""
     copy, text = given.copied(room), os.path.join(room, "given.concise")
-    with tempfile.TemporaryFile() as said:
-        try:
-            printed = program.ask([asked, "concise", *copy.words()], said=said)
-        except (Refusal, streams.OutputFailed):
-            said.seek(0)
-            message = said.read().decode("utf-8", "surrogateescape")
-            name = streams.name_of(given.file)
-            why = refused.told(copy.form, texts.read(copy.file)._replace(path=name), texts.read(copy.disks), message)
-            if why:
-                raise Refusal("%s:%s" % (name, message.split()[-1]), why)
-            if message:
-                streams.tell(message.rstrip("\n"))
-            raise
+    printed, said, status = program.ask([asked, "concise", *copy.words()])
+    if status:
+        name = streams.name_of(given.file)
+        why = refused.told(copy.form, texts.read(copy.file)._replace(path=name), texts.read(copy.disks), said)
+        if why:
+            raise Refusal("%s:%s" % (name, said.split()[-1]), why)
+        if said:
+            streams.tell(said.rstrip("\n"))
+        program.fail(asked, status)
     put(text, [printed])
     sizes = {name: size for name, size, _ in disks_of(copy.file)} if copy.disks is None else disks.read(copy.disks)
     return Stack(tables.read(text)[0], sizes, copy.file if copy.disks is None else None)

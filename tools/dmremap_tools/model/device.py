@@ -215,10 +215,15 @@ class Image(Device):
             yield Extent(Missing(why), 0, end - begin) if run else Extent(self, begin, end - begin)
 
     def load(self, start: int, size: int) -> bytes:
-        content = self._file.read(start, size)
-        if len(content) < size:
-            raise Gap(self.name, f"it ends at byte {start + len(content)}: give an image that nobody changes")
-        return content
+        try:
+            content = os.pread(self._file.file.fileno(), size, start)
+        except OSError as fault:
+            raise Gap(self.name, f"byte {start} and those after it can't be read ({streams.why(fault)}): take an image "
+                      "of it by ddrescue")
+        if size and not content:
+            raise Gap(self.name, f"it ends at byte {start}: give an image that nobody changes")
+        rest = size - len(content)
+        return content + self.load(start + len(content), rest) if rest else content
 
     def runs(self, start: int, end: int) -> Iterator[Run]:
         """The sectors of these bytes that aren't in holes, where the file system tells of holes, as runs of bytes."""
