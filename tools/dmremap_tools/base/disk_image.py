@@ -35,7 +35,7 @@ EXT4_READ_ONLY = 0x8 | 0x10 | 0x20 | 0x40 | 0x400
 
 
 class Unreadable(Refusal):
-    """An image, or bytes of it, can't be read: it is missing, or ends before them."""
+    """An image, or bytes of it, can't be read."""
 
 
 class Image:

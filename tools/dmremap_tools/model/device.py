@@ -11,7 +11,6 @@ from array import array
 from typing import Callable, Iterator, List, NamedTuple, Optional, Sequence, Tuple
 
 from dmremap_tools.base import disk_image, quoting, streams, written
-from dmremap_tools.base.disk_image import Unreadable as Gap
 from dmremap_tools.base.numbers import SECTOR
 from dmremap_tools.base.refusal import Refusal
 
@@ -26,6 +25,10 @@ BLOCK = 1 << 20
 Entry = NamedTuple("Entry", [("key", int), ("end", int), ("value", int), ("why", Optional[str])])
 # Bytes of a source, from `start` on.
 Extent = NamedTuple("Extent", [("source", "Device"), ("start", int), ("size", int)])
+
+
+class Gap(Refusal):
+    """Bytes that aren't there: their image is missing, ends before them, or can't be read."""
 
 
 class Device:
