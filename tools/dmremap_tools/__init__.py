@@ -24,7 +24,7 @@ What a command uses of `base`, so that all behave alike:
     refusal.Refusal(where, why) raised, it ends the command with `dmremap-tools NAME: WHERE: WHY` and status 1
     quoting.shown(text)         foreign text, for a message
     written.note_input(..)      for a file that is opened for reading in another way than by streams
-    numbers, names, tables, listings, pieces, requests, paths, program
+    numbers, names, tables, pieces, requests, paths, program
 
 A command opens no output by itself, catches no OSError of one, and never prints. A failing output, a closed
 pipe, an interrupt and wrong words end it in `main.py`, where each has its status.

@@ -32,7 +32,7 @@ from typing import Dict, List, Optional, Sequence, Tuple
 
 from dmremap_tools.answers.compared import Compared
 from dmremap_tools.answers.plot import Fields, Moments
-from dmremap_tools.base import disks, numbers, pieces, quoting, streams
+from dmremap_tools.base import numbers, pieces, quoting, streams, tables
 from dmremap_tools.base.refusal import Refusal, WrongWords
 
 EXAMPLE = "dmremap map lvm vg0.backup < requests | dmremap-tools report"
@@ -56,7 +56,7 @@ def run(words: Namespace) -> None:
     if words.plot is not None and words.disks is None:
         raise WrongWords("--plot needs --disks")
     picture = streams.beside(words.plot) if words.plot is not None else None
-    sizes = disks.read(words.disks) if words.disks is not None else None
+    sizes = tables.read_disks(words.disks) if words.disks is not None else None
     moments = Moments(words.times)
     fields = Fields(sizes, moments) if picture and sizes is not None else None
     compared = Compared(words.compare) if words.compare is not None else None

@@ -7,7 +7,7 @@ import stat
 import struct
 from typing import BinaryIO, Optional
 
-from dmremap_tools.base import plain_text, streams, written
+from dmremap_tools.base import streams, written
 from dmremap_tools.base.paths import Place
 from dmremap_tools.base.refusal import Refusal
 
@@ -118,7 +118,7 @@ def check_form(descriptor: int, path: str) -> None:
 
 def other_form(beginning: bytes) -> str:
     """What is said of an image with this beginning, if it is compressed or of another form, or nothing."""
-    compression = plain_text.compression(beginning)
+    compression = streams.compression(beginning)
     if compression:
         return f"it is compressed ({compression}): unpack it"
     form = next((form for magic, form in FORMS.items() if beginning.startswith(magic)), "")

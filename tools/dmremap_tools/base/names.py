@@ -1,17 +1,22 @@
-"""Names of devices, as tables and requests have them."""
+"""Names of devices, as tables and requests have them, and as `dmsetup ls` and `lsblk` print them."""
 
 import functools
 import re
 from argparse import ArgumentParser
-from typing import Dict, NoReturn, Optional, Union
+from typing import Dict, List, NoReturn, Optional, Pattern, Tuple, Union
 
 from dmremap_tools.base import quoting, streams
+from dmremap_tools.base.numbers import SECTOR
 from dmremap_tools.base.refusal import Refusal
 
 FORM = re.compile(r"[-A-Za-z0-9#+.:=@_]{1,127}")
 DISK = re.compile(r"(?!/dev/mapper/)(?!.*[,;\\])[!-~]{1,255}")
 MINOR = re.compile(r"/dev/dm-([0-9]{1,10})")
 MAPPER = "/dev/mapper/"
+LS = re.compile(r"(.*\S)[ \t]+\((\d{1,10})[:,] ?(\d{1,10})\)")
+# A number and a size, then perhaps the kernel's name and that of what it lies on.
+LSBLK = re.compile(r"(\d{1,10}:\d{1,10}) (\d{1,20})(?: (\S+)(?: \S*)?)?")
+LSBLK_COMMAND = "lsblk -brno MAJ:MIN,SIZE,KNAME,PKNAME"
 MOST_KEPT = 4096
 # Where a name stands: in lines, or in the word of the command line that is called so in the usage.
 Place = Union[streams.Lines, str]
@@ -33,8 +38,7 @@ class Names:
 
     @functools.cached_property
     def _of_minor(self) -> Dict[str, str]:
-        from dmremap_tools.base import listings
-        return {number.partition(":")[2]: name for name, number in listings.read_ls(self._ls or "")}
+        return {number.partition(":")[2]: name for name, number in read_ls(self._ls or "")}
 
     def known(self, path: str, place: Place) -> str:
         """The name that a path stands for, or the path; empty for a /dev/dm-N that `dmsetup ls` has not."""
@@ -59,3 +63,33 @@ def refuse(place: Place, reason: str) -> NoReturn:
 
 def add_words(parser: ArgumentParser) -> None:
     parser.add_argument("--ls", metavar="LS", help="what `dmsetup ls` prints, for devices that are given as /dev/dm-N")
+
+
+def read_ls(path: str) -> List[Tuple[str, str]]:
+    """The name and the number, as 253:0, of each device that `dmsetup ls` has."""
+    return [(name, f"{major}:{minor}") for name, major, minor in rows_of(path, streams.rows(path), LS, "dmsetup ls")]
+
+
+def read_lsblk(path: str) -> Tuple[Dict[str, Optional[int]], Dict[str, str]]:
+    """By number, the length of each device in sectors, or None where it isn't sure, and its path."""
+    sizes: Dict[str, Optional[int]] = {}
+    paths = {}
+    for number, size, name in rows_of(path, streams.rows(path), LSBLK, LSBLK_COMMAND):
+        sectors, rest = divmod(int(size), SECTOR)
+        if rest or sizes.setdefault(number, sectors) != sectors:
+            streams.tell(f"left out: the length of {number}, which has two, or no whole number of sectors")
+            sizes[number] = None
+        if name and DISK.fullmatch("/dev/" + name):
+            paths[number] = "/dev/" + name
+    return sizes, paths
+
+
+def rows_of(path: str, rows: List[str], form: Pattern[str], command: str) -> List[Tuple[str, ...]]:
+    """Those lines of a file that have a form, in its groups. Others are told; without any, the file is refused."""
+    matches = list(map(form.fullmatch, rows))
+    if not any(matches):
+        raise Refusal(streams.name_of(path), f"not what `{command}` prints of devices")
+    for number, (row, match) in enumerate(zip(rows, matches), 1):
+        if not match:
+            streams.tell(f"left out: line {number} of {streams.name_of(path)}: {quoting.shown(row)}")
+    return [match.groups() for match in matches if match]

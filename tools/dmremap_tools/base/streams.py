@@ -7,7 +7,7 @@ import select
 import stat
 from typing import Callable, Iterator, List, NoReturn, Optional
 
-from dmremap_tools.base import numbers, plain_text, quoting, written
+from dmremap_tools.base import numbers, quoting, written
 from dmremap_tools.base.refusal import OutputFailed, Refusal, WrongWords
 
 CHUNK = 1 << 16
@@ -19,6 +19,13 @@ SPOILED = "refused\n"
 UNENDED = "the text ends within a line, give all of it: "
 # What takes the line of progress away on a terminal.
 CLEARED = "\r\033[K"
+# What a text may begin with, or what begins with that is none.
+MARK = b"\xef\xbb\xbf"
+COMPRESSED = {b"\x1f\x8b": "gzip", b"BZh": "bzip2", b"\xfd7zXZ\0": "xz", b"\x28\xb5\x2f\xfd": "zstd",
+              b"\x04\x22\x4d\x18": "lz4", b"PK\x03\x04": "zip"}
+WIDE = (b"\xff\xfe", b"\xfe\xff")
+# How much of the beginning has no NUL, if it is a text.
+LOOKED_AT = 512
 
 
 class ReaderGone(Exception):
@@ -99,10 +106,10 @@ class Lines:
         """Many whole lines at once. `number` is that of the line before them, and afterwards that of their last."""
         rest = b""
         for place, chunk in enumerate(self._chunks):
-            chunk = chunk if place else plain_text.begun(self.name, chunk)
+            chunk = chunk if place else begun(self.name, chunk)
             lines, end, rest = (rest + chunk).rpartition(b"\n")
             if end:
-                self._block, self._before = _decoded(plain_text.with_plain_ends(lines + end)), self.number
+                self._block, self._before = _decoded((lines + end).replace(b"\r\n", b"\n")), self.number
                 yield self._block
                 self.number = self._before + self._block.count("\n")
             if len(rest) > LONGEST_LINE:
@@ -162,7 +169,7 @@ def read_bytes(path: str, most: int = MOST_TEXT) -> bytes:
     content = bytearray()
     for chunk in chunks(path):
         if not content:
-            plain_text.check_kind(name_of(path), chunk)
+            check_kind(name_of(path), chunk)
         content += chunk
         if len(content) > most:
             raise Refusal(name_of(path), f"it has more than {most} bytes: give a smaller one")
@@ -171,7 +178,7 @@ def read_bytes(path: str, most: int = MOST_TEXT) -> bytes:
 
 def plain_bytes(path: str, most: int = MOST_TEXT) -> bytes:
     """The same of a text, without a byte order mark and carriage returns."""
-    return plain_text.with_plain_ends(plain_text.begun(name_of(path), read_bytes(path, most)))
+    return begun(name_of(path), read_bytes(path, most)).replace(b"\r\n", b"\n")
 
 
 def read(path: str, most: int = MOST_TEXT) -> str:
@@ -185,6 +192,30 @@ def rows(path: str, most: int = MOST_TEXT) -> List[str]:
     if last:
         raise Refusal(f"{name_of(path)}:{len(lines) + 1}", UNENDED + quoting.shown(last))
     return lines
+
+
+def check_kind(name: str, beginning: bytes) -> None:
+    kind = compression(beginning)
+    if kind:
+        raise Refusal(name, f"it is compressed ({kind}): unpack it")
+    if beginning.startswith(WIDE):
+        raise Refusal(name, "it is UTF-16: make it UTF-8 by `iconv -f UTF-16 -t UTF-8`")
+
+
+def compression(beginning: bytes) -> str:
+    return next((kind for magic, kind in COMPRESSED.items() if beginning.startswith(magic)), "")
+
+
+def is_binary(beginning: bytes) -> bool:
+    return b"\0" in beginning[:LOOKED_AT] and not beginning.startswith(WIDE)
+
+
+def begun(name: str, beginning: bytes) -> bytes:
+    """The beginning of a text without a byte order mark; what is no text is refused."""
+    check_kind(name, beginning)
+    if is_binary(beginning):
+        raise Refusal(name, "it is no text: see by `file` what it is")
+    return beginning[len(MARK):] if beginning.startswith(MARK) else beginning
 
 
 def beside(path: str) -> Output:

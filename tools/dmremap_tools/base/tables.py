@@ -1,7 +1,7 @@
-"""Devices and their lines, in table text and in concise text."""
+"""Devices and their lines, in table text and in concise text, and DISKS, the disks that they may name."""
 
 import re
-from typing import Callable, Iterator, List, Optional, Sequence, Tuple
+from typing import Callable, Dict, Iterator, List, Optional, Sequence, Tuple
 
 from dmremap_tools.base import names, numbers, quoting, streams
 from dmremap_tools.base.refusal import Refusal
@@ -127,3 +127,16 @@ def text_of(devices: List[Device], is_concise: bool) -> str:
     if is_concise:
         return ";".join(",".join([it.name, "", "", it.flags, *map(str, it.lines)]) for it in devices) + "\n"
     return "".join(f"{it.name}: {line}\n" for it in devices for line in it.lines)
+
+
+def read_disks(path: str) -> Dict[str, int]:
+    """The length of each disk of DISKS, in sectors, in the order of the lines `NAME SECTORS`."""
+    disks = {}
+    source = streams.Lines(path)
+    for row in source:
+        name, _, length = row.partition(" ")
+        sectors = numbers.read(length)
+        if sectors is None or not names.DISK.fullmatch(name):
+            source.refuse_line("not a line of DISKS, give NAME SECTORS")
+        disks[name] = sectors
+    return disks

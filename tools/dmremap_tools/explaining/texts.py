@@ -8,7 +8,7 @@ import os
 import re
 from typing import Any, Dict, Iterator, List, NamedTuple, Optional, Sequence
 
-from dmremap_tools.base import disk_image, listings, names, plain_text, quoting, streams
+from dmremap_tools.base import disk_image, names, quoting, streams
 from dmremap_tools.base.given import MOST_TEXT
 
 # What of a long line is shown, and how much of that stands before the place.
@@ -47,7 +47,7 @@ GET_TABLE = "  dmsetup table > tables"
 GET_GROUP = ["as root, take the metadata:", "  vgcfgbackup -f GROUP.backup GROUP"]
 GET_DISKS = '  for it in %s; do echo "$it $(blockdev --getsz "$it")"; done > disks'
 GET_MACHINE = ["  dmsetup ls > ls.txt; dmsetup status > status.txt; dmsetup table --concise > concise.txt",
-               "  %s > lsblk.txt" % listings.LSBLK_COMMAND,
+               "  %s > lsblk.txt" % names.LSBLK_COMMAND,
                "  dmremap-tools machine --disks disks ls.txt status.txt lsblk.txt concise.txt > tables"]
 
 
@@ -145,15 +145,15 @@ class Text(NamedTuple):
     @property
     def kind(self) -> str:
         """What it is by its beginning."""
-        beginning = self.content[:plain_text.LOOKED_AT]
-        compression = plain_text.compression(beginning)
+        beginning = self.content[:streams.LOOKED_AT]
+        compression = streams.compression(beginning)
         if compression:
             return COMPRESSED + compression
-        if beginning.startswith(plain_text.WIDE) or _WIDE.fullmatch(beginning):
+        if beginning.startswith(streams.WIDE) or _WIDE.fullmatch(beginning):
             return UTF16
-        if plain_text.is_binary(beginning) or disk_image.other_form(beginning):
+        if streams.is_binary(beginning) or disk_image.other_form(beginning):
             return IMAGE
-        text = plain_text.with_plain_ends(self.content).decode("utf-8", "surrogateescape").lstrip("\ufeff")
+        text = self.content.replace(b"\r\n", b"\n").decode("utf-8", "surrogateescape").lstrip("\ufeff")
         if not text.strip():
             return EMPTY
         if re.match(r'\s*[\[{]\s*(["{]|$)', text):

@@ -7,8 +7,7 @@ import os
 import stat
 from typing import Dict, Iterable, Iterator, List, NamedTuple, Optional, Set, Tuple
 
-from dmremap_tools.base import (disk_image, disks, names, paths, program, quoting, store_places, streams, tables,
-                                written)
+from dmremap_tools.base import disk_image, names, paths, program, quoting, store_places, streams, tables, written
 from dmremap_tools.base.given import Given, put
 from dmremap_tools.base.refusal import Refusal
 from dmremap_tools.explaining import texts
@@ -78,7 +77,7 @@ def load(asked: str, given: Given, room: str) -> Stack:
             streams.tell(said.rstrip("\n"))
         program.fail(asked, status)
     put(text, [printed])
-    sizes = {name: size for name, size, _ in disks_of(copy.file)} if copy.disks is None else disks.read(copy.disks)
+    sizes = {name: size for name, size, _ in disks_of(copy.file)} if copy.disks is None else tables.read_disks(copy.disks)
     return Stack(tables.read(text)[0], sizes, copy.file if copy.disks is None else None)
 
 

@@ -22,7 +22,7 @@ from argparse import ArgumentParser, Namespace
 from typing import Callable, Collection, Dict, Iterable, Iterator, List, NamedTuple, Optional, Sequence, Tuple
 
 from dmremap_tools.base import (
-    config_text, disk_image, disks, luks_header, names, numbers, partition_table, paths, quoting, streams, tables)
+    config_text, disk_image, luks_header, names, numbers, partition_table, paths, quoting, streams, tables)
 from dmremap_tools.base.disk_image import Image
 from dmremap_tools.base.numbers import SECTOR
 from dmremap_tools.base.refusal import Refusal, WrongWords
@@ -76,7 +76,7 @@ def run(words: Namespace) -> None:
     if words.to == 0:
         raise WrongWords("--to: give one sector or more")
     devices = devices_in(words.file)
-    ends = disks.read(words.disks)
+    ends = tables.read_disks(words.disks)
     sizes = {**ends, **{names.MAPPER + it.name: it.end() for it in devices}}
     spans: List[Span] = []
     for device, line in ((device, line) for device in devices for line in device.lines):

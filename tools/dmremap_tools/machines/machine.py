@@ -36,7 +36,7 @@ import argparse
 import re
 from typing import Dict, Iterable, List, Optional, Set, Tuple
 
-from dmremap_tools.base import disk_image, listings, names, numbers, paths, quoting, streams, tables
+from dmremap_tools.base import disk_image, names, numbers, paths, quoting, streams, tables
 from dmremap_tools.base.refusal import Refusal, WrongWords
 from dmremap_tools.base.store_places import MOST, MOST_IN_CHUNK, places
 from dmremap_tools.machines.placed import partitioned, sectors_at
@@ -195,7 +195,7 @@ def add_words(parser: argparse.ArgumentParser) -> None:
     parser.add_argument("--store", metavar="SNAPSHOT=IMAGE", action="append", default=[], help="a snapshot whose store `map --paths` reads")
     paths.add_words(parser)
     numbers.add_sector_size(parser, "with --paths, the bytes of a sector of images with an MBR, which doesn't say so")
-    for name, command in (("ls", "dmsetup ls"), ("status", "dmsetup status"), ("lsblk", listings.LSBLK_COMMAND),
+    for name, command in (("ls", "dmsetup ls"), ("status", "dmsetup status"), ("lsblk", names.LSBLK_COMMAND),
                           ("table", "dmsetup table --concise")):
         parser.add_argument(name, metavar=name.upper(), nargs="?" if name == "lsblk" else None, help="what `%s` prints" % command)
 
@@ -203,9 +203,9 @@ def add_words(parser: argparse.ArgumentParser) -> None:
 def run(words: argparse.Namespace) -> None:
     numbers.check_sector_size(words.sector_size)
     beside = streams.beside(words.disks)
-    devices = {number: Found(name, number) for name, number in listings.read_ls(words.ls)}
+    devices = {number: Found(name, number) for name, number in names.read_ls(words.ls)}
     stored = [it.partition("=")[0] for it in words.store]
-    statuses = listings.rows_of(words.status, streams.rows(words.status), ROW, "dmsetup status")
+    statuses = names.rows_of(words.status, streams.rows(words.status), ROW, "dmsetup status")
     # Of each snapshot, whether nothing was copied to its store yet, or that is read.
     is_known = {name: len(status) == 5 and status[3].split("/")[0] == status[4]
                 for name, status in ((name, line.split()) for name, line in statuses if line) if status[2] == "snapshot"}
@@ -247,7 +247,7 @@ def read_tables(path: str, devices: Dict[str, Found]) -> bool:
         name, minor, flags, lines = match.groups("") if match else [""] * 4
         told = f"device {place} of {streams.name_of(path)}, which `dmsetup ls` has not: {quoting.shown(row)}"
         found.append((re.sub(r"\\([,;\\])", r"\1", name), minor, flags, re.split(r",(?=\d+ \d+ \S)", lines), told))
-    for name, line in listings.rows_of(path, rows, ROW, "dmsetup table") if not is_concise else ():
+    for name, line in names.rows_of(path, rows, ROW, "dmsetup table") if not is_concise else ():
         found.append((name, "", "", [line], quoting.shown(name) + ", which `dmsetup ls` has not"))
     # In the concise form a number has to fit its name.
     of = {(it.name, it.number.split(":")[1] if is_concise else ""): it for it in devices.values()}
@@ -266,7 +266,7 @@ def lengths_of(words: argparse.Namespace) -> Tuple[Dict[str, Optional[int]], Dic
     """By number, the length of each device and disk, and its path. What PATHS has is as long as it is there."""
     if words.lsblk is None and words.paths is None:
         raise WrongWords("give LSBLK or --paths PATHS")
-    sizes, of = listings.read_lsblk(words.lsblk) if words.lsblk is not None else ({}, {})
+    sizes, of = names.read_lsblk(words.lsblk) if words.lsblk is not None else ({}, {})
     numbers_of = {path: number for number, path in of.items()}
     for name, path in (paths.read(words.paths) if words.paths is not None else {}).items():
         number = numbers_of.get(name, name)

@@ -37,7 +37,6 @@ from typing import Collection, Dict, Iterator, List, NamedTuple, Optional, Set, 
 
 from dmremap_tools.base import program, quoting, streams
 from dmremap_tools.base.config_text import ANEW, Document, Item, Node, shown
-from dmremap_tools.base.plain_text import MARK
 from dmremap_tools.base.refusal import Refusal
 from dmremap_tools.metadata.volume_group import LINEAR, NOT_ASKED, STRIPED, Group, Volume
 
@@ -172,7 +171,7 @@ class Copy:
     def content(self, given: bytes) -> bytes:
         """The copy of what was given, with white space as dmremap reads it. Says what it lacks of that."""
         content, made = self.document.content, []
-        if given.startswith(MARK):
+        if given.startswith(streams.MARK):
             self.say(0, "changed: a byte order mark is taken out")
         if b"\0" in given:
             self.say(len(content), "left out: the NUL here, and what comes after it")
@@ -248,7 +247,7 @@ def run(words: argparse.Namespace) -> None:
     if content.count(b"\n") > MOST_COPY:
         raise Refusal(path, f"it has more than {MOST_COPY} lines, and dmremap takes as many bytes: "
                       "give the text of one group")
-    copy = Copy(Document(path, content[len(MARK):] if content.startswith(MARK) else content))
+    copy = Copy(Document(path, content[len(streams.MARK):] if content.startswith(streams.MARK) else content))
     group = group_of(copy)
     lost = next((name for name, key in zip(words.only, only) if key not in group.volumes), None)
     if lost is not None:

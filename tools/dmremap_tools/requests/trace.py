@@ -19,7 +19,7 @@ from argparse import ArgumentParser, Namespace
 from collections import Counter
 from typing import Dict, Optional, Sequence
 
-from dmremap_tools.base import disks, listings, names, quoting, requests, streams, tables
+from dmremap_tools.base import names, quoting, requests, streams, tables
 from dmremap_tools.base.refusal import Refusal, WrongWords
 
 EXAMPLE = "btrace /dev/dm-0 | dmremap-tools trace ls.txt vg0.table | dmremap map lvm vg0.backup | dmremap-tools report"
@@ -66,7 +66,7 @@ def run(words: Namespace) -> None:
         read_log(streams.Lines(words.file), Kept(words.tables), names.Names(words.ls))
         return
     times = streams.beside(words.times) if words.times is not None else None
-    known = listings.read_lsblk(words.ls)[1] if words.lower else {number: name for name, number in listings.read_ls(words.ls)}
+    known = names.read_lsblk(words.ls)[1] if words.lower else {number: name for name, number in names.read_ls(words.ls)}
     by_number = {number.replace(":", ","): name for number, name in known.items()}
     read_trace(streams.Lines(words.file), by_number, Kept(words.tables, words.lower), times)
 
@@ -76,7 +76,7 @@ class Kept:
 
     def __init__(self, path: str, are_disks: bool = False) -> None:
         self.are_disks, self.made, self.others = are_disks, 0, 0
-        self.names = set(disks.read(path)) if are_disks else {it.name for it in tables.read(path)[0]}
+        self.names = set(tables.read_disks(path)) if are_disks else {it.name for it in tables.read(path)[0]}
         self._left: Dict[str, int] = Counter()
         if not self.names:
             why = "no disk in it: give lines NAME SECTORS" if are_disks else "no device in it: give what `dmremap table` prints"
