@@ -152,8 +152,14 @@ def refusal(image: str, name: str, complaints: Sequence[str], check: str) -> Ref
 class XfsSystem(FileSystem):
     def __init__(self, image: str, volume: str, runs: Sequence[Run]) -> None:
         super().__init__(image, volume, runs)
-        self._geometry = self._read_geometry()
-        self.sectors, self.end = self._geometry.blocksize // SECTOR, self._geometry.dblocks
+        printed, complaints = self._ask(["sb 0", "print " + " ".join(Geometry._fields)])
+        figures = {name: int(figure) for name, figure in XFS_FIGURE.findall(printed)}
+        self._geometry = it = Geometry(*(figures.get(name, 0) for name in Geometry._fields))
+        is_block = SECTOR <= it.blocksize <= 1 << 16 and it.blocksize % SECTOR == 0
+        is_inode = 0 < it.inodesize <= it.blocksize and max(it.agblklog, it.inopblog) < 64
+        if len(figures) < len(it) or not is_block or not is_inode or not it.agblocks:
+            raise refusal(image, XFS_DB, complaints, "xfs_repair -n")
+        self.sectors, self.end = it.blocksize // SECTOR, it.dblocks
         self._kinds: Dict[int, str] = {}
         self._read_uses(self.blocks())
         self.names = self._read_names(sorted({*filter(None, self.inodes.values()), *self.tabled()}))
@@ -173,16 +179,6 @@ class XfsSystem(FileSystem):
         if kind == "unknown":
             return "no inode"
         return "unused" if kind.startswith("free") and kind != "freelist" else "in use"
-
-    def _read_geometry(self) -> Geometry:
-        printed, complaints = self._ask(["sb 0", "print " + " ".join(Geometry._fields)])
-        figures = {name: int(figure) for name, figure in XFS_FIGURE.findall(printed)}
-        it = Geometry(*(figures.get(name, 0) for name in Geometry._fields))
-        is_block = SECTOR <= it.blocksize <= 1 << 16 and it.blocksize % SECTOR == 0
-        is_inode = 0 < it.inodesize <= it.blocksize and max(it.agblklog, it.inopblog) < 64
-        if len(figures) < len(it) or not is_block or not is_inode or not it.agblocks:
-            raise refusal(self.image, XFS_DB, complaints, "xfs_repair -n")
-        return it
 
     def _read_uses(self, blocks: Sequence[int]) -> None:
         """Finds as what each of these blocks is used, and its inode, or 0."""
@@ -249,7 +245,24 @@ class ExtSystem(FileSystem):
 
     def __init__(self, image: str, volume: str, runs: Sequence[Run]) -> None:
         super().__init__(image, volume, runs)
-        self._open()
+        complaints: List[str] = []
+        failed: Optional[streams.OutputFailed] = None
+        # The first options by which debugfs answers for all blocks are those that it is asked with from then on.
+        for self._options in TRIES:
+            try:
+                printed, said = self._ask("-R", "stats")
+                is_answered = self._take_layout(printed) and self._find_inodes(said)
+            except streams.OutputFailed as fault:
+                failed = fault
+                continue
+            complaints = complaints or said
+            if is_answered:
+                break
+        else:
+            raise failed or refusal(image, "debugfs", complaints, "e2fsck -n")
+        tell([str(failed)] * bool(failed) + complaints)
+        if self._options:
+            streams.tell("read by debugfs with " + " ".join(self._options))
         tabled = self.tabled()
         self.names = self._names_of(sorted({*self.inodes.values(), *tabled}))
         self.used_inodes = self._used("testi <%d>", tabled)
@@ -280,25 +293,6 @@ class ExtSystem(FileSystem):
         files = [it for it in paths if it.startswith("/")]
         answers = self._ask_many("stat " + quoted(it) for it in files)
         return {file for file, answer in zip(files, answers) if FOLDER.search(answer)}
-
-    def _open(self) -> None:
-        """Finds the first options by which debugfs answers for all blocks."""
-        complaints: List[str] = []
-        failed: Optional[streams.OutputFailed] = None
-        for self._options in TRIES:
-            try:
-                printed, said = self._ask("-R", "stats")
-                is_answered = self._take_layout(printed) and self._find_inodes(said)
-            except streams.OutputFailed as fault:
-                failed = fault
-                continue
-            complaints = complaints or said
-            if is_answered:
-                tell([str(failed)] * bool(failed) + complaints)
-                if self._options:
-                    streams.tell("read by debugfs with " + " ".join(self._options))
-                return
-        raise failed or refusal(self.image, "debugfs", complaints, "e2fsck -n")
 
     def _take_layout(self, printed: str) -> bool:
         """Takes what `stats` says, if it says all of it, and each group has its table of inodes."""
