@@ -35,7 +35,7 @@ class SavedMap:
         self._areas = joined(Area(begin, end, UNTRIED if run else FINISHED) for begin, end, run in cut(wanted, 0, size))
         self._marks: List[Area] = []
         if self.is_begun:
-            self._areas = rescue_map.read(path, "give another file as --map", is_written=True)
+            self._areas = rescue_map.read(path, is_written=True)
             if (self._areas[0].begin, self._areas[-1].end) != (0, size) if self._areas else size:
                 why = f"a map of another file than one of {size} bytes: give its own"
                 raise Refusal(self.place.shown, why)

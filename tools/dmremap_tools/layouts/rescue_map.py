@@ -16,12 +16,13 @@ AREA = re.compile(NUMBER + r"\s+" + NUMBER + r"\s+([?*/+-])")
 Area = NamedTuple("Area", [("begin", int), ("end", int), ("status", str)])
 
 
-def read(path: str, anew: str, is_written: bool = False) -> List[Area]:
-    """The areas of a map. Each begins where the one before ends."""
+def read(path: str, is_written: bool = False) -> List[Area]:
+    """The areas of a map, which perhaps is written anew then. Each begins where the one before ends."""
     source, areas = streams.Lines(path, is_written), []
     rows = (row for row in source if row and not row.startswith("#"))
     if not CURRENT.fullmatch(next(rows, "")):
-        source.refuse("not a map of ddrescue: " + anew)
+        source.refuse("not a map of ddrescue: " + ("give another file as --map" if is_written
+                                                   else "give the file that it wrote"))
     end = None
     for row in rows:
         match = AREA.fullmatch(row)
@@ -45,5 +46,5 @@ def unread_in(given: Sequence[str], images: Sequence[str]) -> Dict[str, List[Tup
         if not is_given or path in found or path not in images:
             raise WrongWords(f"--map: not IMAGE=MAP of one of the images, or given twice: {quoting.shown(word)}")
         found[path] = [(area.begin // numbers.SECTOR * numbers.SECTOR, -(-area.end // numbers.SECTOR) * numbers.SECTOR)
-                       for area in read(map_path, "give the file that it wrote") if area.status != FINISHED]
+                       for area in read(map_path) if area.status != FINISHED]
     return found
