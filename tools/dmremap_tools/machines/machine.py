@@ -263,39 +263,33 @@ def read_tables(path: str, devices: Dict[str, Found]) -> bool:
 
 
 def lengths_of(words: argparse.Namespace) -> Tuple[Dict[str, Optional[int]], Dict[str, str]]:
-    """By number, the length of each device and disk, and its path. What PATHS has is as long as it is there."""
+    """By number, the length of each device and disk, and its path. What PATHS has is as long as it is there. The image of a
+    whole disk is refused where its number is that of a partition, or lsblk says nothing of it, unless one of its partitions
+    is as long as lsblk says."""
     if words.lsblk is None and words.paths is None:
         raise WrongWords("give LSBLK or --paths PATHS")
     sizes, of = names.read_lsblk(words.lsblk) if words.lsblk is not None else ({}, {})
-    numbers_of = {path: number for number, path in of.items()}
+    numbers_of, sector = {path: number for number, path in of.items()}, words.sector_size or numbers.SECTOR
     for name, path in (paths.read(words.paths) if words.paths is not None else {}).items():
-        number = numbers_of.get(name, name)
-        sizes[number] = length_in(path, number, sizes.get(number), words.sector_size or numbers.SECTOR)
+        number, place = numbers_of.get(name, name), paths.place_of(path)
+        known, length = sizes.get(number), sectors_at(place, sector)
+        sizes[number] = length
+        if place.is_said and known not in (None, length):
+            raise Refusal(quoting.shown(path), "lsblk says that %s has %d sectors, and there it has %d: give its own image"
+                          % (quoting.shown(number), known, length))
+        if place.is_said or length == known:
+            continue
+        kind, partitions = partitioned(disk_image.raw_image(place.path), sector)
+        major, _, minor = number.partition(":")
+        is_of_sd = major in SD_MAJORS and minor.isdecimal()
+        is_disk = is_of_sd and int(minor) % 16 == 0
+        is_partition = is_of_sd and not is_disk or bool(PARTITION.fullmatch(number))
+        if known in (it.size // numbers.SECTOR for it in partitions):
+            sizes[number] = known
+        elif kind and (is_partition or known is None and not is_disk):
+            raise Refusal(quoting.shown(path), f"the image of a whole disk ({kind}), and {quoting.shown(number)} "
+                          f"{'is' if is_partition else 'may be'} a partition: {GIVE}")
     return sizes, of
-
-
-def length_in(path: str, number: str, known: Optional[int], sector: int) -> int:
-    """The sectors of the image of a disk, or of the partition that begins at a place in it. The image of a whole disk is
-    refused where its number is that of a partition, or lsblk says nothing of it, unless one of its partitions is as long as
-    lsblk says."""
-    place = paths.place_of(path)
-    length = sectors_at(place, sector)
-    if place.is_said and known not in (None, length):
-        raise Refusal(quoting.shown(path), "lsblk says that %s has %d sectors, and there it has %d: give its own image"
-                      % (quoting.shown(number), known, length))
-    if place.is_said or length == known:
-        return length
-    kind, partitions = partitioned(disk_image.raw_image(place.path), sector)
-    if known in (it.size // numbers.SECTOR for it in partitions):
-        return known
-    major, _, minor = number.partition(":")
-    is_of_sd = major in SD_MAJORS and minor.isdecimal()
-    is_disk = is_of_sd and int(minor) % 16 == 0
-    is_partition = is_of_sd and not is_disk or bool(PARTITION.fullmatch(number))
-    if kind and (is_partition or known is None and not is_disk):
-        raise Refusal(quoting.shown(path), f"the image of a whole disk ({kind}), and {quoting.shown(number)} "
-                      f"{'is' if is_partition else 'may be'} a partition: {GIVE}")
-    return length
 
 
 def say_left_out(stack: Stack, kept: List[Found], disks: Dict[str, Optional[int]]) -> None:
