@@ -55,26 +55,19 @@ def by_ids(text: Optional[str], places: Dict[str, Place], sizes: Dict[str, int])
         for identity, start in volumes.items():
             if named.get(identity) in here:
                 found[named[identity]] = Place(path, start, True)
-    for name, place in found.items():
-        if name in sizes and not place.is_said:
-            check_partition(name, place.path, sizes[name])
+    # The image of a whole disk isn't one of a partition, which doesn't begin where that does. A disk that is as long as
+    # said is taken, and one whose image ends too early, if its partitions lie within so many sectors.
+    for name, size in ((name, sizes[name]) for name, place in found.items() if name in sizes and not place.is_said):
+        try:
+            image = disk_image.raw_image(found[name].path)
+        except Refusal:
+            # Who reads it says why that fails.
+            continue
+        kind, partitions = partitioned(image) if image.size // SECTOR != size else ("", [])
+        if kind and max([image.size, *(each.start + each.size for each in partitions)]) > size * SECTOR:
+            raise Refusal(image.path, f"the image of a whole disk ({kind}), and {quoting.shown(name)} has {size} "
+                          f"sectors: {GIVE}")
     return found
-
-
-def check_partition(name: str, path: str, size: int) -> None:
-    """Refuses an image of a whole disk for a partition of so many sectors, as these don't begin where that does. A disk
-    that is so long is taken, and one whose image ends too early, if its partitions lie within so many sectors."""
-    try:
-        image = disk_image.raw_image(path)
-    except Refusal:
-        # Who reads it says why that fails.
-        return
-    if image.size // SECTOR == size:
-        return
-    kind, partitions = partitioned(image)
-    if kind and max([image.size, *(each.start + each.size for each in partitions)]) > size * SECTOR:
-        raise Refusal(image.path, f"the image of a whole disk ({kind}), and {quoting.shown(name)} has {size} sectors: "
-                      f"{GIVE}")
 
 
 def partitioned(image: disk_image.Image, sector: int = SECTOR) -> Tuple[str, List[Partition]]:
