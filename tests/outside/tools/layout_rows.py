@@ -128,6 +128,7 @@ STORES = [
     good("store", ["--size", "1"], ["R a 0 800\nW a 0 9\nW b 8 8\nW a 16 8\n"], "a 3 40 16\nb 1 24 16\n"),
     good("store", ["--kind", "N", "--chunk", "4", "--size", "1"], ["W a 3 2\n"], "a 2 8 0\n"),
     lost("store", ["--size", "1"], ["W a 0 8\nx\n"], "1:2: not a request, give R or W, a device, a sector and how many: x"),
+    lost("store", ["--size", "1"], ["W a 18446744073709551616 8\n"], "1:1: give a whole number below 2^64, and not '18446744073709551616'"),
     lost("store", ["--size", "1"], ["W a 0 18446744073709551615\n"], "1:1: the chunks lie too far apart to be counted in 256 MiB: give a larger --chunk"),
 ]
 

@@ -183,6 +183,8 @@ ONLY = [
     machine(ALL.replace("cow: 0 64 linear", "cow: 0 64 thin"), LOWER_OUT[:LOWER_OUT.index("cow")], only=["base"]),
     machine(ALL.replace("cow: 0 64 linear 8:1 16", "cow: 0 64 thin 8:1 16"), LOWER_OUT[:LOWER_OUT.index("cow")] + SNAP_OUT.replace("mapper/cow", "dm-1"),
             "left out: cow (thin), the disk /dev/dm-1\n", SDA1 + "/dev/dm-1 64\n", only=["snap"]),
+    # A line without its words.
+    machine("a: 0 8 linear \nb: 0 8 zero \n", "b: 0 8 zero\n", "left out: a (0 8 linear )\n", "", names=names_of("a", "b"), sizes=DISK, only=["a", "b"]),
     ("machine", WORDS + ["--only", "x"], [NUMBERS, FRESH, SIZES, ALL], "refused\n", "--only: no device x: give a name that LS has", 1, None),
     ("machine", WORDS + ["--store", "x=cow.img"], [NUMBERS, FRESH, SIZES, ALL], "refused\n", "--store: no snapshot x: give a name that LS has", 1, None),
     ("machine", WORDS + ["--store", "base=cow.img"], [NUMBERS, FRESH, SIZES, ALL], "refused\n", "--store: no snapshot base: give a name that LS has", 1, None),
