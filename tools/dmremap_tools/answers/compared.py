@@ -11,7 +11,7 @@ MOST_PLACES = 1 << 20
 
 
 class Compared:
-    """What was answered, less what LOWER has. LOWER is read as far as the answers are, so that what is equal takes no memory."""
+    """What was answered, less what LOWER has. That is read as far as they are, so what is equal takes no memory."""
 
     def __init__(self, path: str) -> None:
         self._source = streams.Lines(path)
@@ -39,8 +39,8 @@ class Compared:
                 streams.out.write(f"{side} {use} {start} {end - start} {abs(times)}\n")
                 sectors[side] += (end - start) * abs(times)
         if any(sectors.values()):
-            raise Refusal(self._source.name, "it isn't what was answered: {untraced} sectors were answered only, and {unanswered} are only "
-                          "in it; the lines that are printed say which".format(**sectors))
+            why = "it isn't what was answered: {untraced} sectors were answered only, and {unanswered} are only in it; "
+            raise Refusal(self._source.name, why.format(**sectors) + "the lines that are printed say which")
 
     def _take(self, is_all: bool = False) -> None:
         """Takes the next lines of LOWER, as far as the answers are, or all."""
@@ -62,8 +62,8 @@ class Compared:
                 steps[place] = left
         self._places += len(steps)
         if self._places > MOST_PLACES:
-            raise Refusal(self._source.name, f"it differs from the answers at more than {MOST_PLACES} places at once: compare "
-                          "traces of the same minutes, or shorter ones")
+            why = f"it differs from the answers at more than {MOST_PLACES} places at once: "
+            raise Refusal(self._source.name, why + "compare traces of the same minutes, or shorter ones")
 
 
 def runs(steps: Dict[int, int]) -> Iterator[Tuple[int, int, int]]:

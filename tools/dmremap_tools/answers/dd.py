@@ -47,7 +47,7 @@ def run(words: Namespace) -> None:
         given.put(kept, asked())
         # What is written to an origin goes to the stores of its snapshots, too.
         begun = stack.start(words, source, None if "W" in operations else sorted(devices), room)
-        with open(kept, encoding="utf-8", errors="surrogateescape") as lines, pieces.Mapped(begun.words, lines) as mapped:
+        with open(kept, encoding="utf-8", errors="surrogateescape") as it, pieces.Mapped(begun.words, it) as mapped:
             writer = Writer(mapped.answers, image, begun.places)
             streams.out.write("set -e\n")
             for piece in mapped.answers:
@@ -64,7 +64,8 @@ class Writer:
 
     def take(self, piece: pieces.Piece) -> None:
         if piece.what == "error" or (piece.what in ("W", "drop") and self.image is None):
-            self.source.refuse_line("no sectors of a disk, leave them out" if piece.what == "error" else "a write, give --image")
+            is_error = piece.what == "error"
+            self.source.refuse_line("no sectors of a disk, leave them out" if is_error else "a write, give --image")
         in_image = self.image, self.at
         origin: Tuple[Optional[str], int] = in_image if piece.what == "W" else ("/dev/zero", 0)
         if piece.what in ("copy", "R"):

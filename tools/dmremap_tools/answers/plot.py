@@ -1,4 +1,4 @@
-"""A picture of answers, as SVG: where on each disk requests read and write, and when. It doesn't grow with the answers."""
+"""A picture of answers, as SVG: where on each disk requests read and write, and when. It doesn't grow with them."""
 
 import bisect
 import functools
@@ -45,7 +45,8 @@ class Moments:
             while self._times.number < number:
                 row = next(self._rows, "")
                 if not TIME.fullmatch(row):
-                    source.refuse_where("no time of the request, give what `trace --times` wrote", lambda it: it.request == number)
+                    source.refuse_where("no time of the request, give what `trace --times` wrote",
+                                        lambda it: it.request == number)
                 self._begun = float(row) if self._begun is None else self._begun
                 self.last = max(self.last, float(row) - self._begun)
             self.of[number] = self.last
@@ -76,7 +77,7 @@ def halved(columns: Dict[int, bytearray]) -> Dict[int, bytearray]:
 
 
 class Fields:
-    """The fields of all disks. A column is of so many requests, or of so much time: twice as much, when all are used."""
+    """The fields of all disks. A column is of so many requests, or so much time: twice as much, when all are used."""
 
     def __init__(self, sizes: Dict[str, int], moments: Moments) -> None:
         self._sizes, self._moments = sizes, moments

@@ -92,7 +92,8 @@ def check(command: List[str], volume: str, todo: List[Extent], disks: Disks) -> 
         disks.check(volume, name, end)
 
 
-def extents_of(command: List[str], volume: str, todo: List[Extent], disks: Disks) -> Iterator[Tuple[int, device.Extent]]:
+def extents_of(command: List[str], volume: str, todo: List[Extent], disks: Disks
+               ) -> Iterator[Tuple[int, device.Extent]]:
     """Where what is left to do lies, each part with its first byte in the file."""
     absent: Set[str] = set()
     sources = {"zero": device.ZEROS, "error": Missing("reads fail there")}

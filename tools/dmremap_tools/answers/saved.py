@@ -77,22 +77,22 @@ def joined(areas: Iterable[Area]) -> List[Area]:
 
 
 class Target:
-    """A file of so many bytes. One that is made anew has zeros without a place on its disk until others are written, and is
-    made beside its place; one that `is_begun` is there already, of this length. It follows no link."""
+    """A file of so many bytes. One that is made anew has zeros without a place on its disk until others are written, and
+    is made beside its place; one that `is_begun` is there already, of this length. It follows no link."""
 
     def __init__(self, path: str, size: int, is_begun: bool) -> None:
         self.place, self._size, self._is_begun = written.Place(path, is_word=False), size, is_begun
         if not is_begun:
             self.place.check_new()
         elif not os.path.lexists(path):
-            raise Refusal(self.place.shown, "the map says that it was begun, and it isn't there: give a --map that isn't "
-                          "there either")
+            why = "the map says that it was begun, and it isn't there: give a --map that isn't there either"
+            raise Refusal(self.place.shown, why)
         self._descriptor = self.place.go_on() if is_begun else self.place.begin()
         with self.place.failing():
             found = os.fstat(self._descriptor)
             if is_begun and (found.st_size != size or not stat.S_ISREG(found.st_mode)):
-                raise Refusal(self.place.shown, f"it isn't the file that was begun: it has {found.st_size} bytes and not "
-                              f"{size}: give that, or another --map")
+                why = f"it isn't the file that was begun: it has {found.st_size} bytes and not {size}: "
+                raise Refusal(self.place.shown, why + "give that, or another --map")
             os.ftruncate(self._descriptor, size)
 
     def write(self, at: int, content: bytes) -> None:

@@ -46,8 +46,6 @@ def put(path: str, parts: Iterable[str]) -> None:
 
 
 def given_in(words: Namespace, usage: str) -> Given:
-    if words.form not in FORMATS:
-        raise WrongWords("give table, concise or lvm as the format", "usage: " + usage)
     if (words.form == "lvm") == (words.disks is not None):
         raise WrongWords("give DISKS, or leave it out with lvm", "usage: " + usage)
     return Given(words.form, words.file, words.disks)

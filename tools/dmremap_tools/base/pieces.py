@@ -127,8 +127,8 @@ def _moves(requests: Sequence[str] = (), whats: Sequence[str] = (), disks: Seque
 
 
 class Mapped(contextlib.AbstractContextManager):
-    """`dmremap map` while it answers the requests of a generator: `answers` has the pieces as they come. How it fails is
-    told at the end."""
+    """`dmremap map` while it answers the requests of a generator: `answers` has the pieces as they come. How it fails
+    is told at the end."""
 
     def __init__(self, command: Sequence[str], requests: Iterable[str]) -> None:
         with tempfile.TemporaryFile() as given:

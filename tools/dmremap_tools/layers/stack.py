@@ -77,8 +77,9 @@ def load(asked: str, given: Given, room: str) -> Stack:
             streams.tell(said.rstrip("\n"))
         program.fail(asked, status)
     put(text, [printed])
-    sizes = {name: size for name, size, _ in disks_of(copy.file)} if copy.disks is None else tables.read_disks(copy.disks)
-    return Stack(tables.read(text)[0], sizes, copy.file if copy.disks is None else None)
+    if copy.disks is not None:
+        return Stack(tables.read(text)[0], tables.read_disks(copy.disks))
+    return Stack(tables.read(text)[0], {name: size for name, size, _ in disks_of(copy.file)}, copy.file)
 
 
 def add_words(parser: argparse.ArgumentParser) -> None:
