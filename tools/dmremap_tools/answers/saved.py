@@ -77,8 +77,8 @@ def joined(areas: Iterable[Area]) -> List[Area]:
 
 
 class Target:
-    """A file of so many bytes. One that is made anew has zeros without a place on its disk until others are written, and
-    is made beside its place; one that `is_begun` is there already, of this length. It follows no link."""
+    """A file of so many bytes. One that is made anew has zeros without a place on its disk until others are written,
+    and is made beside its place; one that `is_begun` is there already, of this length. It follows no link."""
 
     def __init__(self, path: str, size: int, is_begun: bool) -> None:
         self.place, self._size, self._is_begun = written.Place(path, is_word=False), size, is_begun
