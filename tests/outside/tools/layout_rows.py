@@ -129,7 +129,7 @@ STORES = [
     good("store", ["--kind", "N", "--chunk", "4", "--size", "1"], ["W a 3 2\n"], "a 2 8 0\n"),
     lost("store", ["--size", "1"], ["W a 0 8\nx\n"], "1:2: not a request, give R or W, a device, a sector and how many: x"),
     lost("store", ["--size", "1"], ["W a 18446744073709551616 8\n"], "1:1: give a whole number below 2^64, and not '18446744073709551616'"),
-    lost("store", ["--size", "1"], ["W a 0 18446744073709551615\n"], "1:1: the chunks lie too far apart to be counted in 256 MiB: give a larger --chunk"),
+    lost("store", ["--size", "1"], ["W a 0 18446744073709551615\n"], "1:1: the chunks lie too far apart to be counted in 128 MiB: give a larger --chunk"),
 ]
 
 ROWS = SPANS + READERS + PICTURES + STORES

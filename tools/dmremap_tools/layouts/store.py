@@ -31,7 +31,7 @@ STATUS = re.compile(r"^([^ \n]+): 0 [0-9]+ snapshot (.*)$", re.M)
 INVALID, CHUNK = "Invalid", 1 << 16
 REQUEST = re.compile("([RW]) (%s) (%s) (%s)" % (names.FORM.pattern, numbers.FORM.pattern, numbers.FORM.pattern))
 # Chunks are counted in pages, of a byte for each of them.
-PAGE, MOST_PAGES = 1 << 16, 1 << 12
+PAGE, MOST_PAGES = 1 << 16, 1 << 11
 TOO_FAR = f"the chunks lie too far apart to be counted in {MOST_PAGES * PAGE >> 20} MiB: give a larger --chunk"
 
 
