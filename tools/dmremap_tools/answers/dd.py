@@ -42,11 +42,11 @@ def run(words: Namespace) -> None:
             operations.add(operation)
             yield f"{operation} {name} {first} {count}\n"
 
-    with tempfile.TemporaryDirectory(prefix="dmremap-tools-") as room:
-        kept = os.path.join(room, "REQUESTS")
+    with tempfile.TemporaryDirectory(prefix="dmremap-tools-") as folder:
+        kept = os.path.join(folder, "REQUESTS")
         given.put(kept, asked())
         # What is written to an origin goes to the stores of its snapshots, too.
-        begun = stack.start(words, source, None if "W" in operations else sorted(devices), room)
+        begun = stack.start(words, source, None if "W" in operations else sorted(devices), folder)
         with open(kept, encoding="utf-8", errors="surrogateescape") as it, pieces.Mapped(begun.words, it) as mapped:
             writer = Writer(mapped.answers, image, begun.places)
             streams.out.write("set -e\n")

@@ -27,9 +27,9 @@ MOST_OPEN = 64
 def run(words: Namespace) -> bool:
     """Saves what is asked for, and says whether something is missing."""
     source = given.given_in(words, "VOLUME TARGET FORMAT FILE [DISKS]")
-    with tempfile.TemporaryDirectory(prefix="dmremap-tools-") as room:
+    with tempfile.TemporaryDirectory(prefix="dmremap-tools-") as folder:
         volume = names.Names(words.ls).device(words.volume, "VOLUME")
-        begun = stack.start(words, source, [volume], room)
+        begun = stack.start(words, source, [volume], folder)
         if words.extents is not None:
             found = list(filefrag.read_filefrag(streams.Lines(words.extents), filefrag.KNOWN))
             extents = [it for it in found if it[1:] != filefrag.ENDED]

@@ -22,9 +22,9 @@ class Given(NamedTuple):
     def words(self) -> List[str]:
         return [self.form, self.file] + ([] if self.disks is None else [self.disks])
 
-    def copied(self, room: str) -> "Given":
+    def copied(self, folder: str) -> "Given":
         """Copies in a folder, without what dmremap doesn't take. They are read once, so they may be pipes."""
-        file = os.path.join(room, "given")
+        file = os.path.join(folder, "given")
         copy = Given(self.form, file, None if self.disks is None else file + ".disks")
         for path, to in zip(self.words()[1:], copy.words()[1:]):
             put(to, [streams.read(path, MOST_TEXT)])

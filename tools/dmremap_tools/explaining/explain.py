@@ -46,12 +46,12 @@ def add_words(parser: argparse.ArgumentParser) -> None:
 
 
 def run(words: argparse.Namespace) -> None:
-    with tempfile.TemporaryDirectory(prefix="dmremap-tools-") as room:
-        for number, found in enumerate(_explained(words, room)):
+    with tempfile.TemporaryDirectory(prefix="dmremap-tools-") as folder:
+        for number, found in enumerate(_explained(words, folder)):
             streams.out.write(json.dumps(found.record()) + "\n" if words.json else "\n" * bool(number) + str(found))
 
 
-def _explained(words: argparse.Namespace, room: str) -> "Iterable[Finding | Way]":
+def _explained(words: argparse.Namespace, folder: str) -> "Iterable[Finding | Way]":
     one = program.dmremap(words.program)
     if words.words[0] in asked.OF_NAMES:
         return [asked.why_names(one, words.words)]
@@ -59,7 +59,7 @@ def _explained(words: argparse.Namespace, room: str) -> "Iterable[Finding | Way]
     if isinstance(typed, Finding):
         return [typed]
     mapping.Child.program = words.program
-    told = Told(one, typed, words.before, words.paths, room)
+    told = Told(one, typed, words.before, words.paths, folder)
     # What is loaded is looked at first, so that no request is waited for where it is refused.
     message, requests = told.ask(b""), "".join(it + "\n" for it in typed.requests).encode("utf-8", "surrogateescape")
     if not message and not requests and typed.command in ("map", "replay") and not os.isatty(0):
@@ -67,13 +67,13 @@ def _explained(words: argparse.Namespace, room: str) -> "Iterable[Finding | Way]
     message = message or told.ask(requests)
     if message:
         return [told.why(message, requests)]
-    loaded = stack.load(one, told.given, room)
+    loaded = stack.load(one, told.given, folder)
     rows = requests.decode("ascii").splitlines() if typed.command == "map" else []
     if len(rows) > MOST_REQUESTS:
         raise Refusal("the requests", "there are %d: give at most %d, and those before them by --before" % (
             len(rows), MOST_REQUESTS))
     if rows:
-        return Levels(told, loaded, room).ways(rows)
+        return Levels(told, loaded, folder).ways(rows)
     names = [it.name for it in loaded.devices]
     command = " ".join(["dmremap-tools explain map", *map(shell, typed.given.words())])
     return [Finding("nothing is refused: dmremap loads %d device%s" % (len(names), "s" * (len(names) != 1)),

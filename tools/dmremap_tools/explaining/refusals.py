@@ -54,8 +54,8 @@ class Told:
     """A command that dmremap, which is `asked`, is told, with copies of its files: what it loads, and if map is told,
     earlier requests and PATHS. `words` are those of what it loads, and of PATHS."""
 
-    def __init__(self, asked: str, typed: Typed, before: Optional[str], listed: Optional[str], room: str) -> None:
-        self.asked, self.typed, self._room = asked, typed, room
+    def __init__(self, asked: str, typed: Typed, before: Optional[str], listed: Optional[str], folder: str) -> None:
+        self.asked, self.typed, self._folder = asked, typed, folder
         self._texts: Dict[str, Text] = {}
         form, file, disks = typed.given
         self.given = Given(form, self._copied("source", file), self._copied("disks", disks))
@@ -66,14 +66,14 @@ class Told:
     def _copied(self, part: str, path: Optional[str]) -> Optional[str]:
         """Reads a file, if it is given; where its copy is."""
         text = self._texts[part] = texts.read(path)
-        copy = os.path.join(self._room, part)
+        copy = os.path.join(self._folder, part)
         if path is not None and not text.fault:
             put(copy, [text.decoded()])
         return None if path is None else copy
 
     def ask(self, requests: bytes) -> str:
         """What dmremap says of it and of some requests on standard error."""
-        given = os.path.join(self._room, "requests")
+        given = os.path.join(self._folder, "requests")
         put(given, [requests.decode("utf-8", "surrogateescape")])
         words = [self.asked, self.typed.command, *self.words, *(["--before", self.earlier] if self.earlier else [])]
         with open(given, "rb") as it:
@@ -133,7 +133,7 @@ class Told:
         return table_texts.disks_named(file) if file.kind in (texts.TABLE, texts.CONCISE) else []
 
     def _is_loaded(self, copy: bytes) -> bool:
-        path = os.path.join(self._room, "copy")
+        path = os.path.join(self._folder, "copy")
         put(path, [copy.decode("utf-8", "surrogateescape")])
         return not program.ask_quietly([self.asked, "check", "lvm", path])[1]
 
@@ -178,7 +178,7 @@ class Told:
         if converted:
             return converted
         try:
-            loaded = stack.load(self.asked, self.given, self._room)
+            loaded = stack.load(self.asked, self.given, self._folder)
         except Refusal:
             return general(self.asked, "dmremap: request %d: %s" % (number, word))
         return why_request(word, requests.place(number), loaded)

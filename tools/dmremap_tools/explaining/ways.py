@@ -241,11 +241,11 @@ Placed = Tuple[Tuple[int, ...], Step]
 class Levels:
     """Asks dmremap, as it is told, about a stack that it loads."""
 
-    def __init__(self, told: Told, loaded: Stack, room: str) -> None:
-        self._told, self._stack, self._room = told, loaded, room
+    def __init__(self, told: Told, loaded: Stack, folder: str) -> None:
+        self._told, self._stack, self._folder = told, loaded, folder
         self._listed, self._source = streams.rows(told.listed) if told.listed else [], _source_of(loaded, told.listed)
         self._earlier = streams.rows(told.earlier) if told.earlier else []
-        self._before, self._by_path = os.path.join(room, "earlier"), loaded.by_path()
+        self._before, self._by_path = os.path.join(folder, "earlier"), loaded.by_path()
         # What devices and stores are called where they are disks, and what is meant by that.
         free = (it for it in map("below%d".__mod__, itertools.count()) if it not in loaded.sizes)
         self._disks = dict(zip([*self._by_path, *loaded.sizes], free))
@@ -329,14 +329,14 @@ class Levels:
                 stores[store] = "%s and %s" % (stores[store], device.name) if store in stores else device.name
                 if self._told.listed and kind != "N":
                     # What the store says of itself, which is a disk here.
-                    path, copy = self._meant[store], os.path.join(self._room, store)
+                    path, copy = self._meant[store], os.path.join(self._folder, store)
                     below = self._source.disks.get(path) or Mapped(path, self._source, names.of_path(path))
                     copy_store(below, int(chunk), copy)
                     copies[store] = "%s %s?offset=0" % (store, copy)
-        folder, paths_here = os.path.join(self._room, "level"), os.path.join(self._room, "PATHS")
-        os.makedirs(folder, exist_ok=True)
+        level, paths_here = os.path.join(self._folder, "level"), os.path.join(self._folder, "PATHS")
+        os.makedirs(level, exist_ok=True)
         put(paths_here, (it + "\n" for it in [*self._listed, *copies.values()]))
-        words = Stack(list(devices.values()), sizes).write(folder)
+        words = Stack(list(devices.values()), sizes).write(level)
         return words + (["--paths", paths_here] if self._told.listed else []), stores
 
     def _cut_line(self, line: tables.Line, kept: Optional[str]) -> tables.Line:

@@ -50,8 +50,8 @@ def run(words: Namespace) -> None:
     lost = lacking(target.device, target.size)
     runs = [Run(begin // SECTOR, (end - begin) // SECTOR) for begin, end in lost]
     if runs:
-        with tempfile.TemporaryDirectory(prefix="dmremap-tools-") as room:
-            path = words.saved or place_of(target) or copied(target, os.path.join(room, "volume.img"))
+        with tempfile.TemporaryDirectory(prefix="dmremap-tools-") as folder:
+            path = words.saved or place_of(target) or copied(target, os.path.join(folder, "volume.img"))
             for line in lines_of(path, target.name, runs):
                 streams.out.write(line + "\n")
     streams.out.write(f"{sum(run.count for run in runs)} sectors lost of {target.size // SECTOR}\n")

@@ -51,8 +51,8 @@ def run(words: Namespace) -> None:
     asked = os.path.abspath(shutil.which(program.dmremap(words.program)) or "dmremap")
     plugin = os.path.join(os.path.dirname(os.path.abspath(__file__)), "plugin.py")
     given = [f"program={asked}", f"volume={words.volume}", *(f"image={os.path.abspath(path)}" for path in words.images)]
-    with tempfile.TemporaryDirectory(prefix="dmremap-tools-") as room:
-        socket = os.path.abspath(words.socket or os.path.join(room, "socket"))
+    with tempfile.TemporaryDirectory(prefix="dmremap-tools-") as folder:
+        socket = os.path.abspath(words.socket or os.path.join(folder, "socket"))
         serve([nbdkit, "-f", "-r", "-U", socket, "python", plugin, *given], socket)
 
 

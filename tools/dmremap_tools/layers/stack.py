@@ -64,9 +64,9 @@ class Stack(NamedTuple):
 Started = NamedTuple("Started", [("words", List[str]), ("loaded", Stack), ("places", Dict[str, paths.Place])])
 
 
-def load(asked: str, given: Given, room: str) -> Stack:
+def load(asked: str, given: Given, folder: str) -> Stack:
     """Loads a stack. A snapshot or a store that dmremap refuses is refused with what a kernel does with it."""
-    copy, text = given.copied(room), os.path.join(room, "given.concise")
+    copy, text = given.copied(folder), os.path.join(folder, "given.concise")
     printed, said, status = program.ask([asked, "concise", *copy.words()])
     if status:
         name = streams.name_of(given.file)
@@ -88,14 +88,14 @@ def add_words(parser: argparse.ArgumentParser) -> None:
     parser.add_argument("--fresh", action="store_true", help="take every snapshot as new, with nothing in its store")
 
 
-def start(words: argparse.Namespace, source: Given, devices: Optional[Iterable[str]], room: str) -> Started:
+def start(words: argparse.Namespace, source: Given, devices: Optional[Iterable[str]], folder: str) -> Started:
     """Starts for these devices of a source, or for all. Refuses snapshots whose stores can't be read or are invalid."""
     asked, places = program.dmremap(words.program), paths.places(words.paths)
-    loaded = load(asked, source, room)
+    loaded = load(asked, source, folder)
     paths.check_known(words.paths, places, loaded.sizes)
     places = by_ids(loaded.group, places, loaded.sizes)
     part = loaded if devices is None else loaded.part(devices)
-    command = [asked, "map", *part.write(room)]
+    command = [asked, "map", *part.write(folder)]
     snapshots = [] if words.fresh else [it for it in part.devices if it.lines[0].target == "snapshot"]
     for device in snapshots:
         if device.lines[0].words[2] == "N":
@@ -104,7 +104,7 @@ def start(words: argparse.Namespace, source: Given, devices: Optional[Iterable[s
         lowest = part.below(it.lines[0].words[1] for it in snapshots)[1]
         stores = {disk: places.get(disk) or paths.Place(disk) for disk in sorted(lowest)}
         here = {disk: place for disk, place in stores.items() if os.path.exists(place.path)}
-        command += ["--paths", os.path.join(room, "PATHS")]
+        command += ["--paths", os.path.join(folder, "PATHS")]
         put(command[-1], rows_of(here))
         try:
             found = store_places.chunks_in(command, snapshots)

@@ -26,8 +26,8 @@ def add_words(parser: argparse.ArgumentParser) -> None:
 def run(words: argparse.Namespace) -> None:
     source = given.given_in(words, "VOLUME FORMAT FILE [DISKS]")
     name = names.Names(words.ls).device(words.volume, "VOLUME")
-    with tempfile.TemporaryDirectory(prefix="dmremap-tools-") as room:
-        begun = stack.start(words, source, [name], room)
+    with tempfile.TemporaryDirectory(prefix="dmremap-tools-") as folder:
+        begun = stack.start(words, source, [name], folder)
         end = begun.loaded.length(name, words.file)
         if end > requests.LONGEST:
             raise Refusal(streams.name_of(words.file), "%s is %s: give `dmremap map` requests for parts of it" % (name, requests.TOO_LONG))

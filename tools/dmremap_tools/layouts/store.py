@@ -57,11 +57,11 @@ def run(words: Namespace) -> None:
         raise WrongWords("give FORMAT, FILE and DISKS, or --size REQUESTS")
     text = streams.plain_bytes(words.requests) if words.requests is not None else None
     source = given.given_in(words, "FORMAT FILE [DISKS] [--requests REQUESTS]")
-    with tempfile.TemporaryDirectory(prefix="dmremap-tools-") as room:
+    with tempfile.TemporaryDirectory(prefix="dmremap-tools-") as folder:
         if text is None:
-            loaded, ends = stack.load(program.dmremap(words.program), source, room), []
+            loaded, ends = stack.load(program.dmremap(words.program), source, folder), []
         else:
-            begun = stack.start(words, source, None, room)
+            begun = stack.start(words, source, None, folder)
             loaded, ends = begun.loaded, list(Runs(text, [*begun.words, "--status"]).ends())
     streams.out.write("".join([*places_of(loaded, streams.name_of(words.file)), *ends]))
 

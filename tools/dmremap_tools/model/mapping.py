@@ -136,11 +136,11 @@ class Child:
 
     def __init__(self, source: Tables) -> None:
         self._name, self._number, self._said = program.dmremap(Child.program), 0, tempfile.TemporaryFile()
-        with tempfile.TemporaryDirectory(prefix="dmremap-tools-") as room:
-            copies = {name: os.path.join(room, name) for name in source.stores}
+        with tempfile.TemporaryDirectory(prefix="dmremap-tools-") as folder:
+            copies = {name: os.path.join(folder, name) for name in source.stores}
             for name, path in copies.items():
                 source.stores[name](path)
-            file, disks, paths = source.write(room, {name: path + "?offset=0" for name, path in copies.items()})
+            file, disks, paths = source.write(folder, {name: path + "?offset=0" for name, path in copies.items()})
             words = [self._name, "map", "table", file, disks] + ["--paths", paths] * bool(copies)
             self.chunks = store_places.chunks_in(words, source.devices.values()) if source.stores else {}
             try:
