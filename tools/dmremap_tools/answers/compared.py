@@ -39,8 +39,9 @@ class Compared:
                 streams.out.write(f"{side} {use} {start} {end - start} {abs(times)}\n")
                 sectors[side] += (end - start) * abs(times)
         if any(sectors.values()):
-            why = "it isn't what was answered: {untraced} sectors were answered only, and {unanswered} are only in it; "
-            raise Refusal(self._source.name, why.format(**sectors) + "the lines that are printed say which")
+            why = ("it isn't what was answered: {untraced} sectors were answered only, and {unanswered} are only in it; "
+                   "the lines that are printed say which")
+            raise Refusal(self._source.name, why.format(**sectors))
 
     def _take(self, is_all: bool = False) -> None:
         """Takes the next lines of LOWER, as far as the answers are, or all."""
@@ -62,8 +63,9 @@ class Compared:
                 steps[place] = left
         self._places += len(steps)
         if self._places > MOST_PLACES:
-            why = f"it differs from the answers at more than {MOST_PLACES} places at once: "
-            raise Refusal(self._source.name, why + "compare traces of the same minutes, or shorter ones")
+            why = (f"it differs from the answers at more than {MOST_PLACES} places at once: "
+                   "compare traces of the same minutes, or shorter ones")
+            raise Refusal(self._source.name, why)
 
 
 def runs(steps: Dict[int, int]) -> Iterator[Tuple[int, int, int]]:
