@@ -87,7 +87,7 @@ class Fields:
 
     def columns(self, requests: List[int]) -> Iterator[Tuple[int, int, int]]:
         """Which of some requests, from one up to another, stand in which column."""
-        places = [self._moments.of[it] for it in requests] if self._moments.are_times else requests
+        places: Sequence[float] = [self._moments.of[it] for it in requests] if self._moments.are_times else requests
         first = self._moments.first
         while places[-1] - first >= self._step * COLUMNS:
             self._step *= 2

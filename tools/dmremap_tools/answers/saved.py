@@ -175,6 +175,6 @@ def parts_of(extent: Extent) -> Iterator[Tuple[int, bytes, bool]]:
     else:
         begin, end = extent.start, extent.start + extent.size
         # Holes of an image aren't read.
-        has_holes = isinstance(source, Image) and extent.size >= BLOCK
-        for first, stop, run in cut(list(source.runs(begin, end)) if has_holes else [(begin, end)], begin, end):
+        runs = list(source.runs(begin, end)) if isinstance(source, Image) and extent.size >= BLOCK else [(begin, end)]
+        for first, stop, run in cut(runs, begin, end):
             yield from read_blocks(source.load, first, stop) if run else [(stop - first, b"", True)]

@@ -8,6 +8,7 @@ names or where --paths says; --fresh takes it as new.
 import argparse
 import itertools
 import tempfile
+from typing import Optional
 
 from dmremap_tools.base import given, names, pieces, requests, streams
 from dmremap_tools.base.refusal import Refusal
@@ -32,7 +33,8 @@ def run(words: argparse.Namespace) -> None:
         if end > requests.LONGEST:
             raise Refusal(streams.name_of(words.file), "%s is %s: give `dmremap map` requests for parts of it" % (name, requests.TOO_LONG))
         asked = ("R %s %d %d\n" % (name, at, count) for at, count in requests.parts(0, end))
-        at, last = 0, None
+        last: Optional[pieces.Piece] = None
+        at = 0
         with pieces.Mapped(begun.words, asked) as mapped:
             for piece in itertools.chain(mapped.answers, [None]):
                 follows = last and (last.what, last.disk, last.start + last.count if last.disk else 0)

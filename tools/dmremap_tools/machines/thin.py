@@ -77,7 +77,7 @@ def elements(path: str, tool: str, known: Iterable[str]) -> Iterator[Element]:
 
     parser = expat.ParserCreate("utf-8", "}")
     parser.StartElementHandler = start
-    parser.EndElementHandler = lambda tag: "/" + tag in known and found.append(Element(name, "/" + tag, {}))
+    parser.EndElementHandler = lambda tag: found.extend([Element(name, "/" + tag, {})] if "/" + tag in known else [])
     parser.CharacterDataHandler = lambda text: text.strip() and refuse(text.strip())
     parser.StartDoctypeDeclHandler = lambda *_: refuse("<!DOCTYPE>")
     for chunk in itertools.chain(streams.chunks(path), [b""]):

@@ -8,7 +8,7 @@ import functools
 import itertools
 import os
 from array import array
-from typing import Callable, Iterator, List, NamedTuple, Optional, Sequence, Tuple
+from typing import Any, Callable, Iterator, List, NamedTuple, Optional, Sequence, Tuple, TypeVar
 
 from dmremap_tools.base import disk_image, quoting, streams, written
 from dmremap_tools.base.numbers import SECTOR
@@ -25,6 +25,8 @@ BLOCK = 1 << 20
 Entry = NamedTuple("Entry", [("key", int), ("end", int), ("value", int), ("why", Optional[str])])
 # Bytes of a source, from `start` on.
 Extent = NamedTuple("Extent", [("source", "Device"), ("start", int), ("size", int)])
+# A run of bytes, which may have more to say.
+AnyRun = TypeVar("AnyRun", bound=Tuple[Any, ...])
 
 
 class Gap(Refusal):
@@ -257,10 +259,11 @@ class Lenient(disk_image.Image):
         return b"".join(content for _, content, _ in itertools.takewhile(lambda block: block[2], blocks))
 
     def next_data(self, at: int) -> int:
-        return next((begin for begin, _ in self._device.runs(at, self.size)), self.size)
+        runs = self._device.runs(at, self.size) if isinstance(self._device, Image) else iter([(at, self.size)])
+        return next((begin for begin, _ in runs), self.size)
 
 
-def cut(runs: Sequence[Run], start: int, end: int) -> Iterator[Tuple[int, int, Optional[Run]]]:
+def cut(runs: Sequence[AnyRun], start: int, end: int) -> Iterator[Tuple[int, int, Optional[AnyRun]]]:
     """Some bytes in parts: those in a run, with that, and those between. The runs are sorted, and don't meet."""
     for at in range(max(0, bisect.bisect_right(runs, (start, ALL)) - 1), len(runs)):
         run = runs[at]

@@ -190,7 +190,7 @@ class Texts:
     def groups(self) -> Iterator[Group]:
         """The groups that are there, and then those that were removed."""
         removed = []
-        for holders in map(dict.values, self._known.values()):
+        for holders in (known.values() for known in self._known.values()):
             current, texts = [holder for holder in holders if holder.volumes], [holder.text for holder in holders]
             removed += [] if current else [texts]
             yield from self._sides(sides_of(current), texts)

@@ -123,8 +123,8 @@ class Tables:
             ends[disk] = max(ends[disk], start + (count or 0))
         written = [os.path.join(folder, name) for name in FILES]
         put(written[0], [tables.text_of(list(self.devices.values()), False)])
-        for path, rows in zip(written[1:], (ends, places)):
-            put(path, (f"{name} {what}\n" for name, what in rows.items()))
+        put(written[1], (f"{name} {end}\n" for name, end in ends.items()))
+        put(written[2], (f"{name} {place}\n" for name, place in places.items()))
         return written
 
 
@@ -182,6 +182,8 @@ class Child:
 
 class Mapped(Device):
     """A device of tables. One that is a snapshot has `chunks_used`, which says how many are in its store."""
+
+    chunks_used: Optional[int] = None
 
     def __init__(self, name: str, source: Tables, key: str) -> None:
         super().__init__(name, source.devices[key].end() * SECTOR)
