@@ -19,7 +19,7 @@ ghost use Rattle.dm_stack.specs.Description.{is_same};
 ghost use Rattle.dm_stack.specs.names.NameIndex.{ArePlaces, IsKeyOf, IsPlaceOf};
 ghost use Rattle.dm_stack.specs.declared.names.name_key.TheConstants.{KEY_BYTES};
 
-use crate::names::name_key::{NameKey, KEY_BYTES, first_space};
+use crate::names::name_key::{KEY_BYTES, NameKey, first_space};
 use dm_table::are_same;
 use indexmap::IndexSet;
 use std::alloc::{AllocError, Global};
