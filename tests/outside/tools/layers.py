@@ -38,7 +38,7 @@ def check_lists(tally, top):
 
 
 def check_small_chunks(tally, program, top):
-    """The longest read that is followed through chunks of two sectors: a line for each of half a million, in seconds, and not in a time that grows with their square."""
+    """The longest read that is followed through chunks of two sectors: a line for each of half a million, in a second or two."""
     text = array_rows.members(3, level="raid5", layout="left-symmetric", size=1 << 40, chunk="     Chunk Size : 1K\n")
     examined, pieces = program.file("layers/examined", text), program.file("layers/pieces", "1 R /dev/md0 0 1048576\n")
     begun = os.times()
@@ -47,7 +47,7 @@ def check_small_chunks(tally, program, top):
     wanted = "".join("1 R /dev/sd%s %d 2\n" % (disk, 2048 + 2 * row) for row in range(1 << 18) for disk in (("ab", "ca", "bc")[row % 3]))
     tally.same("a long read through small chunks", got, 0, wanted)
     took = ended.children_user + ended.children_system - begun.children_user - begun.children_system
-    tally.holds("how long that takes", took < 10, "it takes %.1f s" % took)
+    tally.holds("how long that takes", took < 3, "it takes %.1f s" % took)
 
 
 class Layers(Case, checks=[check_commands, check_lists, check_small_chunks]):

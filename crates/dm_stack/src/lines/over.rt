@@ -116,6 +116,8 @@ pub(crate) fn resolved_snapshot(
 
 /// The snapshot that a device is, where it is the next one of some in the order of their devices. Then the one after
 /// it is next.
+///
+/// This is here for speed alone: where nothing is found, the names of the device's line are looked up.
 pub(crate) fn next_over<'a>(
     over: &'a [ResolvedOver],
     next: &mut usize,
