@@ -16,8 +16,9 @@ isn't whole, a device or a list that it doesn't have, and blocks past the end of
 import array
 import itertools
 from argparse import ArgumentParser, Namespace
+from types import SimpleNamespace
 from typing import Dict, Iterable, Iterator, List, NamedTuple, NoReturn, Optional, Set, Tuple
-from xml.parsers import expat
+from xml.etree import ElementTree
 
 from dmremap_tools.base import numbers, quoting, streams, tables
 from dmremap_tools.base.refusal import Refusal, WrongWords
@@ -75,17 +76,19 @@ def elements(path: str, tool: str, known: Iterable[str]) -> Iterator[Element]:
         begun = tag
         found.append(Element(name, tag, said))
 
-    parser = expat.ParserCreate("utf-8", "}")
-    parser.StartElementHandler = start
-    parser.EndElementHandler = lambda tag: found.extend([Element(name, "/" + tag, {})] if "/" + tag in known else [])
-    parser.CharacterDataHandler = lambda text: text.strip() and refuse(text.strip())
-    parser.StartDoctypeDeclHandler = lambda *_: refuse("<!DOCTYPE>")
+    def end(tag: str) -> None:
+        if "/" + tag in known:
+            found.append(Element(name, "/" + tag, {}))
+
+    taken = SimpleNamespace(start=start, end=end, data=lambda text: text.strip() and refuse(text.strip()),
+                            doctype=lambda *_: refuse("<!DOCTYPE>"))
+    parser = ElementTree.XMLParser(target=taken, encoding="utf-8")
     for chunk in itertools.chain(streams.chunks(path), [b""]):
         try:
-            parser.Parse(chunk, not chunk)
-        except expat.ExpatError as fault:
-            why = f"not what {tool} prints, or its end is missing, {ANEW}: {quoting.shown(str(fault))}"
-            raise Refusal(f"{name}:{fault.lineno}", why)
+            parser.feed(chunk) if chunk else parser.close()
+        except ElementTree.ParseError as fault:
+            why = f"not what {tool} prints, or its end is missing, {ANEW}: {quoting.shown(fault.msg)}"
+            raise Refusal(f"{name}:{fault.position[0]}", why)
         between = 0 if found else between + len(chunk)
         if between > MOST_BETWEEN:
             refuse(f"{between} bytes without an element")
