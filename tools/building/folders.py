@@ -11,7 +11,7 @@ import shutil
 import time
 
 from calls import take
-from sources import PARTS, TOP, loose, state
+from sources import PARTS, TOP, in_order, loose, stands_on, state
 
 # It is in the crate's `out`, where rt looks for no crates.
 SITE = os.path.join(TOP, "crates", "dmremap", "out", "site")
@@ -21,6 +21,12 @@ COPY, FOLDERS = os.path.join(SITE, "copy"), os.path.join(SITE, "folders")
 def folder_of(name):
     """Returns the folder that a crate is built in."""
     return os.path.join(FOLDERS, name, "crates", name)
+
+
+def outs(top=None):
+    """Returns what rt keeps of each crate that the program is built of: in the folders, or below a top."""
+    order = in_order(stands_on(top or COPY))
+    return [os.path.join(top, "crates", name, "out") if top else os.path.join(folder_of(name), "out") for name in order]
 
 
 @contextlib.contextmanager

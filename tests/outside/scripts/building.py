@@ -326,6 +326,7 @@ def check_killed(tally, tree):
             ran.communicate()
         got = tree.run(["splitname", "a-b"])
         is_right = (got.status, got.out) == (0, b"a b\n") and "text %d\n" % step in tree.made_of() and tree.leaves_nothing()
+        tree.run([], tree.build)
         if not is_right or not all(os.path.exists(tree.path(it)) for it in kept):
             wrong.append((step, got.status, got.out, got.err, tree.made_of()))
     tally.holds("./dmremap after a build that was killed", not wrong, "%s" % wrong[:2])
@@ -354,6 +355,8 @@ def check_folders(tally, tree):
             # What it left goes on; the next call waits for that.
             out = tree.run(["splitname", "a-b"], variables={"LET": let}).out
         os.remove(let)
+        if end != signal.SIGTERM:
+            tree.run([], tree.build)
         with open(places, encoding="utf-8") as it:
             text = it.read().splitlines()
         is_right = has_begun and is_there and text[0] == "kept" and tree.leaves_nothing()
@@ -363,9 +366,52 @@ def check_folders(tally, tree):
                     "%s, %s, %s" % (out, tree.called(), text))
 
 
+def check_packed(tally, tree):
+    """What rt keeps is packed once ./dmremap has built the program, and is there again for a build."""
+    if shutil.which("zstd") is None:
+        tally.skip("./dmremap packs what rt keeps", "there is no zstd")
+        return
+    tree.rt(RT)
+    tree.remove()
+    kept = {tree.path("crates/%s/out/%s" % it): "kept of %s in %s\n" % it
+            for it in (("low", "incremental/a/b"), ("low", "rlib/stamp"), ("middle", "incremental/a"), ("dmremap", "incremental/a"))}
+    for it, text in kept.items():
+        tree.write(it, text)
+    packs = [tree.path("crates/%s/out/kept.tar.zst" % it) for it in CRATES]
+    tree.run(["splitname", "a-b"])
+    is_packed = all(map(os.path.exists, packs)) and not any(map(os.path.exists, kept))
+    tally.holds("./dmremap packs what rt keeps", is_packed, "%s" % [it for it in kept if os.path.exists(it)])
+    # A build is killed that had begun to remove, or to unpack, and a crate was checked meanwhile.
+    newer = tree.path("crates/low/out/rlib/stamp")
+    kept[newer] = "newer\n"
+    for it in newer, tree.path("crates/low/out/going-rlib/stamp"), tree.path("crates/middle/out/coming-kept/incremental/a"):
+        tree.write(it, "newer\n")
+    tree.run([], tree.build)
+    found = {}
+    for it in kept:
+        with contextlib.suppress(FileNotFoundError), open(it, encoding="utf-8") as file:
+            found[it] = file.read()
+    is_clear = sorted(os.listdir(tree.path("crates/low/out"))) == ["incremental", "rlib"] and not any(map(os.path.exists, packs))
+    tally.holds("./build unpacks it", found == kept and is_clear, "%s, %s" % (found, os.listdir(tree.path("crates/low/out"))))
+    with open(packs[0], "wb") as it:
+        it.write(b"no pack")
+    shutil.rmtree(tree.path("crates/low/out/incremental"))
+    tree.write(SOURCE, "another text\n")
+    tally.same("./dmremap beside a damaged pack", tree.run(["splitname", "a-b"]), 0, "a b\n", BUILDING + told())
+
+
+def check_whole_gate(tally, top):
+    """The script of all tests says what it does, and starts none for a word that it doesn't know."""
+    check = os.path.join(top, "check")
+    got = run([check, "--help"])
+    is_told = got.status == 0 and got.out.startswith(b"usage: ./check [--help]\n") and b"one to two hours" in got.out
+    tally.holds("./check --help", is_told and got.err == b"", "%s" % (got,))
+    tally.same("./check of a word", run([check, "now"]), 2, "", "usage: ./check [--help]\n")
+
+
 class Building(Case, checks=[
     check_calls, check_faults, check_full_disks, check_changed, check_by, check_turns, check_told, check_stopped,
-    check_killed, check_folders
+    check_killed, check_packed, check_folders, check_whole_gate
 ]):
     """Builds of a small tree."""
 
