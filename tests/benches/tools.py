@@ -38,10 +38,11 @@ def in_bytes(count, dice):
         yield "%s a %d %d\n" % (dice.choice("RW"), dice.randrange(1 << 40), dice.choice((4096, 512, 1000)))
 
 
-def queued(count, dice):
+def parsed(count, dice):
+    """What blkparse prints if it isn't told which actions: each request is queued, and four lines tell what becomes of it."""
     for it in range(count):
-        yield ("253,0  %3d %8d %5d.%09d  4101  Q %3s %d + 8 [fio]\n"
-               % (it % 4, it, it // 1000, it % 1000 * 1000000, dice.choice(("R", "WS")), dice.randrange(1 << 31)))
+        yield ("253,0  %3d %8d %5d.%09d  4101  %s %3s %d + 8 [fio]\n"
+               % (it % 4, it, it // 1000, it % 1000 * 1000000, "QGIDC"[it % 5], dice.choice(("R", "WS")), dice.randrange(1 << 31)))
 
 
 def traced(count, dice):
@@ -115,8 +116,8 @@ def wide():
 SMALL = {"disks": ["%s %d\n" % (it, 1 << 31) for it in ("/dev/sda", "/dev/sdb", "/dev/sdc", "/dev/sdd", "d")], "ls": ["a\t(253:0)\n"], "table": ["a: 0 1048576 linear sda 0\n"], "wide": wide()}
 PLOT = ["--disks", "disks", "--plot", "plot.svg"]
 ROWS = [
-    (["cut", "--bytes"], in_bytes), (["cut"], in_bytes), (["trace", "ls", "table"], queued), (["trace", "ls", "table"], traced),
-    (["trace", "--times", "beside", "ls", "table"], queued), (["trace", "--fio", "ls", "table"], logged), (["filefrag", "a"], extents),
+    (["cut", "--bytes"], in_bytes), (["cut"], in_bytes), (["trace", "ls", "table"], parsed), (["trace", "ls", "table"], traced),
+    (["trace", "--times", "beside", "ls", "table"], parsed), (["trace", "--fio", "ls", "table"], logged), (["filefrag", "a"], extents),
     (["report"], pieces), (["report"], snapshot_pieces), (["report", *PLOT], pieces), (["report", "--times", "moments"], pieces),
     (["spans", "--free", "disks", "-"], spans), (["spans", "--clashes", "disks", "-"], spans), (["owner", "table", "-"], places),
     (["owner", "wide", "-"], places), (["store", "--size", "-"], writes),

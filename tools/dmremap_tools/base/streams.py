@@ -97,9 +97,9 @@ class Lines:
         for _ in self.blocks():
             yield from self.again()
 
-    def again(self) -> Iterator[str]:
-        """The lines of the block that came last."""
-        for self.number, self.line in enumerate(self._block[:-1].split("\n"), self._before + 1):
+    def again(self, block: Optional[str] = None) -> Iterator[str]:
+        """The lines of the block that came last, or of one with as many lines that takes its place."""
+        for self.number, self.line in enumerate((block or self._block)[:-1].split("\n"), self._before + 1):
             yield self.line
 
     def blocks(self) -> Iterator[str]:

@@ -14,12 +14,13 @@ With --fio, TRACE is a log that fio wrote (`write_iolog=FILE`), of version 2 or 
 bytes touch. The files of the log are devices; LS is read only if they are given as /dev/dm-N. Trims are left out and counted.
 """
 
+import functools
 import re
 from argparse import ArgumentParser, Namespace
 from collections import Counter
 from typing import Dict, Optional, Sequence
 
-from dmremap_tools.base import names, quoting, requests, streams, tables
+from dmremap_tools.base import names, numbers, quoting, requests, streams, tables
 from dmremap_tools.base.refusal import Refusal, WrongWords
 
 EXAMPLE = "btrace /dev/dm-0 | dmremap-tools trace ls.txt vg0.table | dmremap map lvm vg0.backup | dmremap-tools report"
@@ -29,8 +30,13 @@ EXAMPLE = "btrace /dev/dm-0 | dmremap-tools trace ls.txt vg0.table | dmremap map
 PARSED = r"([0-9]+,[0-9]+) +[0-9]+ +[0-9]+ +([0-9.]+) +[0-9]+ +"
 # What is done, the first sector, and how many there are.
 ASKED = r"\s*(\S+)\s+(\S+)\s+\+\s+(\S+)(?:\s.*)?"
-QUEUED = re.compile(f"{PARSED}Q {ASKED}")
-ACTION = re.compile(fr"{PARSED}(?:(Q )(\s*\S+\s+\[)?|[A-PR-Za-z][A-Za-z]* )")
+QUEUED = re.compile(f" *{PARSED}Q {ASKED}")
+OTHER = "[A-PR-Za-z][A-Za-z]* "
+ACTION = re.compile(fr" *{PARSED}(?:(Q )(\s*\S+\s+\[)?|{OTHER})")
+# The line of another action, as most lines of a trace are, which are passed over all at once.
+OTHERS = re.compile("^ *%s%s.*" % (PARSED.replace("(", "(?:"), OTHER), re.MULTILINE)
+# A request that can't be refused but for what is done.
+USUAL = re.compile(fr"^ *{PARSED}Q +([A-Z]+) {numbers.SHORT} \+ ([1-9][0-9]{{0,5}}) .*", re.MULTILINE)
 # An event, as ftrace and perf print it: before its name the time, for perf with another word, and behind it the device.
 EVENT = "block_bio_queue:"
 BEFORE = re.compile(r"(?:.*\s)?([0-9.]+):?(?:\s+\S*:)?\s*")
@@ -38,9 +44,8 @@ AFTER = re.compile(fr"\s*([0-9]+,[0-9]+)\s{ASKED}")
 LOST = re.compile(r"CPU:? ?[0-9]+ \[.*(?:LOST|DROPPED).*| *Skips: +0*[1-9].*")
 # What stands beside the lines of a trace: empty lines, comments, and the sums of blkparse.
 BESIDE = re.compile(r"\s*(?:#.*)?|(?:CPU|Total \(|Throughput|Events \(|Skips:|Input file|cpus=).*| +[A-Z][A-Za-z ]*: +[0-9].*")
-# Discards and flushes alone, and reads and writes, with what else a kernel says of them.
-NEITHER = re.compile(r"F?[DN][A-Z]*")
-EITHER = re.compile(r"F?[RW][FASM]*")
+# Discards and flushes alone, reads, and writes, with what else a kernel says of them.
+KINDS = [("", re.compile(r"F?[DN][A-Z]*")), ("R", re.compile(r"F?R[FASM]*")), ("W", re.compile(r"F?W[FASM]*"))]
 NO_FORM = "not a form of the event, trace with `blkparse`"
 # The first line of a log of fio. In version 3 each line has a time first.
 LOG_FIRST = re.compile(r"fio version ([23]) iolog")
@@ -123,27 +128,24 @@ def read_log(source: streams.Lines, kept: Kept, known: names.Names) -> None:
 def read_trace(source: streams.Lines, known: Dict[str, str], kept: Kept, times: Optional[streams.Output]) -> None:
     """Prints the requests of a trace as they come, and tells what was left out. Devices are known by their numbers."""
     events = passed = 0
-    for line in source:
-        event = event_in(source, line)
-        if not event:
-            passed += not BESIDE.fullmatch(line)
+    for block in source.blocks():
+        # Where the other form of an event may stand in a line, each is looked at.
+        left, others = OTHERS.subn("", block) if EVENT not in block else (block, 0)
+        events += others
+        usual = USUAL.findall(left)
+        if others + len(usual) == block.count("\n") and None not in {kind_of(it[2]) for it in usual}:
+            events += len(usual)
+            for event in usual:
+                take(source, event, known, kept, times)
             continue
-        events += 1
-        number, time, what, first, count = event
-        if not what:
-            continue
-        name, start, sectors = known.get(number), source.whole(first), source.whole(count)
-        if name not in kept.names:
-            kept.leave(number if name is None else f"{name} ({number})", name is not None)
-        elif EITHER.fullmatch(what):
-            made = requests.write(source, "W" if "W" in what else "R", name, start, sectors)
-            kept.made += made
-            if times:
-                times.write((time + "\n") * made)
-        elif NEITHER.fullmatch(what):
-            kept.others += 1
-        else:
-            source.refuse_line("neither a read nor a write, leave it out")
+        for line in filter(None, source.again(left)):
+            found = event_in(source, line)
+            if not found:
+                passed += not BESIDE.fullmatch(line)
+                continue
+            events += 1
+            if found[2]:
+                take(source, found, known, kept, times)
     if not events:
         source.refuse("no request in the trace: give what `blkparse` prints of the devices")
     if passed:
@@ -151,10 +153,34 @@ def read_trace(source: streams.Lines, known: Dict[str, str], kept: Kept, times: 
     kept.tell("requests that are neither reads nor writes", ": a trace of the disks below them takes --lower")
 
 
+def take(source: streams.Lines, event: Sequence[str], known: Dict[str, str], kept: Kept, times: Optional[streams.Output]) -> None:
+    """Prints the request that an event tells of, and its time, or counts it as left out."""
+    number, time, what, first, count = event
+    name, start, sectors = known.get(number), source.whole(first), source.whole(count)
+    kind = kind_of(what)
+    if name not in kept.names:
+        kept.leave(number if name is None else f"{name} ({number})", name is not None)
+    elif kind:
+        made = requests.write(source, kind, name, start, sectors)
+        kept.made += made
+        if times:
+            times.write((time + "\n") * made)
+    elif kind is None:
+        source.refuse_line("neither a read nor a write, leave it out")
+    else:
+        kept.others += 1
+
+
+@functools.lru_cache(maxsize=64)
+def kind_of(what: str) -> Optional[str]:
+    """R or W, empty for what is neither a read nor a write, or None for what nobody knows."""
+    return next((kind for kind, form in KINDS if form.fullmatch(what)), None)
+
+
 def event_in(source: streams.Lines, line: str) -> Optional[Sequence[str]]:
     """Of a line that tells of an event the device's number, the time, what is done, and with which sectors. Nothing is
     done in one that is no request."""
-    queued = QUEUED.fullmatch(line.lstrip(" "))
+    queued = QUEUED.fullmatch(line)
     if queued:
         return queued.groups()
     if LOST.fullmatch(line):
@@ -166,7 +192,7 @@ def event_in(source: streams.Lines, line: str) -> Optional[Sequence[str]]:
             source.refuse_line(NO_FORM)
         number, what, first, count = after.groups()
         return number, before[1], what if count != "0" else "", first, count
-    action = ACTION.match(line.lstrip(" "))
+    action = ACTION.match(line)
     if action and action[3] and not action[4]:
         source.refuse_line(NO_FORM)
     return [""] * 5 if action else None
