@@ -57,8 +57,9 @@ def run(words: Namespace) -> None:
     mapped = ((path, begin // SECTOR, (end - begin) // SECTOR) for path, runs in unread.items() for begin, end in runs)
     pile = Pile(words.images, words.program)
     owners = Owners(pile)
+    device_named = functools.lru_cache(maxsize=None)(pile.device_named)
     for name, first, count in mapped if words.map else asked(words):
-        device = pile.device_named(name)
+        device = device_named(name)
         if device is None:
             raise Refusal(quoting.shown(name), "no image is called so, and no partition or array of one: see `scan` "
                           "for their names")
