@@ -10,7 +10,7 @@ from dmremap_tools.base.config_text import Node, shown
 from dmremap_tools.base.numbers import SECTOR
 from dmremap_tools.base.refusal import Refusal
 from dmremap_tools.metadata.volume_group import Group, Record, Segment, Volume
-from dmremap_tools.model import pools, raid_volume
+from dmremap_tools.model import integrity, pools, raid_volume
 from dmremap_tools.model.device import Device, Extent, Missing
 from dmremap_tools.model.mapping import Mapped, Tables, snapshot_of
 from dmremap_tools.model.physical_volume import Text
@@ -28,8 +28,7 @@ LOWER = (b"stripes", b"mirrors", b"raids", b"raid0_lvs", b"origin", b"cow_store"
 # What makes the device of a segment of each type, of the layout, the volume's name, the segment and its bytes.
 LAYERS: Dict[bytes, Callable[["Layout", str, Segment, int], Device]] = {
     b"thin": pools.thin_of, b"cache": pools.cached_of, b"cache+CACHE_USES_CACHEVOL": pools.cached_of,
-    b"integrity": raid_volume.integrity_of, b"raid1": raid_volume.mirror_of, b"raid5": raid_volume.parity_of,
-    b"raid5_ls": raid_volume.parity_of}
+    b"integrity": integrity.integrity_of, **dict.fromkeys(raid_volume.KINDS, raid_volume.raid_of)}
 POOLS = (b"thin-pool", b"cache-pool", b"vdo-pool")
 NEXT = "activate the group's copy on a machine with lvm2 for this volume; the others are followed here"
 ODD = "restore an older text by vgcfgrestore on copies of the disks (`metadata --list` shows what there is)"
@@ -142,7 +141,7 @@ class Layout:
         if not volume.segments or volume.extents > MOST_EXTENTS:
             self.refuse(volume.name, "its text says no length")
         for segment in sorted(volume.segments, key=lambda segment: segment.node.value(b"start_extent", int) or 0):
-            count = segment.count or 0
+            count = segment.length or 0
             if segment.node.value(b"start_extent", int) != start or count <= 0:
                 self.refuse(volume.name, f"its {shown(segment.node.key)} doesn't begin where the one before ends")
             yield self._line(volume, segment, start * self.extent // SECTOR, count * self.extent // SECTOR)
@@ -161,7 +160,7 @@ class Layout:
                 self.refuse(name, f"its {which} says no two legs")
             # The second one if all extents were moved. The first is written all the time, while the second isn't whole.
             return tables.Line(first, length, "linear", self._area(name, *legs[moved == segment.count], length))
-        maker = LAYERS.get(kind)
+        maker = LAYERS.get(kind.partition(b"+RESHAPE")[0])
         if maker is None:
             raise Refusal(self.path(name), f"its {which} is of type {shown(kind)}, which isn't followed: {NEXT}")
         size = length * SECTOR
