@@ -1,8 +1,8 @@
 """A text of a group, read: its volumes, and their devices over the physical volumes that are there. Linear and striped
 segments are lines of a table, which dmremap maps; any other is a disk of that table, which its own layer computes."""
 
-import contextlib
 import functools
+import itertools
 from typing import Callable, Dict, Iterator, List, NoReturn, Optional, Set, Tuple
 
 from dmremap_tools.base import names, tables
@@ -32,15 +32,18 @@ LAYERS: Dict[bytes, Callable[["Layout", str, Segment, int], Device]] = {
 POOLS = (b"thin-pool", b"cache-pool", b"vdo-pool")
 NEXT = "activate the group's copy on a machine with lvm2 for this volume; the others are followed here"
 ODD = "restore an older text by vgcfgrestore on copies of the disks (`metadata --list` shows what there is)"
+# What devices are called in tables.
+NUMBERS = itertools.count()
 # Sectors of a physical volume: its id, the first one, and the one after the last.
 Use = Tuple[str, int, int]
 
 
 class Layout:
     """The volumes by their names; `find` gives the device of a physical volume by its id, or one that is missing. Of a
-    group whose disks were changed apart from each other there is one for each side."""
+    group whose disks were changed apart from each other there is one for each side. All volumes are loaded together, or
+    with `shared` those of several texts that are wanted."""
 
-    def __init__(self, text: Text, find: Callable[[str], Device]) -> None:
+    def __init__(self, text: Text, find: Callable[[str], Device], shared: Optional[Tables] = None) -> None:
         self.text, self.name, self._find, self.group = text, text.group, find, Group(text.node())
         self.extent = (self.group.extent_size or 0) * SECTOR
         self.ids = {name: identity_of(volume.node) for name, volume in self.group.volumes.items()}
@@ -48,8 +51,10 @@ class Layout:
         self.records: Dict[bytes, Record] = {record.store: record for record in self.group.records if record.store}
         # The origins of snapshots, by the names of their stores.
         self.origins = {record.store: record.origin for record in reversed(self.group.records) if not record.is_merging}
-        self.tables = Tables()
-        self._keys = {name: f"v{number}" for number, name in enumerate(self.group.volumes)}
+        self.tables = shared or Tables()
+        self._keys = {name: f"v{next(NUMBERS)}" for name in self.group.volumes}
+        if not shared:
+            self.tables.waiting += [functools.partial(self.key_of, name) for name in reversed(list(self.group.volumes))]
         self._snapshots = 0
         # The bytes of a volume as its user sees them.
         self.volume = functools.lru_cache(None)(self._volume)
@@ -101,15 +106,8 @@ class Layout:
     def plain(self, name: bytes) -> Device:
         """The bytes that the segments of a volume have."""
         key = self.key_of(name)
-        return Mapped(self.path(name), self._all_tables, key)
-
-    @functools.cached_property
-    def _all_tables(self) -> Tables:
-        """The tables with all volumes that can be followed, as they are loaded together."""
-        for name in self.group.volumes:
-            with contextlib.suppress(Refusal):
-                self.key_of(name)
-        return self.tables
+        self.tables.add_waiting()
+        return Mapped(self.path(name), self.tables, key)
 
     def lower(self, segment: Segment, field: bytes) -> Optional[Device]:
         """The bytes of the volume that a field of a segment names, or None where it has none."""

@@ -54,6 +54,8 @@ class Tables:
         # What writes to a file what the program reads of the disk that a store is.
         self.stores: Dict[str, Callable[[str], None]] = {}
         self._names: Dict[Device, str] = {}
+        # What adds devices that are to be loaded together with those that are there.
+        self.waiting: List[Callable[[], object]] = []
 
     def disk(self, device: Device) -> str:
         """The name of the disk that a device is here."""
@@ -64,6 +66,12 @@ class Tables:
     def add(self, name: str, lines: Sequence[tables.Line]) -> None:
         self.devices[name] = tables.Device(name)
         self.devices[name].lines += lines
+
+    def add_waiting(self) -> None:
+        """Adds the devices that wait, as far as they can be followed."""
+        while self.waiting:
+            with contextlib.suppress(Refusal):
+                self.waiting.pop()()
 
     def closure(self, wanted: Sequence[str]) -> "Tables":
         """Tables with some of the devices and what they lie on."""

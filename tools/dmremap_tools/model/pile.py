@@ -13,7 +13,7 @@ from dmremap_tools.model.device import Device, Image, Lenient, Part, Run
 from dmremap_tools.model.groups import REMOVED, Group, Texts, Volume, same_id
 from dmremap_tools.model.md_array import Array
 from dmremap_tools.model.md_superblock import Member
-from dmremap_tools.model.physical_volume import PhysicalVolume
+from dmremap_tools.model.physical_volume import Leftover, PhysicalVolume
 
 NOTHING, SCAN, BIG_SECTOR = "nothing is found in it", "`scan` lists what is there", 4096
 # The most disks, partitions and arrays that are looked at, and the most levels of arrays that are members of others.
@@ -65,6 +65,7 @@ class Pile:
         self.arrays: List[Array] = []
         self.containers: List[Tuple[Spot, Container]] = []
         self.volumes: List[PhysicalVolume] = []
+        self.leftovers: List[Leftover] = []
         self.groups: List[Group] = []
         self._members: Dict[bytes, List[Member]] = {}
         # Members with damaged superblocks, and the ids that these give their arrays.
@@ -112,7 +113,7 @@ class Pile:
         for volume in cut:
             if volume.start or volume.identity in on_arrays or volume.device in damaged:
                 volume.doubt = ONE_MEMBER.format(volume.place, volume.device.size, volume.size)
-        self.groups = list(Texts(self.volumes).groups())
+        self.groups = list(Texts(self.volumes, self.leftovers).groups())
 
     def spots(self) -> List[Spot]:
         """All devices that were looked at: images, partitions, arrays and their partitions."""
@@ -160,10 +161,13 @@ class Pile:
         elif volume:
             self.volumes.append(volume)
             self._say(spot, "physical volume", "; ".join(volume.faults))
-        elif known:
+        elif known and known != "lvm2":
             self._say(spot, known)
         else:
-            self._say(spot, "unknown", "; ".join(physical_volume.label_of(Lenient(spot.device))[1]) or NOTHING)
+            leftover = physical_volume.leftover_in(spot.device, spot.device is spot.image)
+            if leftover:
+                self.leftovers.append(leftover)
+            self._say(spot, "unknown", leftover.note() if leftover else NOTHING)
             if spot.image and not spot.partition:
                 self._unknown.append(spot)
 
