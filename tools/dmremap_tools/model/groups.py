@@ -120,6 +120,10 @@ class Unread(NamedTuple):
     fault: str
     texts: List[Text]
 
+    def is_of(self, side: Layout) -> bool:
+        """Whether it has texts of the group of a side, or is a physical volume of it."""
+        return self.identity in side.physical_ids.values() or any(text.identity == side.text.identity for text in self.texts)
+
     def is_known(self, holder: Holder) -> bool:
         """Whether it has the text of a side, and none after that."""
         mine = [text for text in self.texts if text.identity == holder.text.identity]
@@ -148,7 +152,7 @@ def same_id(one: str, other: str) -> bool:
 def sides_of(current: Iterable[Holder]) -> List[Holder]:
     """The current texts that count: the newest, and those that are no older text of another one that counts."""
     sides: List[Holder] = []
-    for holder in sorted(current, key=lambda holder: -holder.text.seqno):
+    for holder in sorted(current, key=lambda holder: (-holder.text.seqno, holder.text.key())):
         before = next((side for side in sides if is_behind(holder, side)), None)
         if before:
             before.volumes.extend(holder.volumes)
@@ -216,7 +220,10 @@ class Texts:
         if not here:
             return Missing(f"the physical volume {identity} isn't in these images: give the image that has it")
         both = " and ".join(volume.place for volume in believed)
-        return Missing(f"{both} both are the physical volume {identity}: give one of them" if both else here[0].doubt)
+        ages = [max((text.seqno for text in volume.current), default=0) for volume in believed]
+        newest = next((volume.place for volume, age in zip(believed, ages) if age == max(ages) > min(ages)), None)
+        which = f" ({newest} has the newest text, with the seqno {max(ages)})" if newest else ""
+        return Missing(f"{both} both are the physical volume {identity}: give one of them{which}" if both else here[0].doubt)
 
     def _sides(self, holders: Sequence[Holder], texts: List[Text]) -> Iterator[Group]:
         """The group that has these texts, or each side of it."""
@@ -227,8 +234,9 @@ class Texts:
         for side, holder in zip(sides, holders):
             (state, notes), newer = state_of(side), self._newer(holder, side)
             named = {name for other in sides if other is not side for name in other.visible()}
-            unread = [each for each in self._unread if self._contradicts(each, holder, side)]
-            told = [f"{each.place}: {each.fault}" for each in unread]
+            related = [each for each in self._unread if each.is_of(side)]
+            unread = [each for each in related if not each.is_known(holder)]
+            told = [f"{each.place}: {each.fault}" for each in related]
             whys = {name: newer or (refused if name in named else None) or doubt_of(name, unread, holder) for name in side.visible()}
             listed = [Volume(side, name, lambda why=why: why) for name, why in whys.items()]
             # Of a side the texts that are in the rings of its disks, and its own.
@@ -242,11 +250,6 @@ class Texts:
             if is_forked or any(each.is_apart(holder) for each in unread):
                 state = FORKED
             yield Group(side, state, self._volumes, known, listed, doubt, notes + told)
-
-    def _contradicts(self, unread: Unread, holder: Holder, side: Layout) -> bool:
-        """Whether what can't be read as current may be another state of a side's group."""
-        is_of_it = any(text.identity == side.text.identity for text in unread.texts)
-        return (is_of_it or unread.identity in side.physical_ids.values()) and not unread.is_known(holder)
 
     def _newer(self, holder: Holder, side: Layout) -> Optional[str]:
         """Why a text may not be the last: a disk that it names has a later one, or one of another sum."""

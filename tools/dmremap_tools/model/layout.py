@@ -29,6 +29,8 @@ LOWER = (b"stripes", b"mirrors", b"raids", b"raid0_lvs", b"origin", b"cow_store"
 LAYERS: Dict[bytes, Callable[["Layout", str, Segment, int], Device]] = {
     b"thin": pools.thin_of, b"cache": pools.cached_of, b"cache+CACHE_USES_CACHEVOL": pools.cached_of,
     b"integrity": integrity.integrity_of, **dict.fromkeys(raid_volume.KINDS, raid_volume.raid_of)}
+# What no volume of a user's is called.
+MOVES = b"pvmove"
 POOLS = (b"thin-pool", b"cache-pool", b"vdo-pool")
 NEXT = "activate the group's copy on a machine with lvm2 for this volume; the others are followed here"
 ODD = "restore an older text by vgcfgrestore on copies of the disks (`metadata --list` shows what there is)"
@@ -86,9 +88,10 @@ class Layout:
             raise Refusal(self.name, f"its text has no size of extents: {ODD}")
 
     def visible(self) -> List[bytes]:
-        """The volumes that a user sees, without pools. A snapshot has the name of its store, which the text hides."""
+        """The volumes that a user sees, without pools, and what a move leaves. A snapshot has the name of its store, which
+        the text hides."""
         records = {record.volume.name for record in self.group.records}
-        return [name for name, volume in self.group.volumes.items() if name not in records
+        return [name for name, volume in self.group.volumes.items() if name not in records and not name.startswith(MOVES)
                 and not any(segment.kind in POOLS for segment in volume.segments)
                 and (name in self.origins or b"VISIBLE" in volume.node.values(b"status"))]
 
@@ -160,7 +163,9 @@ class Layout:
             return tables.Line(first, length, "linear", self._area(name, *legs[moved == segment.count], length))
         maker = LAYERS.get(kind.partition(b"+RESHAPE")[0])
         if maker is None:
-            raise Refusal(self.path(name), f"its {which} is of type {shown(kind)}, which isn't followed: {NEXT}")
+            legs = [self.path(leg) for leg, _ in areas_of(segment) if leg in self.group.volumes]
+            way = f"save {legs[0]}, or if it was in sync {' or '.join(legs[1:])}" if len(legs) > 1 else NEXT
+            raise Refusal(self.path(name), f"its {which} is of type {shown(kind)}, which isn't followed: {way}")
         size = length * SECTOR
         device = Deferred(self.path(name), size, functools.partial(maker, self, self.path(name), segment, size))
         return tables.Line(first, length, "linear", [self.tables.disk(device), "0"])

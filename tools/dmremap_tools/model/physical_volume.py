@@ -29,10 +29,6 @@ MOST_AREAS, MOST_AREA = 4, 64 << 20
 # searched for labels at once.
 SEARCHED = WINDOW = 4 << 20
 FIRST_AREA = 4096
-# What is said of a physical volume without a sound label.
-LEFT = ("a text of {} is left in it, with the seqno {}: `metadata` prints it, `save VOLUME OUT lvm TEXT --paths PATHS` saves by "
-        "it, and on a copy pvcreate --uuid UUID --restorefile TEXT writes the label anew")
-NO_TEXT = "no text of a group is left in it"
 MISSING, EMPTY, UNUSED = "the image ends before it does", "it has no text", "lvm2 keeps no text in it"
 # What a text begins with, after its group's name: the group's id, and the number of the text in that group.
 BEGINNING = re.compile(rb' \{\nid = "([^"\n]{0,64})"\nseqno = ([0-9]{1,10})\n')
@@ -307,14 +303,14 @@ class Leftover(NamedTuple):
     def note(self) -> str:
         """What is said of it, with what to do."""
         last = max((text for text in self.texts if text.said_time()), key=lambda text: text.seqno, default=None)
-        return f"{self.fault}: {LEFT.format(shown(last.group.encode()), last.seqno) if last else NO_TEXT}"
+        return f"{self.fault}: `metadata` prints a text of {last.group} (seqno {last.seqno})" if last else self.fault
 
 
 def leftover_in(device: Device, is_disk: bool) -> Optional[Leftover]:
     """What is left of a physical volume in a device without a sound label, or None. Of one that is no whole disk only a
     damaged label tells, or an area that begins where lvm2 has the first."""
-    image = Lenient(device)
-    faults, found = label_of(image)[1], search(image) if is_disk else search(Lenient(Part(device.name, device, 0, FIRST_AREA + SECTOR)))
+    image, first = Lenient(device), Lenient(Part(device.name, device, 0, FIRST_AREA + SECTOR))
+    faults, found = label_of(image)[1], search(image if is_disk else first)
     if not faults and not any(at == belongs for at, belongs, _, _ in found):
         return None
     texts = older_texts(image) or texts_of_ring(0, image.read(0, SEARCHED), False)

@@ -114,5 +114,8 @@ def holders_of(volumes: Iterable[PhysicalVolume]) -> Dict[str, Dict[bytes, Holde
     known: Dict[str, Dict[bytes, Holder]] = {}
     for volume in volumes:
         for text, its_own in [(text, []) for text in volume.older] + [(text, [volume]) for text in volume.current]:
-            known.setdefault(text.identity, {}).setdefault(text.key(), Holder(text, [])).volumes.extend(its_own)
+            holders, key = known.setdefault(text.identity, {}), text.key()
+            same, others = holders.get(key, Holder(text, []))
+            # They differ in when they were written, and in no more.
+            holders[key] = Holder(max(text, same, key=lambda each: each.content), others + its_own)
     return known
