@@ -76,12 +76,14 @@ class Legs:
         legs = [self._leg(leg, best) for leg in range(count)]
         if self._level == "raid0":
             return self._striped(legs, size)
-        if self._level not in ("raid1", "raid10"):
-            return self._rows(legs, best, size)
-        copies = count if self._level == "raid1" else self._found[best].layout - NEAR
+        copies = {"raid1": count, "raid10": self._found[best].layout - NEAR}.get(self._level, 1)
         sets = [range(first, first + copies) for first in range(0, count, copies)]
-        if all(not self._faults.keys().isdisjoint(each) for each in sets):
+        # Those that may have run on without the others.
+        alone = [each for each in sets if not self._faults.keys().isdisjoint(each)]
+        if len(alone) >= len(sets) - PARITY.get(self._level, 0):
             raise Refusal(self._name, NEWER.format(next(iter(self._faults.values()))))
+        if self._level in PARITY:
+            return self._rows(legs, best, size)
         return self._striped([self._mirror(each, legs, best, size // len(sets)) for each in sets], size)
 
     def _plain(self, name: bytes) -> Device:
