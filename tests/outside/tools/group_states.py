@@ -9,7 +9,8 @@ import physical_volumes
 from harness import Case
 from models import (A, B, DATA, EXTENT, HIDDEN, SECTOR, dashed, disk, empty_pile, extents_of, identity, linear, named, segment, text, volume)
 
-HEADER, LABEL = physical_volumes.FIRST, SECTOR
+FIRST = HEADER = physical_volumes.FIRST
+LABEL = SECTOR
 
 
 def damaged(image, *runs):
@@ -33,7 +34,7 @@ def sides():
 
 def check_forks(tally, pile):
     """A fork, sound, and with each disk's label, header or both damaged, in both orders: what one side alone has is given, if
-    its disk is sound, and what both have is refused, with the name of the image whose text can't be read."""
+    its text can be read, and what both have is refused, with the name of the image whose text can't be."""
     sound = sides()
     for image, content in zip(("one", "two"), sound):
         pile.put(image, content)
@@ -41,7 +42,11 @@ def check_forks(tally, pile):
     mine = (("mine", extents_of(A, 50, 5)), ("yours", extents_of(B, 20, 5)))
     for hurt in (0, 1):
         left, gone = mine[1 - hurt], mine[hurt]
-        for what, runs in (("header", [(HEADER, SECTOR)]), ("label", [(LABEL + 40, 1)]), ("label and header", [(LABEL + 40, 1), (HEADER + 8, 1)]),
+        pile.put(("one", "two")[hurt], damaged(sound[hurt], (LABEL + 40, 1)))
+        pile.refuses(tally, "a fork with a damaged label, what both have", "vg0/home", "both sides have a volume of this name", "one", "two")
+        for volume_name, content in mine:
+            pile.holds(tally, "a fork with a damaged label, what one side has", "vg0/" + volume_name, content)
+        for what, runs in (("header", [(HEADER, SECTOR)]), ("label and header", [(LABEL + 40, 1), (HEADER + 8, 1)]),
                            ("header and current text", [(HEADER, SECTOR), (sound[hurt].rindex(b"vg0 {\nid"), 400)])):
             name = "a fork with a damaged %s of disk %d" % (what, hurt)
             pile.put(("one", "two")[hurt], damaged(sound[hurt], *runs))
@@ -102,8 +107,30 @@ def check_ways(tally, pile):
     for order in (("one", "two"), ("two", "one")):
         pile.refuses(tally, "two copies of a disk", "vg0/home", "one and two both are the physical volume %s: give one of them (one has the newest text, with the seqno 4)" % dashed("a"), *order)
     os.unlink(os.path.join(pile.folder, "two"))
-    pile.put("one", bytes(2 * SECTOR) + disk("a", A, older, newer)[2 * SECTOR:])
-    pile.refuses(tally, "a disk without its label", "vg0/home", "one: there is no label in the first four sectors: `metadata` prints a text of vg0 (seqno 4)")
+
+
+def check_unlabelled(tally, pile):
+    """A disk whose label is gone or damaged: of a group of one disk it is known by its text, and of others the text is told."""
+    known = text("vg0", "g", 4, "a", home(3))
+    sound = disk("a", A, text("vg0", "g", 3, "a", home(3), home(20, "gone", "n")), known)
+    longer = known.replace(b"dev_size = %d" % (DATA + 64 * EXTENT), b"dev_size = %d" % (DATA + 64 * EXTENT + 16))
+    at_end = bytes(DATA * SECTOR) + A + physical_volumes.area(longer, SECTOR, start=len(sound), size=16 * SECTOR)
+    for name, image in (("gone", bytes(FIRST) + sound[FIRST:]), ("damaged", damaged(sound, (LABEL + 40, 1))), ("gone with the first area", at_end)):
+        pile.put("one", image)
+        pile.holds(tally, "a disk whose label is " + name, "vg0/home", extents_of(A, 3, 5))
+    two = text("vg0", "g", 4, "ab", home(3))
+    other = disk("b", B, two)
+    for name, images, why in (
+            ("beside another of its group", {"one": damaged(disk("a", A, two), (LABEL + 40, 1)), "two": other}, "the physical volume %s isn't in these images" % dashed("a")),
+            ("of a group of two, alone", {"one": damaged(disk("a", A, two), (LABEL + 40, 1))}, "one: the label in sector 1 has a wrong sum: `metadata` prints a text of vg0 (seqno 4)"),
+            ("under other bytes", {"one": b"other" * 100 + sound[500:512] + bytes(SECTOR) + sound[2 * SECTOR:]}, "one: there is no label in the first four sectors: `metadata` prints"),
+            ("of a longer disk", {"one": damaged(sound[:-SECTOR], (LABEL + 40, 1))}, "one: the label in sector 1 has a wrong sum: `metadata` prints"),
+            ("beside a copy of it", {"one": damaged(sound, (LABEL + 40, 1)), "two": sound}, "one and two both are the physical volume")):
+        for image in pile.images():
+            os.unlink(os.path.join(pile.folder, image))
+        for image, content in images.items():
+            pile.put(image, content)
+        pile.refuses(tally, "a disk without a label, " + name, "vg0/home", why)
 
 
 def check_many(tally, pile):
@@ -149,7 +176,7 @@ def check_damage(tally, pile):
             tally.holds("a damaged disk", is_right and got[0][0].status == got[1][0].status, f"number {number}, {name}: {[(outcome.status, outcome.err[-200:]) for outcome, _ in got]}")
 
 
-class GroupStates(Case, checks=[check_forks, check_members, check_unused, check_ways, check_many, check_damage]):
+class GroupStates(Case, checks=[check_forks, check_members, check_unused, check_ways, check_unlabelled, check_many, check_damage]):
     """Piles of images, each in an empty folder."""
 
     def setUp(self):

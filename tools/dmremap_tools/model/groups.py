@@ -194,7 +194,7 @@ class Texts:
         unread = [volume for volume in volumes if volume.faults and not volume.current]
         self._later = Later(self._known, {volume.identity: f"{volume.place}: {volume.faults[0]}" for volume in unread})
         self._unread = [Unread(volume.place, volume.identity, volume.faults[0], volume.texts) for volume in unread]
-        self._unread = sorted(self._unread + [Unread(left.place, "", left.fault, left.texts) for left in leftovers])
+        self._unread = sorted(self._unread + [Unread(left.device.name, "", left.fault, left.texts) for left in leftovers])
         # The removed volumes of all texts are loaded together.
         self._tables = Tables()
 

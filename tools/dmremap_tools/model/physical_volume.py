@@ -294,16 +294,31 @@ class PhysicalVolume:
 
 
 class Leftover(NamedTuple):
-    """What is left of a physical volume whose label isn't sound: where it is, why, and the texts in its areas."""
+    """What is left of a physical volume whose label isn't sound: why it isn't, the areas whose headers are, and texts."""
 
-    place: str
+    device: Device
     fault: str
+    areas: List[Run]
     texts: List[Text]
 
     def note(self) -> str:
         """What is said of it, with what to do."""
         last = max((text for text in self.texts if text.said_time()), key=lambda text: text.seqno, default=None)
         return f"{self.fault}: `metadata` prints a text of {last.group} (seqno {last.seqno})" if last else self.fault
+
+    def volume(self) -> Optional[PhysicalVolume]:
+        """The physical volume that it is, if its current text is of a group of one, which is as long as this, and nobody
+        wrote anything else where the label was."""
+        found, image = PhysicalVolume(self.device, Label(-1, b"", self.device.size, self.areas, True), 0), Lenient(self.device)
+        nodes = [node for text in found.current for node in text.node().sections_in(b"physical_volumes")]
+        if len({text.key() for text in found.current}) != 1 or len(nodes) != len(found.current):
+            return None
+        size, start = (nodes[0].value(key, int) or 0 for key in (b"dev_size", b"pe_start"))
+        before = image.read(0, min(start * SECTOR, SEARCHED, *(begin for begin, _ in self.areas)))
+        if size * SECTOR != self.device.size or any(before) and not label_of(image)[1]:
+            return None
+        found.identity = (nodes[0].value(b"id", bytes) or b"").decode("ascii", "replace")
+        return found
 
 
 def leftover_in(device: Device, is_disk: bool) -> Optional[Leftover]:
@@ -313,8 +328,9 @@ def leftover_in(device: Device, is_disk: bool) -> Optional[Leftover]:
     faults, found = label_of(image)[1], search(image if is_disk else first)
     if not faults and not any(at == belongs for at, belongs, _, _ in found):
         return None
+    areas = [(at, size) for at, belongs, size, fault in search(image) if at == belongs and not fault]
     texts = older_texts(image) or texts_of_ring(0, image.read(0, SEARCHED), False)
-    return Leftover(device.name, faults[0] if faults else "there is no label in the first four sectors", texts)
+    return Leftover(device, faults[0] if faults else "there is no label in the first four sectors", areas[:MOST_AREAS], texts)
 
 
 def volume_in(device: Device, start: int = 0) -> Optional[PhysicalVolume]:

@@ -165,6 +165,11 @@ class Pile:
             self._say(spot, known)
         else:
             leftover = physical_volume.leftover_in(spot.device, spot.device is spot.image)
+            volume = leftover.volume() if leftover else None
+            if volume:
+                self.volumes.append(volume)
+                self._say(spot, "physical volume", leftover.fault)
+                return
             if leftover:
                 self.leftovers.append(leftover)
             self._say(spot, "unknown", leftover.note() if leftover else NOTHING)
