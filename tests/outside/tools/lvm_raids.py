@@ -6,6 +6,7 @@ import os
 import random
 import struct
 
+import tool_calls
 from dmremap_tools.base.refusal import Refusal
 from dmremap_tools.model.pile import Pile as Images
 from harness import Case
@@ -91,7 +92,7 @@ class Raid:
         listed = pairs[1::2] if kind == "raid0" else pairs
         counted = "stripe_count" if kind.startswith("raid0") else "device_count"
         size = len(content) // SECTOR // EXTENT
-        extra = ["reshape_count = %d" % given["reshaped"]] if "reshaped" in given else []
+        extra = ["reshape_count = %d" % given["reshaped"]] if "reshaped" in given else ["data_copies = %d" % (layout & 15)] if level == 10 else []
         extents = size + given.get("reshaped", 0) * {5: self.count - 1}.get(level, self.count)
         self.sections = [volume(name, name[-1], segment(0, extents, kind, "%s = %d" % (counted, self.count), "stripe_size = %d" % CHUNK, *extra,
                                                         "%s = [%s]" % ("raid0_lvs" if kind == "raid0" else "raids", ", ".join('"%s"' % each for each in listed))))]
@@ -259,6 +260,28 @@ def check_told(tally, pile):
     pile.holds(tally, "a raid10 without two legs", "vg0/v3", raids[3].content, "diskd", "diska")
 
 
+def check_owners(tally, pile):
+    """Who has the sectors of legs, each of which says so itself, or has parity."""
+    five, six = list(parity_raids(RAID5, 5, 4)), list(parity_raids({"raid6_zr": 8, "raid6_nc": 10, "raid6_la_6": 16}, 6, 5))
+    for raids in (five, six, [raid for raid, _ in copied_raids()]):
+        put(pile, raids)
+        images, wanted, asked = pile.images(), [], []
+        for raid in raids:
+            for leg, data in enumerate(raid.legs):
+                for row in range(ROWS):
+                    sector = DATA + raid.place * EACH * EXTENT + META * EXTENT + row * CHUNK + 3
+                    is_data = raid.level not in (5, 6) or leg in row_of(raid.level, raid.layout, raid.count, row)[0]
+                    at = raid.content.index(data[(row * CHUNK + 3) * SECTOR:][:SECTOR]) // SECTOR if is_data else -1
+                    asked.append("%s %d 1\n" % (images[leg], sector))
+                    wanted.append("vg0/%s %d" % (raid.name, at) if at >= 0 else "parity of vg0/%s" % raid.name)
+        got = tool_calls.call(pile.top, ["owner", "--program", pile.program.path, *images], given="".join(asked), folder=pile.folder)
+        rows = got.out.decode().splitlines()
+        odd = [(row, want) for row, want in zip(rows, wanted) if not row.endswith(want)]
+        tally.holds("who has the sectors of raids", got.status == 0 and len(rows) == len(wanted) and not odd, f"{got.status}, {len(rows)} of {len(wanted)}, {odd[:3]}, {got.err[-200:]!r}")
+        for image in images:
+            os.unlink(os.path.join(pile.folder, image))
+
+
 def check_damaged(tally, pile):
     """Random damage in superblocks and bitmaps: the right bytes, or a refusal in words."""
     dice = random.Random(11)
@@ -281,7 +304,7 @@ def check_damaged(tally, pile):
             tally.holds("damaged superblocks", isinstance(got, str) and got or got == raid.content, "number %d: %s of other bytes" % (number, raid.name))
 
 
-class LvmRaids(Case, checks=[check_missing, check_states, check_told, check_damaged]):
+class LvmRaids(Case, checks=[check_missing, check_states, check_told, check_owners, check_damaged]):
     """Raids of LVM, each in an empty folder."""
 
     def setUp(self):

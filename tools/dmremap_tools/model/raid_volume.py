@@ -4,7 +4,7 @@ is laid out as md lays out its members. The kernel's dm-raid.c has both, and whi
 import itertools
 import struct
 from collections import namedtuple
-from typing import Any, Dict, List, Optional, Sequence, Tuple
+from typing import Any, Callable, Dict, List, Optional, Sequence, Tuple
 
 from dmremap_tools.base import tables
 from dmremap_tools.base.config_text import shown
@@ -202,3 +202,12 @@ def dirty_runs(meta: Device) -> List[Run]:
         begin = runs.pop()[0] if runs and runs[-1][1] == bit * chunk else bit * chunk
         runs.append((begin, (bit + 1) * chunk))
     return runs
+
+
+def numbers_in(segment: Segment, legs: int) -> Optional[Callable[[int, int], Optional[int]]]:
+    """What says which chunk is in a row of a leg, or None where that has parity; None if the text alone doesn't say it."""
+    level, form = KINDS.get(segment.kind or b"", ("", 0))
+    if level in PARITY and legs > PARITY[level] and not segment.node.child(b"reshape_count"):
+        return Shape(level, legs, LAYOUTS[level][form], segment.stripe_size or 0).number
+    copies = {"raid0": 1, "raid10": segment.node.value(b"data_copies", int) or 2}.get(level, 0)
+    return (lambda leg, row: row * (legs // copies) + leg // copies) if copies > 0 and legs % copies == 0 else None
