@@ -13,9 +13,9 @@ With --json, prints one object instead, in which `why` is null if nothing is wro
     groups   name, id, seqno, state, images, former_names, notes, volumes: a list of
              name, id, sectors, kind, file_system, state, why, origin, chunks_used
 
-A group's state is complete, missing (a disk isn't there), truncated (an image ends too soon), forked (its disks were changed
-separately; each side is an entry) or removed. A volume's state is whole, incomplete, invalid (a snapshot), removed or not
-followed.
+A group's state is complete, missing (a disk isn't there, or its metadata can't be read), truncated (an image ends too soon),
+forked (its disks were changed separately; each side is an entry) or removed. A volume's state is whole, incomplete, invalid (a
+snapshot), removed or not followed.
 """
 
 import json

@@ -139,9 +139,10 @@ class Unread(NamedTuple):
 
     def names(self, holder: Holder) -> Optional[Set[bytes]]:
         """The names of the volumes that its last text of a group has, or None where it has no text that can be read."""
-        whole = [text for text in self.texts if text.identity == holder.text.identity and text.said_time() and not text.fault()]
-        last = max(whole, key=lambda text: text.seqno, default=None)
-        return set(Layout(last, Missing).group.volumes) if last else None
+        mine = (text for text in self.texts if text.identity == holder.text.identity)
+        last = max(mine, key=lambda text: (text.seqno, text.said_time() or b""), default=None)
+        is_whole = last and last.said_time() and not last.fault()
+        return set(Layout(last, Missing).group.volumes) if is_whole else None
 
 
 def same_id(one: str, other: str) -> bool:
@@ -229,15 +230,15 @@ class Texts:
         """The group that has these texts, or each side of it."""
         sides = [Layout(holder.text, self._find) for holder in holders]
         living = {identity for side in sides for identity in side.ids.values()}
-        places = (", ".join(volume.place for volume in holder.volumes) for holder in holders)
+        places = sorted(", ".join(sorted(volume.place for volume in holder.volumes)) for holder in holders)
         refused, is_forked = TWO_SIDES.format(" or ".join(places)), len(sides) > 1
         for side, holder in zip(sides, holders):
             (state, notes), newer = state_of(side), self._newer(holder, side)
             named = {name for other in sides if other is not side for name in other.visible()}
             related = [each for each in self._unread if each.is_of(side)]
-            unread = [each for each in related if not each.is_known(holder)]
+            unread = [each for each in related if not any(map(each.is_known, holders))]
             told = [f"{each.place}: {each.fault}" for each in related]
-            whys = {name: newer or (refused if name in named else None) or doubt_of(name, unread, holder) for name in side.visible()}
+            whys = {name: newer or (refused if name in named else doubt_of(name, unread, holder)) for name in side.visible()}
             listed = [Volume(side, name, lambda why=why: why) for name, why in whys.items()]
             # Of a side the texts that are in the rings of its disks, and its own.
             rings = (text for volume in holder.volumes for text in [*volume.older, side.text])

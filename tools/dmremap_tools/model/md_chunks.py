@@ -78,10 +78,10 @@ class Shape:
         is_around, is_swapped = (parity, rest[0]) == (0, self.count - 1), self.layout == "ddf-N-continue"
         if is_around != is_swapped and not self.layout.endswith("-6"):
             parity, rest = rest[0], [parity]
-        order = [role % self.count for role in range(rest[0] + 1, rest[0] + 1 + self.count)]
+        after = rest[0] + 1
+        order = [role % self.count for role in range(after, after + self.count) if role % self.count in data]
         is_of_ddf = self.layout.startswith("ddf")
-        powers = {role: role for role in data} if is_of_ddf else {role: power for power, role in enumerate(it for it in order if it in data)}
-        return Row(data, parity, rest[0], powers)
+        return Row(data, parity, rest[0], {role: role if is_of_ddf else power for power, role in enumerate(order)})
 
     def number(self, role: int, row: int) -> Optional[int]:
         """The number of the chunk of data that a member has in a row, or None where that has parity there."""

@@ -325,10 +325,11 @@ def leftover_in(device: Device, is_disk: bool) -> Optional[Leftover]:
     """What is left of a physical volume in a device without a sound label, or None. Of one that is no whole disk only a
     damaged label tells, or an area that begins where lvm2 has the first."""
     image, first = Lenient(device), Lenient(Part(device.name, device, 0, FIRST_AREA + SECTOR))
-    faults, found = label_of(image)[1], search(image if is_disk else first)
+    faults = label_of(image)[1]
+    found = search(image) if is_disk or faults or search(first) else []
     if not faults and not any(at == belongs for at, belongs, _, _ in found):
         return None
-    areas = [(at, size) for at, belongs, size, fault in search(image) if at == belongs and not fault]
+    areas = [(at, size) for at, belongs, size, fault in found if at == belongs and not fault]
     texts = older_texts(image) or texts_of_ring(0, image.read(0, SEARCHED), False)
     return Leftover(device, faults[0] if faults else "there is no label in the first four sectors", areas[:MOST_AREAS], texts)
 
