@@ -120,12 +120,16 @@ def check_unlabelled(tally, pile):
         pile.holds(tally, "a disk whose label is " + name, "vg0/home", extents_of(A, 3, 5))
     two = text("vg0", "g", 4, "ab", home(3))
     other = disk("b", B, two)
+    pile.put("one", damaged(disk("a", A, two), (LABEL + 150, 1)))
+    pile.put("two", other)
+    pile.holds(tally, "a disk whose damaged label has its id", "vg0/home", extents_of(A, 3, 5))
     for name, images, why in (
-            ("beside another of its group", {"one": damaged(disk("a", A, two), (LABEL + 40, 1)), "two": other}, "the physical volume %s isn't in these images" % dashed("a")),
+            ("beside another of its group", {"one": damaged(disk("a", A, two), (LABEL + 40, 1)), "two": other}, "one may be the disk of this group that isn't found"),
             ("of a group of two, alone", {"one": damaged(disk("a", A, two), (LABEL + 40, 1))}, "one: the label in sector 1 has a wrong sum: `metadata` prints a text of vg0 (seqno 4)"),
             ("under other bytes", {"one": b"other" * 100 + sound[500:512] + bytes(SECTOR) + sound[2 * SECTOR:]}, "one: there is no label in the first four sectors: `metadata` prints"),
             ("of a longer disk", {"one": damaged(sound[:-SECTOR], (LABEL + 40, 1))}, "one: the label in sector 1 has a wrong sum: `metadata` prints"),
-            ("beside a copy of it", {"one": damaged(sound, (LABEL + 40, 1)), "two": sound}, "one and two both are the physical volume")):
+            ("beside a copy of it", {"one": damaged(sound, (LABEL + 40, 1)), "two": sound}, "one and two both are the physical volume"),
+            ("that is a copy of one of two disks", {"one": disk("a", A, two), "two": other, "three": damaged(disk("a", A, two), (LABEL + 40, 1))}, "three is of this group, too")):
         for image in pile.images():
             os.unlink(os.path.join(pile.folder, image))
         for image, content in images.items():

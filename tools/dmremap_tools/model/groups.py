@@ -22,6 +22,8 @@ NEWER = ("{} has {} ({}), and what can be read is the one with the seqno {}: res
          "copies of the disks (`metadata` prints it)")
 UNREAD = ("{} is of this group, too, and its current text can't be read ({}): it may have another state of this volume. Leave "
           "that image out, or restore its metadata on a copy (vgcfgrestore; `metadata --list` shows what is left)")
+MAYBE = ("{} may be the disk of this group that isn't found, and it can't be read as that ({}): restore its label on a copy "
+         "(pvcreate --uuid UUID --restorefile TEXT), or leave that image out")
 WHOLE, INVALID, INCOMPLETE, UNKNOWN, REMOVED = "whole", "invalid", "incomplete", "not followed", "removed"
 Refused = Callable[[], Optional[str]]
 
@@ -124,11 +126,14 @@ class Unread(NamedTuple):
         """Whether it has texts of the group of a side, or is a physical volume of it."""
         return self.identity in side.physical_ids.values() or any(text.identity == side.text.identity for text in self.texts)
 
-    def is_known(self, holder: Holder) -> bool:
-        """Whether it has the text of a side, and none after that."""
+    def is_explained(self, holder: Holder, side: Layout) -> bool:
+        """Whether it has the text of a side, and none after that. What has no id is one of the side's disks that isn't
+        here otherwise, or else a copy of one."""
         mine = [text for text in self.texts if text.identity == holder.text.identity]
         last = max((text.seqno for text in mine), default=-1)
-        return last == holder.text.seqno and any(text.key() == holder.text.key() for text in mine if text.said_time())
+        is_lacking = any(isinstance(device, Missing) for device in side.physical.values())
+        has_text = any(text.key() == holder.text.key() for text in mine if text.said_time())
+        return has_text and last == holder.text.seqno and bool(self.identity or is_lacking)
 
     def is_apart(self, holder: Holder) -> bool:
         """Whether it has a text that isn't in the rings of a side: a later one, or another one with a number of these."""
@@ -236,9 +241,12 @@ class Texts:
             (state, notes), newer = state_of(side), self._newer(holder, side)
             named = {name for other in sides if other is not side for name in other.visible()}
             related = [each for each in self._unread if each.is_of(side)]
-            unread = [each for each in related if not any(map(each.is_known, holders))]
+            unread = [each for each in related if not any(map(each.is_explained, holders, sides))]
             told = [f"{each.place}: {each.fault}" for each in related]
+            lost = next((each for each in related if each not in unread and not each.identity), None)
             whys = {name: newer or (refused if name in named else doubt_of(name, unread, holder)) for name in side.visible()}
+            if lost:
+                whys.update({name: why or doubt_by(lost, name, side) for name, why in whys.items()})
             listed = [Volume(side, name, lambda why=why: why) for name, why in whys.items()]
             # Of a side the texts that are in the rings of its disks, and its own.
             rings = (text for volume in holder.volumes for text in [*volume.older, side.text])
@@ -291,3 +299,10 @@ def doubt_of(name: bytes, unread: Iterable[Unread], holder: Holder) -> Optional[
         if names is None or name in names:
             return UNREAD.format(each.place, each.fault)
     return None
+
+
+def doubt_by(lost: Unread, name: bytes, side: Layout) -> Optional[str]:
+    """Why a volume isn't given that lies on a missing disk, if what is left of one may be that; None if it may be."""
+    lacking = {side.physical_ids[key] for key, device in side.physical.items() if isinstance(device, Missing)}
+    is_on_it = any(identity in lacking for identity, _, _ in side.uses(name))
+    return MAYBE.format(lost.place, lost.fault) if is_on_it else None

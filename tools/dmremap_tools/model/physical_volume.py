@@ -119,6 +119,8 @@ class Text(NamedTuple):
         return f"{name}{' of ' + shown(time) if time else ''}, volumes: {'unknown' if self.fault() else volumes}"
 
 
+# The id of a physical volume, in the parts that texts join by dashes.
+IDENTITY_FORM = struct.Struct("<6s4s4s4s4s4s6s")
 # A label: its sector, the id and the bytes of the volume, the places of the areas: starts and sizes, and whether the
 # volume belongs to a group; labels of old versions don't say that, so that it is None.
 Label = NamedTuple("Label", [
@@ -184,7 +186,7 @@ def label_fault(sector: bytes, place: int) -> Optional[str]:
 def _label_in(sector: bytes, place: int) -> Label:
     """What a label says: behind the id and the size are the places of data, those of areas, and an extension."""
     at, = struct.unpack_from("<L", sector, 20)
-    *letters, size = struct.unpack_from("<6s4s4s4s4s4s6sQ", sector, at)
+    letters, (size,) = IDENTITY_FORM.unpack_from(sector, at), struct.unpack_from("<Q", sector, at + 32)
     # Pairs of a start and a size in bytes; each list ends with one that begins at 0.
     pairs = struct.iter_unpack("<QQ", sector[at + 40:SECTOR - (SECTOR - at - 40) % 16])
     data, areas = (list(itertools.takewhile(lambda pair: pair[0], pairs)) for _ in range(2))
@@ -307,17 +309,21 @@ class Leftover(NamedTuple):
         return f"{self.fault}: `metadata` prints a text of {last.group} (seqno {last.seqno})" if last else self.fault
 
     def volume(self) -> Optional[PhysicalVolume]:
-        """The physical volume that it is, if its current text is of a group of one, which is as long as this, and nobody
-        wrote anything else where the label was."""
+        """The physical volume that it is, if its current text has one disk, or one with the id that is left in the label,
+        which is as long as this, and nobody wrote anything else where the label was."""
         found, image = PhysicalVolume(self.device, Label(-1, b"", self.device.size, self.areas, True), 0), Lenient(self.device)
-        nodes = [node for text in found.current for node in text.node().sections_in(b"physical_volumes")]
-        if len({text.key() for text in found.current}) != 1 or len(nodes) != len(found.current):
+        if len({text.key() for text in found.current}) != 1:
             return None
-        size, start = (nodes[0].value(key, int) or 0 for key in (b"dev_size", b"pe_start"))
+        nodes = {node.value(b"id", bytes): node for node in found.current[0].node().sections_in(b"physical_volumes")}
+        sectors = [image.read(place * SECTOR, SECTOR) for place in range(LABEL_SECTORS)]
+        told = {b"-".join(IDENTITY_FORM.unpack_from(sector, 32)) for sector in sectors if len(sector) == SECTOR}
+        mine = set(nodes) if len(nodes) == 1 else set(nodes) & told
+        node = nodes[mine.pop()] if len(mine) == 1 else None
+        size, start = (node.value(key, int) or 0 if node else 0 for key in (b"dev_size", b"pe_start"))
         before = image.read(0, min(start * SECTOR, SEARCHED, *(begin for begin, _ in self.areas)))
-        if size * SECTOR != self.device.size or any(before) and not label_of(image)[1]:
+        if not node or size * SECTOR != self.device.size or any(before) and not label_of(image)[1]:
             return None
-        found.identity = (nodes[0].value(b"id", bytes) or b"").decode("ascii", "replace")
+        found.identity = (node.value(b"id", bytes) or b"").decode("ascii", "replace")
         return found
 
 
