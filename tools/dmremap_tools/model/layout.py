@@ -164,8 +164,10 @@ class Layout:
         maker = LAYERS.get(kind.partition(b"+RESHAPE")[0])
         if maker is None:
             legs = [self.path(leg) for leg, _ in areas_of(segment) if leg in self.group.volumes]
-            way = f"save {legs[0]}, or if it was in sync {' or '.join(legs[1:])}" if len(legs) > 1 else NEXT
-            raise Refusal(self.path(name), f"its {which} is of type {shown(kind)}, which isn't followed: {way}")
+            what = f"its {which} is of type {shown(kind)}, which isn't followed"
+            if len(legs) > 1:
+                raise Refusal(self.path(name), f"{what}: save {legs[0]}, or if it was in sync {' or '.join(legs[1:])}")
+            raise Refusal(self.path(name), f"{what}: {NEXT}")
         size = length * SECTOR
         device = Deferred(self.path(name), size, functools.partial(maker, self, self.path(name), segment, size))
         return tables.Line(first, length, "linear", [self.tables.disk(device), "0"])
