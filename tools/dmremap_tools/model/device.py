@@ -8,7 +8,7 @@ import functools
 import itertools
 import os
 from array import array
-from typing import Any, Callable, Iterator, List, NamedTuple, Optional, Sequence, Tuple, TypeVar
+from typing import Any, Callable, Dict, Iterable, Iterator, List, NamedTuple, Optional, Sequence, Tuple, TypeVar
 
 from dmremap_tools.base import disk_image, quoting, streams, written
 from dmremap_tools.base.numbers import SECTOR
@@ -175,17 +175,53 @@ class Copies(Device):
         return next((copy for copy in self._copies if copy.lack(0, self.size) is None), self._copies[0])
 
     def _extents(self, start: int, size: int) -> Iterator[Extent]:
-        return self._best(self._copies, start, size)
+        return copied([(copy, start) for copy in self._copies], size)
 
-    def _best(self, copies: Sequence[Device], start: int, size: int) -> Iterator[Extent]:
-        """The extents of the first copy, and of the next ones where it lacks bytes."""
-        is_last = len(copies) == 1 or copies[0].lack(start, size) is None
-        for extent in copies[0].extents(start, size):
-            if is_last or extent.source.lack(extent.start, extent.size) is None:
-                yield extent
+
+def copied(copies: Sequence[Tuple[Device, int]], size: int) -> Iterator[Extent]:
+    """The extents of so many bytes of the first copy, and of the next ones where it lacks some. Each is a device, and
+    where the bytes begin in it."""
+    (device, start), *others = copies
+    is_last = not others or device.lack(start, size) is None
+    done = 0
+    for extent in device.extents(start, size):
+        if is_last or extent.source.lack(extent.start, extent.size) is None:
+            yield extent
+        else:
+            yield from copied([(other, at + done) for other, at in others], extent.size)
+        done += extent.size
+
+
+class Agreed(Device):
+    """Bytes that several devices have, where these are the same; `why` is said of those that aren't."""
+
+    def __init__(self, name: str, sides: Sequence[Device], why: str) -> None:
+        super().__init__(name, min(side.size for side in sides))
+        self._sides, self._why, self._known = sides, why, {}  # type: Sequence[Device], str, Dict[int, List[Run]]
+
+    def _extents(self, start: int, size: int) -> Iterator[Extent]:
+        for number, offset, count in blocks_of(start, size, BLOCK):
+            if number not in self._known:
+                begin = number * BLOCK
+                self._known[number] = joint(self._differing(begin, min(begin + BLOCK, self.size)))
+            at = number * BLOCK + offset
+            yield from Part(self.name, self._sides[0], 0, self.size, self._known[number], self._why).extents(at, count)
+
+    def _differing(self, begin: int, end: int) -> Iterator[Run]:
+        """The sectors of some bytes that aren't the same on all sides, or can't be read there."""
+        try:
+            contents = [side.read(begin, end - begin) for side in self._sides]
+        except (Gap, OSError):
+            middle = begin + max((end - begin) // 2 // SECTOR, 1) * SECTOR
+            if middle < end:
+                yield from self._differing(begin, middle)
+                yield from self._differing(middle, end)
             else:
-                yield from self._best(copies[1:], start, extent.size)
-            start += extent.size
+                yield begin, end
+            return
+        for at in range(0, end - begin, SECTOR if contents.count(contents[0]) < len(contents) else end - begin):
+            if len({content[at:at + SECTOR] for content in contents}) > 1:
+                yield begin + at, begin + at + SECTOR
 
 
 class Image(Device):
@@ -276,6 +312,15 @@ def cut(runs: Sequence[AnyRun], start: int, end: int) -> Iterator[Tuple[int, int
             start = min(run[1], end)
     if start < end:
         yield start, end, None
+
+
+def joint(runs: Iterable[Run]) -> List[Run]:
+    """Some runs in their order, with those that meet in one."""
+    found: List[Run] = []
+    for begin, end in sorted(runs):
+        last = found.pop() if found and begin <= found[-1][1] else (begin, begin)
+        found.append((last[0], max(last[1], end)))
+    return found
 
 
 def blocks_of(start: int, size: int, block: int) -> Iterator[Tuple[int, int, int]]:

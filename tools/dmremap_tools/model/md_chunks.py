@@ -225,6 +225,15 @@ class Computed(Device):
         except Gap as gap:
             return gap.why
 
+    def _extents(self, start: int, size: int) -> Iterator[Extent]:
+        """In parts, as of a chunk some sectors may be computed and others not."""
+        for part in self._rows.parts(start, size):
+            try:
+                self._gone(*part)
+                yield Extent(self, *part[1:])
+            except Gap as gap:
+                yield Extent(device.Missing(gap.why), 0, part[2])
+
     def load(self, start: int, size: int) -> bytes:
         return b"".join(self._solved(*part) for part in self._rows.parts(start, size))
 

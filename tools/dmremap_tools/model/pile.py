@@ -11,7 +11,7 @@ from dmremap_tools.base.refusal import Refusal
 from dmremap_tools.model import mapping, md_superblock, physical_volume
 from dmremap_tools.model.device import Device, Image, Lenient, Part, Run
 from dmremap_tools.model.groups import REMOVED, Group, Texts, Volume, same_id
-from dmremap_tools.model.md_array import Array
+from dmremap_tools.model.md_array import Array, put_together
 from dmremap_tools.model.md_superblock import Member
 from dmremap_tools.model.physical_volume import PhysicalVolume
 
@@ -171,7 +171,7 @@ class Pile:
         """Puts the arrays together, and looks at them in turn, as one may be a member of another."""
         for level in range(MOST_LEVELS + 1):
             for identity in list(self._members)[len(self.arrays):]:
-                array = Array(self._members[identity])
+                array = put_together(self._members[identity])
                 self.arrays.append(array)
                 if level == MOST_LEVELS:
                     array.give_up(NESTED)
