@@ -33,6 +33,10 @@ class Gap(Refusal):
     """Bytes that aren't there: their image is missing, ends before them, or can't be read."""
 
 
+class Doubt(str):
+    """Why nobody can be sure of bytes that are there."""
+
+
 class Device:
     """So many bytes; messages call them `name`. Most lie in other devices; a source reads or computes its own."""
 

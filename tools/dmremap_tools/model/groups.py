@@ -10,7 +10,7 @@ from dmremap_tools.base.config_text import shown
 from dmremap_tools.base.disk_image import file_system_of
 from dmremap_tools.base.numbers import SECTOR
 from dmremap_tools.base.refusal import Refusal
-from dmremap_tools.model.device import Device, Lenient, Missing
+from dmremap_tools.model.device import Device, Doubt, Lenient, Missing
 from dmremap_tools.model.layout import Layout, Use
 from dmremap_tools.model.mapping import INVALID_SNAPSHOT, NoProgram
 from dmremap_tools.model.physical_volume import PhysicalVolume, Text
@@ -166,7 +166,7 @@ def state_of(side: Layout) -> Tuple[str, List[str]]:
         why = device.lack(0, start * SECTOR + count * side.extent)
         if why is not None:
             notes.append(f"{shown(key)}: {why}")
-            if state != LACKING:
+            if state != LACKING and not isinstance(why, Doubt):
                 state = LACKING if isinstance(device, Missing) else TRUNCATED
     return state, notes
 
@@ -205,7 +205,7 @@ class Texts:
         here = [volume for volume in self._volumes if volume.identity == identity]
         believed = [volume for volume in here if not volume.doubt]
         if len(believed) == 1:
-            return believed[0].device
+            return believed[0].data
         if not here:
             return Missing(f"the physical volume {identity} isn't in these images: give the image that has it")
         both = " and ".join(volume.place for volume in believed)

@@ -7,7 +7,8 @@ from dmremap_tools.base import quoting
 from dmremap_tools.base.numbers import SECTOR
 from dmremap_tools.base.refusal import Refusal
 from dmremap_tools.model import md_chunks, md_superblock
-from dmremap_tools.model.device import Agreed, Copies, Device, Extent, Missing, Part, Run, blocks_of, copied, cut, joint
+from dmremap_tools.model.device import (Agreed, Copies, Device, Doubt, Extent, Missing, Part, Run, blocks_of, copied,
+                                        cut, joint)
 from dmremap_tools.model.mapping import Mapped, Tables
 from dmremap_tools.model.md_superblock import Member, level_name
 
@@ -30,7 +31,7 @@ def put_together(members: Sequence[Member]) -> "Array":
     if not others:
         return first
     sides = [" and ".join(each.device.name for each in side.members) for side in (first, *others)]
-    why, devices = APART.format(" or ".join(sides)), [side.device for side in (first, *others)]
+    why, devices = Doubt(APART.format(" or ".join(sides))), [side.device for side in (first, *others)]
     first.device, first.apart = Agreed(first.label, devices, why) if all(devices) else None, why
     first.why = None if first.device else why
     for side in others:
@@ -173,7 +174,7 @@ class Array(md_chunks.Members):
 
     def unsynced(self, role: Optional[int]) -> str:
         """Why bytes that may not have been copied from a member aren't known."""
-        return UNSYNCED.format(role, self.label)
+        return Doubt(UNSYNCED.format(role, self.label))
 
     def length(self, member: Member) -> int:
         """The sectors of a member that are the array's."""

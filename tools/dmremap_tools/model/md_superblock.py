@@ -4,7 +4,7 @@ is believed that its sum doesn't confirm, or that says that it lies elsewhere.""
 import functools
 import itertools
 import struct
-from typing import Iterator, List, NamedTuple, Optional, Tuple
+from typing import Iterator, List, NamedTuple, Optional, Sequence, Tuple
 
 from dmremap_tools.base import streams
 from dmremap_tools.base.disk_image import Image, Unreadable
@@ -33,6 +33,8 @@ BITMAP_FORM, BITMAP_MAGIC, BITMAP_STALE, BITS_AT = struct.Struct("<4s4x16sQ8xQLL
 MOST_BITS = 1 << 25
 # Version 0.90: it lies in the last 64 KiB of a member that begin at a multiple of that, and has the bytes of a page.
 OLD, OLD_ROOM, OLD_MINOR, OLD_RESHAPING = "0.90", 1 << 16, 90, 91
+# The versions that lie behind their data, which begins where the member does.
+AT_END = (OLD, "1.0")
 # The word where it says what the device itself is, and the bits there that say whether it has all data.
 OLD_SELF, OLD_ACTIVE, OLD_FAULTY = 992, 0b110, 0b1001
 MOST_DEVICES = 4096
@@ -69,13 +71,20 @@ def damaged(image: Image, size: Optional[int] = None) -> List[int]:
     return [at for at, _, found in _found(image, image.size if size is None else size) if not found]
 
 
-def members_in(device: Device) -> Tuple[List[Member], List[int], List[Tuple[int, bytes]]]:
-    """The members that a device is by sound superblocks of versions 1.x; where one of version 0.90 begins; and where
-    any of 1.x does, with the id of its array. The last of them is in force."""
+def found_in(device: Device) -> Tuple[List[Superblock], List[Tuple[int, bytes]]]:
+    """The sound superblocks of a device; and where something begins as one and isn't sound, with the id of its array."""
     found = list(_found(Lenient(device), device.size))
-    old = [at for at, content, _ in found if content[4:8] == bytes(4)]
-    first = [(at, content[16:32]) for at, content, _ in found if content[4:8] != bytes(4)]
-    return [Member(device, each) for _, _, each in found if each and each.version != OLD], old, first
+    return [each for _, _, each in found if each], [(at, content[16:32]) for at, content, each in found if not each]
+
+
+def outermost(found: Sequence[Superblock], size: int) -> List[Superblock]:
+    """Of the sound superblocks of a device of so many bytes the one that owns it, or those of which nothing tells
+    which one does. One whose data is longer than the device, or ends before a superblock at the end of it, belongs to
+    what is made of the device."""
+    fitting = [each for each in found if each.start + each.length <= size // SECTOR] or list(found)
+    last = max((each for each in fitting if each.version in AT_END), key=lambda each: each.at, default=None)
+    return [each for each in fitting
+            if last is None or each is last or each.version in AT_END or (each.start + each.length) * SECTOR > last.at]
 
 
 def unsynced(member: Member, resync: int) -> List[Tuple[int, int]]:
@@ -115,7 +124,9 @@ def _found(image: Image, size: int) -> Iterator[Tuple[int, bytes, Optional[Super
     sectors = size // SECTOR
     for version, sector in (("1.0", (sectors - 16) & ~7), ("1.1", 0), ("1.2", 8)):
         content = _read(image, sector * SECTOR) if sector >= 0 else b""
-        if content[:8] == struct.pack("<LL", MAGIC, 1):
+        # One that is sound, and says that it lies elsewhere, is that of a device that begins elsewhere, as of the last
+        # partition.
+        if content[:8] == struct.pack("<LL", MAGIC, 1) and not (version == "1.0" and _is_of_another(content, sector)):
             yield sector * SECTOR, content, _first_version(content, version, sector)
     at = size // OLD_ROOM * OLD_ROOM - OLD_ROOM
     content = _read(image, at) if at >= 0 else b""
@@ -145,17 +156,32 @@ def _sum(content: bytes, order: str) -> int:
     return (total & 0xFFFFFFFF) + (total >> 32) & 0xFFFFFFFF
 
 
-def _first_version(content: bytes, version: str, sector: int) -> Optional[Superblock]:
-    """A superblock of version 1.x at this sector of a member, or None where it isn't sound."""
+def _is_of_another(content: bytes, sector: int) -> bool:
+    """Whether a superblock of version 1.0 at this sector has a sound sum, and says that it lies elsewhere."""
+    place = _summed(content)
+    return place is not None and place != sector
+
+
+def _summed(content: bytes) -> Optional[int]:
+    """The sector at which a superblock of version 1.x says that it lies, or None where its sum is wrong."""
     if len(content) < FIRST.size:
         return None
-    (features, array, name, level, layout, used, chunk, count, bitmap, start, length, belongs, filled, number, shift,
-     log_size, log_offset, events, resync, stored, most) = FIRST.unpack_from(content)
-    size = FIRST.size + 2 * most
+    fields = FIRST.unpack_from(content)
+    size = FIRST.size + 2 * fields[-1]
     summed = content[:SUM_AT] + bytes(4) + content[SUM_AT + 4:size]
+    is_sound = fields[-1] <= MOST_ROLES and len(content) >= size and _sum(summed, "<") == fields[-2]
+    return fields[11] if is_sound else None
+
+
+def _first_version(content: bytes, version: str, sector: int) -> Optional[Superblock]:
+    """A superblock of version 1.x at this sector of a member, or None where it isn't sound."""
+    if _summed(content) != sector:
+        return None
+    (features, array, name, level, layout, used, chunk, count, bitmap, start, length, _, filled, number, shift,
+     log_size, log_offset, events, resync, _, most) = FIRST.unpack_from(content)
+    size = FIRST.size + 2 * most
     is_placed = start >= sector + -(-size // SECTOR) if version != "1.0" else start + length <= sector
-    if most > MOST_ROLES or len(content) < size or _sum(summed, "<") != stored or belongs != sector or not is_placed \
-            or not 0 < count <= MOST_DEVICES or start + length > 1 << 55:
+    if not is_placed or not 0 < count <= MOST_DEVICES or start + length > 1 << 55:
         return None
     roles = struct.unpack_from(f"<{most}H", content, FIRST.size)
     role = roles[number] if number < most and roles[number] < NO_PLACE else None

@@ -18,7 +18,7 @@ from dmremap_tools.base import disk_image, quoting, streams
 from dmremap_tools.base.config_text import Document, Node, shown
 from dmremap_tools.base.numbers import SECTOR
 from dmremap_tools.base.refusal import Refusal
-from dmremap_tools.model.device import Device, Image, Lenient, Part, Run
+from dmremap_tools.model.device import ALL, Device, Image, Lenient, Part, Run
 
 LABEL, TYPE, LABEL_SECTORS = b"LABELONE", b"LVM2 001", 4
 MAGIC, VERSION, INITIAL = b" LVM2 x[5A%r0N*>", 1, 0xF597A6CF
@@ -244,8 +244,8 @@ def older_texts(image: disk_image.Image) -> List[Text]:
 
 
 class PhysicalVolume:
-    """A device with a label. `faults` says what is wrong with its metadata areas, and `doubt` why its bytes aren't
-    believed. `unread` has what these areas say of texts that can't be read, and `told` the same of current texts, by
+    """A device with a label. `faults` says what is wrong with its metadata areas, `doubt` why it isn't believed to be
+    this physical volume at all, and `question` why nobody can be sure of its bytes. `unread` has what these areas say of texts that can't be read, and `told` the same of current texts, by
     their keys: how many bytes they have, and their sum."""
 
     def __init__(self, device: Device, label: Label, start: int) -> None:
@@ -254,6 +254,7 @@ class PhysicalVolume:
         self._image = Lenient(device)
         self.faults: List[str] = []
         self.doubt: Optional[str] = None
+        self.question: Optional[str] = None
         self.current: List[Text] = []
         self.unread: List[bytes] = []
         self.told: Dict[bytes, bytes] = {}
@@ -269,6 +270,13 @@ class PhysicalVolume:
             elif fault != EMPTY:
                 self.faults.append(f"the metadata area at byte {at}: {fault}")
                 self.unread += [told] if told else []
+
+    @property
+    def data(self) -> Device:
+        """Its bytes, if nothing puts them in question."""
+        if self.question is None:
+            return self.device
+        return Part(self.place, self.device, 0, self.device.size, [(0, ALL)], self.question)
 
     @functools.cached_property
     def older(self) -> List[Text]:

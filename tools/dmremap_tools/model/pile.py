@@ -2,30 +2,47 @@
 
 from typing import Dict, List, NamedTuple, Optional, Sequence, Tuple
 
-from dmremap_tools.base import quoting
+from dmremap_tools.base import quoting, signatures
 from dmremap_tools.base.disk_image import file_system_of
-from dmremap_tools.base.luks_header import Container, container_in
+from dmremap_tools.base.luks_header import SECOND_ALONE, Container, container_in
 from dmremap_tools.base.numbers import SECTOR
 from dmremap_tools.base.partition_table import Table, backup_of, table_of
 from dmremap_tools.base.refusal import Refusal
 from dmremap_tools.model import mapping, md_superblock, physical_volume
-from dmremap_tools.model.device import Device, Image, Lenient, Part, Run
+from dmremap_tools.base.signatures import Signature
+from dmremap_tools.model.device import Device, Doubt, Image, Lenient, Part, Run
 from dmremap_tools.model.groups import REMOVED, Group, Texts, Volume, same_id
 from dmremap_tools.model.md_array import Array, put_together
-from dmremap_tools.model.md_superblock import Member
+from dmremap_tools.model.md_superblock import AT_END, MIRRORED, OLD, Member, Superblock
 from dmremap_tools.model.physical_volume import PhysicalVolume
 
+# A disk of a controller is at most by this part longer than what a volume has of it. Before this byte a physical volume
+# has no data.
+SLACK, FIRST_DATA = 20, 1 << 13
 NOTHING, SCAN, BIG_SECTOR = "nothing is found in it", "`scan` lists what is there", 4096
 # The most disks, partitions and arrays that are looked at, and the most levels of arrays that are members of others.
 MOST_SPOTS, MOST_LEVELS = 1 << 13, 8
 MANY = f"no more than {MOST_SPOTS} disks, partitions and arrays are looked at: give fewer images"
 NESTED = (f"its members lie on arrays in {MOST_LEVELS} levels, and no more are followed: assemble it with mdadm "
           "--readonly")
-OLD = "a member of an md array with metadata 0.90, which isn't followed: assemble copies with mdadm --readonly"
+OLD_MEMBER = "a member of an md array with metadata 0.90, which isn't followed: assemble copies with mdadm --readonly"
 DAMAGED = ("its md superblock at byte {} is damaged: give the other members alone, or of a mirror this image alone, or "
            "make the array anew on copies (mdadm --create --assume-clean)")
 MAY_BE_NEWER = ("it lacks members, and {} may be one with newer data, as its md superblock is damaged: leave that out "
                 "to take what is here")
+FOREIGN = ("a signature of {} at byte {} says that something has these bytes that isn't followed: put that together and "
+           "give its device, or, if the signature is only left over, take it out of a copy (wipefs --offset {:#x} COPY)")
+TWO_OWNERS = ("{} has sound md superblocks of several arrays, which nothing tells apart: take the one that is older out of "
+              "a copy (mdadm --zero-superblock --metadata)")
+TABLE_TOO = ("there are both an md superblock and a partition table ({}): name {} to take the partition, or {} to take the "
+             "array")
+TABLE_OVER_LABEL = ("the disk has a partition table ({}) as well, which was made later, so that others may have written "
+                    "there: to take it as it was, take the table out of a copy (dd if=/dev/zero of=COPY count=1 "
+                    "conv=notrunc)")
+OLDER_ARRAY = ("a member of {}, whose member {} has a partition table since: leave that out to take the array without it")
+AS_ANOTHER = "partition {} begins at the same byte and has it all, so that it is told there"
+STRIPES = ("the physical volume in it says that it has {} bytes, where this is a disk of {}, which seems to be one of the "
+           "stripes of a controller: give an image of the controller's volume, or of the whole disk if it was cut off")
 ONE_MEMBER = ("{} has {} bytes, and the physical volume in it {}: it seems to be one member of an array whose md "
               "superblock is lost, or is cut off: give the whole disk, or all members with their superblocks")
 
@@ -69,6 +86,10 @@ class Pile:
         self._members: Dict[bytes, List[Member]] = {}
         # Members with damaged superblocks, and the ids that these give their arrays.
         self._damaged: List[Tuple[Spot, bytes]] = []
+        # Disks that were members of arrays before they had a partition table, by the ids of these.
+        self._left: Dict[bytes, Spot] = {}
+        # Why nobody can be sure of what lies on a device; and who else says that it has it.
+        self._questions: Dict[Device, str] = {}
         self.spot_of: Dict[Device, Spot] = {}
         self._unknown: List[Spot] = []
         images: Dict[object, Image] = {}
@@ -78,13 +99,13 @@ class Pile:
         for image in images.values():
             if image.other_form or not image.size:
                 self._say(Spot(image, image), "foreign", image.other_form or "it is empty")
-            elif not self._is_member(Spot(image, image)):
-                self._look_into(Spot(image, image))
+            else:
+                self._look_at(Spot(image, image))
         self._assemble()
         if not self.arrays:
             # A half of a mirror alone has all data.
             for spot, _ in self._damaged:
-                self._look_into(spot)
+                self._look_into(spot, table_in(spot.device, known_in(spot.device)))
         self._group()
         # What isn't known may be the other half of a mirror, with newer data.
         if any(array.device and array.may_be_old for array in self.arrays):
@@ -96,6 +117,7 @@ class Pile:
         for spot in waiting:
             for volume in physical_volume.volumes_within(spot.image):
                 inner = self.spot_of[volume.device] = Spot(volume.device, spot.image)
+                volume.question = self._question_of(spot)
                 self.volumes.append(volume)
                 self.found = [found for found in self.found if found.spot is not spot]
                 self._say(inner, "physical volume", f"found at byte {volume.start} by looking through the whole image")
@@ -112,6 +134,10 @@ class Pile:
         for volume in cut:
             if volume.start or volume.identity in on_arrays or volume.device in damaged:
                 volume.doubt = ONE_MEMBER.format(volume.place, volume.device.size, volume.size)
+        for volume in self.volumes:
+            image, end = self.spot_of[volume.device].image, place_of(volume.device) + volume.size
+            if image and volume.question is None and self._is_striped(image, end):
+                volume.question = STRIPES.format(volume.size, image.size)
         self.groups = list(Texts(self.volumes).groups())
 
     def spots(self) -> List[Spot]:
@@ -122,69 +148,175 @@ class Pile:
     def _say(self, spot: Spot, what: str, note: str = "") -> None:
         self.found.append(Found(spot, what, note))
 
-    def _look_into(self, spot: Spot) -> None:
-        """Looks at what is no member: a disk with partitions is these."""
-        known = known_in(spot.device)
-        table = None if known in ("luks", "lvm2") else table_in(spot.device, known)
-        if not table:
-            self._recognise(spot, known)
-            return
-        self.tables[spot.device] = table
-        for number, device in table.partitions.items():
-            inner = Spot(device, spot.image, number)
-            if not self._is_member(inner):
-                self._recognise(inner, known_in(inner.device))
+    def _is_striped(self, image: Image, end: int) -> bool:
+        """Whether something on a disk that ends at this byte seems to be on several such disks: if it is about as long
+        as some of them, or longer than this one, where another one of that length has nothing that is known."""
+        times = -(-end // image.size)
+        is_multiple = times > 1 and end > times * image.size - times * image.size // SLACK
+        alike = (spot.image for spot in self._unknown if spot.image is not image)
+        return end > image.size and (is_multiple or any(other.size == image.size for other in alike))
 
-    def _is_member(self, spot: Spot) -> bool:
-        """Whether it is a member of an array, which is looked into no more."""
+    def _question_of(self, spot: Spot) -> Optional[str]:
+        """Why nobody can be sure of what lies on a device, or on what it lies on."""
+        device: Optional[Device] = spot.device
+        while device and device not in self._questions:
+            device = device.lower if isinstance(device, Part) else None
+        return self._questions[device] if device else None
+
+    def _look_at(self, spot: Spot) -> None:
+        """Says what a device is, from the outside in: a member of an array, a disk with partitions, or what lies on
+        it. Where both a superblock and a table say that it is theirs, the one that fits has it."""
         if len(self.spot_of) >= MOST_SPOTS:
-            raise Refusal(spot.device.name, MANY)
+            self._say(spot, "foreign", MANY)
+            return
         self.spot_of[spot.device] = spot
-        members, old, damaged = md_superblock.members_in(spot.device)
-        if members:
-            self._members.setdefault(members[-1].superblock.array, []).append(members[-1])
-        elif old:
-            self._say(spot, "md member", OLD)
-        elif damaged:
-            self._damaged.append((spot, damaged[-1][1]))
+        device, known = spot.device, known_in(spot.device)
+        found, damaged = md_superblock.found_in(device)
+        owners = md_superblock.outermost(found, device.size)
+        table = table_in(device, known) if known != "luks" and not spot.partition else None
+        if owners and table:
+            of_table = self._is_of_table(owners[0], device, table)
+            if of_table:
+                self._left.update((each.array, spot) for each in owners)
+                owners = []
+            elif of_table is None:
+                kind, numbers = table.kind, [f"{spot.place}:{number}" for number in table.partitions]
+                array = Array([Member(device, owners[0])]).label
+                self._questions[device] = Doubt(TABLE_TOO.format(kind, quoting.some(numbers, " or "), array))
+                self._look_into(spot, table)
+            else:
+                table = None
+        foreign = [each for each in self._foreign(spot) if not covers(device, owners, table, each.at)]
+        if foreign:
+            each = foreign[0]
+            self._questions[device] = Doubt(FOREIGN.format(each.kind, each.at, each.at))
+        if not owners and not damaged:
+            self._look_into(spot, table)
+        for superblock in owners:
+            if superblock.version == OLD:
+                self._say(spot, "md member", OLD_MEMBER)
+            else:
+                self._members.setdefault(superblock.array, []).append(Member(device, superblock))
+            if len(owners) > 1:
+                self._questions[device] = Doubt(TWO_OWNERS.format(device.name))
+        if damaged and not owners:
+            if any(identity for _, identity in damaged):
+                self._damaged.append((spot, damaged[-1][1]))
             self._say(spot, "md member", DAMAGED.format(damaged[-1][0]))
-        return bool(members or old or damaged)
 
-    def _recognise(self, spot: Spot, known: Optional[str]) -> None:
+    def _foreign(self, spot: Spot) -> List[Signature]:
+        """Who else says that a device is theirs."""
+        found = signatures.signatures_in(Lenient(spot.device))
+        if spot.device is spot.image:
+            found += signatures.asked_of(spot.image.path)
+        return sorted(set(found), key=lambda each: each.at)
+
+    def _is_of_table(self, superblock: Superblock, device: Device, table: Table) -> Optional[bool]:
+        """Whether a device with a superblock and a partition table is the table's, or None if nothing tells."""
+        ends = [table.end or 0] + [part.start + part.size for part in table.partitions.values()]
+        if superblock.version in AT_END:
+            # A table of the array itself ends where that does.
+            return superblock.at < max(ends) <= device.size
+        volumes = {part: physical_volume.label_of(Lenient(part))[0] for part in table.partitions.values()}
+        fitting = [part for part, label in volumes.items() if label and label.size == part.size]
+        begin, size = superblock.start * SECTOR, superblock.length * SECTOR
+        if all((part.start, part.size) == (begin, size) for part in fitting) and superblock.level == MIRRORED:
+            fitting = []
+        if fitting or begin + size > device.size:
+            return True
+        return None if any(volumes.values()) and superblock.level != MIRRORED else False
+
+    def _look_into(self, spot: Spot, table: Optional[Table]) -> None:
+        """Looks at what is no member: a disk with partitions is these."""
+        label = physical_volume.label_of(Lenient(spot.device))[0] if table and not table.fault else None
+        if not table or label:
+            question = Doubt(TABLE_OVER_LABEL.format(table.kind)) if table else None
+            self._recognise(spot, known_in(spot.device), question)
+        if table:
+            self.tables[spot.device] = table
+            longest: Dict[int, Tuple[int, int]] = {}
+            for number, part in table.partitions.items():
+                longest[part.start] = max(longest.get(part.start, (0, 0)), (part.size, -number))
+            for number, part in table.partitions.items():
+                other = -longest[part.start][1]
+                if other == number:
+                    self._look_at(Spot(part, spot.image, number))
+                else:
+                    self._say(Spot(part, spot.image, number), "foreign", AS_ANOTHER.format(other))
+
+    def _recognise(self, spot: Spot, known: Optional[str], question: Optional[str] = None) -> None:
         """Says what a device is that has no partitions and is no member."""
-        container = container_in(Lenient(spot.device))
-        volume = None if container else physical_volume.volume_in(spot.device)
-        if container:
+        container, volume = container_in(Lenient(spot.device)), physical_volume.volume_in(spot.device)
+        if container and (container.fault != SECOND_ALONE or not volume and not known):
             self.containers.append((spot, container))
             self._say(spot, f"LUKS{container.version}", container.fault or "")
         elif volume:
+            volume.question = question or self._question_of(spot)
             self.volumes.append(volume)
-            self._say(spot, "physical volume", "; ".join(volume.faults))
+            self._say(spot, "physical volume", "; ".join(volume.faults + ([volume.question] if volume.question else [])))
         elif known:
-            self._say(spot, known)
+            self._say(spot, known, self._question_of(spot) or "")
         else:
-            self._say(spot, "unknown", "; ".join(physical_volume.label_of(Lenient(spot.device))[1]) or NOTHING)
+            faults = physical_volume.label_of(Lenient(spot.device))[1]
+            self._say(spot, "unknown", self._question_of(spot) or "; ".join(faults) or NOTHING)
             if spot.image and not spot.partition:
                 self._unknown.append(spot)
 
     def _assemble(self) -> None:
-        """Puts the arrays together, and looks at them in turn, as one may be a member of another."""
+        """Puts the arrays together and looks at them, again if one turns out to be a member of another."""
+        made: Dict[bytes, Array] = {}
         for level in range(MOST_LEVELS + 1):
-            for identity in list(self._members)[len(self.arrays):]:
-                array = put_together(self._members[identity])
-                self.arrays.append(array)
+            known = {identity: len(array.members) for identity, array in made.items()}
+            for identity in [each for each, members in self._members.items() if known.get(each) != len(members)]:
+                if identity in made:
+                    self._forget(made[identity].device)
+                array = made[identity] = put_together(self._members[identity])
                 if level == MOST_LEVELS:
                     array.give_up(NESTED)
                 newer = [spot for spot, other in self._damaged if other == identity or other not in self._members]
                 if newer and array.device and array.may_be_old:
                     array.give_up(MAY_BE_NEWER.format(newer[0].device.name))
-                if array.device and not self._is_member(Spot(array.device, None)):
-                    self._look_into(Spot(array.device, None))
+                if array.device:
+                    whys = (self._question_of(self.spot_of[member.device]) for member in array.members)
+                    question = next(filter(None, whys), None)
+                    self._questions.update({array.device: question} if question else {})
+                    self._look_at(Spot(array.device, None))
+        self.arrays = list(made.values())
+        for identity, spot in self._left.items():
+            if identity in made and self._is_bare(made[identity]):
+                self._let_go(made[identity], spot)
+
+    def _forget(self, device: Optional[Device]) -> None:
+        """Takes back what was found on the device of an array."""
+        def is_elsewhere(other: Device) -> bool:
+            return other is not device and (not isinstance(other, Part) or is_elsewhere(other.lower))
+        self.found = [found for found in self.found if is_elsewhere(found.spot.device)]
+        self.volumes = [volume for volume in self.volumes if is_elsewhere(volume.device)]
+        self.containers = [each for each in self.containers if is_elsewhere(each[0].device)]
+        self._damaged = [each for each in self._damaged if is_elsewhere(each[0].device)]
+        self.spot_of = {other: spot for other, spot in self.spot_of.items() if is_elsewhere(other)}
+        for members in self._members.values():
+            members[:] = [member for member in members if is_elsewhere(member.device)]
+
+    def _is_bare(self, array: Array) -> bool:
+        """Whether nothing is found in an array."""
+        return array.device is None or any(found.spot.device is array.device and found.what == "unknown"
+                                           for found in self.found)
+
+    def _let_go(self, array: Array, spot: Spot) -> None:
+        """Tells an array no more in which there is nothing, and of which a member was taken for something else."""
+        self.arrays.remove(array)
+        self._forget(array.device)
+        for member in array.members:
+            self._say(self.spot_of[member.device], "md member", OLDER_ARRAY.format(array.label, spot.device.name))
 
     def target(self, name: str) -> Target:
         """What a name means. One that means nothing, or several things, is refused, with what to say instead."""
         device, shown = self.device_named(name), quoting.shown(name)
         if device:
+            question = self._question_of(Spot(device.lower, None)) if isinstance(device, Part) else None
+            if question and name not in question:
+                raise Refusal(shown, question)
             try:
                 path = quoting.shown(self._volume_named(name).path)
             except Refusal:
@@ -258,6 +390,23 @@ def known_in(device: Device) -> Optional[str]:
     return "lvm2" if physical_volume.label_of(image)[0] else file_system_of(image)
 
 
+def place_of(device: Device) -> int:
+    """The byte of an image at which a part of it begins."""
+    return device.start + place_of(device.lower) if isinstance(device, Part) else 0
+
+
+def covers(device: Device, owners: Sequence[Superblock], table: Optional[Table], at: int) -> bool:
+    """Whether a byte lies in the midst of what is found to have it: the data of a member, of a partition or of a physical
+    volume, or a disk of which a GPT says how long it is."""
+    runs = [(each.start * SECTOR, (each.start + each.length) * SECTOR) for each in owners]
+    if table:
+        runs += [(part.start, part.start + part.size) for part in table.partitions.values()] + [(0, table.end or 0)]
+    label = physical_volume.label_of(Lenient(device))[0]
+    if label and not table:
+        runs.append((FIRST_DATA, label.size))
+    return any(begin <= at < end <= device.size for begin, end in runs)
+
+
 def table_in(device: Device, known: Optional[str]) -> Optional[Table]:
     """The partition table of a device, with these by their numbers. The backup of a GPT alone, without anything at the
     beginning that speaks of it, is one if nothing is known of the device itself, and an MBR, which has no sum, if then
@@ -273,7 +422,7 @@ def table_in(device: Device, known: Optional[str]) -> Optional[Table]:
         number: Part(f"{device.name}:{number}", device, start, size) for number, start, size in table.partitions})
         for table in found if table]
     for table in tables:
-        devices = table.partitions.values()
-        if table.kind != "MBR" or any(known_in(each) or md_superblock.members_in(each)[0] for each in devices):
+        devices = {each.start: each for each in table.partitions.values()}.values()
+        if table.kind != "MBR" or any(known_in(each) or md_superblock.found_in(each)[0] for each in devices):
             return table
-    return tables[0] if tables and not known else None
+    return tables[0] if tables and known in (None, "lvm2") else None
