@@ -6,9 +6,10 @@ import itertools
 import struct
 from typing import Iterator, List, NamedTuple, Optional, Sequence, Tuple
 
-from dmremap_tools.base import streams
+from dmremap_tools.base import partition_table, streams
 from dmremap_tools.base.disk_image import Image, Unreadable
 from dmremap_tools.base.numbers import SECTOR
+from dmremap_tools.base.refusal import Refusal
 from dmremap_tools.model.device import Device, Lenient
 
 MAGIC = 0xA92B4EFC
@@ -124,9 +125,8 @@ def _found(image: Image, size: int) -> Iterator[Tuple[int, bytes, Optional[Super
     sectors = size // SECTOR
     for version, sector in (("1.0", (sectors - 16) & ~7), ("1.1", 0), ("1.2", 8)):
         content = _read(image, sector * SECTOR) if sector >= 0 else b""
-        # One that is sound, and says that it lies elsewhere, is that of a device that begins elsewhere, as of the last
-        # partition.
-        if content[:8] == struct.pack("<LL", MAGIC, 1) and not (version == "1.0" and _is_of_another(content, sector)):
+        is_one = content[:8] == struct.pack("<LL", MAGIC, 1)
+        if is_one and not (version == "1.0" and _is_of_partition(image, content, sector)):
             yield sector * SECTOR, content, _first_version(content, version, sector)
     at = size // OLD_ROOM * OLD_ROOM - OLD_ROOM
     content = _read(image, at) if at >= 0 else b""
@@ -156,10 +156,14 @@ def _sum(content: bytes, order: str) -> int:
     return (total & 0xFFFFFFFF) + (total >> 32) & 0xFFFFFFFF
 
 
-def _is_of_another(content: bytes, sector: int) -> bool:
-    """Whether a superblock of version 1.0 at this sector has a sound sum, and says that it lies elsewhere."""
-    place = _summed(content)
-    return place is not None and place != sector
+def _is_of_partition(image: Image, content: bytes, sector: int) -> bool:
+    """Whether a superblock of version 1.0 at the end of a disk is that of a partition, by where it says that it lies."""
+    begin = (sector - (_summed(content) or sector)) * SECTOR
+    try:
+        tables = [partition_table.table_of(image, each) for each in partition_table.GPT_SECTORS] if begin > 0 else []
+    except Refusal:
+        return False
+    return any(begin == partition.start for table in tables if table for partition in table.partitions)
 
 
 def _summed(content: bytes) -> Optional[int]:

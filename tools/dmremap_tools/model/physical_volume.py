@@ -21,6 +21,8 @@ from dmremap_tools.base.refusal import Refusal
 from dmremap_tools.model.device import ALL, Device, Image, Lenient, Part, Run
 
 LABEL, TYPE, LABEL_SECTORS = b"LABELONE", b"LVM2 001", 4
+# Where the dashes of an id are among its letters.
+ID_CUTS = (0, 6, 10, 14, 18, 22, 26)
 MAGIC, VERSION, INITIAL = b" LVM2 x[5A%r0N*>", 1, 0xF597A6CF
 IGNORED, IN_USE = 1, 1
 # No more areas are read, and no longer ones.
@@ -28,7 +30,7 @@ MOST_AREAS, MOST_AREA = 4, 64 << 20
 # Where areas are looked for without a label: so many bytes at the beginning and at the end; and how many bytes are
 # searched for labels at once.
 SEARCHED = WINDOW = 4 << 20
-MISSING, EMPTY = "the image ends before it does", "it has no text"
+MISSING, EMPTY, NO_COPY = "the image ends before it does", "it has no text", "lvm2 keeps no text in it"
 # What a text begins with, after its group's name: the group's id, and the number of the text in that group.
 BEGINNING = re.compile(rb' \{\nid = "([^"\n]{0,64})"\nseqno = ([0-9]{1,10})\n')
 NAME, LONGEST_NAME, LONGEST_BEGINNING = re.compile(rb"[A-Za-z0-9_+.-]+\Z"), 127, 256
@@ -193,7 +195,7 @@ def area_at(image: disk_image.Image, start: int, size: int, end: int) -> Area:
         (size > MOST_AREA, f"it has {size} bytes, and no more than {MOST_AREA} are read"),
         (fault, fault),
         (ring > size, f"its header says that it has {ring} bytes, of which there are {size}"),
-        (flags & IGNORED, "lvm2 keeps no text in it"),
+        (flags & IGNORED, NO_COPY),
         (offset == 0 or length == 0, EMPTY),
         (not (SECTOR <= offset < ring and length <= ring - SECTOR), "its header names a place outside of it"))
     fault = next((why for is_so, why in faults if is_so), None)
@@ -267,7 +269,7 @@ class PhysicalVolume:
             if not fault:
                 self.current.append(text)
                 self.told.update({text.key(): told} if told else {})
-            elif fault != EMPTY:
+            elif fault not in (EMPTY, NO_COPY):
                 self.faults.append(f"the metadata area at byte {at}: {fault}")
                 self.unread += [told] if told else []
 
@@ -288,6 +290,22 @@ def volume_in(device: Device, start: int = 0) -> Optional[PhysicalVolume]:
     """The physical volume that a device is, which begins at a byte of its image, or None where no label is sound."""
     label = label_of(Lenient(device))[0]
     return PhysicalVolume(device, label, start) if label else None
+
+
+def headless_volume(device: Device) -> Optional[PhysicalVolume]:
+    """The physical volume that a device is whose label is lost, by a sound metadata area, which says where it lies, and
+    the only physical volume of its text that is as long as the device; or None."""
+    image = Lenient(device)
+    areas = [(at, size) for at, belongs, size, fault in search(image) if at == belongs and not fault]
+    for at, size in areas:
+        text = area_at(image, at, size, device.size).text
+        nodes = text.node().sections_in(b"physical_volumes") if text and text.group and not text.fault() else []
+        fitting = [node for node in nodes if node.value(b"dev_size", int) == device.size // SECTOR]
+        if len(fitting) == 1:
+            letters = (fitting[0].value(b"id", bytes) or b"").replace(b"-", b"")
+            identity = b"-".join(letters[begin:end] for begin, end in zip(ID_CUTS, [*ID_CUTS[1:], 32]))
+            return PhysicalVolume(device, Label(0, identity, device.size, areas[:MOST_AREAS], True), 0)
+    return None
 
 
 def volumes_within(image: Image) -> List[PhysicalVolume]:

@@ -40,6 +40,7 @@ TABLE_OVER_LABEL = ("the disk has a partition table ({}) as well, which was made
                     "there: to take it as it was, take the table out of a copy (dd if=/dev/zero of=COPY count=1 "
                     "conv=notrunc)")
 OLDER_ARRAY = ("a member of {}, whose member {} has a partition table since: leave that out to take the array without it")
+HEADLESS = "its label is lost, and its metadata area and its length say which one it is"
 AS_ANOTHER = "partition {} begins at the same byte and has it all, so that it is told there"
 STRIPES = ("the physical volume in it says that it has {} bytes, where this is a disk of {}, which seems to be one of the "
            "stripes of a controller: give an image of the controller's volume, or of the whole disk if it was cut off")
@@ -114,7 +115,15 @@ class Pile:
     def search(self) -> None:
         """Looks through the whole of the images in which nothing sound was found."""
         waiting, self._unknown, known = self._unknown, [], len(self.volumes)
+        labelled = {volume.identity for volume in self.volumes}
         for spot in waiting:
+            headless = physical_volume.headless_volume(spot.device)
+            if headless and headless.identity not in labelled:
+                headless.question = self._question_of(spot)
+                self.volumes.append(headless)
+                self.found = [found for found in self.found if found.spot is not spot]
+                self._say(spot, "physical volume", HEADLESS)
+                continue
             for volume in physical_volume.volumes_within(spot.image):
                 inner = self.spot_of[volume.device] = Spot(volume.device, spot.image)
                 volume.question = self._question_of(spot)
