@@ -29,7 +29,7 @@ from dmremap_tools.base.numbers import SECTOR
 from dmremap_tools.model.device import Device, Lenient
 from dmremap_tools.model.groups import WHOLE, Group, Volume
 from dmremap_tools.model.md_array import Array
-from dmremap_tools.model.pile import Pile, Spot
+from dmremap_tools.model.pile import Found, Pile, Spot
 
 EXAMPLE = "dmremap-tools scan disk1.img disk2.img /dev/sdc"
 Row = Dict[str, Any]
@@ -111,12 +111,14 @@ def volume_row(volume: Volume) -> Row:
 
 
 def lines_of(pile: Pile) -> Iterator[str]:
+    on = pile.found_on
     for spot in (spot for spot in pile.spots() if spot.device is spot.image):
         table, inner = pile.tables.get(spot.device), held_by(pile, spot.device)
         if table:
             count = f"{len(table.partitions)} partition" + "s" * (len(table.partitions) != 1)
             fault = f": {table.fault}" if table.fault else ""
-            yield f"{quoting.shown(spot.place)}: {table.kind}{COPIES.get(table.copy, '')}, {count}{fault}"
+            own = f"; and {what_is(pile, on, spot.device)}" if spot.device in on else ""
+            yield f"{quoting.shown(spot.place)}: {table.kind}{COPIES.get(table.copy, '')}, {count}{fault}{own}"
             yield from (f"  {line}" for line in inner)
         else:
             yield f"{quoting.shown(spot.place)}: {inner[0]}"
@@ -139,24 +141,23 @@ def lines_of(pile: Pile) -> Iterator[str]:
 
 def held_by(pile: Pile, device: Device) -> List[str]:
     """What lies on a device, in words: a line for each partition, or one for all of it."""
-    table = pile.tables.get(device)
+    table, found = pile.tables.get(device), pile.found_on
     if not table:
-        return [what_is(pile, device)]
-    return [f"{number}: {what_is(pile, partition)}" for number, partition in table.partitions.items()]
+        return [what_is(pile, found, device)]
+    return [f"{number}: {what_is(pile, found, partition)}" for number, partition in table.partitions.items()]
 
 
-def what_is(pile: Pile, device: Device) -> str:
+def what_is(pile: Pile, on: Dict[Device, List[Found]], device: Device) -> str:
     for array in pile.arrays:
         if any(member.device is device for member in [*array.by_role.values(), *array.stale]):
             return f"member of {array.label}"
     words: List[str] = []
-    for found in pile.found:
-        if found.spot.device is device or found.spot.image is device:
-            group = next((group.name for group in reversed(pile.groups) if found.spot.device.name in group.places), "")
-            without = " without a group" if found.what == "physical volume" else ""
-            what = found.what + (f" of {quoting.shown(group)}" if group else without)
-            is_noted = found.note and found.what != "unknown"
-            words.append(quoting.shown(f"{what}: {found.note}" if is_noted else found.note or what))
+    for found in on.get(device, ()):
+        group = next((group.name for group in reversed(pile.groups) if found.spot.device.name in group.places), "")
+        without = " without a group" if found.what == "physical volume" else ""
+        what = found.what + (f" of {quoting.shown(group)}" if group else without)
+        is_noted = found.note and found.what != "unknown"
+        words.append(quoting.shown(f"{what}: {found.note}" if is_noted else found.note or what))
     return "; ".join(words) or "looked into no more"
 
 

@@ -154,6 +154,15 @@ class Pile:
         others = [found.spot for found in self.found if found.spot.device not in self.spot_of]
         return [*self.spot_of.values(), *others]
 
+    @property
+    def found_on(self) -> Dict[Device, List[Found]]:
+        """What was found on each device. What looking through an image found is on that."""
+        found_on: Dict[Device, List[Found]] = {}
+        for found in self.found:
+            device, image, partition = found.spot
+            found_on.setdefault(device if partition or not image else image, []).append(found)
+        return found_on
+
     def _say(self, spot: Spot, what: str, note: str = "") -> None:
         self.found.append(Found(spot, what, note))
 
