@@ -191,7 +191,7 @@ def check_nested(tally, pile):
 def check_signatures(tally, pile):
     """Signatures of what nothing follows: what is found there is told, and refused; one in the midst of it says nothing."""
     for label, place, magic in (("DDF", -SECTOR, b"\xde\x11\xde\x11"), ("IMSM", -2 * SECTOR, b"Intel Raid ISM Cfg Sig. 1.1"),
-                                ("dm-integrity", 0, b"integrt\0"), ("bcache", 0x1018, bytes.fromhex("c68573f64e1a45ca8265f57f48ba6d81"))):
+                                ("dm-integrity", 0, b"integrt\0"), ("bcache", 0x1008, bytes.fromhex("0800000000000000 0100000000000000 c68573f64e1a45ca8265f57f48ba6d81"))):
         for where, content in (("", OLD + bytes(MIB)), (" below a table", with_mbr(bytes(8192 * SECTOR), (2048, OLD)))):
             if label == "bcache" and not where:
                 # It would lie on a metadata area.

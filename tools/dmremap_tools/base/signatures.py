@@ -3,10 +3,10 @@ are its own. Those that matter most are looked for here; where `wipefs` and `blk
 
 import json
 import shutil
-from typing import Iterator, List, NamedTuple
+from typing import Dict, Iterator, List, NamedTuple
 
 from dmremap_tools.base import program
-from dmremap_tools.base.disk_image import Image
+from dmremap_tools.base.disk_image import BCACHE, BCACHE_AT, BCACHE_SECTOR, Image
 from dmremap_tools.base.numbers import SECTOR
 from dmremap_tools.base.refusal import Refusal
 
@@ -25,15 +25,13 @@ KNOWN = [
     ("hpt37x_raid_member", b"\xfd\x16\x78\x5a", (9 * SECTOR + 32,)),
     ("DM_integrity", b"integrt\0", (0,)),
     ("DM_verity_hash", b"verity\0\0", (0,)),
-    ("bcache", b"\xc6\x85\x73\xf6\x4e\x1a\x45\xca\x82\x65\xf5\x7f\x48\xba\x6d\x81", (0x1018,)),
     ("vdo", b"dmvdo001", (0,)),
     ("stratis", b"!Stra0tis\x86\xff\x02^\x41rh", (SECTOR + 4, 9 * SECTOR + 4)),
     ("ceph_bluestore", b"bluestore block device", (0,))]
 # What others find: all members of what isn't md, and these.
 MEMBER, FOLLOWED = "_raid_member", "linux_raid_member"
-OTHERS = ("DM_integrity", "DM_verity_hash", "DM_snapshot_cow", "LVM1_member", "bcache", "ceph_bluestore", "drbd", "drbdmanage_control_volume",
-          "stratis", "ubi", "vdo", "VMFS_volume_member", "zfs_member", "BitLocker", "cs_fvault2")
-ENCODING = "utf-8", "surrogateescape"
+OTHERS = ("DM_integrity", "DM_verity_hash", "DM_snapshot_cow", "LVM1_member", "bcache", "ceph_bluestore", "drbd",
+          "drbdmanage_control_volume", "stratis", "ubi", "vdo", "VMFS_volume_member", "zfs_member", "BitLocker", "cs_fvault2")
 
 
 def is_foreign(kind: str) -> bool:
@@ -44,7 +42,9 @@ def signatures_in(image: Image) -> List[Signature]:
     """The signatures that are looked for here."""
     places = ((kind, magic, at if at >= 0 else image.size // SECTOR * SECTOR + at) for kind, magic, places in KNOWN
               for at in places)
-    return [Signature(kind, at) for kind, magic, at in places if at >= 0 and image.read(at, len(magic)) == magic]
+    found = [Signature(kind, at) for kind, magic, at in places if at >= 0 and image.read(at, len(magic)) == magic]
+    is_bcache = image.read(BCACHE_AT - 16, 16 + len(BCACHE)).startswith(BCACHE_SECTOR)
+    return found + [Signature("bcache", BCACHE_AT)] * (is_bcache and image.read(BCACHE_AT, len(BCACHE)) == BCACHE)
 
 
 def asked_of(path: str) -> Iterator[Signature]:
@@ -60,14 +60,13 @@ def asked_of(path: str) -> Iterator[Signature]:
     yield from (each for each in found if is_foreign(each.kind))
 
 
-def asked_of_part(path: str, start: int, size: int) -> Iterator[Signature]:
-    """The same of some bytes of a disk, of which blkid says one."""
+def named_by_blkid(path: str, start: int, size: int) -> Dict[str, str]:
+    """What blkid says of some bytes of a disk, if it is there: a TYPE, or the PTTYPE of a partition table."""
     if not shutil.which(program.found("blkid")):
-        return
+        return {}
     try:
-        printed, _, _ = program.ask([program.found("blkid"), "-p", "-o", "export", "-O", str(start), "-S", str(size), "--", path])
+        words = ["-p", "-o", "export", "-O", str(start), "-S", str(size), "--", path]
+        printed, _, _ = program.ask([program.found("blkid"), *words])
     except Refusal:
-        return
-    kind = next((line[len("TYPE="):] for line in printed.splitlines() if line.startswith("TYPE=")), "")
-    if is_foreign(kind):
-        yield Signature(kind, start)
+        return {}
+    return {name: value for name, _, value in (line.partition("=") for line in printed.splitlines())}

@@ -2,7 +2,7 @@
 
 from typing import Dict, List, NamedTuple, Optional, Sequence, Tuple
 
-from dmremap_tools.base import quoting, signatures
+from dmremap_tools.base import disk_image, quoting, signatures
 from dmremap_tools.base.disk_image import file_system_of
 from dmremap_tools.base.luks_header import SECOND_ALONE, Container, container_in
 from dmremap_tools.base.numbers import SECTOR
@@ -16,6 +16,8 @@ from dmremap_tools.model.md_array import Array, put_together
 from dmremap_tools.model.md_superblock import AT_END, MIRRORED, OLD, Member, Superblock
 from dmremap_tools.model.physical_volume import PhysicalVolume
 
+# What blkid calls otherwise than is done here.
+SAME = {"crypto_LUKS": "luks", "LVM2_member": "lvm2", "BitLocker": "bitlocker", "zfs_member": "zfs"}
 # A disk of a controller is at most by this part longer than what a volume has of it. Before this byte a physical volume
 # has no data.
 SLACK, FIRST_DATA = 20, 1 << 13
@@ -40,6 +42,8 @@ TABLE_OVER_LABEL = ("the disk has a partition table ({}) as well, which was made
                     "there: to take it as it was, take the table out of a copy (dd if=/dev/zero of=COPY count=1 "
                     "conv=notrunc)")
 OLDER_ARRAY = ("a member of {}, whose member {} has a partition table since: leave that out to take the array without it")
+OTHER_TABLE = ("a partition table ({}) that isn't followed begins it: attach a copy by losetup -P, and give its partitions, or "
+               "cut them out by dd")
 HEADLESS = "its label is lost, and its metadata area and its length say which one it is"
 AS_ANOTHER = "partition {} begins at the same byte and has it all, so that it is told there"
 STRIPES = ("the physical volume in it says that it has {} bytes, where this is a disk of {}, which seems to be one of the "
@@ -272,13 +276,21 @@ class Pile:
             volume.question = question or self._question_of(spot)
             self.volumes.append(volume)
             self._say(spot, "physical volume", "; ".join(volume.faults + ([volume.question] if volume.question else [])))
-        elif known:
-            self._say(spot, known, self._question_of(spot) or "")
         else:
             faults = physical_volume.label_of(Lenient(spot.device))[1]
-            self._say(spot, "unknown", self._question_of(spot) or "; ".join(faults) or NOTHING)
-            if spot.image and not spot.partition:
+            known, other = self._named(spot, known)
+            note = OTHER_TABLE.format(other) if other else NOTHING if not known else ""
+            self._say(spot, known or "unknown", self._question_of(spot) or "; ".join(faults) or note)
+            if not known and spot.image and not spot.partition:
                 self._unknown.append(spot)
+
+    def _named(self, spot: Spot, known: Optional[str]) -> Tuple[Optional[str], Optional[str]]:
+        """The names of what begins a device, and of a partition table that isn't followed, as blkid says them where it
+        can be asked."""
+        told = signatures.named_by_blkid(spot.path, place_of(spot.device), spot.device.size) if spot.image else {}
+        kind, table = told.get("TYPE"), told.get("PTTYPE")
+        other = disk_image.other_table_of(Lenient(spot.device)) or (table if table not in (None, "dos", "gpt") else None)
+        return SAME.get(kind, kind) if kind and (known or spot.partition) else known, other
 
     def _assemble(self) -> None:
         """Puts the arrays together and looks at them, again if one turns out to be a member of another."""
