@@ -1,12 +1,16 @@
 """Which layer owns which bytes of a pile of images: members of arrays, tables, labels and containers that say so of the same
 ones, what is left over of earlier ones, and signatures that nothing follows. Neither the order nor the names of images decide."""
 
+import hashlib
 import os
 import random
+import shutil
 import struct
 
 import containers
+import models
 import physical_volumes
+import tool_calls
 from harness import Case
 from models import (A, B, DATA, EXTENT, MIB, SECTOR, content_of, disk, empty_pile, extents_of, linear, member, named, text,
                     volume, xor)
@@ -165,6 +169,10 @@ def check_left_over(tally, pile):
     in_any_order(tally, pile, "an old label below a table", disk_with_both, "old/home", None, "a partition table (MBR) as well")
     found = pile.scan()
     tally.holds("both groups are told", {row["name"] for row in found["groups"]} == {"new", "old"}, found)
+    image, = pile.images()
+    asked = "".join("%s %d 1\n" % (image, first) for first in (4096 + DATA + 24, DATA + 24))
+    got = tool_calls.call(pile.top, ["owner", "--program", pile.program.path, image], given=asked, folder=pile.folder)
+    tally.holds("who has their sectors", b"old/home" not in got.out and b"new/root" in got.out, (got.out, got.err))
     room = bytes(8192 * SECTOR)
     raid5 = {"m%d" % number: member(room, 5, number, (0, 1, 2), 7, layout=2, size=len(room) // SECTOR) for number in range(3)}
     in_any_order(tally, pile, "a partition of what was a member", dict(raid5, m0=with_mbr(raid5["m0"], (2048, NEW))), "new/root", NEW_BYTES)
@@ -228,9 +236,66 @@ def check_headless(tally, pile):
     in_any_order(tally, pile, "a physical volume without a label", {"sda": bytes(DATA * SECTOR) + A + bytes(ring)}, "old/home", OLD_BYTES)
 
 
+class ShuffledPile(models.Pile):
+    """A pile that saves all volumes twice: the other time with its images under other names, and in another order."""
+
+    def __init__(self, tally, program, top, folder):
+        super().__init__(program, top, folder)
+        self.tally = tally
+
+    def save(self, volume, *images, more=()):
+        given = list(images or self.images())
+        folder = os.path.join(self.folder, "out.names")
+        os.makedirs(folder)
+        others = [os.path.join(folder, "%02d-%d" % (len(given) - place, place)) for place in range(len(given))]
+        for name, other in zip(given, others):
+            os.link(os.path.join(self.folder, name), other)
+        outcome = super().save(volume, *reversed(others))
+        shutil.rmtree(folder)
+        got, saved = super().save(volume, *images, more=more)
+        if not more and not any(volume.startswith((name, "./" + name)) for name in given):
+            same = (outcome[0].status, outcome[1]) == (got.status, saved)
+            self.tally.holds("%s of %s, in another order" % (volume, given), same, (outcome[0].status, outcome[0].err, got.status, got.err))
+        return got, saved
+
+
+def check_orders(tally, pile):
+    """The arrays of other tests, saved in two orders under two names each."""
+    for check in (models.check_arrays, models.check_nested, models.check_lost_superblocks, models.check_legs):
+        shuffled = empty_pile(tally, "orders")
+        check(tally, ShuffledPile(tally, shuffled.program, shuffled.top, shuffled.folder))
+
+
+def check_machines(tally, pile):
+    """The machines in the folder that DMREMAP_IMAGES names, if it does: each volume, in two orders under two names."""
+    top = os.environ.get("DMREMAP_IMAGES")
+    if not top:
+        tally.skip("machines in two orders", "DMREMAP_IMAGES names no folder of machines")
+        return
+    for machine in sorted(name for name in os.listdir(top) if os.path.isdir(os.path.join(top, name))):
+        outcomes = []
+        for turn in range(2):
+            folder = os.path.join(pile.folder, "out.%d" % turn)
+            os.makedirs(folder)
+            names = sorted(os.listdir(os.path.join(top, machine)), reverse=bool(turn))
+            images = [os.path.join(folder, "%d%s" % (place, "y" * turn)) for place in range(len(names))]
+            for name, image in zip(names, images):
+                os.symlink(os.path.join(top, machine, name), image)
+            found = pile.scan(*images)
+            volumes = {group["id"] + "/" + row["name"] for group in found["groups"] for row in group["volumes"]}
+            told = sorted((row["id"], row["state"], row["seqno"]) for row in found["groups"])
+            told += sorted((row["id"], row["level"], row["missing"], len(row["members"]), len(row["stale"])) for row in found["arrays"])
+            for name in sorted(volumes):
+                got, saved = pile.save(name, *images)
+                told.append((name, got.status, saved and hashlib.sha256(saved).hexdigest()))
+            outcomes.append(told)
+            shutil.rmtree(folder)
+        tally.holds("%s in two orders" % machine, outcomes[0] == outcomes[1], [each for each in zip(*outcomes) if each[0] != each[1]])
+
+
 class Owned(Case, checks=[
     check_resync, check_apart, check_filled, check_last_partition, check_left_over, check_nested, check_signatures, check_lengths,
-    check_headless
+    check_headless, check_orders, check_machines
 ]):
     """Piles of images, each in an empty folder."""
 

@@ -112,7 +112,10 @@ class Owners:
         for spot, container in pile.containers:
             self._known[spot.device] = of_container(spot.device, container)
         for volume in pile.volumes:
-            self._known[volume.device] = groups.of(volume)
+            if volume.question is None:
+                self._known[volume.device] = groups.of(volume)
+            elif volume.device not in pile.tables:
+                self._known[volume.device] = all_of(unknown(volume.question))
 
     def on(self, device: Device) -> Ground:
         return lambda first, end: (self._known.get(device) or self._of_other(device))(first, end)

@@ -23,11 +23,14 @@ import shlex
 from argparse import ArgumentParser, Namespace
 from typing import Any, Dict, Iterator, List, Optional
 
-from dmremap_tools.base import program, quoting, streams
+from dmremap_tools.base import partition_table, program, quoting, streams
 from dmremap_tools.base.luks_header import Container, container_in
 from dmremap_tools.base.numbers import SECTOR
+from dmremap_tools.base.refusal import Refusal
+from dmremap_tools.model import md_superblock
 from dmremap_tools.model.device import Device, Lenient
 from dmremap_tools.model.groups import WHOLE, Group, Volume
+from dmremap_tools.model.mapping import NoProgram
 from dmremap_tools.model.md_array import Array
 from dmremap_tools.model.pile import Found, Pile, Spot
 
@@ -101,7 +104,7 @@ def array_row(pile: Pile, array: Array) -> Row:
     stale = [pile.spot_of[member.device].place for member in array.stale]
     return {"name": array.label, "id": array.identity, "level": array.level, "members": members,
             "missing": array.missing, "stale": stale, "sectors": array.device.size // SECTOR if array.device else None,
-            "why": array.why}
+            "why": array.note}
 
 
 def volume_row(volume: Volume) -> Row:
@@ -126,7 +129,7 @@ def lines_of(pile: Pile) -> Iterator[str]:
         row = array_row(pile, array)
         missing = f", {array.missing} missing" if array.missing else ""
         stale = f"; stale, so not read: {shown_list(row['stale'])}" if array.stale else ""
-        why = f": {array.why}" if array.why else ""
+        why = f": {array.note}" if array.note else ""
         what = f"{array.level} of {array.count}{missing}: {shown_list(row['members'])}"
         yield f"{quoting.shown(array.label)}: {what}{stale}{why}"
         yield from (f"  {line}" for line in (held_by(pile, array.device) if array.device else ()))
@@ -174,6 +177,25 @@ def group_lines(group: Group) -> Iterator[str]:
         notes = [origin, chunks, row["state"] if row["state"] != WHOLE else "", row["why"] or ""]
         line = " ".join(column.ljust(width) for column, width in zip(columns, COLUMNS))
         yield f"  {line} {': '.join(filter(None, notes))}".rstrip()
+        inner = held_in(volume) if row["why"] is None else None
+        if inner:
+            way = f"dmremap-tools save {shlex.quote(group.name + '/' + volume.name)} inner.img IMAGE.. && dmremap-tools scan inner.img"
+            yield f"    {inner} lies in it: {quoting.escaped(way)}"
+
+
+def held_in(volume: Volume) -> Optional[str]:
+    """What lies in a volume that `scan` would look into."""
+    if volume.file_system() == "lvm2":
+        return "a physical volume"
+    try:
+        if md_superblock.found_in(volume.device())[0]:
+            return "a member of an md array"
+        table = partition_table.table_of(Lenient(volume.device()))
+    except NoProgram:
+        raise
+    except Refusal:
+        return None
+    return table and f"a partition table ({table.kind})"
 
 
 def shown_list(words: List[str]) -> str:

@@ -20,8 +20,9 @@ NONE_IN_SYNC = "of its members only {} is here, which is a spare, or was being f
 APART = ("its members were written to apart from each other, as the superblocks of each side say that the other one "
          "failed: give the images of one side alone ({})")
 UNSYNCED = ("member {} of {} is missing, from which the others were being filled, and nothing tells whether that had "
-            "come here: give its image")
-# What member isn't used where another one is there.
+            "come here: give its image, or, if all had been filled before, start the array without it on copies (mdadm "
+            "--assemble --run)")
+# The bits of a member that doesn't have all data.
 NOT_ALL = md_superblock.RECOVERING | md_superblock.REPLACEMENT | md_superblock.FROM_BITMAP
 
 
@@ -95,6 +96,13 @@ class Array(md_chunks.Members):
         """Whether so many members are missing that these may have run on without those that are here."""
         copies = max(self.copies.near * self.copies.far, 1)
         return self.missing >= (1 if self.level == "raid1" else -(-self.data // copies))
+
+    @functools.cached_property
+    def note(self) -> Optional[str]:
+        """What is to be said of its bytes: why nobody can say them, or what of them isn't known."""
+        if self.why or self.apart or not self.device:
+            return self.why or self.apart
+        return self.device.lack(0, self.device.size) if self.missing else None
 
     def give_up(self, why: str) -> None:
         """Says why nobody can say its bytes."""

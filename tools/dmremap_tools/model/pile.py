@@ -95,6 +95,8 @@ class Pile:
         self._left: Dict[bytes, Spot] = {}
         # Why nobody can be sure of what lies on a device; and who else says that it has it.
         self._questions: Dict[Device, str] = {}
+        # Of these a table and a superblock both say that they are theirs, so that partitions can be taken by name.
+        self._two_readings: List[Device] = []
         self.spot_of: Dict[Device, Spot] = {}
         self._unknown: List[Spot] = []
         images: Dict[object, Image] = {}
@@ -205,6 +207,7 @@ class Pile:
                 kind, numbers = table.kind, [f"{spot.place}:{number}" for number in table.partitions]
                 array = Array([Member(device, owners[0])]).label
                 self._questions[device] = Doubt(TABLE_TOO.format(kind, quoting.some(numbers, " or "), array))
+                self._two_readings.append(device)
                 self._look_into(spot, table)
             else:
                 table = None
@@ -270,6 +273,7 @@ class Pile:
         """Says what a device is that has no partitions and is no member."""
         container, volume = container_in(Lenient(spot.device)), physical_volume.volume_in(spot.device)
         if container and (container.fault != SECOND_ALONE or not volume and not known):
+            container = container._replace(fault=container.fault or question or self._question_of(spot))
             self.containers.append((spot, container))
             self._say(spot, f"LUKS{container.version}", container.fault or "")
         elif volume:
@@ -344,8 +348,9 @@ class Pile:
         """What a name means. One that means nothing, or several things, is refused, with what to say instead."""
         device, shown = self.device_named(name), quoting.shown(name)
         if device:
-            question = self._question_of(Spot(device.lower, None)) if isinstance(device, Part) else None
-            if question and name not in question:
+            is_part = isinstance(device, Part) and device.lower not in self._two_readings
+            question = self._question_of(self.spot_of[device]) if is_part else None
+            if question:
                 raise Refusal(shown, question)
             try:
                 path = quoting.shown(self._volume_named(name).path)
@@ -401,7 +406,7 @@ class Pile:
 
     def _unread_notes(self) -> str:
         """What of a pile can't be read, in which something may be that isn't found."""
-        notes = [(array.label, array.why) for array in self.arrays if array.why]
+        notes = [(array.label, array.note) for array in self.arrays if array.note]
         notes += [(found.spot.path, found.note) for found in self.found if found.note not in ("", NOTHING)]
         whys = quoting.some([f"{quoting.shown(where)}: {why}" for where, why in notes], "; ")
         return f" ({whys})" if whys else ""
