@@ -21,9 +21,10 @@ FIRST, SLOT, SLOTS, FIRST_BYTES = struct.Struct(">104xLL56x40s"), struct.Struct(
 SECOND = struct.Struct(">6sHQQ48x32s64x40s48xQ")
 DAMAGED = "its header of LUKS is damaged: restore it in a copy by `cryptsetup luksHeaderRestore`"
 SECOND_ALONE = "its first header is damaged, the second one is sound: repair a copy by cryptsetup repair"
-BAD_JSON = "the text of its header of LUKS doesn't end where its area does, which cryptsetup refuses: see `cryptsetup luksDump`"
-BAD_AREAS = ("the areas for keys in its header of LUKS overlap or lie outside of their room, which cryptsetup refuses: restore it "
-             "in a copy by `cryptsetup luksHeaderRestore`")
+BAD_JSON = ("the text of its header of LUKS goes on behind its end, or has none, which cryptsetup refuses: restore it in a "
+            "copy by `cryptsetup luksHeaderRestore`")
+BAD_AREAS = ("the areas for keys in its header of LUKS overlap or lie outside of their room, which cryptsetup refuses: "
+             "restore it in a copy by `cryptsetup luksHeaderRestore`")
 TOO_SHORT = "it ends before the data of its container does: give the whole disk"
 UNSAID = "its header of LUKS doesn't say where the data is: see `cryptsetup luksDump`"
 

@@ -1,6 +1,7 @@
 """Signatures of layers that nothing here follows, such as those of RAID controllers: who else says that the bytes of a device
 are its own. Those that matter most are looked for here; where `wipefs` and `blkid` are there, they are asked for others."""
 
+import functools
 import json
 import shutil
 from typing import Dict, Iterator, List, NamedTuple
@@ -60,6 +61,7 @@ def asked_of(path: str) -> Iterator[Signature]:
     yield from (each for each in found if is_foreign(each.kind))
 
 
+@functools.lru_cache(None)
 def named_by_blkid(path: str, start: int, size: int) -> Dict[str, str]:
     """What blkid says of some bytes of a disk, if it is there: a TYPE, or the PTTYPE of a partition table."""
     if not shutil.which(program.found("blkid")):

@@ -179,8 +179,9 @@ def group_lines(group: Group) -> Iterator[str]:
         yield f"  {line} {': '.join(filter(None, notes))}".rstrip()
         inner = held_in(volume) if row["why"] is None else None
         if inner:
-            way = f"dmremap-tools save {shlex.quote(group.name + '/' + volume.name)} inner.img IMAGE.. && dmremap-tools scan inner.img"
-            yield f"    {inner} lies in it: {quoting.escaped(way)}"
+            name = shlex.quote(f"{group.name}/{volume.name}")
+            way = quoting.escaped(f"dmremap-tools save {name} inner.img IMAGE.. && dmremap-tools scan inner.img")
+            yield f"    {inner} lies in it: {way}"
 
 
 def held_in(volume: Volume) -> Optional[str]:

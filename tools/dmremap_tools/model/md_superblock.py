@@ -48,7 +48,8 @@ MOST_DEVICES = 4096
 Superblock = NamedTuple("Superblock", [
     ("version", str), ("at", int), ("array", bytes), ("level", int), ("layout", int), ("chunk", int), ("places", int),
     ("start", int), ("length", int), ("used", int), ("events", int), ("number", int), ("role", Optional[int]),
-    ("roles", Tuple[int, ...]), ("features", int), ("name", str), ("resync", int), ("bad_log", Tuple[int, int, int]), ("bitmap", int), ("filled", int)])
+    ("roles", Tuple[int, ...]), ("features", int), ("name", str), ("resync", int), ("bad_log", Tuple[int, int, int]),
+    ("bitmap", int), ("filled", int)])
 # A device with a superblock.
 Member = NamedTuple("Member", [("device", Device), ("superblock", Superblock)])
 

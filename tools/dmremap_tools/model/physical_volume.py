@@ -247,8 +247,9 @@ def older_texts(image: disk_image.Image) -> List[Text]:
 
 class PhysicalVolume:
     """A device with a label. `faults` says what is wrong with its metadata areas, `doubt` why it isn't believed to be
-    this physical volume at all, and `question` why nobody can be sure of its bytes. `unread` has what these areas say of texts that can't be read, and `told` the same of current texts, by
-    their keys: how many bytes they have, and their sum."""
+    this physical volume at all, and `question` why nobody can be sure of its bytes. `unread` has what these areas say
+    of texts that can't be read, and `told` the same of current texts, by their keys: how many bytes they have, and
+    their sum."""
 
     def __init__(self, device: Device, label: Label, start: int) -> None:
         self.device, self.place, self.label, self.start = device, device.name, label, start

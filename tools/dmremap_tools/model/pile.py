@@ -22,8 +22,9 @@ SAME = {"crypto_LUKS": "luks", "LVM2_member": "lvm2", "BitLocker": "bitlocker", 
 # has no data.
 SLACK, FIRST_DATA = 20, 1 << 13
 NOTHING, SCAN, BIG_SECTOR = "nothing is found in it", "`scan` lists what is there", 4096
-# The most disks, partitions and arrays that are looked at, and the most levels of arrays that are members of others.
-MOST_SPOTS, MOST_LEVELS = 1 << 13, 8
+# The most disks, partitions and arrays that are looked at, the most levels of arrays that are members of others, and the
+# number up to which partitions are asked for.
+MOST_SPOTS, MOST_LEVELS, MOST_ASKED = 1 << 13, 8, 1 << 8
 MANY = f"no more than {MOST_SPOTS} disks, partitions and arrays are looked at: give fewer images"
 NESTED = (f"its members lie on arrays in {MOST_LEVELS} levels, and no more are followed: assemble it with mdadm "
           "--readonly")
@@ -33,7 +34,7 @@ DAMAGED = ("its md superblock at byte {} is damaged: give the other members alon
 MAY_BE_NEWER = ("it lacks members, and {} may be one with newer data, as its md superblock is damaged: leave that out "
                 "to take what is here")
 FOREIGN = ("a signature of {} at byte {} says that something has these bytes that isn't followed: put that together and "
-           "give its device, or, if the signature is only left over, take it out of a copy (wipefs --offset {:#x} COPY)")
+           "give its device, or, if the signature is only left over, take it out of a copy by wipefs")
 TWO_OWNERS = ("{} has sound md superblocks of several arrays, which nothing tells apart: take the one that is older out of "
               "a copy (mdadm --zero-superblock --metadata)")
 TABLE_TOO = ("there are both an md superblock and a partition table ({}): name {} to take the partition, or {} to take the "
@@ -214,7 +215,7 @@ class Pile:
         foreign = [each for each in self._foreign(spot) if not covers(device, owners, table, each.at)]
         if foreign:
             each = foreign[0]
-            self._questions[device] = Doubt(FOREIGN.format(each.kind, each.at, each.at))
+            self._questions[device] = Doubt(FOREIGN.format(each.kind, each.at))
         if not owners and not damaged:
             self._look_into(spot, table)
         for superblock in owners:
@@ -234,7 +235,16 @@ class Pile:
         found = signatures.signatures_in(Lenient(spot.device))
         if spot.device is spot.image:
             found += signatures.asked_of(spot.image.path)
+        kind = self._told_by_blkid(spot).get("TYPE", "") if spot.partition else ""
+        if signatures.is_foreign(kind) and all(kind != each.kind for each in found):
+            found.append(Signature(kind, 0))
         return sorted(set(found), key=lambda each: each.at)
+
+    def _told_by_blkid(self, spot: Spot) -> Dict[str, str]:
+        """What blkid says of an image or one of the first partitions, if it is there."""
+        if not spot.image or spot.partition > MOST_ASKED:
+            return {}
+        return signatures.named_by_blkid(spot.path, place_of(spot.device), spot.device.size)
 
     def _is_of_table(self, superblock: Superblock, device: Device, table: Table) -> Optional[bool]:
         """Whether a device with a superblock and a partition table is the table's, or None if nothing tells."""
@@ -291,7 +301,7 @@ class Pile:
     def _named(self, spot: Spot, known: Optional[str]) -> Tuple[Optional[str], Optional[str]]:
         """The names of what begins a device, and of a partition table that isn't followed, as blkid says them where it
         can be asked."""
-        told = signatures.named_by_blkid(spot.path, place_of(spot.device), spot.device.size) if spot.image else {}
+        told = self._told_by_blkid(spot)
         kind, table = told.get("TYPE"), told.get("PTTYPE")
         other = disk_image.other_table_of(Lenient(spot.device)) or (table if table not in (None, "dos", "gpt") else None)
         return SAME.get(kind, kind) if kind and (known or spot.partition) else known, other
