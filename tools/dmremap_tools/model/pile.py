@@ -18,9 +18,9 @@ from dmremap_tools.model.physical_volume import PhysicalVolume
 
 # What blkid calls otherwise than is done here.
 SAME = {"crypto_LUKS": "luks", "LVM2_member": "lvm2", "BitLocker": "bitlocker", "zfs_member": "zfs"}
-# A disk of a controller is at most by this part longer than what a volume has of it. Before this byte a physical volume
-# has no data.
-SLACK, FIRST_DATA = 20, 1 << 13
+# A disk of a controller is at most by this part longer than what a volume has of it, and a volume has no more of them.
+# Before this byte a physical volume has no data.
+SLACK, MOST_STRIPES, FIRST_DATA = 40, 32, 1 << 13
 NOTHING, SCAN, BIG_SECTOR = "nothing is found in it", "`scan` lists what is there", 4096
 # The most disks, partitions and arrays that are looked at, the most levels of arrays that are members of others, and the
 # number up to which partitions are asked for.
@@ -177,7 +177,7 @@ class Pile:
         """Whether something on a disk that ends at this byte seems to be on several such disks: if it is about as long
         as some of them, or longer than this one, where another one of that length has nothing that is known."""
         times = -(-end // image.size)
-        is_multiple = times > 1 and end > times * image.size - times * image.size // SLACK
+        is_multiple = 1 < times <= MOST_STRIPES and end > times * (image.size - image.size // SLACK)
         alike = (spot.image for spot in self._unknown if spot.image is not image)
         return end > image.size and (is_multiple or any(other.size == image.size for other in alike))
 
