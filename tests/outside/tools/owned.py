@@ -11,6 +11,7 @@ import containers
 import models
 import physical_volumes
 import tool_calls
+from dmremap_tools.base import disk_image
 from harness import Case
 from models import (A, B, DATA, EXTENT, MIB, SECTOR, content_of, disk, empty_pile, extents_of, linear, member, named, text,
                     volume, xor)
@@ -236,6 +237,55 @@ def check_headless(tally, pile):
     in_any_order(tally, pile, "a physical volume without a label", {"sda": bytes(DATA * SECTOR) + A + bytes(ring)}, "old/home", OLD_BYTES)
 
 
+def check_containers(tally, pile):
+    """Headers of LUKS that cryptsetup refuses are told as that, and a sound one is not."""
+    def slots(*areas):
+        text = ",".join('"%d":{"area":{"offset":"%d","size":"%d"}}' % (number, *area) for number, area in enumerate(areas))
+        return containers.text_of().replace(b'{"segments"', ('{"keyslots":{%s},"segments"' % text).encode(), 1)
+    room = bytes(containers.DATA + MIB)
+    for label, header, why in (
+            ("a sound header", containers.version_2(json=slots((32768, 16384), (49152, 16384))), None),
+            ("areas that overlap", containers.version_2(json=slots((32768, 16384), (40960, 16384))), "the areas for keys"),
+            ("an area within the headers", containers.version_2(json=slots((16384, 16384))), "the areas for keys"),
+            ("an area past its room", containers.version_2(json=slots((65536, 16384))), "the areas for keys"),
+            ("a text with more behind it", containers.version_2(json=containers.text_of() + b"\0x"), "goes on behind its end")):
+        pile.put("sda", header + room[len(header):])
+        row = (pile.scan("sda")["luks"] or [{"why": "none is found"}])[0]
+        tally.holds(label, row["why"] is None if why is None else why in (row["why"] or ""), row)
+    for label, header in (("version 1", containers.version_1(4096)), ("version 2", containers.version_2())):
+        pile.put("sda", header.ljust(65536, b"\0"))
+        row = (pile.scan("sda")["luks"] or [{"why": "none is found"}])[0]
+        tally.holds("a device that is too small, of " + label, "ends before the data" in (row["why"] or ""), row)
+
+
+def check_kinds(tally, pile):
+    """Names of what is like something else."""
+    bcache = bytes.fromhex("c68573f64e1a45ca8265f57f48ba6d81")
+    for name, wanted, places in (
+            ("bcache", "bcache", [(0x1008, b"\x08" + bytes(7)), (0x1018, bcache)]),
+            ("bcachefs", "bcachefs", [(0x1008, b"\x99" * 8), (0x1018, bytes.fromhex("c68573f666ce90a9d96a60cf803df7ef"))]),
+            ("an old bcachefs", "bcachefs", [(0x1008, b"\x99" * 8), (0x1018, bcache)]),
+            ("iso9660", "iso9660", [(0x8001, b"CD001"), (0x8801, b"CD001")]),
+            ("UDF", "udf", [(0x8001, b"BEA01"), (0x8801, b"NSR02")]),
+            ("a disc that is both", "udf", [(0x8001, b"CD001"), (0x8801, b"CD001"), (0x9001, b"BEA01"), (0x9801, b"NSR03")]),
+            ("squashfs", "squashfs", [(0, b"hsqs"), (28, b"\4\0")]),
+            ("squashfs 3", "squashfs3", [(0, b"hsqs"), (28, b"\3\0")])):
+        image = bytearray(MIB)
+        for at, content in places:
+            image[at:at + len(content)] = content
+        path = os.path.join(pile.folder, "sda")
+        pile.put("sda", bytes(image))
+        with open(path, "rb") as file:
+            found = disk_image.file_system_of(disk_image.Image(file, path))
+        tally.holds(name, found == wanted, found)
+    for name, at, content in (("Sun", 508, b"\xda\xbe"), ("SGI", 0, b"\x0b\xe5\xa9\x41"), ("Apple", 512, b"PM\0\0"), ("BSD", 512, b"WEV\x82")):
+        image = bytearray(MIB)
+        image[at:at + len(content)] = content
+        pile.put("sda", bytes(image))
+        whys = [row["why"] for row in pile.scan("sda")["images"][0]["holds"]]
+        tally.holds("a table of " + name, "partition table (%s) that isn't followed" % name in whys[0], whys)
+
+
 class ShuffledPile(models.Pile):
     """A pile that saves all volumes twice: the other time with its images under other names, and in another order."""
 
@@ -295,7 +345,7 @@ def check_machines(tally, pile):
 
 class Owned(Case, checks=[
     check_resync, check_apart, check_filled, check_last_partition, check_left_over, check_nested, check_signatures, check_lengths,
-    check_headless, check_orders, check_machines
+    check_headless, check_containers, check_kinds, check_orders, check_machines
 ]):
     """Piles of images, each in an empty folder."""
 

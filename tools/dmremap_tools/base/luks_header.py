@@ -44,7 +44,8 @@ def container_in(image: Image) -> Optional[Container]:
     if is_first and version == 1 and len(head) >= FIRST_BYTES:
         start, key_bytes, uuid = FIRST.unpack_from(head)
         ends = [key + -(-key_bytes * stripes // SECTOR) for key, stripes in SLOT.iter_unpack(head[SLOTS])]
-        return Container(1, _text(uuid), start, None, max(-(-FIRST_BYTES // SECTOR), *ends))
+        fault = TOO_SHORT if start * SECTOR >= image.size else None
+        return Container(1, _text(uuid), start, None, max(-(-FIRST_BYTES // SECTOR), *ends), fault)
     newest: Optional[Header] = max(headers, key=lambda it: it.sequence, default=None)
     if newest is not next(iter(headers), None):
         streams.tell(f"{image.path}: its second header of LUKS is newer: that is read")
