@@ -310,10 +310,14 @@ class Pile:
         """Puts the arrays together and looks at them, again if one turns out to be a member of another."""
         made: Dict[bytes, Array] = {}
         for level in range(MOST_LEVELS + 1):
-            known = {identity: len(array.members) for identity, array in made.items()}
-            for identity in [each for each, members in self._members.items() if known.get(each) != len(members)]:
+            known = {identity: {member.device for member in array.members} for identity, array in made.items()}
+            others = [identity for identity, members in self._members.items()
+                      if known.get(identity, set()) != {member.device for member in members}]
+            for identity in others:
                 if identity in made:
-                    self._forget(made[identity].device)
+                    self._forget(made.pop(identity).device)
+                if not self._members[identity]:
+                    continue
                 array = made[identity] = put_together(self._members[identity])
                 if level == MOST_LEVELS:
                     array.give_up(NESTED)
