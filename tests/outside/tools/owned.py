@@ -178,6 +178,9 @@ def check_left_over(tally, pile):
     raid5 = {"m%d" % number: member(room, 5, number, (0, 1, 2), 7, layout=2, size=len(room) // SECTOR) for number in range(3)}
     in_any_order(tally, pile, "a partition of what was a member", dict(raid5, m0=with_mbr(raid5["m0"], (2048, NEW))), "new/root", NEW_BYTES)
     tally.holds("an array without it, in which is nothing", pile.scan()["arrays"] == [], pile.scan()["arrays"])
+    torn = bytearray(with_mbr(raid5["m0"], (2048, NEW)))
+    torn[8 * SECTOR + 100] ^= 1
+    in_any_order(tally, pile, "a partition behind a damaged superblock", {"sda": bytes(torn)}, "new/root", NEW_BYTES)
     container = containers.version_2()
     second = bytearray(OLD)
     second[16384:32768] = container[16384:32768]

@@ -212,6 +212,8 @@ class Pile:
                 self._look_into(spot, table)
             else:
                 table = None
+        if not owners and table and volumes_of(table)[1]:
+            damaged = []
         foreign = [each for each in self._foreign(spot) if not covers(device, owners, table, each.at)]
         if foreign:
             each = foreign[0]
@@ -252,14 +254,13 @@ class Pile:
         if superblock.version in AT_END:
             # A table of the array itself ends where that does.
             return superblock.at < max(ends) <= device.size
-        volumes = {part: physical_volume.label_of(Lenient(part))[0] for part in table.partitions.values()}
-        fitting = [part for part, label in volumes.items() if label and label.size == part.size]
+        volumes, fitting = volumes_of(table)
         begin, size = superblock.start * SECTOR, superblock.length * SECTOR
         if all((part.start, part.size) == (begin, size) for part in fitting) and superblock.level == MIRRORED:
             fitting = []
         if fitting or begin + size > device.size:
             return True
-        return None if any(volumes.values()) and superblock.level != MIRRORED else False
+        return None if volumes and superblock.level != MIRRORED else False
 
     def _look_into(self, spot: Spot, table: Optional[Table]) -> None:
         """Looks at what is no member: a disk with partitions is these."""
@@ -437,6 +438,13 @@ class Pile:
 def known_in(device: Device) -> Optional[str]:
     image = Lenient(device)
     return "lvm2" if physical_volume.label_of(image)[0] else file_system_of(image)
+
+
+def volumes_of(table: Table) -> Tuple[List[Part], List[Part]]:
+    """The partitions in which physical volumes are, and those of them that are just as long as these."""
+    labels = {part: physical_volume.label_of(Lenient(part))[0] for part in table.partitions.values()}
+    found = [part for part, label in labels.items() if label]
+    return found, [part for part in found if labels[part].size == part.size]
 
 
 def place_of(device: Device) -> int:
