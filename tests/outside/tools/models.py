@@ -373,10 +373,19 @@ def check_levels(tally, pile):
             tally.holds("what is told of them", rows == {"level0": "not followed", "lowest": "whole"}, rows)
 
 
-def leg_superblock(number, events=4):
-    """A superblock of dm-raid, of a mirror of two."""
-    clean = (1 << 64) - 1
-    return struct.pack("<4L4Q4LQ", 0x64526D44, 0, 2, number, events, 0, clean, clean, 1, 0, 0, 0, clean).ljust(4096, b"\0")
+CLEAN = (1 << 64) - 1
+
+
+def leg_superblock(number, events=4, count=2, level=1, layout=0, chunk=0, failed=0, recovered=CLEAN, resynced=CLEAN):
+    """A superblock of dm-raid, of a mirror of two if no more is said."""
+    fields = 0x64526D44, 0, count, number, events, failed, recovered, resynced, level, layout, chunk, 0, CLEAN
+    return struct.pack("<4L4Q4LQ", *fields).ljust(4096, b"\0")
+
+
+def leg_bitmap(sectors, region, dirty=()):
+    """The bitmap behind it, of so many sectors in regions of so many, of which these were being written."""
+    bits = sum(1 << number for number in dirty).to_bytes(2048, "little")
+    return struct.pack("<LL16sQQQLLLLLL", 0x6D746962, 4, b"", 4, 4, sectors, 0, region * SECTOR, 5, 0, 0, 0).ljust(256, b"\0") + bits
 
 
 # The bytes of a sum in the test's journal, so that a section has few blocks, and the sectors of a section.
@@ -440,12 +449,15 @@ def check_legs(tally, pile):
     pile.holds(tally, "the other leg", "vg0/home", bytes(wanted), "leg0")
 
 
-def member(data, level, number, roles, events, layout=0, chunk=8, size=64, disks=None, version=2, resync=(1 << 64) - 1, name=b"array", bad=()):
-    """A member of an md array, whose data begins at sector 64 (1.2) or 0 (1.0), and which may lack runs of its sectors."""
-    start = 64 if version == 2 else 0
-    place = 8 if version == 2 else (len(data) // SECTOR + 64 - 16) & ~7
-    head = struct.pack("<4L16s32sQlLQLLlLQlLLl", 0xA92B4EFC, 1, 8 * bool(bad), 0, name.rjust(16, b"n"), b"here:" + name, 0, level, layout, size, chunk, disks or len(roles), 0, 0, 0, 0, 0, 0, 0)
-    head += struct.pack("<QQQQLL16sBBHl", start, len(data) // SECTOR, place, 0, number, 0, b"amember", 0, 0, bool(bad), 8)
+def member(data, level, number, roles, events, layout=0, chunk=8, size=64, disks=None, version=2, resync=CLEAN, name=b"array", bad=(),
+           start=64, tail_sectors=0, recovered=None, shift=0):
+    """A member of an md array, whose data begins at sector 64 (1.1, 1.2) or 0 (1.0). It may lack runs of its sectors, which its log has in
+    units of a power of two, and be rebuilt only up to one; behind its data there may be more sectors than the superblock needs."""
+    start = start if version else 0
+    place = 8 * (version - 1) if version else (len(data) // SECTOR + 64 + tail_sectors - 16) & ~7
+    features = 8 * bool(bad) + 2 * (recovered is not None)
+    head = struct.pack("<4L16s32sQlLQLLlLQlLLl", 0xA92B4EFC, 1, features, 0, name.rjust(16, b"n"), b"here:" + name, 0, level, layout, size, chunk, disks or len(roles), 0, 0, 0, 0, 0, 0, 0)
+    head += struct.pack("<QQQQLL16sBBHl", start, len(data) // SECTOR, place, recovered or 0, number, 0, b"amember", 0, shift, bool(bad), 8)
     tail = struct.pack("<QQQ", 0, events, resync)
     table = struct.pack("<%dH" % len(roles), *roles)
     def with_sum(value):
@@ -453,7 +465,7 @@ def member(data, level, number, roles, events, layout=0, chunk=8, size=64, disks
     words = with_sum(0)
     total = sum(struct.unpack("<%dL" % (len(words) // 4), words[:len(words) // 4 * 4])) + (struct.unpack("<H", words[-2:])[0] if len(words) % 4 else 0)
     superblock = with_sum((total & 0xFFFFFFFF) + (total >> 32) & 0xFFFFFFFF)
-    image = bytearray(start * SECTOR) + data + bytes((64 - start) * SECTOR)
+    image = bytearray(start * SECTOR) + data + bytes((tail_sectors if version else 64 + tail_sectors) * SECTOR)
     image[place * SECTOR:place * SECTOR + len(superblock)] = superblock
     if bad:
         log = b"".join(struct.pack("<Q", first << 10 | count) for first, count in bad)
@@ -601,23 +613,34 @@ def block(number, mark, rest, number_at=8):
     return struct.pack("<L", summed(bytes(content[4:])) ^ mark) + bytes(content[4:])
 
 
-def node(number, pairs):
-    """A leaf of a tree."""
+def node(number, pairs, is_leaf=True):
+    """A node of a tree."""
     most = 252
     keys = struct.pack("<%dQ" % len(pairs), *(key for key, _ in pairs)).ljust(8 * most, b"\0")
-    return block(number, 121107, struct.pack("<LQLLLL", 2, 0, len(pairs), most, 8, 0) + keys + struct.pack("<%dQ" % len(pairs), *(value for _, value in pairs)))
+    head = struct.pack("<LQLLLL", 1 + is_leaf, 0, len(pairs), most, 8, 0)
+    return block(number, 121107, head + keys + struct.pack("<%dQ" % len(pairs), *(value for _, value in pairs)))
+
+
+def pool_superblock(chunk):
+    """The superblock of a thin pool, whose tree of devices is in block 1, and that of their details in block 2."""
+    fields = 0, 0, b"", 27022010, 2, 0, 1, 0, b"", b"", 1, 2, chunk, 8, 8, 0, 0, 0
+    return block(0, 160774, struct.pack("<LQ16sQLLQQ128s128sQQLLQLLL", *fields)[:4092])
+
+
+def cache_metadata(chunk, entries):
+    """The metadata of a cache, with what each of its blocks has."""
+    held = struct.pack("<LQ16sQL16sL128sQQQQQLLLLLL", 0, 0, b"", 0o6142003, 2, b"smq", 0, b"", 1, 0, 0, 0, 0, chunk, 8, len(entries), 0, 0, 0)
+    parts = [entries[at:at + 509] for at in range(0, len(entries), 509)]
+    blocks = [block(2 + number, 595846735, struct.pack("<LLLQ%dQ" % len(part), 509, len(part), 8, 0, *part), 16) for number, part in enumerate(parts)]
+    return block(0, 9031977, held) + node(1, [(number, 2 + number) for number in range(len(parts))]) + b"".join(blocks)
 
 
 def put_pools(pile):
     """Puts a disk with a pool and a cache, and returns its data, its text, and what its volumes have."""
     chunk = 16
-    def superblock(rest):
-        return block(0, 160774, struct.pack("<LQ16sQLLQQ128s128sQQLLQLLL", 0, 0, b"", 27022010, 2, 0, 1, 0, b"", b"", *rest)[:4092])
-    meta = superblock((1, 2, chunk, 8, 8, 0, 0, 0)) + node(1, [(1, 3), (2, 4)]) + node(2, [])
+    meta = pool_superblock(chunk) + node(1, [(1, 3), (2, 4)]) + node(2, [])
     meta += node(3, [(0, 5 << 24), (2, 1 << 24 | 7), (3, 2 << 24)]) + node(4, [(1, 1 << 24)])
-    maps = struct.pack("<3Q", 1 << 16 | 1, 2 << 16 | 6, 3 << 16 | 3)
-    held = struct.pack("<LQ16sQL16sL128sQQQQQLLLLLL", 0, 0, b"", 0o6142003, 2, b"smq", 0, b"", 1, 0, 0, 0, 0, chunk, 8, 3, 0, 0, 0)
-    cache = block(0, 9031977, held) + node(1, [(0, 2)]) + block(2, 595846735, struct.pack("<LLLQ", 509, 3, 8, 0) + maps, 16)
+    cache = cache_metadata(chunk, [1 << 16 | 1, 2 << 16 | 6, 3 << 16 | 3])
     data = bytearray(A)
     data[:len(meta)] = meta
     data[20 * EXTENT * SECTOR:20 * EXTENT * SECTOR + len(cache)] = cache

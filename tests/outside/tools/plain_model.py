@@ -1,0 +1,630 @@
+"""A plain model of what images hold, with which that of the tools is compared: arrays of md and volumes of LVM, one sector at a
+time, without a run, a cache or an index. It is written from the kernel's documents and formats, and shares no code with the tools.
+
+It takes metadata as sound: no sum is checked here. A sector that nothing here gives for sure is a Gap.
+"""
+
+import re
+import struct
+from typing import NamedTuple
+
+SECTOR = 512
+NEVER = (1 << 64) - 1
+
+
+class Gap(Exception):
+    """A sector that isn't there, or of which nothing tells what it is."""
+
+
+class Disk(NamedTuple):
+    """So many sectors, and the function that gives one of them."""
+
+    count: int
+    sector: object
+
+
+def image_of(content, unread=()):
+    """An image, of which the sectors of these runs weren't read."""
+    def sector(at):
+        if at < 0 or (at + 1) * SECTOR > len(content) or any(first <= at < end for first, end in unread):
+            raise Gap("image, sector %d" % at)
+        return content[at * SECTOR:(at + 1) * SECTOR]
+    return Disk(len(content) // SECTOR, sector)
+
+
+def part_of(disk, start, count):
+    def sector(at):
+        if not 0 <= at < count:
+            raise Gap("past the end")
+        return disk.sector(start + at)
+    return Disk(count, sector)
+
+
+def bytes_of(disk, at, size):
+    """Bytes from a byte on."""
+    first, end = at // SECTOR, -(-(at + size) // SECTOR)
+    return b"".join(disk.sector(number) for number in range(first, end))[at - first * SECTOR:][:size]
+
+
+def number_at(disk, at, form):
+    """A number of this form of `struct` at a byte."""
+    return struct.unpack("<" + form, bytes_of(disk, at, struct.calcsize("<" + form)))[0]
+
+
+# Levels: each gives a sector of an array by `read(role, sector)`, which gives one of a member's data, or raises a Gap.
+
+def first_readable(read, places):
+    """The first of some copies that is there."""
+    for role, at in places:
+        try:
+            return read(role, at)
+        except Gap:
+            pass
+    raise Gap("no copy of it")
+
+
+def zone_sector(read, lengths, chunk, is_original, number):
+    """A sector of raid0: each zone goes over the members that reach as far. By the original layout a chunk's member is chosen by
+    its number in the array, by the alternate one by its number in the zone."""
+    lengths = {role: length // chunk * chunk for role, length in enumerate(lengths)}
+    zone_start = low = 0
+    for high in sorted(set(lengths.values())):
+        roles = [role for role, length in lengths.items() if length > low]
+        size = (high - low) * len(roles)
+        if number < zone_start + size:
+            in_zone = number - zone_start
+            row = in_zone // (chunk * len(roles))
+            column = (number if is_original else in_zone) // chunk % len(roles)
+            return read(roles[column], low + row * chunk + in_zone % chunk)
+        zone_start, low = zone_start + size, high
+    raise Gap("past the end")
+
+
+def linear_sector(read, lengths, number):
+    for role, length in enumerate(lengths):
+        if number < length:
+            return read(role, number)
+        number -= length
+    raise Gap("past the end")
+
+
+def raid10_places(layout, disks, chunk, member_length, number):
+    """The places of the copies of a sector, in the order in which the kernel has them."""
+    near, far, is_offset = layout & 255, layout >> 8 & 255, layout >> 16 & 1
+    chunks = member_length // chunk // far * disks // near * near * far
+    stride = 1 if is_offset else -(-chunks // disks) // far
+    row, device = divmod(number // chunk * near, disks)
+    if is_offset:
+        row *= far
+    for copy in range(near):
+        for set_number in range(far):
+            yield (device + set_number * near) % disks, (row + set_number * stride) * chunk + number % chunk
+        device += 1
+        if device == disks:
+            device, row = 0, row + 1
+
+
+LEFT_ASYMMETRIC, RIGHT_ASYMMETRIC, LEFT_SYMMETRIC, RIGHT_SYMMETRIC, PARITY_FIRST, PARITY_LAST = range(6)
+ZERO_RESTART, N_RESTART, N_CONTINUE, Q_LAST = 8, 9, 10, 16
+
+
+def stripe_of(level, layout, disks, stripe):
+    """The members of a stripe: those of its data in their order, P, and Q or None; and the power of two by which each member counts in
+    Q. With DDF's layouts the power is the member's number, otherwise that of its data from the one behind Q on."""
+    if level == 4:
+        level, layout = 5, PARITY_LAST
+    if level == 6 and layout >= Q_LAST:
+        data, p, _, _ = stripe_of(5, layout - Q_LAST, disks - 1, stripe)
+        return data, p, disks - 1, dict(zip(sorted(data), range(disks)))
+    is_right = layout in (RIGHT_ASYMMETRIC, RIGHT_SYMMETRIC, ZERO_RESTART)
+    turn = (stripe + (layout == N_RESTART)) % disks
+    p = turn if is_right else disks - 1 - turn
+    if layout in (PARITY_FIRST, PARITY_LAST):
+        p = 0 if layout == PARITY_FIRST else disks - (level - 4)
+    q = None
+    if level == 6:
+        q = (p - 1 if layout == N_CONTINUE else p + 1) % disks
+    if layout in (LEFT_SYMMETRIC, RIGHT_SYMMETRIC, N_CONTINUE):
+        begin = p + 1 if q is None or layout == N_CONTINUE else q + 1
+    else:
+        begin = 0
+    around = [(begin + step) % disks for step in range(disks)]
+    data = [role for role in around if role not in (p, q)]
+    if q is None:
+        return data, p, q, {}
+    if layout in (ZERO_RESTART, N_RESTART, N_CONTINUE):
+        return data, p, q, {role: role for role in data}
+    behind = [(q + 1 + step) % disks for step in range(disks)]
+    return data, p, q, {role: power for power, role in enumerate(role for role in behind if role not in (p, q))}
+
+
+def times(one, other):
+    """The product in the field of 256 elements of raid6."""
+    product = 0
+    while other:
+        product ^= one if other & 1 else 0
+        one = one << 1 ^ (0x11D if one & 0x80 else 0)
+        other >>= 1
+    return product
+
+
+def power_of_two(exponent):
+    return 1 if not exponent else times(2, power_of_two(exponent - 1))
+
+
+def inverse(value):
+    return next(other for other in range(1, 256) if times(value, other) == 1)
+
+
+def scaled(factor, content):
+    row = bytes(times(factor, value) for value in range(256))
+    return content.translate(row)
+
+
+def added(*parts):
+    """The sum of some sectors, which is that of their bits."""
+    total = 0
+    for part in parts:
+        total ^= int.from_bytes(part, "little")
+    return total.to_bytes(SECTOR, "little")
+
+
+def q_sum(parts, powers):
+    """The sum of the sectors of members, each by its power."""
+    return added(bytes(SECTOR), *(scaled(power_of_two(powers[role]), part) for role, part in parts.items()))
+
+
+def parity_place(level, layout, disks, chunk, number):
+    """The stripe of a sector, its member, and the sector there."""
+    stripe, column = divmod(number // chunk, disks - (2 if level == 6 else 1))
+    members = stripe_of(level, layout, disks, stripe)
+    return members, members[0][column], stripe * chunk + number % chunk
+
+
+def parity_sector(read, level, layout, disks, chunk, number, computes=lambda at: True):
+    """A sector of raid4, 5 or 6: as it is, or else computed from the other members, where that is said to be right."""
+    (data, p, q, powers), wanted, at = parity_place(level, layout, disks, chunk, number)
+    here = {}
+    for role in [*data, p] + [q] * (q is not None):
+        try:
+            here[role] = read(role, at)
+        except Gap:
+            pass
+    if wanted in here:
+        return here[wanted]
+    if not computes(at):
+        raise Gap("its parity may be old")
+    others = {role: here[role] for role in data if role in here}
+    lost = [role for role in data if role not in here]
+    if len(lost) == 1 and p in here:
+        return added(here[p], *others.values())
+    if q is None or q not in here or len(lost) > 2 or (len(lost) == 2 and p not in here):
+        raise Gap("too many members lack it")
+    factor = power_of_two(powers[wanted])
+    rest = added(here[q], q_sum(others, powers))
+    if len(lost) == 1:
+        return scaled(inverse(factor), rest)
+    other = power_of_two(powers[next(role for role in lost if role != wanted)])
+    return scaled(inverse(factor ^ other), added(rest, scaled(other, added(here[p], *others.values()))))
+
+
+# md.
+
+class Superblock(NamedTuple):
+    """What a superblock of version 1 says."""
+
+    features: int
+    array: bytes
+    name: str
+    level: int
+    layout: int
+    size: int
+    chunk: int
+    disks: int
+    data_offset: int
+    data_size: int
+    recovered: int  # the sectors of its data that are rebuilt
+    device: int
+    events: int
+    resynced: int
+    roles: tuple
+    bad: tuple  # runs of sectors of the whole device
+
+
+FAULTY, BAD_BLOCKS, RECOVERING = 0xFFFE, 8, 2
+
+
+def superblock_of(disk):
+    """The superblock of a member, or None."""
+    for sector in (0, 8, disk.count - 16 & ~7):
+        if not 0 <= sector <= disk.count - 2:
+            continue
+        try:
+            head = bytes_of(disk, sector * SECTOR, 1024)
+        except Gap:
+            continue
+        magic, major, features, array, name = struct.unpack_from("<LLL4x16s32s", head)
+        level, layout, size, chunk, disks = struct.unpack_from("<lLQLL", head, 72)
+        offset, length, here, recovery, device = struct.unpack_from("<QQQQL", head, 128)
+        shift, log_size, log_at = struct.unpack_from("<BHl", head, 185)
+        _, events, resynced, _, most = struct.unpack_from("<QQQLL", head, 192)
+        if (magic, major, here) != (0xA92B4EFC, 1, sector):
+            continue
+        bad = []
+        for place in range(log_size * SECTOR // 8) if features & BAD_BLOCKS else ():
+            entry = number_at(disk, (sector + log_at) * SECTOR + 8 * place, "Q")
+            if entry == NEVER:
+                break
+            bad.append((entry >> 10 << shift, (entry >> 10 << shift) + ((entry & 1023) << shift)))
+        recovered = recovery if features & RECOVERING else NEVER
+        name = name.rstrip(b"\0").decode().rpartition(":")[2]
+        return Superblock(features, array, name, level, layout, size, chunk, disks, offset, length, recovered, device, events, resynced,
+                          struct.unpack_from("<%dH" % most, head, 256), tuple(bad))
+    return None
+
+
+def array_of(members):
+    """The array of some members, which are pairs of a disk and its superblock. Those count whose events are the highest, or one
+    less; which role each has is said by the newest."""
+    newest = max((superblock for _, superblock in members), key=lambda superblock: superblock.events)
+    here = {}
+    for disk, superblock in members:
+        role = newest.roles[superblock.device]
+        if superblock.events + 1 >= newest.events and role < FAULTY:
+            here[role] = disk, superblock
+
+    def read(role, at):
+        if role not in here:
+            raise Gap("member %d" % role)
+        disk, superblock = here[role]
+        place = superblock.data_offset + at
+        if at >= superblock.data_size or at >= superblock.recovered or any(first <= place < end for first, end in superblock.bad):
+            raise Gap("member %d, sector %d" % (role, at))
+        return disk.sector(place)
+
+    level, layout, chunk, disks, size = newest.level, newest.layout, newest.chunk, newest.disks, newest.size
+    is_dirty = newest.resynced < size
+    if level in (0, -1):
+        if len(here) < disks:
+            raise Gap("a member is missing")
+        lengths = [here[role][1].data_size for role in range(disks)]
+        if chunk:
+            lengths = [length // chunk * chunk for length in lengths]
+        if level == -1:
+            return Disk(sum(lengths), lambda at: linear_sector(read, lengths, at))
+        return Disk(sum(lengths), lambda at: zone_sector(read, lengths, chunk, layout == 1, at))
+    if level == 1:
+        return Disk(size, lambda at: first_readable(read, [(role, at) for role in range(disks)]))
+    if level == 10:
+        near, far = layout & 255, layout >> 8 & 255
+        count = size // chunk // far * disks // near * chunk
+        return Disk(count, lambda at: first_readable(read, raid10_places(layout, disks, chunk, size, at)))
+    is_degraded = len(here) < disks or any(superblock.recovered < size for _, superblock in here.values())
+    if is_dirty and is_degraded:
+        raise Gap("wasn't shut down cleanly, and a member is missing")
+    count = size // chunk * chunk * (disks - (2 if level == 6 else 1))
+    return Disk(count, lambda at: parity_sector(read, level, layout, disks, chunk, at, lambda row: not is_dirty))
+
+
+# LVM.
+
+TOKEN = re.compile(r'"((?:[^"\\]|\\.)*)"|([{}\[\]=,])|([^\s{}\[\]=,#"]+)|#.*')
+
+
+def parsed(content):
+    """The sections and fields of a text, as dictionaries, lists, strings and numbers."""
+    tokens = []
+    for found in TOKEN.finditer(content):
+        if found.group(1) is not None:
+            tokens.append(("word", found.group(1)))
+        elif found.group(2):
+            tokens.append((found.group(2), None))
+        elif found.group(3):
+            tokens.append(("name", found.group(3)))
+    place = 0
+
+    def value():
+        nonlocal place
+        kind, what = tokens[place]
+        place += 1
+        if kind != "[":
+            return what if kind == "word" else int(what)
+        items = []
+        while tokens[place][0] != "]":
+            if tokens[place][0] == ",":
+                place += 1
+            else:
+                items.append(value())
+        place += 1
+        return items
+
+    def section():
+        nonlocal place
+        made = {}
+        while place < len(tokens) and tokens[place][0] != "}":
+            name, kind = tokens[place][1], tokens[place + 1][0]
+            place += 2
+            made[name] = section() if kind == "{" else value()
+        place += 1
+        return made
+    return section()
+
+
+def physical_volume_of(disk):
+    """The id of a physical volume and its text, or None."""
+    for sector in range(min(4, disk.count)):
+        head = disk.sector(sector)
+        if head[:8] != b"LABELONE":
+            continue
+        at = struct.unpack_from("<L", head, 20)[0]
+        identity, at = head[at:at + 32].decode(), at + 40
+        lists = []
+        for _ in range(2):
+            lists.append([])
+            while struct.unpack_from("<QQ", head, at) != (0, 0):
+                lists[-1].append(struct.unpack_from("<QQ", head, at))
+                at += 16
+            at += 16
+        start, size = lists[1][0]
+        offset, length = (number_at(disk, start + field, "Q") for field in (40, 48))
+        text = bytes_of(disk, start, size)[offset:offset + length]
+        text += bytes_of(disk, start + SECTOR, length - len(text)) if len(text) < length else b""
+        return identity, text.rstrip(b"\0").decode()
+    return None
+
+
+PARITY_KINDS = {"raid4": (4, 0), "raid5": (5, 2), "raid5_la": (5, 0), "raid5_ra": (5, 1), "raid5_ls": (5, 2), "raid5_rs": (5, 3), "raid5_n": (5, 5),
+                "raid6": (6, 8), "raid6_zr": (6, 8), "raid6_nr": (6, 9), "raid6_nc": (6, 10), "raid6_n_6": (6, 5), "raid6_la_6": (6, 16),
+                "raid6_ra_6": (6, 17), "raid6_ls_6": (6, 18), "raid6_rs_6": (6, 19)}
+
+
+class Group:
+    """A volume group: its newest text, and the physical volumes that are here by their ids."""
+
+    def __init__(self, text, physical):
+        self.name, self.text = next((name, body) for name, body in text.items() if isinstance(body, dict))
+        self.extent, self.volumes = self.text["extent_size"], self.text["logical_volumes"]
+        self.physical = physical
+
+    def segments(self, name):
+        volume = self.volumes[name]
+        return [volume["segment%d" % number] for number in range(1, volume["segment_count"] + 1)]
+
+    def records(self, key, name):
+        """The segments that say what snapshot a volume belongs to, by a field that names it."""
+        return [segment for other in self.volumes for segment in self.segments(other) if segment["type"] == "snapshot" and segment.get(key) == name]
+
+    def size_of(self, name):
+        for record in self.records("cow_store", name):
+            return record["extent_count"] * self.extent
+        return self.raw_size(name)
+
+    def raw_size(self, name):
+        return sum(segment["extent_count"] for segment in self.segments(name)) * self.extent
+
+    def volume(self, name):
+        """What a volume reads as: a snapshot through its store, an origin that is merged into as that snapshot."""
+        for record in self.records("cow_store", name):
+            return Disk(self.size_of(name), lambda at: snapshot_sector(self.inner(record["origin"]), self.plain(name), at))
+        return self.inner(name)
+
+    def inner(self, name):
+        for record in self.records("origin", name):
+            if "merging_store" in record:
+                return Disk(self.raw_size(name), lambda at: snapshot_sector(self.plain(name), self.plain(record["merging_store"]), at))
+        return self.plain(name)
+
+    def plain(self, name):
+        """A volume's own sectors, by its segments."""
+        return Disk(self.raw_size(name), lambda at: self.sector(name, at))
+
+    def sector(self, name, at):
+        for segment in self.segments(name):
+            inside = at - segment["start_extent"] * self.extent
+            if 0 <= inside < segment["extent_count"] * self.extent:
+                return self.in_segment(segment, inside)
+        raise Gap("past the end of " + name)
+
+    def below(self, name, extent, at):
+        """A sector of what an area lies on, from an extent of it on."""
+        if name in self.volumes:
+            return self.volume(name).sector(extent * self.extent + at)
+        record = self.text["physical_volumes"][name]
+        disk = self.physical.get(record["id"].replace("-", ""))
+        if disk is None:
+            raise Gap("a physical volume is missing")
+        return disk.sector(record["pe_start"] + extent * self.extent + at)
+
+    def in_segment(self, segment, at):
+        kind = segment["type"].partition("+")[0]
+        if kind == "striped":
+            return self.striped(segment, at)
+        if kind == "mirror":
+            # pvmove: the second leg is right once all extents have moved, and until then the first one, which is always written.
+            leg = 1 if segment["extents_moved"] == segment["extent_count"] else 0
+            return self.below(*segment["mirrors"][2 * leg:2 * leg + 2], at)
+        if kind in ("zero", "error"):
+            if kind == "error":
+                raise Gap("errors")
+            return bytes(SECTOR)
+        if kind.startswith("raid"):
+            return self.raid(kind, segment, at)
+        if kind == "thin":
+            pool = self.segments(segment["thin_pool"])[0]
+            return thin_sector(self.volume(pool["metadata"]), self.volume(pool["pool"]), segment["device_id"], at)
+        if kind == "cache":
+            return self.cached(segment, at)
+        raise Gap("a volume of type " + kind)
+
+    def striped(self, segment, at):
+        stripes, count = segment["stripes"], segment["stripe_count"]
+        if count == 1:
+            return self.below(*stripes, at)
+        chunk, offset = divmod(at, segment["stripe_size"])
+        row, column = divmod(chunk, count)
+        return self.below(*stripes[2 * column:2 * column + 2], row * segment["stripe_size"] + offset)
+
+    def raid(self, kind, segment, at):
+        """A sector of a raid volume: data lies at the start of the volumes of its legs, and superblocks on those beside them."""
+        if "raid0_lvs" in segment:
+            images, metas = segment["raid0_lvs"], []
+        else:
+            metas, images = segment["raids"][0::2], segment["raids"][1::2]
+        legs = [leg_of(self.volume(name)) for name in metas]
+        sound = [leg for leg in legs if leg]
+        if metas and not sound:
+            raise Gap("no leg has a superblock")
+        newest = max(sound, key=lambda leg: leg.events, default=None)
+        disks, length = len(images), self.raw_size(images[0])
+
+        def read(role, sector):
+            leg = legs[role] if metas else None
+            if metas and (leg is None or newest.failed >> role & 1 or sector >= leg.recovered):
+                raise Gap("leg %d" % role)
+            return self.volume(images[role]).sector(sector)
+        if kind in ("raid0", "raid0_meta"):
+            return zone_sector(read, [length] * disks, segment["stripe_size"], True, at)
+        if kind == "raid1":
+            return first_readable(read, [(role, at) for role in range(disks)])
+        if kind.startswith("raid10"):
+            return first_readable(read, raid10_places(2 | 1 << 8, disks, segment["stripe_size"], length, at))
+        level, layout = PARITY_KINDS[kind]
+        return parity_sector(read, level, layout, disks, segment["stripe_size"], at, lambda row: not any(leg.is_dirty(row) for leg in sound))
+
+    def cached(self, segment, at):
+        pool, origin = segment["cache_pool"], self.volume(segment["origin"])
+        if "metadata_start" in segment:
+            whole, chunk = self.volume(pool), segment["chunk_size"]
+            metadata, data = (part_of(whole, segment[part + "_start"], segment[part + "_len"]) for part in ("metadata", "data"))
+        else:
+            fields = self.segments(pool)[0]
+            metadata, data, chunk = self.volume(fields["metadata"]), self.volume(fields["data"]), fields["chunk_size"]
+        for block, entry in enumerate(array_values(metadata, number_at(metadata, 192, "Q"))):
+            if entry & 1 and entry >> 16 == at // chunk:
+                return data.sector(block * chunk + at % chunk)
+        return origin.sector(at)
+
+
+class Leg:
+    """What a leg's metadata says: a superblock of dm-raid, and behind it the regions that were being written."""
+
+    def __init__(self, disk):
+        self.disk = disk
+        self.events, self.failed, self.recovered, self.resynced = struct.unpack("<4Q", bytes_of(disk, 16, 32))
+
+    def is_dirty(self, at):
+        """Whether the parity of a sector of the members may be older than its data."""
+        if at >= self.resynced:
+            return True
+        if bytes_of(self.disk, 4096, 4) != b"bitm":
+            return False
+        region = at // (number_at(self.disk, 4096 + 52, "L") // SECTOR)
+        return bool(bytes_of(self.disk, 4096 + 256 + region // 8, 1)[0] >> region % 8 & 1)
+
+
+def leg_of(disk):
+    """What a leg says, or None if its metadata isn't here."""
+    try:
+        return Leg(disk) if bytes_of(disk, 0, 4) == b"DmRd" else None
+    except Gap:
+        return None
+
+
+def snapshot_sector(origin, store, at):
+    """A sector of a snapshot: from the store if its list has the chunk, which ends at the first free entry, else from the origin."""
+    chunk = number_at(store, 12, "L")
+    if number_at(store, 0, "L") != 0x70416E53 or number_at(store, 4, "L") != 1:
+        raise Gap("a store without a header, or invalid")
+    pairs = chunk * SECTOR // 16
+    area = 1
+    while True:
+        for place in range(pairs):
+            old, new = struct.unpack("<QQ", bytes_of(store, area * chunk * SECTOR + 16 * place, 16))
+            if not new:
+                return origin.sector(at)
+            if old == at // chunk:
+                return store.sector(new * chunk + at % chunk)
+        area += pairs + 1
+
+
+INTERNAL = 1
+
+
+def found_in_tree(disk, block, key):
+    """The value of a key in a tree of persistent-data, as bytes, or None."""
+    while True:
+        at = block * 4096
+        flags, entries, most, size = struct.unpack("<L8xLLL", bytes_of(disk, at + 4, 24))
+        keys = [number_at(disk, at + 32 + 8 * place, "Q") for place in range(entries)]
+        below = [place for place in range(entries) if keys[place] <= key]
+        if not below:
+            return None
+        value = bytes_of(disk, at + 32 + 8 * most + size * below[-1], size)
+        if not flags & INTERNAL:
+            return value if keys[below[-1]] == key else None
+        block = int.from_bytes(value, "little")
+
+
+def array_values(disk, root):
+    """The values of an array of persistent-data: those of its blocks in turn, to which a tree leads."""
+    number = 0
+    while True:
+        found = found_in_tree(disk, root, number)
+        if found is None:
+            return
+        at = int.from_bytes(found, "little") * 4096
+        for place in range(number_at(disk, at + 8, "L")):
+            yield number_at(disk, at + 24 + 8 * place, "Q")
+        number += 1
+
+
+def thin_sector(metadata, data, device, at):
+    """A sector of a thin volume: where the tree of its device leads, or zeros."""
+    chunk = number_at(metadata, 336, "L")
+    root = found_in_tree(metadata, number_at(metadata, 320, "Q"), device)
+    if root is None:
+        raise Gap("the pool has no such device")
+    value = found_in_tree(metadata, int.from_bytes(root, "little"), at // chunk)
+    if value is None:
+        return bytes(SECTOR)
+    return data.sector((int.from_bytes(value, "little") >> 24) * chunk + at % chunk)
+
+
+# All of some images.
+
+class Machine:
+    """The arrays and groups in some images, which are pairs of their bytes and the runs of sectors that weren't read."""
+
+    def __init__(self, images):
+        waiting, self.arrays, groups = [image_of(*image) for image in images], {}, {}
+        while waiting:
+            members, waiting_next = {}, []
+            for disk in waiting:
+                superblock = superblock_of(disk)
+                if superblock:
+                    members.setdefault(superblock.array, []).append((disk, superblock))
+                    continue
+                found = physical_volume_of(disk)
+                if found:
+                    text = parsed(found[1])
+                    group = next(body for body in text.values() if isinstance(body, dict))
+                    groups.setdefault(group["id"], []).append((group["seqno"], text, found[0], disk))
+            for each in members.values():
+                try:
+                    array = array_of(each)
+                except Gap:
+                    continue
+                self.arrays[each[0][1].name] = array
+                waiting_next.append(array)
+            waiting = waiting_next
+        self.groups = {}
+        for each in groups.values():
+            group = Group(max(each, key=lambda row: row[0])[1], {identity: disk for _, _, identity, disk in each})
+            self.groups[group.name] = group
+
+    def device(self, name):
+        """An array as md:NAME, or a volume as GROUP/VOLUME; None if it isn't here."""
+        if name.startswith("md:"):
+            return self.arrays.get(name[3:])
+        group, _, volume = name.partition("/")
+        return self.groups[group].volume(volume) if group in self.groups else None
