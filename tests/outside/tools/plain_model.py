@@ -4,9 +4,9 @@ time, without a run, a cache or an index. It is written from the kernel's docume
 It takes metadata as sound: no sum is checked here. A sector that nothing here gives for sure is a Gap.
 """
 
+import collections
 import re
 import struct
-from typing import NamedTuple
 
 SECTOR = 512
 NEVER = (1 << 64) - 1
@@ -16,11 +16,8 @@ class Gap(Exception):
     """A sector that isn't there, or of which nothing tells what it is."""
 
 
-class Disk(NamedTuple):
-    """So many sectors, and the function that gives one of them."""
-
-    count: int
-    sector: object
+# So many sectors, and the function that gives one of them.
+Disk = collections.namedtuple("Disk", "count sector")
 
 
 def image_of(content, unread=()):
@@ -30,14 +27,6 @@ def image_of(content, unread=()):
             raise Gap("image, sector %d" % at)
         return content[at * SECTOR:(at + 1) * SECTOR]
     return Disk(len(content) // SECTOR, sector)
-
-
-def part_of(disk, start, count):
-    def sector(at):
-        if not 0 <= at < count:
-            raise Gap("past the end")
-        return disk.sector(start + at)
-    return Disk(count, sector)
 
 
 def bytes_of(disk, at, size):
@@ -77,14 +66,6 @@ def zone_sector(read, lengths, chunk, is_original, number):
             column = (number if is_original else in_zone) // chunk % len(roles)
             return read(roles[column], low + row * chunk + in_zone % chunk)
         zone_start, low = zone_start + size, high
-    raise Gap("past the end")
-
-
-def linear_sector(read, lengths, number):
-    for role, length in enumerate(lengths):
-        if number < length:
-            return read(role, number)
-        number -= length
     raise Gap("past the end")
 
 
@@ -174,17 +155,11 @@ def q_sum(parts, powers):
     return added(bytes(SECTOR), *(scaled(power_of_two(powers[role]), part) for role, part in parts.items()))
 
 
-def parity_place(level, layout, disks, chunk, number):
-    """The stripe of a sector, its member, and the sector there."""
-    stripe, column = divmod(number // chunk, disks - (2 if level == 6 else 1))
-    members = stripe_of(level, layout, disks, stripe)
-    return members, members[0][column], stripe * chunk + number % chunk
-
-
 def parity_sector(read, level, layout, disks, chunk, number, computes=lambda at: True):
     """A sector of raid4, 5 or 6: as it is, or else computed from the other members, where that is said to be right."""
-    (data, p, q, powers), wanted, at = parity_place(level, layout, disks, chunk, number)
-    here = {}
+    stripe, column = divmod(number // chunk, disks - (2 if level == 6 else 1))
+    data, p, q, powers = stripe_of(level, layout, disks, stripe)
+    wanted, at, here = data[column], stripe * chunk + number % chunk, {}
     for role in [*data, p] + [q] * (q is not None):
         try:
             here[role] = read(role, at)
@@ -210,27 +185,8 @@ def parity_sector(read, level, layout, disks, chunk, number, computes=lambda at:
 
 # md.
 
-class Superblock(NamedTuple):
-    """What a superblock of version 1 says."""
-
-    features: int
-    array: bytes
-    name: str
-    level: int
-    layout: int
-    size: int
-    chunk: int
-    disks: int
-    data_offset: int
-    data_size: int
-    recovered: int  # the sectors of its data that are rebuilt
-    device: int
-    events: int
-    resynced: int
-    roles: tuple
-    bad: tuple  # runs of sectors of the whole device
-
-
+# What a superblock of version 1 says. So many sectors of data are rebuilt; `bad` are runs of sectors of the whole device.
+Superblock = collections.namedtuple("Superblock", "array name level layout size chunk disks data_offset data_size recovered device events resynced roles bad")
 FAULTY, BAD_BLOCKS, RECOVERING = 0xFFFE, 8, 2
 
 
@@ -258,19 +214,19 @@ def superblock_of(disk):
             bad.append((entry >> 10 << shift, (entry >> 10 << shift) + ((entry & 1023) << shift)))
         recovered = recovery if features & RECOVERING else NEVER
         name = name.rstrip(b"\0").decode().rpartition(":")[2]
-        return Superblock(features, array, name, level, layout, size, chunk, disks, offset, length, recovered, device, events, resynced,
+        return Superblock(array, name, level, layout, size, chunk, disks, offset, length, recovered, device, events, resynced,
                           struct.unpack_from("<%dH" % most, head, 256), tuple(bad))
     return None
 
 
-def array_of(members):
+def array_of(members, reads_rebuilt):
     """The array of some members, which are pairs of a disk and its superblock. Those count whose events are the highest, or one
-    less; which role each has is said by the newest."""
+    less; which role each has is said by the newest. One that is being rebuilt has what lies below where that came, or isn't read."""
     newest = max((superblock for _, superblock in members), key=lambda superblock: superblock.events)
     here = {}
     for disk, superblock in members:
         role = newest.roles[superblock.device]
-        if superblock.events + 1 >= newest.events and role < FAULTY:
+        if superblock.events + 1 >= newest.events and role < FAULTY and (reads_rebuilt or superblock.recovered == NEVER):
             here[role] = disk, superblock
 
     def read(role, at):
@@ -283,7 +239,6 @@ def array_of(members):
         return disk.sector(place)
 
     level, layout, chunk, disks, size = newest.level, newest.layout, newest.chunk, newest.disks, newest.size
-    is_dirty = newest.resynced < size
     if level in (0, -1):
         if len(here) < disks:
             raise Gap("a member is missing")
@@ -291,7 +246,8 @@ def array_of(members):
         if chunk:
             lengths = [length // chunk * chunk for length in lengths]
         if level == -1:
-            return Disk(sum(lengths), lambda at: linear_sector(read, lengths, at))
+            starts = [sum(lengths[:role]) for role in range(disks)]
+            return Disk(sum(lengths), lambda at: next(read(role, at - starts[role]) for role in reversed(range(disks)) if at >= starts[role]))
         return Disk(sum(lengths), lambda at: zone_sector(read, lengths, chunk, layout == 1, at))
     if level == 1:
         return Disk(size, lambda at: first_readable(read, [(role, at) for role in range(disks)]))
@@ -299,11 +255,9 @@ def array_of(members):
         near, far = layout & 255, layout >> 8 & 255
         count = size // chunk // far * disks // near * chunk
         return Disk(count, lambda at: first_readable(read, raid10_places(layout, disks, chunk, size, at)))
-    is_degraded = len(here) < disks or any(superblock.recovered < size for _, superblock in here.values())
-    if is_dirty and is_degraded:
-        raise Gap("wasn't shut down cleanly, and a member is missing")
+    # Where the parity wasn't made yet, or wasn't shut down cleanly, it may be older than the data.
     count = size // chunk * chunk * (disks - (2 if level == 6 else 1))
-    return Disk(count, lambda at: parity_sector(read, level, layout, disks, chunk, at, lambda row: not is_dirty))
+    return Disk(count, lambda at: parity_sector(read, level, layout, disks, chunk, at, lambda row: row < newest.resynced))
 
 
 # LVM.
@@ -351,7 +305,7 @@ def parsed(content):
 
 
 def physical_volume_of(disk):
-    """The id of a physical volume and its text, or None."""
+    """The id of a physical volume and its text, if that can be read; or None."""
     for sector in range(min(4, disk.count)):
         head = disk.sector(sector)
         if head[:8] != b"LABELONE":
@@ -366,9 +320,12 @@ def physical_volume_of(disk):
                 at += 16
             at += 16
         start, size = lists[1][0]
-        offset, length = (number_at(disk, start + field, "Q") for field in (40, 48))
-        text = bytes_of(disk, start, size)[offset:offset + length]
-        text += bytes_of(disk, start + SECTOR, length - len(text)) if len(text) < length else b""
+        try:
+            offset, length = (number_at(disk, start + field, "Q") for field in (40, 48))
+            text = bytes_of(disk, start + offset, min(length, size - offset))
+            text += bytes_of(disk, start + SECTOR, length - len(text)) if len(text) < length else b""
+        except Gap:
+            return identity, ""
         return identity, text.rstrip(b"\0").decode()
     return None
 
@@ -381,7 +338,8 @@ PARITY_KINDS = {"raid4": (4, 0), "raid5": (5, 2), "raid5_la": (5, 0), "raid5_ra"
 class Group:
     """A volume group: its newest text, and the physical volumes that are here by their ids."""
 
-    def __init__(self, text, physical):
+    def __init__(self, text, physical, is_careful):
+        self.is_careful = is_careful
         self.name, self.text = next((name, body) for name, body in text.items() if isinstance(body, dict))
         self.extent, self.volumes = self.text["extent_size"], self.text["logical_volumes"]
         self.physical = physical
@@ -451,7 +409,7 @@ class Group:
             return self.raid(kind, segment, at)
         if kind == "thin":
             pool = self.segments(segment["thin_pool"])[0]
-            return thin_sector(self.volume(pool["metadata"]), self.volume(pool["pool"]), segment["device_id"], at)
+            return thin_sector(self.volume(pool["metadata"]), self.volume(pool["pool"]), segment["device_id"], at, self.is_careful)
         if kind == "cache":
             return self.cached(segment, at)
         raise Gap("a volume of type " + kind)
@@ -476,10 +434,13 @@ class Group:
             raise Gap("no leg has a superblock")
         newest = max(sound, key=lambda leg: leg.events, default=None)
         disks, length = len(images), self.raw_size(images[0])
+        if self.is_careful:
+            # All bitmaps are to be there.
+            [leg.is_dirty(0) for leg in sound]
 
         def read(role, sector):
             leg = legs[role] if metas else None
-            if metas and (leg is None or newest.failed >> role & 1 or sector >= leg.recovered):
+            if metas and (leg is None or newest.failed >> role & 1 or sector >= leg.recovered or self.is_careful and leg.recovered != NEVER):
                 raise Gap("leg %d" % role)
             return self.volume(images[role]).sector(sector)
         if kind in ("raid0", "raid0_meta"):
@@ -494,12 +455,13 @@ class Group:
     def cached(self, segment, at):
         pool, origin = segment["cache_pool"], self.volume(segment["origin"])
         if "metadata_start" in segment:
-            whole, chunk = self.volume(pool), segment["chunk_size"]
-            metadata, data = (part_of(whole, segment[part + "_start"], segment[part + "_len"]) for part in ("metadata", "data"))
+            chunk, (metadata, data) = segment["chunk_size"], (
+                Disk(segment[part + "_len"], lambda at, start=segment[part + "_start"]: self.volume(pool).sector(start + at)) for part in ("metadata", "data"))
         else:
             fields = self.segments(pool)[0]
             metadata, data, chunk = self.volume(fields["metadata"]), self.volume(fields["data"]), fields["chunk_size"]
-        for block, entry in enumerate(array_values(metadata, number_at(metadata, 192, "Q"))):
+        entries = array_values(metadata, number_at(metadata, 192, "Q"))
+        for block, entry in enumerate(list(entries) if self.is_careful else entries):
             if entry & 1 and entry >> 16 == at // chunk:
                 return data.sector(block * chunk + at % chunk)
         return origin.sector(at)
@@ -550,19 +512,24 @@ def snapshot_sector(origin, store, at):
 INTERNAL = 1
 
 
+def node_of(disk, block):
+    """Whether a node of a tree of persistent-data has nodes below it, and its keys with their values."""
+    content = bytes_of(disk, block * 4096, 4096)
+    flags, entries, most = struct.unpack_from("<L8xLL", content, 4)
+    keys, values = (struct.unpack_from("<%dQ" % entries, content, 32 + skipped) for skipped in (0, 8 * most))
+    return flags & INTERNAL, list(zip(keys, values))
+
+
 def found_in_tree(disk, block, key):
-    """The value of a key in a tree of persistent-data, as bytes, or None."""
+    """The value of a key in a tree, or None."""
     while True:
-        at = block * 4096
-        flags, entries, most, size = struct.unpack("<L8xLLL", bytes_of(disk, at + 4, 24))
-        keys = [number_at(disk, at + 32 + 8 * place, "Q") for place in range(entries)]
-        below = [place for place in range(entries) if keys[place] <= key]
+        is_internal, pairs = node_of(disk, block)
+        below = [pair for pair in pairs if pair[0] <= key]
         if not below:
             return None
-        value = bytes_of(disk, at + 32 + 8 * most + size * below[-1], size)
-        if not flags & INTERNAL:
-            return value if keys[below[-1]] == key else None
-        block = int.from_bytes(value, "little")
+        if not is_internal:
+            return below[-1][1] if below[-1][0] == key else None
+        block = below[-1][1]
 
 
 def array_values(disk, root):
@@ -572,31 +539,40 @@ def array_values(disk, root):
         found = found_in_tree(disk, root, number)
         if found is None:
             return
-        at = int.from_bytes(found, "little") * 4096
-        for place in range(number_at(disk, at + 8, "L")):
-            yield number_at(disk, at + 24 + 8 * place, "Q")
+        content = bytes_of(disk, found * 4096, 4096)
+        yield from struct.unpack_from("<%dQ" % struct.unpack_from("<L", content, 8), content, 24)
         number += 1
 
 
-def thin_sector(metadata, data, device, at):
+def read_tree(disk, block):
+    """Reads all nodes of a tree, of which none may be missing."""
+    is_internal, pairs = node_of(disk, block)
+    for _, lower in pairs if is_internal else ():
+        read_tree(disk, lower)
+
+
+def thin_sector(metadata, data, device, at, is_careful):
     """A sector of a thin volume: where the tree of its device leads, or zeros."""
     chunk = number_at(metadata, 336, "L")
     root = found_in_tree(metadata, number_at(metadata, 320, "Q"), device)
     if root is None:
         raise Gap("the pool has no such device")
-    value = found_in_tree(metadata, int.from_bytes(root, "little"), at // chunk)
+    if is_careful:
+        read_tree(metadata, root)
+    value = found_in_tree(metadata, root, at // chunk)
     if value is None:
         return bytes(SECTOR)
-    return data.sector((int.from_bytes(value, "little") >> 24) * chunk + at % chunk)
+    return data.sector((value >> 24) * chunk + at % chunk)
 
 
 # All of some images.
 
 class Machine:
-    """The arrays and groups in some images, which are pairs of their bytes and the runs of sectors that weren't read."""
+    """The arrays and groups in some images, which are pairs of their bytes and the runs of sectors that weren't read. A careful one
+    reads no member that is being rebuilt, and nothing where metadata is missing that another sector would need."""
 
-    def __init__(self, images):
-        waiting, self.arrays, groups = [image_of(*image) for image in images], {}, {}
+    def __init__(self, images, is_careful=False):
+        waiting, self.arrays, groups, physical = [image_of(*image) for image in images], {}, {}, {}
         while waiting:
             members, waiting_next = {}, []
             for disk in waiting:
@@ -604,14 +580,19 @@ class Machine:
                 if superblock:
                     members.setdefault(superblock.array, []).append((disk, superblock))
                     continue
-                found = physical_volume_of(disk)
+                try:
+                    found = physical_volume_of(disk)
+                except Gap:
+                    continue
                 if found:
-                    text = parsed(found[1])
-                    group = next(body for body in text.values() if isinstance(body, dict))
-                    groups.setdefault(group["id"], []).append((group["seqno"], text, found[0], disk))
+                    physical[found[0]] = disk
+                    if found[1]:
+                        text = parsed(found[1])
+                        group = next(body for body in text.values() if isinstance(body, dict))
+                        groups.setdefault(group["id"], []).append((group["seqno"], text))
             for each in members.values():
                 try:
-                    array = array_of(each)
+                    array = array_of(each, not is_careful)
                 except Gap:
                     continue
                 self.arrays[each[0][1].name] = array
@@ -619,7 +600,7 @@ class Machine:
             waiting = waiting_next
         self.groups = {}
         for each in groups.values():
-            group = Group(max(each, key=lambda row: row[0])[1], {identity: disk for _, _, identity, disk in each})
+            group = Group(max(each, key=lambda row: row[0])[1], physical, is_careful)
             self.groups[group.name] = group
 
     def device(self, name):
