@@ -1,6 +1,7 @@
 """The commands `scan`, `save`, `serve`, `lost` and `tables` over piles of images, which are made here from their formats: what is
 found in them, and the bytes of volumes, which are known as they were put there sector by sector."""
 
+import functools
 import importlib
 import json
 import os
@@ -595,13 +596,14 @@ def check_lost_superblocks(tally, pile):
     os.unlink(os.path.join(pile.folder, "half"))
 
 
+CASTAGNOLI = [functools.reduce(lambda value, _: value >> 1 ^ (0x82F63B78 if value & 1 else 0), range(8), byte) for byte in range(256)]
+
+
 def summed(content):
     """The CRC-32C of some bytes, as persistent-data begins it."""
     value = 0xFFFFFFFF
     for byte in content:
-        value ^= byte
-        for _ in range(8):
-            value = value >> 1 ^ (0x82F63B78 if value & 1 else 0)
+        value = value >> 8 ^ CASTAGNOLI[(value ^ byte) & 0xFF]
     return value
 
 

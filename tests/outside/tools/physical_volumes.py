@@ -13,13 +13,8 @@ LVM, IDENTITY = bytes.fromhex("79d3d6e607f5c244a23c238f2a3df928"), b"an identity
 
 
 def checksum(content):
-    """The CRC-32 of LVM2, bit by bit: its polynomial is that of zlib, reflected, and its first value is lvm2's own."""
-    value = 0xF597A6CF
-    for byte in content:
-        value ^= byte
-        for _ in range(8):
-            value = value >> 1 ^ (0xEDB88320 if value & 1 else 0)
-    return value
+    """The CRC-32 of LVM2, which is that of zlib but for its first value and its last step."""
+    return zlib.crc32(content, 0xF597A6CF ^ 0xFFFFFFFF) ^ 0xFFFFFFFF
 
 
 def text_of_area(group, identity, number):

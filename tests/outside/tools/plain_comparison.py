@@ -32,13 +32,14 @@ def noise(dice, sectors):
     return dice.getrandbits(8 * SECTOR * sectors).to_bytes(SECTOR * sectors, "little") if sectors else b""
 
 
-def changed(dice, content, runs):
-    """Content with something else in some runs of sectors."""
+OPPOSITE = bytes(255 - byte for byte in range(256))
+
+
+def changed(content, runs):
+    """Content with the opposite in some runs of sectors."""
     made = bytearray(content)
     for first, end in runs:
-        end = min(end, len(content) // SECTOR)
-        if first < end:
-            made[first * SECTOR:end * SECTOR] = noise(dice, end - first)
+        made[first * SECTOR:end * SECTOR] = made[first * SECTOR:end * SECTOR].translate(OPPOSITE)
     return bytes(made)
 
 
@@ -168,19 +169,21 @@ def put_members(dice, machine, data, legs, level, layout, chunk, size):
         if fate == "missing":
             continue
         if fate in ("behind", "dropped"):
-            machine.add(models.member(changed(dice, leg, [(0, size)]), level, numbers[role], old_table,
+            machine.add(models.member(changed(leg, [(0, size)]), level, numbers[role], old_table,
                                       events - (1 if fate == "dropped" else dice.randrange(2, 9)), layout, chunk, size, **fields))
             continue
         if fate == "rebuilt":
             fields["recovered"] = dice.randrange(size + 1)
-            leg = changed(dice, leg, [(fields["recovered"], size)])
+            leg = changed(leg, [(fields["recovered"], size)])
         if can_lack and dice.random() < 0.3:
             shift = dice.choice([0, 0, 3])
             # The log counts from the beginning of the member, in units of a power of two.
             runs = [(start + first >> shift, max(1, end - first >> shift)) for first, end in some_runs(dice, len(leg) // SECTOR)]
             fields.update(bad=runs, shift=shift)
-            leg = changed(dice, leg, [(max(0, (first << shift) - start), (first + count << shift) - start) for first, count in runs])
-        content = models.member(leg, level, numbers[role], table, events - (dice.random() < 0.1 and level != 0), layout, chunk, size, **fields)
+            leg = changed(leg, [(max(0, (first << shift) - start), (first + count << shift) - start) for first, count in runs])
+        # The first one that is sound has the most events.
+        is_behind = dice.random() < 0.2 and can_lack and "sound" in list(fates.values())[:role]
+        content = models.member(leg, level, numbers[role], table, events - is_behind, layout, chunk, size, **fields)
         if dice.random() < 0.2:
             unread = [(start + first, start + end) for first, end in some_runs(dice, len(leg) // SECTOR)]
         if version and dice.random() < 0.1:
@@ -318,7 +321,7 @@ def raid_kind(dice, group, kinds=None):
     for role, leg in enumerate(legs):
         recovered = dice.randrange(length) if role == rebuilt else CLEAN
         if role in failed or role == rebuilt:
-            leg = changed(dice, leg, [(0 if role in failed else recovered, length)])
+            leg = changed(leg, [(0 if role in failed else recovered, length)])
         failed_by = 0 if role in failed else sum(1 << other for other in failed)
         head = models.leg_superblock(role, 3 if role in failed else 9, disks, 5 if level == 4 else level, layout, 0 if level == 1 else chunk, failed_by, recovered)
         metas.append(group.linear(2, head + models.leg_bitmap(length, region, dirty), pieces=1))
@@ -425,7 +428,7 @@ def move_kind(dice, group):
 
 
 GROUP_KINDS = {"striped": striped_kind, "raid": raid_kind, "snapshot": snapshot_kind, "thin": thin_kind, "cache": cache_kind, "move": move_kind}
-KINDS = ["array", "array", "array", "array on arrays", *GROUP_KINDS, "all", "all"]
+KINDS = ["array", "array", "array", "on an array", *GROUP_KINDS, "all", "all"]
 
 
 def group_machine(dice, machine, kinds, on_array=False):
@@ -441,7 +444,7 @@ def group_machine(dice, machine, kinds, on_array=False):
     lacking = dice.randrange(len(group.disks)) if dice.random() < 0.3 else None
     for place, (letter, content) in enumerate(zip(letters, group.disks)):
         whole = models.disk(letter, bytes(content), known)
-        if on_array:
+        if on_array and not place:
             array(dice, machine, whole)
         elif place != lacking or len(group.disks) == 1:
             unread = [(DATA + first, DATA + end) for first, end in some_runs(dice, PER_DISK * EXTENT)] if dice.random() < 0.3 else []
@@ -449,13 +452,14 @@ def group_machine(dice, machine, kinds, on_array=False):
     machine.names.update(("vg0/" + name, None) for name in group.shown)
 
 
-def machine_of(number, only=None, raids=None):
+def machine_of(number, only=None):
     """The machine of this number."""
     dice = random.Random(number)
-    machine, kind = Machine(dice), only or dice.choice(KINDS)
+    machine, kind = Machine(dice), dice.choice(KINDS)
+    kind = only or kind
     if kind == "array":
         array(dice, machine)
-    elif kind == "array on arrays":
+    elif kind == "on an array":
         group_machine(dice, machine, [dice.choice(list(GROUP_KINDS.values()))], on_array=True)
     elif kind == "more raids":
         group_machine(dice, machine, [lambda dice, group: raid_kind(dice, group, MORE_RAIDS)] * 2)
@@ -473,7 +477,7 @@ def answer_of(read):
 
 
 # What the tools may refuse besides, which they say that they don't follow.
-NOT_FOLLOWED = re.compile("no rule is known for parity|isn't followed")
+NOT_FOLLOWED = re.compile("isn't followed")
 
 
 def differences(program, folder, number, only=None):
@@ -488,7 +492,7 @@ def differences(program, folder, number, only=None):
             image.write(content)
     unread = {path: [(first * SECTOR, end * SECTOR) for first, end in runs] for path, (_, runs) in zip(paths, machine.images.values()) if runs}
     images = list(machine.images.values())
-    plain, careful, pile = plain_model.Machine(images), plain_model.Machine(images, is_careful=True), Pile(paths, program, unread)
+    plain, careful, pile = plain_model.Machine(images), None, Pile(paths, program, unread)
     dice, found, counts = random.Random(number), [], collections.Counter()
     targets = {name: answer_of(lambda name=name: pile.target(name)) for name in machine.names}
     for _ in range(SECTORS):
@@ -516,6 +520,7 @@ def differences(program, folder, number, only=None):
         counts["gap" if wanted is None else "bytes"] += 1
         if got != wanted:
             how = "refused" if got is None else "answered" if wanted is None else "wrong"
+            careful = careful or plain_model.Machine(images, is_careful=True)
             strict, said = careful.device(name), NOT_FOLLOWED.search(why)
             if how == "refused" and (said or not strict or answer_of(lambda: strict.sector(at))[0] is None):
                 counts["refused with care"] += 1

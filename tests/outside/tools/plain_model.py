@@ -129,17 +129,19 @@ def times(one, other):
     return product
 
 
+PRODUCTS = [bytes(times(one, other) for other in range(256)) for one in range(256)]
+
+
 def power_of_two(exponent):
     return 1 if not exponent else times(2, power_of_two(exponent - 1))
 
 
 def inverse(value):
-    return next(other for other in range(1, 256) if times(value, other) == 1)
+    return PRODUCTS[value].index(1)
 
 
 def scaled(factor, content):
-    row = bytes(times(factor, value) for value in range(256))
-    return content.translate(row)
+    return content.translate(PRODUCTS[factor])
 
 
 def added(*parts):
@@ -219,14 +221,14 @@ def superblock_of(disk):
     return None
 
 
-def array_of(members, reads_rebuilt):
+def array_of(members, is_careful):
     """The array of some members, which are pairs of a disk and its superblock. Those count whose events are the highest, or one
-    less; which role each has is said by the newest. One that is being rebuilt has what lies below where that came, or isn't read."""
+    less; which role each has is said by the newest. Of one that is being rebuilt that counts which is rebuilt."""
     newest = max((superblock for _, superblock in members), key=lambda superblock: superblock.events)
     here = {}
     for disk, superblock in members:
         role = newest.roles[superblock.device]
-        if superblock.events + 1 >= newest.events and role < FAULTY and (reads_rebuilt or superblock.recovered == NEVER):
+        if superblock.events + 1 >= newest.events and role < FAULTY and (superblock.recovered == NEVER or not is_careful):
             here[role] = disk, superblock
 
     def read(role, at):
@@ -239,6 +241,8 @@ def array_of(members, reads_rebuilt):
         return disk.sector(place)
 
     level, layout, chunk, disks, size = newest.level, newest.layout, newest.chunk, newest.disks, newest.size
+    # Of these the tools read the first copy alone where all members are there, or have no rule for parity.
+    reads_one = is_careful and (level in (4, 10) and len(here) == disks or level == 6 and layout != LEFT_SYMMETRIC)
     if level in (0, -1):
         if len(here) < disks:
             raise Gap("a member is missing")
@@ -254,10 +258,10 @@ def array_of(members, reads_rebuilt):
     if level == 10:
         near, far = layout & 255, layout >> 8 & 255
         count = size // chunk // far * disks // near * chunk
-        return Disk(count, lambda at: first_readable(read, raid10_places(layout, disks, chunk, size, at)))
+        return Disk(count, lambda at: first_readable(read, list(raid10_places(layout, disks, chunk, size, at))[:1 if reads_one else None]))
     # Where the parity wasn't made yet, or wasn't shut down cleanly, it may be older than the data.
     count = size // chunk * chunk * (disks - (2 if level == 6 else 1))
-    return Disk(count, lambda at: parity_sector(read, level, layout, disks, chunk, at, lambda row: row < newest.resynced))
+    return Disk(count, lambda at: parity_sector(read, level, layout, disks, chunk, at, lambda row: row < newest.resynced and not reads_one))
 
 
 # LVM.
@@ -343,14 +347,13 @@ class Group:
         self.name, self.text = next((name, body) for name, body in text.items() if isinstance(body, dict))
         self.extent, self.volumes = self.text["extent_size"], self.text["logical_volumes"]
         self.physical = physical
-
-    def segments(self, name):
-        volume = self.volumes[name]
-        return [volume["segment%d" % number] for number in range(1, volume["segment_count"] + 1)]
+        self.segments = {name: [volume["segment%d" % number] for number in range(1, volume["segment_count"] + 1)]
+                         for name, volume in self.volumes.items()}
+        self.snapshots = [segment for each in self.segments.values() for segment in each if segment["type"] == "snapshot"]
 
     def records(self, key, name):
         """The segments that say what snapshot a volume belongs to, by a field that names it."""
-        return [segment for other in self.volumes for segment in self.segments(other) if segment["type"] == "snapshot" and segment.get(key) == name]
+        return [segment for segment in self.snapshots if segment.get(key) == name]
 
     def size_of(self, name):
         for record in self.records("cow_store", name):
@@ -358,7 +361,7 @@ class Group:
         return self.raw_size(name)
 
     def raw_size(self, name):
-        return sum(segment["extent_count"] for segment in self.segments(name)) * self.extent
+        return sum(segment["extent_count"] for segment in self.segments[name]) * self.extent
 
     def volume(self, name):
         """What a volume reads as: a snapshot through its store, an origin that is merged into as that snapshot."""
@@ -377,7 +380,7 @@ class Group:
         return Disk(self.raw_size(name), lambda at: self.sector(name, at))
 
     def sector(self, name, at):
-        for segment in self.segments(name):
+        for segment in self.segments[name]:
             inside = at - segment["start_extent"] * self.extent
             if 0 <= inside < segment["extent_count"] * self.extent:
                 return self.in_segment(segment, inside)
@@ -408,7 +411,7 @@ class Group:
         if kind.startswith("raid"):
             return self.raid(kind, segment, at)
         if kind == "thin":
-            pool = self.segments(segment["thin_pool"])[0]
+            pool = self.segments[segment["thin_pool"]][0]
             return thin_sector(self.volume(pool["metadata"]), self.volume(pool["pool"]), segment["device_id"], at, self.is_careful)
         if kind == "cache":
             return self.cached(segment, at)
@@ -435,8 +438,7 @@ class Group:
         newest = max(sound, key=lambda leg: leg.events, default=None)
         disks, length = len(images), self.raw_size(images[0])
         if self.is_careful:
-            # All bitmaps are to be there.
-            [leg.is_dirty(0) for leg in sound]
+            newest.is_dirty(0)
 
         def read(role, sector):
             leg = legs[role] if metas else None
@@ -450,7 +452,7 @@ class Group:
         if kind.startswith("raid10"):
             return first_readable(read, raid10_places(2 | 1 << 8, disks, segment["stripe_size"], length, at))
         level, layout = PARITY_KINDS[kind]
-        return parity_sector(read, level, layout, disks, segment["stripe_size"], at, lambda row: not any(leg.is_dirty(row) for leg in sound))
+        return parity_sector(read, level, layout, disks, segment["stripe_size"], at, lambda row: not newest.is_dirty(row))
 
     def cached(self, segment, at):
         pool, origin = segment["cache_pool"], self.volume(segment["origin"])
@@ -458,9 +460,9 @@ class Group:
             chunk, (metadata, data) = segment["chunk_size"], (
                 Disk(segment[part + "_len"], lambda at, start=segment[part + "_start"]: self.volume(pool).sector(start + at)) for part in ("metadata", "data"))
         else:
-            fields = self.segments(pool)[0]
+            fields = self.segments[pool][0]
             metadata, data, chunk = self.volume(fields["metadata"]), self.volume(fields["data"]), fields["chunk_size"]
-        entries = array_values(metadata, number_at(metadata, 192, "Q"))
+        entries = array_values(metadata, struct.unpack_from("<Q", bytes_of(metadata, 0, 4096), 192)[0])
         for block, entry in enumerate(list(entries) if self.is_careful else entries):
             if entry & 1 and entry >> 16 == at // chunk:
                 return data.sector(block * chunk + at % chunk)
@@ -553,8 +555,8 @@ def read_tree(disk, block):
 
 def thin_sector(metadata, data, device, at, is_careful):
     """A sector of a thin volume: where the tree of its device leads, or zeros."""
-    chunk = number_at(metadata, 336, "L")
-    root = found_in_tree(metadata, number_at(metadata, 320, "Q"), device)
+    tree, chunk = struct.unpack_from("<Q8xL", bytes_of(metadata, 0, 4096), 320)
+    root = found_in_tree(metadata, tree, device)
     if root is None:
         raise Gap("the pool has no such device")
     if is_careful:
@@ -592,7 +594,7 @@ class Machine:
                         groups.setdefault(group["id"], []).append((group["seqno"], text))
             for each in members.values():
                 try:
-                    array = array_of(each, not is_careful)
+                    array = array_of(each, is_careful)
                 except Gap:
                     continue
                 self.arrays[each[0][1].name] = array
