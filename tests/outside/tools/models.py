@@ -206,6 +206,7 @@ def check_partitions(tally, pile):
     for name, image, place, kind, copy in (
             ("a GPT", whole, 1, "GPT", "first"), ("the backup of a GPT", b"x" * 1024 + whole[1024:], 1, "GPT", "backup"),
             ("the backup alone", bytes(40 * SECTOR) + whole[40 * SECTOR:], 1, "GPT", "backup"),
+            ("a GPT with entries of 256 bytes", physical_volumes.gpt((40, 47), (2048, 2048 + count - 1), last=2048 + count, entry=256).ljust(2048 * SECTOR, b"\0") + inside, 2, "GPT", "first"),
             ("an MBR", physical_volumes.mbr((0x83, 8, 8), (0x8E, 64, count)).ljust(64 * SECTOR, b"\0") + inside, 2, "MBR", ""),
             ("an extended partition", bytes(logical), 5, "MBR", ""),
             ("an MBR of 4096-byte sectors", physical_volumes.mbr((0x8E, 64, big)).ljust(64 * 4096, b"\0") + inside.ljust(big * 4096, b"\0"), 1, "MBR", ""),
@@ -245,11 +246,12 @@ def check_layers(tally, pile):
         return volume("snapshot%d" % number, str(number), segment(0, 5, "snapshot", "chunk_size = %d" % CHUNK, 'origin = "%s"' % origin, '%s = "%s"' % (key, of)),
                       status='"READ", "WRITE", "VISIBLE"' if key == "cow_store" else HIDDEN)
     moved = volume("pvmove0", "p", segment(0, 3, "mirror", "mirror_count = 2", "extents_moved = 3", 'mirrors = ["pv0", 50, "pv0", 55]'),
-                   segment(3, 2, "mirror", "mirror_count = 2", "extents_moved = 0", 'mirrors = ["pv0", 53, "pv0", 58]'), status='"READ", "WRITE", "PVMOVE", "LOCKED"')
+                   segment(3, 2, "mirror", "mirror_count = 2", "extents_moved = 0", 'mirrors = ["pv0", 53, "pv0", 58]'),
+                   segment(5, 2, "mirror", "mirror_count = 2", "extents_moved = 1", 'mirrors = ["pv0", 60, "pv0", 62]'), status='"READ", "WRITE", "PVMOVE", "LOCKED"')
     known = text("vg0", "g", 9, "a", volume("home", "h", linear(0, 5, ("pv0", 0))), volume("old", "o", linear(0, 5, ("pv0", 20)), status=HIDDEN), record(0, "home", "old"),
                  volume("full", "f", linear(0, 5, ("pv0", 30)), status=HIDDEN), record(1, "home", "full"),
                  volume("back", "b", linear(0, 5, ("pv0", 10))), volume("into", "i", linear(0, 5, ("pv0", 40)), status=HIDDEN), record(2, "back", "into", "merging_store"),
-                 moved, volume("moving", "m", linear(0, 5, ("pvmove0", 0))), volume("odd", "d", segment(0, 2, "vdo", 'vdo_pool = "pool"')))
+                 moved, volume("moving", "m", linear(0, 7, ("pvmove0", 0))), volume("odd", "d", segment(0, 2, "vdo", 'vdo_pool = "pool"')))
     pile.put("disk", disk("a", bytes(data), known))
     group = named(pile.scan()["groups"], "name", "vg0")
     rows = {row["name"]: row for row in group.get("volumes", [])}
@@ -265,7 +267,7 @@ def check_layers(tally, pile):
     pile.holds(tally, "an origin", "vg0/home", extents_of(data, 0, 5))
     pile.holds(tally, "a snapshot", "vg0/old", over(extents_of(data, 0, 5), new))
     pile.holds(tally, "an origin that is being merged into", "vg0/back", over(extents_of(data, 10, 5), new[:2]))
-    pile.holds(tally, "a volume that is being moved", "vg0/moving", extents_of(data, 55, 3) + extents_of(data, 53, 2))
+    pile.holds(tally, "a volume that is being moved", "vg0/moving", extents_of(data, 55, 3) + extents_of(data, 53, 2) + extents_of(data, 60, 2))
     pile.refuses(tally, "a snapshot that is invalid", "vg0/full", "save the origin instead")
     pile.refuses(tally, "a layer that isn't followed", "vg0/odd", "is of type vdo, which isn't followed")
     got = pile.call("tables", "vg0", "disk", "--to", "out")
@@ -794,6 +796,15 @@ def check_saving(tally, pile):
     got = pile.call("save", "vg0/home", "out", "one", "--map", "map")
     tally.holds("a map without its file", got.status == 1 and b"the map says that it was begun, and it isn't there" in got.err, got.err)
     os.unlink(os.path.join(pile.folder, "map"))
+    halves = text("vg1", "v", 4, "cd", volume("both", "h", linear(0, 5, ("pv0", 3)), linear(5, 5, ("pv1", 3))))
+    pile.put("c", disk("c", A, halves))
+    pile.put("d", disk("d", A, halves))
+    begun = pile.call("save", "vg1/both", "out", "c", "--map", "map")
+    got = pile.call("save", "vg1/both", "out", "d", "--map", "map")
+    with open(os.path.join(pile.folder, "out"), "rb") as saved:
+        tally.holds("a run that goes on without the disk of what is there", (begun.status, got.status) == (4, 0) and saved.read() == wanted * 2, got.err)
+    for name in ("c", "d", "out", "map"):
+        os.unlink(os.path.join(pile.folder, name))
     got = pile.call("save", "vg0/home", "out", "one", "--map", "one=map")
     is_kept = not any(os.path.exists(os.path.join(pile.folder, name)) for name in ("out", "map", "one=map"))
     tally.holds("the map of an image", got.status == 2 and b"--map MAP is a file that save writes" in got.err and is_kept, got.err)
@@ -946,9 +957,11 @@ TRIES = 80
 
 
 def check_hostile(tally, pile):
-    """Images with random changes, also of texts whose sums are right: an answer, or a refusal in words."""
+    """Images with random changes, also of texts whose sums are right: an answer, which is right where the sum may tell, or a refusal in words."""
     known = text("vg0", "g", 4, "ab", *PLAIN, volume("thin", "t", segment(0, 8, "thin", 'thin_pool = "wide-one"', "device_id = 1")))
     dice = random.Random(4)
+    pile.put("two", disk("b", B, known))
+    saved = 0
     words = [b"0", b"-1", b"18446744073709551615", b'"pv0"', b'"home"', b'"striped"', b'"thin"', b'"raid5"', b'"cache"', b"{", b"}", b"[", b"]", b"=", b'"', b""]
     for number in range(TRIES):
         changed = known[:-1].split(b" ")
@@ -961,11 +974,11 @@ def check_hostile(tally, pile):
         pile.put("one", bytes(image))
         got = pile.call("scan", "--json", "one")
         tally.holds("scanning changed images", got.status == 0 and not got.err, "number %d: status %s, %r" % (number, got.status, got.err[-300:]))
-        got = pile.call("save", "vg0/home", "out", "one")
-        is_there = os.path.exists(os.path.join(pile.folder, "out"))
-        tally.holds("saving from changed images", got.status in (0, 1) and is_there == (got.status == 0), "number %d: status %s, %r" % (number, got.status, got.err[-300:]))
-        if is_there:
-            os.unlink(os.path.join(pile.folder, "out"))
+        got, content = pile.save("vg0/home", "one", "two")
+        is_so = got.status in (0, 1) and (content is not None) == (got.status == 0) and (number % 2 or content in (None, HOME))
+        tally.holds("saving from changed images", is_so, "number %d: status %s, %r" % (number, got.status, got.err[-300:]))
+        saved += content is not None
+    tally.holds("how many could be saved", 0 < saved < TRIES, saved)
 
 
 class Models(Case, checks=[

@@ -1,5 +1,5 @@
-"""A plain model of what images hold, with which that of the tools is compared: arrays of md and volumes of LVM, one sector at a
-time, without a run, a cache or an index. It is written from the kernel's documents and formats, and shares no code with the tools.
+"""A plain model of what images hold, with which that of the tools is compared: arrays of md and volumes of LVM, one sector
+at a time, without a run, a cache or an index. It is written from the kernel's documents, and shares no code with the tools.
 
 It takes metadata as sound: no sum is checked here. A sector that nothing here gives for sure is a Gap.
 """
@@ -21,7 +21,6 @@ Disk = collections.namedtuple("Disk", "count sector")
 
 
 def image_of(content, unread=()):
-    """An image, of which the sectors of these runs weren't read."""
     def sector(at):
         if at < 0 or (at + 1) * SECTOR > len(content) or any(first <= at < end for first, end in unread):
             raise Gap("image, sector %d" % at)
@@ -33,11 +32,6 @@ def bytes_of(disk, at, size):
     """Bytes from a byte on."""
     first, end = at // SECTOR, -(-(at + size) // SECTOR)
     return b"".join(disk.sector(number) for number in range(first, end))[at - first * SECTOR:][:size]
-
-
-def number_at(disk, at, form):
-    """A number of this form of `struct` at a byte."""
-    return struct.unpack("<" + form, bytes_of(disk, at, struct.calcsize("<" + form)))[0]
 
 
 # Levels: each gives a sector of an array by `read(role, sector)`, which gives one of a member's data, or raises a Gap.
@@ -90,8 +84,8 @@ ZERO_RESTART, N_RESTART, N_CONTINUE, Q_LAST = 8, 9, 10, 16
 
 
 def stripe_of(level, layout, disks, stripe):
-    """The members of a stripe: those of its data in their order, P, and Q or None; and the power of two by which each member counts in
-    Q. With DDF's layouts the power is the member's number, otherwise that of its data from the one behind Q on."""
+    """The members of a stripe: those of its data in their order, P, and Q or None; and the power of two by which each counts
+    in Q. With DDF's layouts that is the member's number, otherwise its place among the data from behind Q on."""
     if level == 4:
         level, layout = 5, PARITY_LAST
     if level == 6 and layout >= Q_LAST:
@@ -157,7 +151,7 @@ def q_sum(parts, powers):
     return added(bytes(SECTOR), *(scaled(power_of_two(powers[role]), part) for role, part in parts.items()))
 
 
-def parity_sector(read, level, layout, disks, chunk, number, computes=lambda at: True):
+def parity_sector(read, level, layout, disks, chunk, number, computes):
     """A sector of raid4, 5 or 6: as it is, or else computed from the other members, where that is said to be right."""
     stripe, column = divmod(number // chunk, disks - (2 if level == 6 else 1))
     data, p, q, powers = stripe_of(level, layout, disks, stripe)
@@ -188,7 +182,8 @@ def parity_sector(read, level, layout, disks, chunk, number, computes=lambda at:
 # md.
 
 # What a superblock of version 1 says. So many sectors of data are rebuilt; `bad` are runs of sectors of the whole device.
-Superblock = collections.namedtuple("Superblock", "array name level layout size chunk disks data_offset data_size recovered device events resynced roles bad")
+Superblock = collections.namedtuple("Superblock", "array name level layout size chunk disks data_offset data_size recovered "
+                                    "device events resynced roles bad")
 FAULTY, BAD_BLOCKS, RECOVERING = 0xFFFE, 8, 2
 
 
@@ -209,15 +204,16 @@ def superblock_of(disk):
         if (magic, major, here) != (0xA92B4EFC, 1, sector):
             continue
         bad = []
-        for place in range(log_size * SECTOR // 8) if features & BAD_BLOCKS else ():
-            entry = number_at(disk, (sector + log_at) * SECTOR + 8 * place, "Q")
+        log = bytes_of(disk, (sector + log_at) * SECTOR, log_size * SECTOR if features & BAD_BLOCKS else 0)
+        for entry, in struct.iter_unpack("<Q", log):
             if entry == NEVER:
                 break
             bad.append((entry >> 10 << shift, (entry >> 10 << shift) + ((entry & 1023) << shift)))
         recovered = recovery if features & RECOVERING else NEVER
         name = name.rstrip(b"\0").decode().rpartition(":")[2]
+        roles = struct.unpack_from("<%dH" % most, head, 256)
         return Superblock(array, name, level, layout, size, chunk, disks, offset, length, recovered, device, events, resynced,
-                          struct.unpack_from("<%dH" % most, head, 256), tuple(bad))
+                          roles, bad)
     return None
 
 
@@ -228,7 +224,8 @@ def array_of(members, is_careful):
     here = {}
     for disk, superblock in members:
         role = newest.roles[superblock.device]
-        if superblock.events + 1 >= newest.events and role < FAULTY and (superblock.recovered == NEVER or not is_careful):
+        is_read = superblock.recovered == NEVER or not is_careful
+        if superblock.events + 1 >= newest.events and role < FAULTY and is_read:
             here[role] = disk, superblock
 
     def read(role, at):
@@ -236,7 +233,8 @@ def array_of(members, is_careful):
             raise Gap("member %d" % role)
         disk, superblock = here[role]
         place = superblock.data_offset + at
-        if at >= superblock.data_size or at >= superblock.recovered or any(first <= place < end for first, end in superblock.bad):
+        is_bad = any(first <= place < end for first, end in superblock.bad)
+        if at >= superblock.data_size or at >= superblock.recovered or is_bad:
             raise Gap("member %d, sector %d" % (role, at))
         return disk.sector(place)
 
@@ -251,59 +249,46 @@ def array_of(members, is_careful):
             lengths = [length // chunk * chunk for length in lengths]
         if level == -1:
             starts = [sum(lengths[:role]) for role in range(disks)]
-            return Disk(sum(lengths), lambda at: next(read(role, at - starts[role]) for role in reversed(range(disks)) if at >= starts[role]))
+            role_at = lambda at: max(role for role in range(disks) if at >= starts[role])
+            return Disk(sum(lengths), lambda at: read(role_at(at), at - starts[role_at(at)]))
         return Disk(sum(lengths), lambda at: zone_sector(read, lengths, chunk, layout == 1, at))
     if level == 1:
         return Disk(size, lambda at: first_readable(read, [(role, at) for role in range(disks)]))
     if level == 10:
         near, far = layout & 255, layout >> 8 & 255
         count = size // chunk // far * disks // near * chunk
-        return Disk(count, lambda at: first_readable(read, list(raid10_places(layout, disks, chunk, size, at))[:1 if reads_one else None]))
+        most = 1 if reads_one else near * far
+        return Disk(count, lambda at: first_readable(read, list(raid10_places(layout, disks, chunk, size, at))[:most]))
     # Where the parity wasn't made yet, or wasn't shut down cleanly, it may be older than the data.
     count = size // chunk * chunk * (disks - (2 if level == 6 else 1))
-    return Disk(count, lambda at: parity_sector(read, level, layout, disks, chunk, at, lambda row: row < newest.resynced and not reads_one))
+    computes = lambda row: row < newest.resynced and not reads_one
+    return Disk(count, lambda at: parity_sector(read, level, layout, disks, chunk, at, computes))
 
 
 # LVM.
 
-TOKEN = re.compile(r'"((?:[^"\\]|\\.)*)"|([{}\[\]=,])|([^\s{}\[\]=,#"]+)|#.*')
+TOKEN = re.compile(r'#.*|"((?:[^"\\]|\\.)*)"|[{}\[\]=,]|[^\s{}\[\]=,#"]+')
 
 
 def parsed(content):
     """The sections and fields of a text, as dictionaries, lists, strings and numbers."""
-    tokens = []
-    for found in TOKEN.finditer(content):
-        if found.group(1) is not None:
-            tokens.append(("word", found.group(1)))
-        elif found.group(2):
-            tokens.append((found.group(2), None))
-        elif found.group(3):
-            tokens.append(("name", found.group(3)))
-    place = 0
+    tokens = iter([found for found in TOKEN.finditer(content) if not found.group().startswith("#")])
 
-    def value():
-        nonlocal place
-        kind, what = tokens[place]
-        place += 1
-        if kind != "[":
-            return what if kind == "word" else int(what)
+    def value(token):
+        if token.group() != "[":
+            return int(token.group()) if token.group(1) is None else token.group(1)
         items = []
-        while tokens[place][0] != "]":
-            if tokens[place][0] == ",":
-                place += 1
-            else:
-                items.append(value())
-        place += 1
-        return items
+        for each in tokens:
+            if each.group() == "]":
+                return items
+            items += [value(each)] if each.group() != "," else []
 
     def section():
-        nonlocal place
         made = {}
-        while place < len(tokens) and tokens[place][0] != "}":
-            name, kind = tokens[place][1], tokens[place + 1][0]
-            place += 2
-            made[name] = section() if kind == "{" else value()
-        place += 1
+        for token in tokens:
+            if token.group() == "}":
+                break
+            made[token.group()] = section() if next(tokens).group() == "{" else value(next(tokens))
         return made
     return section()
 
@@ -325,7 +310,7 @@ def physical_volume_of(disk):
             at += 16
         start, size = lists[1][0]
         try:
-            offset, length = (number_at(disk, start + field, "Q") for field in (40, 48))
+            offset, length = struct.unpack("<QQ", bytes_of(disk, start + 40, 16))
             text = bytes_of(disk, start + offset, min(length, size - offset))
             text += bytes_of(disk, start + SECTOR, length - len(text)) if len(text) < length else b""
         except Gap:
@@ -334,9 +319,11 @@ def physical_volume_of(disk):
     return None
 
 
-PARITY_KINDS = {"raid4": (4, 0), "raid5": (5, 2), "raid5_la": (5, 0), "raid5_ra": (5, 1), "raid5_ls": (5, 2), "raid5_rs": (5, 3), "raid5_n": (5, 5),
-                "raid6": (6, 8), "raid6_zr": (6, 8), "raid6_nr": (6, 9), "raid6_nc": (6, 10), "raid6_n_6": (6, 5), "raid6_la_6": (6, 16),
-                "raid6_ra_6": (6, 17), "raid6_ls_6": (6, 18), "raid6_rs_6": (6, 19)}
+# The levels and layouts of types of segments.
+PARITY_KINDS = {
+    "raid4": (4, 0), "raid5": (5, 2), "raid5_la": (5, 0), "raid5_ra": (5, 1), "raid5_ls": (5, 2), "raid5_rs": (5, 3),
+    "raid5_n": (5, 5), "raid6": (6, 8), "raid6_zr": (6, 8), "raid6_nr": (6, 9), "raid6_nc": (6, 10), "raid6_n_6": (6, 5),
+    "raid6_la_6": (6, 16), "raid6_ra_6": (6, 17), "raid6_ls_6": (6, 18), "raid6_rs_6": (6, 19)}
 
 
 class Group:
@@ -356,28 +343,26 @@ class Group:
         return [segment for segment in self.snapshots if segment.get(key) == name]
 
     def size_of(self, name):
-        for record in self.records("cow_store", name):
-            return record["extent_count"] * self.extent
-        return self.raw_size(name)
-
-    def raw_size(self, name):
         return sum(segment["extent_count"] for segment in self.segments[name]) * self.extent
 
     def volume(self, name):
         """What a volume reads as: a snapshot through its store, an origin that is merged into as that snapshot."""
         for record in self.records("cow_store", name):
-            return Disk(self.size_of(name), lambda at: snapshot_sector(self.inner(record["origin"]), self.plain(name), at))
-        return self.inner(name)
+            return self.snapshot(self.origin(record["origin"]), name, record["extent_count"] * self.extent)
+        return self.origin(name)
 
-    def inner(self, name):
+    def origin(self, name):
         for record in self.records("origin", name):
             if "merging_store" in record:
-                return Disk(self.raw_size(name), lambda at: snapshot_sector(self.plain(name), self.plain(record["merging_store"]), at))
+                return self.snapshot(self.plain(name), record["merging_store"], self.size_of(name))
         return self.plain(name)
+
+    def snapshot(self, origin, store, count):
+        return Disk(count, lambda at: snapshot_sector(origin, self.plain(store), at, self.is_careful))
 
     def plain(self, name):
         """A volume's own sectors, by its segments."""
-        return Disk(self.raw_size(name), lambda at: self.sector(name, at))
+        return Disk(self.size_of(name), lambda at: self.sector(name, at))
 
     def sector(self, name, at):
         for segment in self.segments[name]:
@@ -404,15 +389,14 @@ class Group:
             # pvmove: the second leg is right once all extents have moved, and until then the first one, which is always written.
             leg = 1 if segment["extents_moved"] == segment["extent_count"] else 0
             return self.below(*segment["mirrors"][2 * leg:2 * leg + 2], at)
-        if kind in ("zero", "error"):
-            if kind == "error":
-                raise Gap("errors")
+        if kind == "zero":
             return bytes(SECTOR)
         if kind.startswith("raid"):
             return self.raid(kind, segment, at)
         if kind == "thin":
             pool = self.segments[segment["thin_pool"]][0]
-            return thin_sector(self.volume(pool["metadata"]), self.volume(pool["pool"]), segment["device_id"], at, self.is_careful)
+            metadata, data = self.volume(pool["metadata"]), self.volume(pool["pool"])
+            return thin_sector(metadata, data, segment["device_id"], at, self.is_careful)
         if kind == "cache":
             return self.cached(segment, at)
         raise Gap("a volume of type " + kind)
@@ -427,22 +411,19 @@ class Group:
 
     def raid(self, kind, segment, at):
         """A sector of a raid volume: data lies at the start of the volumes of its legs, and superblocks on those beside them."""
-        if "raid0_lvs" in segment:
-            images, metas = segment["raid0_lvs"], []
-        else:
-            metas, images = segment["raids"][0::2], segment["raids"][1::2]
-        legs = [leg_of(self.volume(name)) for name in metas]
-        sound = [leg for leg in legs if leg]
-        if metas and not sound:
+        images = segment.get("raid0_lvs") or segment["raids"][1::2]
+        legs = [leg_of(self.volume(name)) for name in segment.get("raids", [])[0::2]]
+        newest = max(filter(None, legs), key=lambda leg: leg.events, default=None)
+        if legs and not newest:
             raise Gap("no leg has a superblock")
-        newest = max(sound, key=lambda leg: leg.events, default=None)
-        disks, length = len(images), self.raw_size(images[0])
-        if self.is_careful:
+        disks, length = len(images), self.size_of(images[0])
+        if self.is_careful and newest:
             newest.is_dirty(0)
 
         def read(role, sector):
-            leg = legs[role] if metas else None
-            if metas and (leg is None or newest.failed >> role & 1 or sector >= leg.recovered or self.is_careful and leg.recovered != NEVER):
+            leg = legs[role] if legs else None
+            is_behind = leg and (sector >= leg.recovered or self.is_careful and leg.recovered != NEVER)
+            if legs and (leg is None or newest.failed >> role & 1 or is_behind):
                 raise Gap("leg %d" % role)
             return self.volume(images[role]).sector(sector)
         if kind in ("raid0", "raid0_meta"):
@@ -455,12 +436,13 @@ class Group:
         return parity_sector(read, level, layout, disks, segment["stripe_size"], at, lambda row: not newest.is_dirty(row))
 
     def cached(self, segment, at):
-        pool, origin = segment["cache_pool"], self.volume(segment["origin"])
+        name, origin, chunk = segment["cache_pool"], self.volume(segment["origin"]), segment.get("chunk_size")
         if "metadata_start" in segment:
-            chunk, (metadata, data) = segment["chunk_size"], (
-                Disk(segment[part + "_len"], lambda at, start=segment[part + "_start"]: self.volume(pool).sector(start + at)) for part in ("metadata", "data"))
+            pool = self.volume(name)
+            starts = segment["metadata_start"], segment["data_start"]
+            metadata, data = (Disk(pool.count, lambda at, start=start: pool.sector(start + at)) for start in starts)
         else:
-            fields = self.segments[pool][0]
+            fields = self.segments[name][0]
             metadata, data, chunk = self.volume(fields["metadata"]), self.volume(fields["data"]), fields["chunk_size"]
         entries = array_values(metadata, struct.unpack_from("<Q", bytes_of(metadata, 0, 4096), 192)[0])
         for block, entry in enumerate(list(entries) if self.is_careful else entries):
@@ -470,7 +452,7 @@ class Group:
 
 
 class Leg:
-    """What a leg's metadata says: a superblock of dm-raid, and behind it the regions that were being written."""
+    """What a leg's metadata says: a superblock of dm-raid, and behind it which regions were being written."""
 
     def __init__(self, disk):
         self.disk = disk
@@ -478,11 +460,9 @@ class Leg:
 
     def is_dirty(self, at):
         """Whether the parity of a sector of the members may be older than its data."""
-        if at >= self.resynced:
+        if at >= self.resynced or bytes_of(self.disk, 4096, 4) != b"bitm":
             return True
-        if bytes_of(self.disk, 4096, 4) != b"bitm":
-            return False
-        region = at // (number_at(self.disk, 4096 + 52, "L") // SECTOR)
+        region = at // (struct.unpack("<L", bytes_of(self.disk, 4096 + 52, 4))[0] // SECTOR)
         return bool(bytes_of(self.disk, 4096 + 256 + region // 8, 1)[0] >> region % 8 & 1)
 
 
@@ -494,21 +474,28 @@ def leg_of(disk):
         return None
 
 
-def snapshot_sector(origin, store, at):
-    """A sector of a snapshot: from the store if its list has the chunk, which ends at the first free entry, else from the origin."""
-    chunk = number_at(store, 12, "L")
-    if number_at(store, 0, "L") != 0x70416E53 or number_at(store, 4, "L") != 1:
-        raise Gap("a store without a header, or invalid")
-    pairs = chunk * SECTOR // 16
+def exceptions_of(store, chunk):
+    """The pairs of a store's list, of an old and a new chunk, up to the first free place."""
     area = 1
     while True:
-        for place in range(pairs):
+        for place in range(chunk * SECTOR // 16):
             old, new = struct.unpack("<QQ", bytes_of(store, area * chunk * SECTOR + 16 * place, 16))
             if not new:
-                return origin.sector(at)
-            if old == at // chunk:
-                return store.sector(new * chunk + at % chunk)
-        area += pairs + 1
+                return
+            yield old, new
+        area += chunk * SECTOR // 16 + 1
+
+
+def snapshot_sector(origin, store, at, is_careful):
+    """A sector of a snapshot: from the store if its list has the chunk, else from the origin."""
+    magic, valid, _, chunk = struct.unpack("<4L", bytes_of(store, 0, 16))
+    if (magic, valid) != (0x70416E53, 1):
+        raise Gap("a store without a header, or invalid")
+    pairs = exceptions_of(store, chunk)
+    for old, new in list(pairs) if is_careful else pairs:
+        if old == at // chunk:
+            return store.sector(new * chunk + at % chunk)
+    return origin.sector(at)
 
 
 INTERNAL = 1
@@ -570,8 +557,8 @@ def thin_sector(metadata, data, device, at, is_careful):
 # All of some images.
 
 class Machine:
-    """The arrays and groups in some images, which are pairs of their bytes and the runs of sectors that weren't read. A careful one
-    reads no member that is being rebuilt, and nothing where metadata is missing that another sector would need."""
+    """The arrays and groups in some images, which are pairs of their bytes and the runs of sectors that weren't read. A
+    careful one reads no member that is being rebuilt, and nothing where metadata is missing that other sectors need."""
 
     def __init__(self, images, is_careful=False):
         waiting, self.arrays, groups, physical = [image_of(*image) for image in images], {}, {}, {}

@@ -75,12 +75,13 @@ def check_killed(tally, program, top):
     sample, real = os.path.join(tool_calls.samples(top), "home.img"), found("debugfs")
     folder = os.path.dirname(program.file("killed/map", "0x0 ?\n0x0 0x8000 -\n"))
     words = [sys.executable, os.path.join(top, tool_calls.TOOL), "lost", "--program", program.path, sample, sample, "--saved", sample, "--map", sample + "=" + os.path.join(folder, "map")]
+    whole = run(words).out
     for at, pattern, status in (("many", '*" -f "*', 5), ("first", '*" -R stats "*', 5), ("plain", '"plain -R"*', 0)):
         script = program.file("killed/debugfs", '#!/bin/sh\ncase "$DIES_AT $*" in %s) kill -9 $$ ;; esac\nexec %s "$@"\n' % (pattern, real))
         os.chmod(script, 0o755)
         got = run(words, env=dict(os.environ, DIES_AT=at, PATH=folder + os.pathsep + os.environ["PATH"]))
         is_told = (script + ": it was ended by signal 9\n").encode() in got.err
-        tally.holds("files by a debugfs that is killed, " + at, got.status == status and bool(got.out) == (status == 0) and is_told, "%s, %r, %r" % (got.status, got.out, got.err))
+        tally.holds("files by a debugfs that is killed, " + at, got.status == status and got.out == (b"" if status else whole) and is_told, "%s, %r, %r" % (got.status, got.out, got.err))
 
 
 def made(tally, program, name, contents, *words, size="8M"):
@@ -182,13 +183,16 @@ def check_lost_inodes(tally, program, top):
     if not image:
         return
     table = int(re.search(r"inode table at (\d+)", asked_of(image, "stats"))[1])
-    inodes = sorted(int(re.search(r"Inode (\d+) is part", asked_of(image, "imap " + it))[1]) for it in names)
+    inode_of = {it: int(re.search(r"Inode (\d+) is part", asked_of(image, "imap " + it))[1]) for it in names}
+    inodes = sorted(inode_of.values())
     # Two inodes of 256 bytes lie in a sector.
     first, last = (2 * table + (it - 1) // 2 for it in (inodes[0], inodes[-1]))
     write_at(image, 512 * first, bytes(512 * (last + 1 - first)))
     got = files(program, top, [(first, last + 1 - first)], image)
-    named = {it.split("inode table: ")[-1] for it in got.out.decode().splitlines()}
-    tally.holds("the names of lost inodes", (got.status, got.err) == (0, b"") and names <= named, "%r, %r" % (got.out, got.err))
+    # Each is told with the lost sectors of its block, which has four inodes; the one before these is that of /lost+found.
+    blocks = {name: (inode - 1) // 4 for name, inode in [*inode_of.items(), ("/lost+found", inodes[0] - 1)]}
+    rows = [(sum(2 * (table + at) + side in range(first, last + 1) for side in (0, 1)), "inode table: " + name) for name, at in sorted(blocks.items())]
+    tally.same("the names of lost inodes", got, 0, said(*rows, sectors=16384, lost=last + 1 - first))
 
 
 def read(path):
@@ -239,8 +243,8 @@ def check_damaged_xfs(tally, program, top, image):
         head = file.read(4096)
     cut = program.file("cut.img", head)
     got = files(program, top, [(0, 8)], cut)
-    begins = ("dmremap-tools lost: %s: xfs_db says: ; see `xfs_repair -n`" % cut).encode()
-    tally.holds("files of an XFS that is cut", (got.status, got.out) == (1, b"") and got.err.startswith(begins), got.err)
+    begins, ends = ("dmremap-tools lost: %s: xfs_db says: " % cut).encode(), b"; see `xfs_repair -n`\n"
+    tally.holds("files of an XFS that is cut", (got.status, got.out) == (1, b"") and got.err.startswith(begins) and got.err.endswith(ends), got.err)
     dice = random.Random(1)
     for _ in range(10):
         changed = bytearray(head)
