@@ -1,4 +1,4 @@
-"""Arrays of md and raid volumes of LVM of which members are missing, were dropped or have bad sectors, and what `save` gives of them."""
+"""What `save` gives of arrays and of raid volumes of LVM, of which members are missing, were dropped or have bad sectors."""
 
 import itertools
 import os
@@ -24,7 +24,8 @@ def check_pairs(tally, pile):
     legs = parity_legs(data, 6, 2, 5, CHUNK)
     put_all(pile, {"m%d" % role: member(leg, 6, role, range(5), 7, layout=2, size=5 * CHUNK) for role, leg in enumerate(legs)})
     for pair in itertools.combinations(range(5), 2):
-        pile.holds(tally, "raid6 without the members %d and %d" % pair, "md:array", data, *["m%d" % role for role in range(5) if role not in pair])
+        others = ["m%d" % role for role in range(5) if role not in pair]
+        pile.holds(tally, "raid6 without the members %d and %d" % pair, "md:array", data, *others)
     pile.refuses(tally, "raid6 without three members", "md:array", "is missing", "m0", "m1")
 
 
@@ -51,8 +52,9 @@ def check_bad(tally, pile):
     for shift, logged, runs in ((0, [(70, 3)], [(6, 9)]), (3, [(9, 2)], [(8, 24)])):
         legs = [member(changed(data, runs), 1, 0, (0, 1), 7, bad=logged, shift=shift), member(data, 1, 1, (0, 1), 7)]
         put_all(pile, {"m%d" % role: leg for role, leg in enumerate(legs)})
-        pile.holds(tally, "a mirror with bad sectors in units of %d" % (1 << shift), "md:array", data)
-        pile.refuses(tally, "the half with bad sectors in units of %d" % (1 << shift), "md:array", "as its log of bad blocks says", "m0")
+        name = "bad sectors in units of %d" % (1 << shift)
+        pile.holds(tally, "a mirror with " + name, "md:array", data)
+        pile.refuses(tally, "the half with " + name, "md:array", "as its log of bad blocks says", "m0")
     for version, tail_sectors in ((0, 3), (0, 7), (1, 0)):
         put_all(pile, {"m1": member(data, 1, 1, (0, 1), 7, version=version, tail_sectors=tail_sectors)})
         pile.holds(tally, "metadata 1.%d with %d sectors more" % (version, tail_sectors), "md:array", data)
@@ -74,23 +76,27 @@ def check_volumes(tally, pile):
         images = {}
         for role, leg in enumerate(legs):
             is_out, failed = role == out, 0 if out is None or role == out else 1 << out
-            head = leg_superblock(role, 3 if is_out else 9, 3, 5, 2, CHUNK, failed).ljust(4096, b"\0") + leg_bitmap(length, region, () if is_out else dirty)
-            content = head.ljust(2 * EXTENT * SECTOR, b"\0") + (content_of("older", length) if is_out else leg)
-            images["leg%d" % role] = disk("abc"[role], content.ljust(64 * EXTENT * SECTOR, b"\0"), known)
+            head = leg_superblock(role, 3 if is_out else 9, 3, 5, 2, CHUNK, failed)
+            meta = (head + leg_bitmap(length, region, () if is_out else dirty)).ljust(2 * EXTENT * SECTOR, b"\0")
+            content = (meta + (content_of("older", length) if is_out else leg)).ljust(64 * EXTENT * SECTOR, b"\0")
+            images["leg%d" % role] = disk("abc"[role], content, known)
         put_all(pile, images)
     put()
     pile.holds(tally, "raid5 of LVM", "vg0/home", data)
     for role in range(3):
-        pile.holds(tally, "raid5 of LVM without leg %d" % role, "vg0/home", data, *["leg%d" % other for other in range(3) if other != role])
+        others = ["leg%d" % other for other in range(3) if other != role]
+        pile.holds(tally, "raid5 of LVM without leg %d" % role, "vg0/home", data, *others)
     pile.refuses(tally, "raid5 of LVM without two legs", "vg0/home", "isn't in these images", "leg1")
     for dirty in (0,), (1,), (0, 1):
         put(dirty)
-        pile.holds(tally, "raid5 of LVM, regions %s being written" % (dirty,), "vg0/home", data)
+        name = "raid5 of LVM, regions %s being written" % (dirty,)
+        pile.holds(tally, name, "vg0/home", data)
         # Parity of what was being written may be older than its data.
         got, saved = pile.save("vg0/home", "leg0", "leg2", more=["--allow-missing"])
-        row = [number * SECTOR for number in range(2 * length) if number // 2 // region not in dirty]
-        tally.holds("the rest of it without a leg", got.status == 0 and all(saved[at:at + SECTOR] == data[at:at + SECTOR] for at in row), got.err)
-        pile.refuses(tally, "raid5 of LVM without a leg, regions %s being written" % (dirty,), "vg0/home", "wasn't shut down cleanly", "leg0", "leg2")
+        clean = [number * SECTOR for number in range(2 * length) if number // 2 // region not in dirty]
+        is_so = got.status == 0 and all(saved[at:at + SECTOR] == data[at:at + SECTOR] for at in clean)
+        tally.holds("the rest of " + name + ", without a leg", is_so, got.err)
+        pile.refuses(tally, name + ", without a leg", "vg0/home", "wasn't shut down cleanly", "leg0", "leg2")
     put((1,), out=1)
     pile.refuses(tally, "raid5 of LVM that was written to while a leg was out", "vg0/home", "wasn't shut down cleanly")
 
@@ -100,7 +106,8 @@ def check_trees(tally, pile):
     chunk, extents = 384, 160
     content = content_of("pool", extents * EXTENT)
     blocks = [content[(10 * EXTENT + number * chunk) * SECTOR:][:chunk * SECTOR] for number in range(3)]
-    tree = models.node(3, [(0, 4), (85, 5)], is_leaf=False) + models.node(4, [(0, 1 << 24), (2, 0)]) + models.node(5, [(85, 2 << 24)])
+    leaves = models.node(4, [(0, 1 << 24), (2, 0)]) + models.node(5, [(85, 2 << 24)])
+    tree = models.node(3, [(0, 4), (85, 5)], is_leaf=False) + leaves
     meta = models.pool_superblock(chunk) + models.node(1, [(1, 3)]) + models.node(2, []) + tree
     data = bytearray(content)
     data[:len(meta)] = meta

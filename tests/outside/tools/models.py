@@ -1,7 +1,6 @@
 """The commands `scan`, `save`, `serve`, `lost` and `tables` over piles of images, which are made here from their formats: what is
 found in them, and the bytes of volumes, which are known as they were put there sector by sector."""
 
-import functools
 import importlib
 import json
 import os
@@ -203,10 +202,11 @@ def check_partitions(tally, pile):
     logical = bytearray(physical_volumes.mbr((0x83, 8, 8), (0x05, 64, 4096 + count)).ljust(2112 * SECTOR, b"\0") + inside)
     logical[64 * SECTOR:65 * SECTOR] = physical_volumes.mbr((0x8E, 2048, count))
     big = -(-count // 8)
+    wide = physical_volumes.gpt((40, 47), (2048, 2048 + count - 1), last=2048 + count, entry=256)
     for name, image, place, kind, copy in (
             ("a GPT", whole, 1, "GPT", "first"), ("the backup of a GPT", b"x" * 1024 + whole[1024:], 1, "GPT", "backup"),
             ("the backup alone", bytes(40 * SECTOR) + whole[40 * SECTOR:], 1, "GPT", "backup"),
-            ("a GPT with entries of 256 bytes", physical_volumes.gpt((40, 47), (2048, 2048 + count - 1), last=2048 + count, entry=256).ljust(2048 * SECTOR, b"\0") + inside, 2, "GPT", "first"),
+            ("a GPT with entries of 256 bytes", wide.ljust(2048 * SECTOR, b"\0") + inside, 2, "GPT", "first"),
             ("an MBR", physical_volumes.mbr((0x83, 8, 8), (0x8E, 64, count)).ljust(64 * SECTOR, b"\0") + inside, 2, "MBR", ""),
             ("an extended partition", bytes(logical), 5, "MBR", ""),
             ("an MBR of 4096-byte sectors", physical_volumes.mbr((0x8E, 64, big)).ljust(64 * 4096, b"\0") + inside.ljust(big * 4096, b"\0"), 1, "MBR", ""),
@@ -247,7 +247,8 @@ def check_layers(tally, pile):
                       status='"READ", "WRITE", "VISIBLE"' if key == "cow_store" else HIDDEN)
     moved = volume("pvmove0", "p", segment(0, 3, "mirror", "mirror_count = 2", "extents_moved = 3", 'mirrors = ["pv0", 50, "pv0", 55]'),
                    segment(3, 2, "mirror", "mirror_count = 2", "extents_moved = 0", 'mirrors = ["pv0", 53, "pv0", 58]'),
-                   segment(5, 2, "mirror", "mirror_count = 2", "extents_moved = 1", 'mirrors = ["pv0", 60, "pv0", 62]'), status='"READ", "WRITE", "PVMOVE", "LOCKED"')
+                   segment(5, 2, "mirror", "mirror_count = 2", "extents_moved = 1", 'mirrors = ["pv0", 60, "pv0", 62]'),
+                   status='"READ", "WRITE", "PVMOVE", "LOCKED"')
     known = text("vg0", "g", 9, "a", volume("home", "h", linear(0, 5, ("pv0", 0))), volume("old", "o", linear(0, 5, ("pv0", 20)), status=HIDDEN), record(0, "home", "old"),
                  volume("full", "f", linear(0, 5, ("pv0", 30)), status=HIDDEN), record(1, "home", "full"),
                  volume("back", "b", linear(0, 5, ("pv0", 10))), volume("into", "i", linear(0, 5, ("pv0", 40)), status=HIDDEN), record(2, "back", "into", "merging_store"),
@@ -267,7 +268,8 @@ def check_layers(tally, pile):
     pile.holds(tally, "an origin", "vg0/home", extents_of(data, 0, 5))
     pile.holds(tally, "a snapshot", "vg0/old", over(extents_of(data, 0, 5), new))
     pile.holds(tally, "an origin that is being merged into", "vg0/back", over(extents_of(data, 10, 5), new[:2]))
-    pile.holds(tally, "a volume that is being moved", "vg0/moving", extents_of(data, 55, 3) + extents_of(data, 53, 2) + extents_of(data, 60, 2))
+    moving = extents_of(data, 55, 3) + extents_of(data, 53, 2) + extents_of(data, 60, 2)
+    pile.holds(tally, "a volume that is being moved", "vg0/moving", moving)
     pile.refuses(tally, "a snapshot that is invalid", "vg0/full", "save the origin instead")
     pile.refuses(tally, "a layer that isn't followed", "vg0/odd", "is of type vdo, which isn't followed")
     got = pile.call("tables", "vg0", "disk", "--to", "out")
@@ -388,7 +390,8 @@ def leg_superblock(number, events=4, count=2, level=1, layout=0, chunk=0, failed
 def leg_bitmap(sectors, region, dirty=()):
     """The bitmap behind it, of so many sectors in regions of so many, of which these were being written."""
     bits = sum(1 << number for number in dirty).to_bytes(2048, "little")
-    return struct.pack("<LL16sQQQLLLLLL", 0x6D746962, 4, b"", 4, 4, sectors, 0, region * SECTOR, 5, 0, 0, 0).ljust(256, b"\0") + bits
+    head = struct.pack("<LL16sQQQLLLLLL", 0x6D746962, 4, b"", 4, 4, sectors, 0, region * SECTOR, 5, 0, 0, 0)
+    return head.ljust(256, b"\0") + bits
 
 
 # The bytes of a sum in the test's journal, so that a section has few blocks, and the sectors of a section.
@@ -452,15 +455,17 @@ def check_legs(tally, pile):
     pile.holds(tally, "the other leg", "vg0/home", bytes(wanted), "leg0")
 
 
-def member(data, level, number, roles, events, layout=0, chunk=8, size=64, disks=None, version=2, resync=CLEAN, name=b"array", bad=(),
-           start=64, tail_sectors=0, recovered=None, shift=0):
-    """A member of an md array, whose data begins at sector 64 (1.1, 1.2) or 0 (1.0). It may lack runs of its sectors, which its log has in
-    units of a power of two, and be rebuilt only up to one; behind its data there may be more sectors than the superblock needs."""
+def member(data, level, number, roles, events, layout=0, chunk=8, size=64, disks=None, version=2, resync=CLEAN, name=b"array",
+           bad=(), shift=0, start=64, recovered=None, tail_sectors=0):
+    """A member of an md array, whose data begins at sector 64 (1.1, 1.2) or 0 (1.0). It may lack runs of its sectors, which its
+    log has in units of a power of two, be rebuilt only up to one, and end with more sectors than the superblock needs."""
     start = start if version else 0
     place = 8 * (version - 1) if version else (len(data) // SECTOR + 64 + tail_sectors - 16) & ~7
     features = 8 * bool(bad) + 2 * (recovered is not None)
-    head = struct.pack("<4L16s32sQlLQLLlLQlLLl", 0xA92B4EFC, 1, features, 0, name.rjust(16, b"n"), b"here:" + name, 0, level, layout, size, chunk, disks or len(roles), 0, 0, 0, 0, 0, 0, 0)
-    head += struct.pack("<QQQQLL16sBBHl", start, len(data) // SECTOR, place, recovered or 0, number, 0, b"amember", 0, shift, bool(bad), 8)
+    names, shape = (name.rjust(16, b"n"), b"here:" + name), (level, layout, size, chunk, disks or len(roles))
+    head = struct.pack("<4L16s32sQlLQLLlLQlLLl", 0xA92B4EFC, 1, features, 0, *names, 0, *shape, 0, 0, 0, 0, 0, 0, 0)
+    places = start, len(data) // SECTOR, place, recovered or 0
+    head += struct.pack("<QQQQLL16sBBHl", *places, number, 0, b"amember", 0, shift, bool(bad), 8)
     tail = struct.pack("<QQQ", 0, events, resync)
     table = struct.pack("<%dH" % len(roles), *roles)
     def with_sum(value):
@@ -598,14 +603,21 @@ def check_lost_superblocks(tally, pile):
     os.unlink(os.path.join(pile.folder, "half"))
 
 
-CASTAGNOLI = [functools.reduce(lambda value, _: value >> 1 ^ (0x82F63B78 if value & 1 else 0), range(8), byte) for byte in range(256)]
+def shifted(value):
+    """A byte of CRC-32C, bit by bit."""
+    for _ in range(8):
+        value = value >> 1 ^ (0x82F63B78 if value & 1 else 0)
+    return value
+
+
+SHIFTED = [shifted(byte) for byte in range(256)]
 
 
 def summed(content):
     """The CRC-32C of some bytes, as persistent-data begins it."""
     value = 0xFFFFFFFF
     for byte in content:
-        value = value >> 8 ^ CASTAGNOLI[(value ^ byte) & 0xFF]
+        value = value >> 8 ^ SHIFTED[(value ^ byte) & 0xFF]
     return value
 
 
@@ -633,9 +645,11 @@ def pool_superblock(chunk):
 
 def cache_metadata(chunk, entries):
     """The metadata of a cache, with what each of its blocks has."""
-    held = struct.pack("<LQ16sQL16sL128sQQQQQLLLLLL", 0, 0, b"", 0o6142003, 2, b"smq", 0, b"", 1, 0, 0, 0, 0, chunk, 8, len(entries), 0, 0, 0)
+    fields = 0, 0, b"", 0o6142003, 2, b"smq", 0, b"", 1, 0, 0, 0, 0, chunk, 8, len(entries), 0, 0, 0
+    held = struct.pack("<LQ16sQL16sL128sQQQQQLLLLLL", *fields)
     parts = [entries[at:at + 509] for at in range(0, len(entries), 509)]
-    blocks = [block(2 + number, 595846735, struct.pack("<LLLQ%dQ" % len(part), 509, len(part), 8, 0, *part), 16) for number, part in enumerate(parts)]
+    contents = [struct.pack("<LLLQ%dQ" % len(part), 509, len(part), 8, 0, *part) for part in parts]
+    blocks = [block(2 + number, 595846735, content, 16) for number, content in enumerate(contents)]
     return block(0, 9031977, held) + node(1, [(number, 2 + number) for number in range(len(parts))]) + b"".join(blocks)
 
 
@@ -802,7 +816,8 @@ def check_saving(tally, pile):
     begun = pile.call("save", "vg1/both", "out", "c", "--map", "map")
     got = pile.call("save", "vg1/both", "out", "d", "--map", "map")
     with open(os.path.join(pile.folder, "out"), "rb") as saved:
-        tally.holds("a run that goes on without the disk of what is there", (begun.status, got.status) == (4, 0) and saved.read() == wanted * 2, got.err)
+        is_so = (begun.status, got.status) == (4, 0) and saved.read() == wanted * 2
+        tally.holds("a run that goes on without the disk of what is there", is_so, got.err)
     for name in ("c", "d", "out", "map"):
         os.unlink(os.path.join(pile.folder, name))
     got = pile.call("save", "vg0/home", "out", "one", "--map", "one=map")
@@ -957,7 +972,8 @@ TRIES = 80
 
 
 def check_hostile(tally, pile):
-    """Images with random changes, also of texts whose sums are right: an answer, which is right where the sum may tell, or a refusal in words."""
+    """Images with random changes, also of texts whose sums are right: a refusal in words, or an answer, which is right unless the text
+    itself says otherwise."""
     known = text("vg0", "g", 4, "ab", *PLAIN, volume("thin", "t", segment(0, 8, "thin", 'thin_pool = "wide-one"', "device_id = 1")))
     dice = random.Random(4)
     pile.put("two", disk("b", B, known))

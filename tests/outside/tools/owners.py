@@ -266,7 +266,8 @@ def check_arrays(tally, pile):
         for number, leg in enumerate(legs):
             pile.put("m%d" % number, member(b"".join(leg), level, number, roles, 7, layout=layout, size=size))
         for number in roles:
-            here, besides = agrees(tally, "member %d of %s" % (number, name), pile, "m%d" % number, {"md:array": data[:count * SECTOR]})
+            contents = {"md:array": data[:count * SECTOR]}
+            here, besides = agrees(tally, "member %d of %s" % (number, name), pile, "m%d" % number, contents)
             found |= here.get("md:array", set())
             tally.holds("what it keeps", "superblock of md:array, with what it keeps free" in besides, besides)
         tally.holds("all sectors of " + name, found == set(range(count)), sorted(set(range(count)) - found)[:5])

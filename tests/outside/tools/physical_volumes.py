@@ -63,7 +63,8 @@ def gpt(*entries, sector=SECTOR, damage=None, last=99, entry=128):
     """The first sectors of a disk with a GPT, whose entries are a first and a last sector; an empty one is none.
     `damage` is a byte that isn't what it was, `last` the last sector of the disk, `entry` the bytes of an entry."""
     table = gpt_table(entries, entry)
-    disk = bytearray(mbr((0xEE, 1, last)).ljust(sector, b"\0") + gpt_header(table, 1, last, 2, entry).ljust(sector, b"\0") + table)
+    head = gpt_header(table, 1, last, 2, entry).ljust(sector, b"\0")
+    disk = bytearray(mbr((0xEE, 1, last)).ljust(sector, b"\0") + head + table)
     if damage is not None:
         disk[damage] ^= 1
     return bytes(disk)

@@ -1,5 +1,5 @@
-"""Random machines, made by what the other tests make them of: what the tools read of each, sector by sector, is what the plain model
-reads, and where that has a gap, they refuse.
+"""Random machines, made by what the other tests make them of: what the tools read of each, sector by sector, is what the plain
+model reads, and where that has a gap, they refuse.
 
     python3 tests/outside/tools/plain_comparison.py COUNT [FIRST [PROGRAM [KIND]]]
 
@@ -80,7 +80,8 @@ def seen(role, at):
 
 
 class Machine:
-    """Images by their names, with the runs of sectors that weren't read, and the names of what is in them, perhaps with its bytes."""
+    """Images by their names, with the runs of sectors that weren't read, and the names of what is in them, perhaps with its
+    bytes; and notes on how they were made."""
 
     def __init__(self, dice):
         self.dice, self.images, self.names, self.notes = dice, {}, {}, []
@@ -106,7 +107,8 @@ def array(dice, machine, data=None):
         if level == 0:
             legs = placed_legs(data, lengths, lambda number: plain_model.zone_sector(seen, lengths, chunk, layout == 1, number))
         else:
-            legs = [data[sum(whole[:role]) * SECTOR:][:whole[role] * SECTOR].ljust(length * SECTOR, b"\0") for role, length in enumerate(lengths)]
+            parts = [data[sum(whole[:role]) * SECTOR:][:whole[role] * SECTOR] for role in range(disks)]
+            legs = [part.ljust(length * SECTOR, b"\0") for part, length in zip(parts, lengths)]
     elif level == 1:
         data = noise(dice, size) if data is None else data.ljust(size * SECTOR, b"\0")
         legs = [data] * disks
@@ -125,7 +127,7 @@ def array(dice, machine, data=None):
         legs = placed_legs(data, [size] * disks, lambda number: plain_model.raid10_places(layout, disks, chunk, size, number))
     else:
         columns = disks - (2 if level == 6 else 1)
-        layout = 0 if level == 4 else dice.randrange(6) if level == 5 else dice.choice([0, 1, 2, 3, 4, 5, 8, 9, 10, 16, 17, 18, 19, 20])
+        layout = 0 if level == 4 else dice.choice([*range(6), *([8, 9, 10, 16, 17, 18, 19, 20] if level == 6 else [])])
         if data is None:
             data = noise(dice, size // chunk * chunk * columns)
         else:
@@ -141,7 +143,8 @@ def put_members(dice, machine, data, legs, level, layout, chunk, size):
     disks, version, events = len(legs), dice.randrange(3), dice.randrange(10, 1000)
     can_lack = level not in (0, -1)
     fates = dict.fromkeys(range(disks), "sound")
-    for role in dice.sample(range(disks), dice.choice([0, 0, 1, 1, 2, 3]) % (disks + 1) if can_lack or dice.random() < 0.2 else 0):
+    lacking = min(dice.choice([0, 0, 1, 1, 2, 3]), disks) if can_lack or dice.random() < 0.2 else 0
+    for role in dice.sample(range(disks), lacking):
         fates[role] = dice.choice(["missing", "missing", "behind", "dropped", "rebuilt"] if can_lack else ["missing"])
     if "sound" not in fates.values():
         fates[0] = "sound"
@@ -157,14 +160,16 @@ def put_members(dice, machine, data, legs, level, layout, chunk, size):
             table[numbers[role]] = FAULTY
     is_dirty = level in (4, 5, 6) and dice.random() < 0.1 and "rebuilt" not in fates.values()
     resync = dice.randrange(size) if is_dirty else CLEAN
-    machine.notes.append("level %d, layout %d, chunk %d, %d sectors of %d members, %s, resynced %s" % (level, layout, chunk, size, disks, fates, resync))
+    machine.notes.append("level %d, layout %d, chunk %d, %d sectors, members %s, resynced up to %d" % (
+        level, layout, chunk, size, fates, resync))
     name = b"array%d" % dice.randrange(100)
     roles = list(fates)
     dice.shuffle(roles)
     for role in roles:
         fate, leg = fates[role], legs[role]
         start = dice.choice([64, 72, 128]) if version else 0
-        fields = {"version": version, "start": start, "tail_sectors": dice.randrange(9), "resync": resync, "name": name, "disks": disks}
+        fields = {"version": version, "start": start, "tail_sectors": dice.randrange(9)}
+        fields.update(resync=resync, name=name, disks=disks)
         unread = []
         if fate == "missing":
             continue
@@ -280,8 +285,8 @@ def striped_kind(dice, group):
             area = group.area(rows)
             areas += [area] if area[2] == rows else []
         stripes = ", ".join('"%s", %d' % area[:2] for area in areas)
-        segments.append(segment(first, columns * rows, "striped", "stripe_count = %d" % columns, "stripe_size = %d" % dice.choice([1, 2, 4, 8]),
-                                "stripes = [%s]" % stripes))
+        counts = "stripe_count = %d" % columns, "stripe_size = %d" % dice.choice([1, 2, 4, 8])
+        segments.append(segment(first, columns * rows, "striped", *counts, "stripes = [%s]" % stripes))
         first += columns * rows
     lower = group.volume(*segments, is_shown=True)
     if dice.random() < 0.3:
@@ -290,8 +295,8 @@ def striped_kind(dice, group):
 
 RAIDS = ["raid1", "raid5", "raid5_la", "raid5_ra", "raid5_ls", "raid5_rs", "raid5_n"]
 # Those that the tools may not follow yet.
-MORE_RAIDS = ["raid0", "raid0_meta", "raid4", "raid6", "raid6_zr", "raid6_nr", "raid6_nc", "raid6_n_6", "raid6_la_6", "raid6_ra_6", "raid6_ls_6", "raid6_rs_6",
-              "raid10", "raid10_near"]
+MORE_RAIDS = ["raid0", "raid0_meta", "raid4", "raid6", "raid6_zr", "raid6_nr", "raid6_nc", "raid6_n_6", "raid6_la_6",
+              "raid6_ra_6", "raid6_ls_6", "raid6_rs_6", "raid10", "raid10_near"]
 
 
 def raid_kind(dice, group, kinds=None):
@@ -309,27 +314,33 @@ def raid_kind(dice, group, kinds=None):
     elif level == 10:
         disks = disks // 2 * 2
         count = rows * disks // 2
-        legs = placed_legs(noise(dice, count * EXTENT), [length] * disks, lambda number: plain_model.raid10_places(258, disks, chunk, length, number))
+        places = lambda number: plain_model.raid10_places(layout, disks, chunk, length, number)
+        legs = placed_legs(noise(dice, count * EXTENT), [length] * disks, places)
     else:
         count = rows * (disks - (2 if level == 6 else 1))
         legs = parity_legs(noise(dice, count * EXTENT), *plain_model.PARITY_KINDS[kind], disks, chunk)
     failed = dice.choice([(), (), (dice.randrange(disks),), tuple(dice.sample(range(disks), 2))]) if level else ()
     rebuilt = dice.choice([None] * 4 + [role for role in range(disks) if role not in failed]) if level else None
     region = dice.choice([8, 16])
-    dirty = dice.sample(range(-(-length // region)), dice.choice([0, 0, 1, min(2, length // region)])) if level in (4, 5, 6) and not failed else []
+    written = dice.choice([0, 0, 1, min(2, length // region)]) if level in (4, 5, 6) and not failed else 0
+    dirty = dice.sample(range(-(-length // region)), written)
     images, metas = [], []
     for role, leg in enumerate(legs):
         recovered = dice.randrange(length) if role == rebuilt else CLEAN
         if role in failed or role == rebuilt:
             leg = changed(leg, [(0 if role in failed else recovered, length)])
         failed_by = 0 if role in failed else sum(1 << other for other in failed)
-        head = models.leg_superblock(role, 3 if role in failed else 9, disks, 5 if level == 4 else level, layout, 0 if level == 1 else chunk, failed_by, recovered)
+        events, size = 3 if role in failed else 9, 0 if level == 1 else chunk
+        head = models.leg_superblock(role, events, disks, 5 if level == 4 else level, layout, size, failed_by, recovered)
         metas.append(group.linear(2, head + models.leg_bitmap(length, region, dirty), pieces=1))
         images.append(group.linear(rows, leg))
     fields = ["device_count = %d" % disks, "region_size = %d" % region] + ["stripe_size = %d" % chunk] * (level != 1)
     pairs = ", ".join('"%s", "%s"' % pair for pair in zip(metas, images))
     names = ", ".join('"%s"' % name for name in images)
-    fields = ["stripe_count = %d" % disks, "stripe_size = %d" % chunk, "raid0_lvs = [%s]" % names] if kind == "raid0" else [*fields, "raids = [%s]" % pairs]
+    if kind == "raid0":
+        fields = ["stripe_count = %d" % disks, "stripe_size = %d" % chunk, "raid0_lvs = [%s]" % names]
+    else:
+        fields.append("raids = [%s]" % pairs)
     group.volume(segment(0, count, kind, *fields), is_shown=True)
 
 
@@ -374,7 +385,8 @@ def thin_kind(dice, group):
     counts = {device: dice.randrange(2, 10) for device in devices}
     parts, roots, first = [], [], 3
     for device in devices:
-        keys = sorted(dice.sample(range(-(-counts[device] * EXTENT // chunk)), dice.randrange(-(-counts[device] * EXTENT // chunk) + 1)))
+        most = -(-counts[device] * EXTENT // chunk)
+        keys = sorted(dice.sample(range(most), dice.randrange(most + 1)))
         pairs = [(key, dice.randrange(blocks) << 24 | dice.randrange(9)) for key in keys]
         roots.append((device, first))
         tree = tree_of(dice, pairs, first)
@@ -382,10 +394,12 @@ def thin_kind(dice, group):
         first += len(tree)
     head = models.pool_superblock(chunk) + models.node(1, roots) + models.node(2, [])
     metadata = group.linear(first, head + b"".join(parts))
-    data = group.linear(-(-blocks * chunk // EXTENT))
-    pool = group.volume(segment(0, -(-blocks * chunk // EXTENT), "thin-pool", 'metadata = "%s"' % metadata, 'pool = "%s"' % data, "transaction_id = 1", "chunk_size = %d" % chunk))
+    size = -(-blocks * chunk // EXTENT)
+    names = 'metadata = "%s"' % metadata, 'pool = "%s"' % group.linear(size)
+    pool = group.volume(segment(0, size, "thin-pool", *names, "transaction_id = 1", "chunk_size = %d" % chunk))
     for device in [*devices, *([9] if dice.random() < 0.1 else [])]:
-        group.volume(segment(0, counts.get(device, 2), "thin", 'thin_pool = "%s"' % pool, "transaction_id = 0", "device_id = %d" % device), is_shown=True)
+        fields = 'thin_pool = "%s"' % pool, "transaction_id = 0", "device_id = %d" % device
+        group.volume(segment(0, counts.get(device, 2), "thin", *fields), is_shown=True)
 
 
 def cache_kind(dice, group):
@@ -402,13 +416,16 @@ def cache_kind(dice, group):
     begin = -(-len(content) // EXTENT // SECTOR)
     if dice.random() < 0.5:
         pool = group.linear(begin + size, content)
-        places = "metadata_start = 0", "metadata_len = %d" % (begin * EXTENT), "data_start = %d" % (begin * EXTENT), "data_len = %d" % (size * EXTENT)
+        places = ["%s = %d" % (name, count * EXTENT) for name, count in (
+            ("metadata_start", 0), ("metadata_len", begin), ("data_start", begin), ("data_len", size))]
         kind, more = "cache+CACHE_USES_CACHEVOL", ["chunk_size = %d" % chunk, *places]
     else:
         data, metadata = group.linear(size), group.linear(begin, content)
-        pool = group.volume(segment(0, size, "cache-pool", 'data = "%s"' % data, 'metadata = "%s"' % metadata, 'cache_mode = "writeback"', "chunk_size = %d" % chunk))
+        fields = 'data = "%s"' % data, 'metadata = "%s"' % metadata, 'cache_mode = "writeback"', "chunk_size = %d" % chunk
+        pool = group.volume(segment(0, size, "cache-pool", *fields))
         kind, more = "cache", []
-    group.volume(segment(0, count, kind, 'cache_pool = "%s"' % pool, 'origin = "%s"' % origin, 'cache_mode = "writeback"', *more), is_shown=True)
+    names = 'cache_pool = "%s"' % pool, 'origin = "%s"' % origin, 'cache_mode = "writeback"'
+    group.volume(segment(0, count, kind, *names, *more), is_shown=True)
 
 
 def move_kind(dice, group):
@@ -419,7 +436,8 @@ def move_kind(dice, group):
         legs = [group.area(count), group.area(count)]
         count = min(leg[2] for leg in legs)
         places = ", ".join('"%s", %d' % leg[:2] for leg in legs)
-        segments.append(segment(first, count, "mirror", "mirror_count = 2", "extents_moved = %d" % dice.choice([0, count, dice.randrange(count + 1)]), "mirrors = [%s]" % places))
+        moved = "extents_moved = %d" % dice.choice([0, count, dice.randrange(count + 1)])
+        segments.append(segment(first, count, "mirror", "mirror_count = 2", moved, "mirrors = [%s]" % places))
         first += count
     moved = "pvmove%d" % group.made
     group.named(lambda _, letter: volume(moved, letter, *segments, status='"READ", "WRITE", "PVMOVE", "LOCKED"'), False)
@@ -427,7 +445,8 @@ def move_kind(dice, group):
     group.volume(models.linear(0, first - start, (moved, start)), is_shown=True)
 
 
-GROUP_KINDS = {"striped": striped_kind, "raid": raid_kind, "snapshot": snapshot_kind, "thin": thin_kind, "cache": cache_kind, "move": move_kind}
+GROUP_KINDS = {"striped": striped_kind, "raid": raid_kind, "snapshot": snapshot_kind, "thin": thin_kind, "cache": cache_kind,
+               "move": move_kind}
 KINDS = ["array", "array", "array", "on an array", *GROUP_KINDS, "all", "all"]
 
 
@@ -447,8 +466,9 @@ def group_machine(dice, machine, kinds, on_array=False):
         if on_array and not place:
             array(dice, machine, whole)
         elif place != lacking or len(group.disks) == 1:
-            unread = [(DATA + first, DATA + end) for first, end in some_runs(dice, PER_DISK * EXTENT)] if dice.random() < 0.3 else []
-            machine.add(whole[:(DATA + dice.randrange(PER_DISK * EXTENT)) * SECTOR] if dice.random() < 0.1 else whole, unread)
+            runs = some_runs(dice, PER_DISK * EXTENT) if dice.random() < 0.3 else []
+            size = DATA + dice.randrange(PER_DISK * EXTENT) if dice.random() < 0.1 else len(whole)
+            machine.add(whole[:size * SECTOR], [(DATA + first, DATA + end) for first, end in runs])
     machine.names.update(("vg0/" + name, None) for name in group.shown)
 
 
@@ -464,7 +484,8 @@ def machine_of(number, only=None):
     elif kind == "more raids":
         group_machine(dice, machine, [lambda dice, group: raid_kind(dice, group, MORE_RAIDS)] * 2)
     else:
-        group_machine(dice, machine, dice.sample(list(GROUP_KINDS.values()), 3) if kind == "all" else [GROUP_KINDS[kind]] * dice.randrange(1, 3))
+        few = dice.sample(list(GROUP_KINDS.values()), 3) if kind == "all" else [GROUP_KINDS[kind]] * dice.randrange(1, 3)
+        group_machine(dice, machine, few)
     return kind, machine
 
 
@@ -490,8 +511,8 @@ def differences(program, folder, number, only=None):
         paths.append(os.path.join(folder, name))
         with open(paths[-1], "wb") as image:
             image.write(content)
-    unread = {path: [(first * SECTOR, end * SECTOR) for first, end in runs] for path, (_, runs) in zip(paths, machine.images.values()) if runs}
     images = list(machine.images.values())
+    unread = {path: [(first * SECTOR, end * SECTOR) for first, end in runs] for path, (_, runs) in zip(paths, images) if runs}
     plain, careful, pile = plain_model.Machine(images), None, Pile(paths, program, unread)
     dice, found, counts = random.Random(number), [], collections.Counter()
     targets = {name: answer_of(lambda name=name: pile.target(name)) for name in machine.names}

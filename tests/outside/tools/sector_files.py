@@ -81,7 +81,8 @@ def check_killed(tally, program, top):
         os.chmod(script, 0o755)
         got = run(words, env=dict(os.environ, DIES_AT=at, PATH=folder + os.pathsep + os.environ["PATH"]))
         is_told = (script + ": it was ended by signal 9\n").encode() in got.err
-        tally.holds("files by a debugfs that is killed, " + at, got.status == status and got.out == (b"" if status else whole) and is_told, "%s, %r, %r" % (got.status, got.out, got.err))
+        is_so = is_told and (got.status, got.out) == (status, b"" if status else whole)
+        tally.holds("files by a debugfs that is killed, " + at, is_so, "%s, %r, %r" % (got.status, got.out, got.err))
 
 
 def made(tally, program, name, contents, *words, size="8M"):
@@ -191,8 +192,9 @@ def check_lost_inodes(tally, program, top):
     got = files(program, top, [(first, last + 1 - first)], image)
     # Each is told with the lost sectors of its block, which has four inodes; the one before these is that of /lost+found.
     blocks = {name: (inode - 1) // 4 for name, inode in [*inode_of.items(), ("/lost+found", inodes[0] - 1)]}
-    rows = [(sum(2 * (table + at) + side in range(first, last + 1) for side in (0, 1)), "inode table: " + name) for name, at in sorted(blocks.items())]
-    tally.same("the names of lost inodes", got, 0, said(*rows, sectors=16384, lost=last + 1 - first))
+    lost = range(first, last + 1)
+    rows = [(sum(2 * (table + at) + half in lost for half in (0, 1)), "inode table: " + name) for name, at in sorted(blocks.items())]
+    tally.same("the names of lost inodes", got, 0, said(*rows, sectors=16384, lost=len(lost)))
 
 
 def read(path):
@@ -244,7 +246,8 @@ def check_damaged_xfs(tally, program, top, image):
     cut = program.file("cut.img", head)
     got = files(program, top, [(0, 8)], cut)
     begins, ends = ("dmremap-tools lost: %s: xfs_db says: " % cut).encode(), b"; see `xfs_repair -n`\n"
-    tally.holds("files of an XFS that is cut", (got.status, got.out) == (1, b"") and got.err.startswith(begins) and got.err.endswith(ends), got.err)
+    is_so = (got.status, got.out) == (1, b"") and got.err.startswith(begins) and got.err.endswith(ends)
+    tally.holds("files of an XFS that is cut", is_so, got.err)
     dice = random.Random(1)
     for _ in range(10):
         changed = bytearray(head)
