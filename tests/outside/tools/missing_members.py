@@ -61,7 +61,7 @@ def check_bad(tally, pile):
 
 
 def check_volumes(tally, pile):
-    """raid5 of LVM, whole, without each leg, with regions that were being written, and written to while a leg was out."""
+    """raid5 of LVM, whole, without each leg, and with regions that were being written."""
     length, region = 4 * EXTENT, 16
     data = content_of("raid5 of LVM", 2 * length)
     legs = parity_legs(data, 5, 2, 3, CHUNK)
@@ -72,14 +72,12 @@ def check_volumes(tally, pile):
     fields = "device_count = 3", "stripe_size = %d" % CHUNK, "region_size = %d" % region, "raids = [%s]" % pairs
     known = text("vg0", "g", 4, "abc", volume("home", "h", segment(0, 8, "raid5", *fields)), *parts)
 
-    def put(dirty=(), out=None):
+    def put(dirty=()):
         images = {}
         for role, leg in enumerate(legs):
-            is_out, failed = role == out, 0 if out is None or role == out else 1 << out
-            head = leg_superblock(role, 3 if is_out else 9, 3, 5, 2, CHUNK, failed)
-            meta = (head + leg_bitmap(length, region, () if is_out else dirty)).ljust(2 * EXTENT * SECTOR, b"\0")
-            content = (meta + (content_of("older", length) if is_out else leg)).ljust(64 * EXTENT * SECTOR, b"\0")
-            images["leg%d" % role] = disk("abc"[role], content, known)
+            meta = leg_superblock(role, 9, 3, 5, 2, CHUNK) + leg_bitmap(length, region, dirty)
+            content = meta.ljust(2 * EXTENT * SECTOR, b"\0") + leg
+            images["leg%d" % role] = disk("abc"[role], content.ljust(64 * EXTENT * SECTOR, b"\0"), known)
         put_all(pile, images)
     put()
     pile.holds(tally, "raid5 of LVM", "vg0/home", data)
@@ -97,8 +95,6 @@ def check_volumes(tally, pile):
         is_so = got.status == 0 and all(saved[at:at + SECTOR] == data[at:at + SECTOR] for at in clean)
         tally.holds("the rest of " + name + ", without a leg", is_so, got.err)
         pile.refuses(tally, name + ", without a leg", "vg0/home", "wasn't shut down cleanly", "leg0", "leg2")
-    put((1,), out=1)
-    pile.refuses(tally, "raid5 of LVM that was written to while a leg was out", "vg0/home", "wasn't shut down cleanly")
 
 
 def check_trees(tally, pile):

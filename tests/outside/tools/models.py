@@ -813,8 +813,8 @@ def check_saving(tally, pile):
     halves = text("vg1", "v", 4, "cd", volume("both", "h", linear(0, 5, ("pv0", 3)), linear(5, 5, ("pv1", 3))))
     pile.put("c", disk("c", A, halves))
     pile.put("d", disk("d", A, halves))
-    begun = pile.call("save", "vg1/both", "out", "c", "--map", "map")
-    got = pile.call("save", "vg1/both", "out", "d", "--map", "map")
+    begun = pile.call("save", "vg1/both", "out", "d", "--map", "map")
+    got = pile.call("save", "vg1/both", "out", "c", "--map", "map")
     with open(os.path.join(pile.folder, "out"), "rb") as saved:
         is_so = (begun.status, got.status) == (4, 0) and saved.read() == wanted * 2
         tally.holds("a run that goes on without the disk of what is there", is_so, got.err)

@@ -322,7 +322,7 @@ def raid_kind(dice, group, kinds=None):
     failed = dice.choice([(), (), (dice.randrange(disks),), tuple(dice.sample(range(disks), 2))]) if level else ()
     rebuilt = dice.choice([None] * 4 + [role for role in range(disks) if role not in failed]) if level else None
     region = dice.choice([8, 16])
-    written = dice.choice([0, 0, 1, min(2, length // region)]) if level in (4, 5, 6) and not failed else 0
+    written = dice.choice([0, 0, 1, min(2, length // region)]) if level in (4, 5, 6) else 0
     dirty = dice.sample(range(-(-length // region)), written)
     images, metas = [], []
     for role, leg in enumerate(legs):
@@ -337,10 +337,9 @@ def raid_kind(dice, group, kinds=None):
     fields = ["device_count = %d" % disks, "region_size = %d" % region] + ["stripe_size = %d" % chunk] * (level != 1)
     pairs = ", ".join('"%s", "%s"' % pair for pair in zip(metas, images))
     names = ", ".join('"%s"' % name for name in images)
-    if kind == "raid0":
-        fields = ["stripe_count = %d" % disks, "stripe_size = %d" % chunk, "raid0_lvs = [%s]" % names]
-    else:
-        fields.append("raids = [%s]" % pairs)
+    if level == 0:
+        fields = ["stripe_count = %d" % disks, "stripe_size = %d" % chunk]
+    fields.append("raid0_lvs = [%s]" % names if kind == "raid0" else "raids = [%s]" % pairs)
     group.volume(segment(0, count, kind, *fields), is_shown=True)
 
 

@@ -231,8 +231,7 @@ def array_of(members, is_careful):
     def read(role, at):
         if role not in here:
             raise Gap("member %d" % role)
-        disk, superblock = here[role]
-        place = superblock.data_offset + at
+        (disk, superblock), place = here[role], here[role][1].data_offset + at
         is_bad = any(first <= place < end for first, end in superblock.bad)
         if at >= superblock.data_size or at >= superblock.recovered or is_bad:
             raise Gap("member %d, sector %d" % (role, at))
@@ -245,8 +244,7 @@ def array_of(members, is_careful):
         if len(here) < disks:
             raise Gap("a member is missing")
         lengths = [here[role][1].data_size for role in range(disks)]
-        if chunk:
-            lengths = [length // chunk * chunk for length in lengths]
+        lengths = [length - length % (chunk or 1) for length in lengths]
         if level == -1:
             starts = [sum(lengths[:role]) for role in range(disks)]
             role_at = lambda at: max(role for role in range(disks) if at >= starts[role])
@@ -432,8 +430,10 @@ class Group:
             return first_readable(read, [(role, at) for role in range(disks)])
         if kind.startswith("raid10"):
             return first_readable(read, raid10_places(2 | 1 << 8, disks, segment["stripe_size"], length, at))
-        level, layout = PARITY_KINDS[kind]
-        return parity_sector(read, level, layout, disks, segment["stripe_size"], at, lambda row: not newest.is_dirty(row))
+        # What is written while a leg is out stays marked as being written, and its parity is right.
+        was_out = newest.failed or any(leg and leg.recovered != NEVER for leg in legs)
+        computes = lambda row: row < newest.resynced and (was_out and not self.is_careful or not newest.is_dirty(row))
+        return parity_sector(read, *PARITY_KINDS[kind], disks, segment["stripe_size"], at, computes)
 
     def cached(self, segment, at):
         name, origin, chunk = segment["cache_pool"], self.volume(segment["origin"]), segment.get("chunk_size")
@@ -460,7 +460,7 @@ class Leg:
 
     def is_dirty(self, at):
         """Whether the parity of a sector of the members may be older than its data."""
-        if at >= self.resynced or bytes_of(self.disk, 4096, 4) != b"bitm":
+        if bytes_of(self.disk, 4096, 4) != b"bitm":
             return True
         region = at // (struct.unpack("<L", bytes_of(self.disk, 4096 + 52, 4))[0] // SECTOR)
         return bool(bytes_of(self.disk, 4096 + 256 + region // 8, 1)[0] >> region % 8 & 1)

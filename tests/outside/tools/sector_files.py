@@ -81,7 +81,9 @@ def check_killed(tally, program, top):
         os.chmod(script, 0o755)
         got = run(words, env=dict(os.environ, DIES_AT=at, PATH=folder + os.pathsep + os.environ["PATH"]))
         is_told = (script + ": it was ended by signal 9\n").encode() in got.err
-        is_so = is_told and (got.status, got.out) == (status, b"" if status else whole)
+        # Other options don't tell what is free.
+        rows, wanted = ([row for row in out.splitlines() if b"/" in row] for out in (got.out, b"" if status else whole))
+        is_so = is_told and got.status == status and bool(got.out) == (not status) and rows == wanted
         tally.holds("files by a debugfs that is killed, " + at, is_so, "%s, %r, %r" % (got.status, got.out, got.err))
 
 
@@ -216,18 +218,33 @@ def check_xfs(tally, program, top):
     if lost:
         tally.skip("files of XFS", "there is no " + lost[0])
         return
+    check_xfs_inodes(tally, program, top)
     image = made_xfs(tally, program)
     if image:
         check_whole_xfs(tally, program, top, image)
         check_damaged_xfs(tally, program, top, image)
 
 
-def made_xfs(tally, program):
+def check_xfs_inodes(tally, program, top):
+    """An inode of two sectors, of which either one is asked for."""
+    image = made_xfs(tally, program, "-i", "size=1024")
+    if not image:
+        return
+    with open(image, "rb") as file:
+        # It begins so, as that of a file that all may read.
+        sector = file.read(8 << 20).index(b"IN\x81\xa4") // 512
+    for at in (sector, sector + 1):
+        got = files(program, top, [(at, 1)], image)
+        is_so = got.status == 0 and re.match(rb"1 sectors: inode table: /(d/f\.|g)\n", got.out)
+        tally.holds("sector %d of an inode of XFS" % (at - sector), is_so, "%r, %r" % (got.out, got.err))
+
+
+def made_xfs(tally, program, *words):
     """An XFS file system with two files, or None."""
     image = os.path.join(program.folder, "xfs.img")
     big, small = program.file("xfs/big", os.urandom(50000)), program.file("xfs/small", b"x")
     proto = program.file("xfs/proto", "/none\n0 0\nd--755 0 0\nd d--755 0 0\nf. ---644 0 0 %s\n$\ng ---644 0 0 %s\n$\n" % (big, small))
-    ran = run([found("mkfs.xfs"), "-q", "-f", "-d", "file,name=%s,size=300m" % image, "-p", proto])
+    ran = run([found("mkfs.xfs"), "-q", "-f", "-d", "file,name=%s,size=300m" % image, *words, "-p", proto])
     return image if tally.holds("an XFS file system is made", ran.status == 0, ran.err) else None
 
 
