@@ -115,7 +115,9 @@ def array(dice, machine, data=None):
     elif level == 10:
         near = dice.randrange(1, min(disks, 3) + 1)
         far = dice.randrange(1, min(disks // near, 3) + 1)
-        layout = near | far << 8 | (dice.randrange(2) if far > 1 else 0) << 16
+        # Copies near each other that go on in the next row would lie where offset copies do.
+        is_offset = far > 1 and disks % near == 0 and dice.random() < 0.5
+        layout = near | far << 8 | is_offset << 16
         def count_of(size):
             return size // chunk // far * disks // near * chunk
         if data is None:
@@ -293,15 +295,12 @@ def striped_kind(dice, group):
         group.volume(models.linear(0, first, (lower, 0)), is_shown=True)
 
 
-RAIDS = ["raid1", "raid5", "raid5_la", "raid5_ra", "raid5_ls", "raid5_rs", "raid5_n"]
-# Those that the tools may not follow yet.
-MORE_RAIDS = ["raid0", "raid0_meta", "raid4", "raid6", "raid6_zr", "raid6_nr", "raid6_nc", "raid6_n_6", "raid6_la_6",
-              "raid6_ra_6", "raid6_ls_6", "raid6_rs_6", "raid10", "raid10_near"]
+RAIDS = [*["raid1", "raid5"] * 4, "raid0", "raid0_meta", "raid10", "raid10_near", *plain_model.PARITY_KINDS]
 
 
-def raid_kind(dice, group, kinds=None):
+def raid_kind(dice, group):
     """A raid volume with legs that failed or are being rebuilt, and regions that were being written."""
-    kind, rows, chunk = dice.choice(kinds or RAIDS), dice.randrange(1, 5), dice.choice([1, 2, 4, 8])
+    kind, rows, chunk = dice.choice(RAIDS), dice.randrange(1, 5), dice.choice([1, 2, 4, 8])
     level = int(kind[4:6]) if kind.startswith("raid10") else int(kind[4])
     layout = 258 if level == 10 else plain_model.PARITY_KINDS.get(kind, (0, 0))[1]
     disks = dice.randrange(5 if level == 6 else 3 if level in (4, 5) else 2, 7)
@@ -480,8 +479,6 @@ def machine_of(number, only=None):
         array(dice, machine)
     elif kind == "on an array":
         group_machine(dice, machine, [dice.choice(list(GROUP_KINDS.values()))], on_array=True)
-    elif kind == "more raids":
-        group_machine(dice, machine, [lambda dice, group: raid_kind(dice, group, MORE_RAIDS)] * 2)
     else:
         few = dice.sample(list(GROUP_KINDS.values()), 3) if kind == "all" else [GROUP_KINDS[kind]] * dice.randrange(1, 3)
         group_machine(dice, machine, few)

@@ -8,8 +8,7 @@ import collections
 import re
 import struct
 
-SECTOR = 512
-NEVER = (1 << 64) - 1
+SECTOR, NEVER = 512, (1 << 64) - 1
 
 
 class Gap(Exception):
@@ -250,13 +249,14 @@ def array_of(members, is_careful):
             role_at = lambda at: max(role for role in range(disks) if at >= starts[role])
             return Disk(sum(lengths), lambda at: read(role_at(at), at - starts[role_at(at)]))
         return Disk(sum(lengths), lambda at: zone_sector(read, lengths, chunk, layout == 1, at))
-    if level == 1:
-        return Disk(size, lambda at: first_readable(read, [(role, at) for role in range(disks)]))
-    if level == 10:
-        near, far = layout & 255, layout >> 8 & 255
-        count = size // chunk // far * disks // near * chunk
-        most = 1 if reads_one else near * far
-        return Disk(count, lambda at: first_readable(read, list(raid10_places(layout, disks, chunk, size, at))[:most]))
+    if level in (1, 10):
+        def copies(at):
+            places = raid10_places(layout, disks, chunk, size, at) if level == 10 else [(role, at) for role in range(disks)]
+            places = [place for place in places if place[0] in newest.roles]
+            # What wasn't copied yet is read from the first one that is in the array.
+            return places[:1] if reads_one or at >= newest.resynced else places
+        count = size if level == 1 else size // chunk // (layout >> 8 & 255) * disks // (layout & 255) * chunk
+        return Disk(count, lambda at: first_readable(read, copies(at)))
     # Where the parity wasn't made yet, or wasn't shut down cleanly, it may be older than the data.
     count = size // chunk * chunk * (disks - (2 if level == 6 else 1))
     computes = lambda row: row < newest.resynced and not reads_one
@@ -319,7 +319,7 @@ def physical_volume_of(disk):
 
 # The levels and layouts of types of segments.
 PARITY_KINDS = {
-    "raid4": (4, 0), "raid5": (5, 2), "raid5_la": (5, 0), "raid5_ra": (5, 1), "raid5_ls": (5, 2), "raid5_rs": (5, 3),
+    "raid4": (5, 4), "raid5": (5, 2), "raid5_la": (5, 0), "raid5_ra": (5, 1), "raid5_ls": (5, 2), "raid5_rs": (5, 3),
     "raid5_n": (5, 5), "raid6": (6, 8), "raid6_zr": (6, 8), "raid6_nr": (6, 9), "raid6_nc": (6, 10), "raid6_n_6": (6, 5),
     "raid6_la_6": (6, 16), "raid6_ra_6": (6, 17), "raid6_ls_6": (6, 18), "raid6_rs_6": (6, 19)}
 
@@ -410,13 +410,12 @@ class Group:
     def raid(self, kind, segment, at):
         """A sector of a raid volume: data lies at the start of the volumes of its legs, and superblocks on those beside them."""
         images = segment.get("raid0_lvs") or segment["raids"][1::2]
-        legs = [leg_of(self.volume(name)) for name in segment.get("raids", [])[0::2]]
+        # Without copies or parity the text alone says where all lies.
+        legs = [] if kind.startswith("raid0") else [leg_of(self.volume(name)) for name in segment["raids"][0::2]]
         newest = max(filter(None, legs), key=lambda leg: leg.events, default=None)
-        if legs and not newest:
+        if legs and (not newest or self.is_careful and newest.is_dirty(0) is None):
             raise Gap("no leg has a superblock")
         disks, length = len(images), self.size_of(images[0])
-        if self.is_careful and newest:
-            newest.is_dirty(0)
 
         def read(role, sector):
             leg = legs[role] if legs else None
@@ -426,10 +425,11 @@ class Group:
             return self.volume(images[role]).sector(sector)
         if kind in ("raid0", "raid0_meta"):
             return zone_sector(read, [length] * disks, segment["stripe_size"], True, at)
-        if kind == "raid1":
-            return first_readable(read, [(role, at) for role in range(disks)])
-        if kind.startswith("raid10"):
-            return first_readable(read, raid10_places(2 | 1 << 8, disks, segment["stripe_size"], length, at))
+        if kind.startswith("raid1"):
+            near = raid10_places(258, disks, segment.get("stripe_size"), length, at)
+            places = near if kind.startswith("raid10") else [(role, at) for role in range(disks)]
+            places = [place for place in places if not newest.failed >> place[0] & 1]
+            return first_readable(read, places[:1] if at >= newest.resynced else places)
         # What is written while a leg is out stays marked as being written, and its parity is right.
         was_out = newest.failed or any(leg and leg.recovered != NEVER for leg in legs)
         computes = lambda row: row < newest.resynced and (was_out and not self.is_careful or not newest.is_dirty(row))
