@@ -3,7 +3,8 @@ model reads, and where that has a gap, they refuse.
 
     python3 tests/outside/tools/plain_comparison.py COUNT [FIRST [PROGRAM [KIND]]]
 
-compares COUNT machines, from the one of the number FIRST on, perhaps of one kind alone, and prints what differs.
+compares COUNT machines, from the one of the number FIRST on, perhaps of one KIND alone, and prints what differs. PROGRAM is
+the one that `rt ci` and ./dmremap leave, if no other is given.
 """
 
 import collections
@@ -14,15 +15,15 @@ import struct
 import sys
 import tempfile
 
+TOP = os.path.abspath(os.path.join(os.path.dirname(__file__), *[os.pardir] * 3))
 if __name__ == "__main__":
-    HERE = os.path.dirname(os.path.abspath(__file__))
-    sys.path[:0] = [os.path.dirname(HERE), HERE, os.path.join(os.path.dirname(os.path.dirname(os.path.dirname(HERE))), "tools")]
+    sys.path[:0] = [os.path.join(TOP, *names) for names in (("tests", "outside"), ("tests", "outside", "tools"), ("tools",))]
 
 import models
 import plain_model
 import used
 from harness import Case
-from models import CLEAN, DATA, EXTENT, HIDDEN, SECTOR, dashed, segment, volume
+from models import CLEAN, DATA, EXTENT, HIDDEN, SECTOR, segment, volume
 
 SECTORS = 200
 FAULTY = 0xFFFE
@@ -570,7 +571,7 @@ class PlainComparison(Case, checks=[check_few]):
     """The tools' answers beside those of the plain model."""
 
 
-def main(count, first=0, program="", only=None):
+def main(count, first=0, program=os.path.join(TOP, "crates", "dmremap", "out", "dmremap"), only=None):
     total, failed = collections.Counter(), 0
     with tempfile.TemporaryDirectory() as folder:
         for number in range(int(first), int(first) + int(count)):
