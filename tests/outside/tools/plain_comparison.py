@@ -22,6 +22,7 @@ if __name__ == "__main__":
 import models
 import plain_model
 import used
+from dmremap_tools.model.pile import Pile
 from harness import Case
 from models import CLEAN, DATA, EXTENT, HIDDEN, SECTOR, segment, volume
 
@@ -500,8 +501,6 @@ NOT_FOLLOWED = re.compile("isn't followed")
 
 def differences(program, folder, number, only=None):
     """What differs on a machine: how, where, and why one refuses."""
-    from dmremap_tools.base.refusal import Refusal
-    from dmremap_tools.model.pile import Pile
     kind, machine = machine_of(number, only)
     paths = []
     for name, (content, _) in machine.images.items():
