@@ -55,13 +55,20 @@ def check_bad(tally, pile):
         name = "bad sectors in units of %d" % (1 << shift)
         pile.holds(tally, "a mirror with " + name, "md:array", data)
         pile.refuses(tally, "the half with " + name, "md:array", "as its log of bad blocks says", "m0")
+    for level, layout, legs in ((4, 0, parity_legs(data, 4, 0, 3, CHUNK)), (10, 258, [data, data])):
+        size = len(legs[0]) // SECTOR
+        for role, leg in enumerate(legs):
+            bad = {} if role else {"bad": [(70, 3)]}
+            leg = leg if role else changed(leg, [(6, 9)])
+            pile.put("m%d" % role, member(leg, level, role, range(len(legs)), 7, layout=layout, size=size, **bad))
+        pile.holds(tally, "raid%d, of which a member has bad sectors" % level, "md:array", data)
     for version, tail_sectors in ((0, 3), (0, 7), (1, 0)):
         put_all(pile, {"m1": member(data, 1, 1, (0, 1), 7, version=version, tail_sectors=tail_sectors)})
         pile.holds(tally, "metadata 1.%d with %d sectors more" % (version, tail_sectors), "md:array", data)
 
 
 def check_volumes(tally, pile):
-    """raid5 of LVM, whole, without each leg, and with regions that were being written."""
+    """raid5 of LVM, whole, without each leg, with regions that were being written, and written to while a leg was out."""
     length, region = 4 * EXTENT, 16
     data = content_of("raid5 of LVM", 2 * length)
     legs = parity_legs(data, 5, 2, 3, CHUNK)
@@ -72,11 +79,13 @@ def check_volumes(tally, pile):
     fields = "device_count = 3", "stripe_size = %d" % CHUNK, "region_size = %d" % region, "raids = [%s]" % pairs
     known = text("vg0", "g", 4, "abc", volume("home", "h", segment(0, 8, "raid5", *fields)), *parts)
 
-    def put(dirty=()):
+    def put(dirty=(), out=None):
         images = {}
         for role, leg in enumerate(legs):
-            meta = leg_superblock(role, 9, 3, 5, 2, CHUNK) + leg_bitmap(length, region, dirty)
-            content = meta.ljust(2 * EXTENT * SECTOR, b"\0") + leg
+            is_out, failed = role == out, 0 if out is None or role == out else 1 << out
+            head = leg_superblock(role, 3 if is_out else 9, 3, 5, 2, CHUNK, failed)
+            meta = head + leg_bitmap(length, region, () if is_out else dirty)
+            content = meta.ljust(2 * EXTENT * SECTOR, b"\0") + (content_of("older", length) if is_out else leg)
             images["leg%d" % role] = disk("abc"[role], content.ljust(64 * EXTENT * SECTOR, b"\0"), known)
         put_all(pile, images)
     put()
@@ -95,6 +104,9 @@ def check_volumes(tally, pile):
         is_so = got.status == 0 and all(saved[at:at + SECTOR] == data[at:at + SECTOR] for at in clean)
         tally.holds("the rest of " + name + ", without a leg", is_so, got.err)
         pile.refuses(tally, name + ", without a leg", "vg0/home", "wasn't shut down cleanly", "leg0", "leg2")
+    put((1,), out=1)
+    # What is written then stays marked as being written, and its parity is right.
+    pile.holds(tally, "raid5 of LVM that was written to while a leg was out", "vg0/home", data)
 
 
 def check_trees(tally, pile):

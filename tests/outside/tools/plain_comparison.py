@@ -162,8 +162,10 @@ def put_members(dice, machine, data, legs, level, layout, chunk, size):
     for role, fate in fates.items():
         if fate in ("behind", "dropped"):
             table[numbers[role]] = FAULTY
-    is_dirty = level in (4, 5, 6) and dice.random() < 0.1 and "rebuilt" not in fates.values()
+    is_dirty = level in (1, 4, 5, 6) and dice.random() < 0.1 and "rebuilt" not in fates.values()
     resync = dice.randrange(size) if is_dirty else CLEAN
+    # The others of a mirror are being made as the first one that is in it.
+    source = min((role for role, fate in fates.items() if fate not in ("behind", "dropped")), default=0)
     machine.notes.append("level %d, layout %d, chunk %d, %d sectors, members %s, resynced up to %d" % (
         level, layout, chunk, size, fates, resync))
     name = b"array%d" % dice.randrange(100)
@@ -181,6 +183,8 @@ def put_members(dice, machine, data, legs, level, layout, chunk, size):
             machine.add(models.member(changed(leg, [(0, size)]), level, numbers[role], old_table,
                                       events - (1 if fate == "dropped" else dice.randrange(2, 9)), layout, chunk, size, **fields))
             continue
+        if is_dirty and level == 1 and role != source:
+            leg = changed(leg, [(resync, size)])
         if fate == "rebuilt":
             fields["recovered"] = dice.randrange(size + 1)
             leg = changed(leg, [(fields["recovered"], size)])
