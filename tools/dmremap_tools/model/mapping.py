@@ -16,6 +16,7 @@ from dmremap_tools.base import names, numbers, program, quoting, store_places, t
 from dmremap_tools.base.config_text import shown
 from dmremap_tools.base.given import put
 from dmremap_tools.base.numbers import SECTOR
+from dmremap_tools.base.program import NoProgram
 from dmremap_tools.base.refusal import Refusal
 from dmremap_tools.metadata.volume_group import Record
 from dmremap_tools.model.device import ZEROS, Device, Extent, Gap, Lenient, Missing
@@ -39,10 +40,6 @@ ODD = f"the store: its header says neither that it is valid nor that it isn't, {
 BROKEN = f"the store: its list goes on behind a free place, {store_places.DAMAGED}: {OLDER}"
 # Sectors of an answer: a disk and a start there, unless they are zeros or fail.
 Piece = NamedTuple("Piece", [("what", str), ("disk", str), ("start", int), ("count", int)])
-
-
-class NoProgram(Refusal):
-    """There is no dmremap to ask."""
 
 
 class Tables:

@@ -7,6 +7,7 @@ from dmremap_tools.base.disk_image import file_system_of
 from dmremap_tools.base.luks_header import Container, container_in
 from dmremap_tools.base.numbers import SECTOR
 from dmremap_tools.base.partition_table import Table, backup_of, table_of
+from dmremap_tools.base.program import NoProgram
 from dmremap_tools.base.refusal import Refusal
 from dmremap_tools.model import mapping, md_superblock, physical_volume
 from dmremap_tools.model.device import Device, Image, Lenient, Part, Run
@@ -178,8 +179,11 @@ class Pile:
                 newer = [spot for spot, other in self._damaged if other == identity or other not in self._members]
                 if newer and array.device and array.may_be_old:
                     array.give_up(MAY_BE_NEWER.format(newer[0].device.name))
-                if array.device and not self._is_member(Spot(array.device, None)):
-                    self._look_into(Spot(array.device, None))
+                try:
+                    if array.device and not self._is_member(Spot(array.device, None)):
+                        self._look_into(Spot(array.device, None))
+                except NoProgram as refusal:
+                    array.give_up(refusal.why)
 
     def target(self, name: str) -> Target:
         """What a name means. One that means nothing, or several things, is refused, with what to say instead."""
