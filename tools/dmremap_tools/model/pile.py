@@ -49,8 +49,8 @@ class Spot(NamedTuple):
         return self.path + (f":{self.partition}" if self.partition else "")
 
 
-# What is meant by a name: what it is called, and its bytes.
-Target = NamedTuple("Target", [("name", str), ("device", Device), ("size", int)])
+# What is meant by a name: what it is called, its bytes, and the ids of what it lies on, if that has some.
+Target = NamedTuple("Target", [("name", str), ("device", Device), ("size", int), ("ids", List[str])])
 # What a spot is: a word for it, and what is to be said of it.
 Found = NamedTuple("Found", [("spot", Spot), ("what", str), ("note", str)])
 
@@ -192,7 +192,8 @@ class Pile:
             try:
                 path = quoting.shown(self._volume_named(name).path)
             except Refusal:
-                return Target(name, device, device.size)
+                ids = [array.identity for array in self.arrays if array.device is device]
+                return Target(name, device, device.size, ids)
             raise Refusal(shown, f"both an image and a volume are called so: say ./{shown}, or {path}")
         try:
             is_whole = self._volume_named(name).why() is None
@@ -201,7 +202,8 @@ class Pile:
         if not is_whole:
             self.search()
         volume = self._volume_named(name)
-        return Target(volume.path, volume.device(), volume.sectors * SECTOR)
+        ids = [volume.identity, *sorted(volume.side.physical_ids.values()), volume.side.text.key().hex()[:16]]
+        return Target(volume.path, volume.device(), volume.sectors * SECTOR, ids)
 
     def device_named(self, name: str) -> Optional[Device]:
         """The image, the partition or the array of this name."""
