@@ -36,10 +36,10 @@ def dmremap(given: Optional[str]) -> str:
     tools = os.path.abspath(sys.argv[0]), os.path.realpath(sys.argv[0])
     places = [given] if given is not None else [os.path.join(os.path.dirname(it), "dmremap") for it in tools]
     found = [path for path in map(shutil.which, [*places, *["dmremap"] * (given is None)]) if path]
-    built = list(filter(None, map(_built, found)))
+    built = next(filter(None, map(_built, found)), None)
     if found and not built:
         raise NoProgram("dmremap", NOT_BUILT)
-    return built[0] if built else given or "dmremap"
+    return built or given or "dmremap"
 
 
 @functools.lru_cache(None)
