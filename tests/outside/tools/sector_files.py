@@ -49,11 +49,13 @@ def check_sample(tally, program, top):
 
 
 def check_refusals(tally, program, top):
-    """What is no file system."""
+    """What is no file system, of which the sectors are counted; what looks like one, without debugfs and with it."""
     image = program.file("files/none", bytes(100352))
+    tally.same("files of no file system", files(program, top, [(0, 1), (7, 2)], image), 0, said((3, "no file system"), sectors=196, lost=3))
+    image = program.file("files/magic", bytes(1080) + b"\x53\xef" + bytes(100352 - 1082))
     got = files(program, top, [(0, 1)], image)
     begins = ("dmremap-tools lost: %s: debugfs says: " % image).encode()
-    tally.holds("files of no file system", (got.status, got.out) == (1, b"") and got.err.startswith(begins), got.err)
+    tally.holds("files of a damaged file system", (got.status, got.out) == (1, b"") and got.err.startswith(begins), got.err)
 
 
 def check_large_inodes(tally, program, top):
@@ -73,7 +75,7 @@ def check_large_inodes(tally, program, top):
 def check_killed(tally, program, top):
     """A debugfs that is killed: where it is asked for something besides, that is no answer; and where other options help, it is."""
     sample, real = os.path.join(tool_calls.samples(top), "home.img"), found("debugfs")
-    folder = os.path.dirname(program.file("killed/map", "0x0 ?\n0x0 0x8000 -\n"))
+    folder = os.path.dirname(program.file("killed/map", "0x0 ?\n0x0 0x8000 -\n0x8000 0x7000 +\n"))
     words = [sys.executable, os.path.join(top, tool_calls.TOOL), "lost", "--program", program.path, sample, sample, "--saved", sample, "--map", sample + "=" + os.path.join(folder, "map")]
     for at, pattern, status in (("many", '*" -f "*', 5), ("first", '*" -R stats "*', 5), ("plain", '"plain -R"*', 0)):
         script = program.file("killed/debugfs", '#!/bin/sh\ncase "$DIES_AT $*" in %s) kill -9 $$ ;; esac\nexec %s "$@"\n' % (pattern, real))

@@ -53,9 +53,10 @@ def add_words(parser: ArgumentParser) -> None:
 
 
 def run(words: Namespace) -> None:
-    unread = rescue_map.unread_in(words.map, words.images)
-    mapped = ((path, begin // SECTOR, (end - begin) // SECTOR) for path, runs in unread.items() for begin, end in runs)
-    pile = Pile(words.images, words.program)
+    unread = rescue_map.unread_in(words, words.images)
+    paths = [path for path, _ in rescue_map.pairs(words.map, words.images)]
+    mapped = ((path, begin // SECTOR, (end - begin) // SECTOR) for path in paths for begin, end in unread[path])
+    pile = Pile(words.images, words.program, unread)
     owners = Owners(pile)
     for name, first, count in mapped if words.map else asked(words):
         device = pile.device_named(name)

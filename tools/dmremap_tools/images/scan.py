@@ -2,8 +2,9 @@
 
 Takes images, files or block devices, in any order. Nothing is written to them. Prints a tree. Each image is read where labels
 and superblocks lie, and as a whole if nothing sound is there. Something foreign or damaged gets a line, and hides nothing else.
-To copy a volume, run `save GROUP/VOLUME OUT IMAGE..`. dmremap is asked where volumes lie. For a LUKS container, two ways into
-it are printed. The one without root reads version 2 only if its sectors have 512 bytes.
+To copy a volume, run `save GROUP/VOLUME OUT IMAGE..`. dmremap is asked where volumes lie. Without it, `?` stands for the file
+system, and the status is 4. For a LUKS container, two ways into it are printed. The one without root reads version 2 only if its
+sectors have 512 bytes.
 
 With --json, prints one object instead, in which `why` is null if nothing is wrong:
 
@@ -21,13 +22,15 @@ followed.
 import json
 import shlex
 from argparse import ArgumentParser, Namespace
-from typing import Any, Dict, Iterator, List, Optional
+from typing import Any, Callable, Dict, Iterator, List, Optional
 
 from dmremap_tools.base import program, quoting, streams
 from dmremap_tools.base.luks_header import Container, container_in
 from dmremap_tools.base.numbers import SECTOR
+from dmremap_tools.base.program import NoProgram
+from dmremap_tools.base.refusal import INCOMPLETE
 from dmremap_tools.model.device import Device, Lenient
-from dmremap_tools.model.groups import WHOLE, Group, Volume
+from dmremap_tools.model.groups import UNKNOWN, WHOLE, Group, Volume
 from dmremap_tools.model.md_array import Array
 from dmremap_tools.model.pile import Pile, Spot
 
@@ -37,6 +40,11 @@ UNITS = ("bytes", "KiB", "MiB", "GiB", "TiB", "PiB", "EiB")
 COPIES = {"first": " (first copy)", "backup": " (backup copy, as the first is damaged)"}
 # How many columns the name of a volume gets at least, and its length, its kind and what begins there.
 COLUMNS = (24, 10, 10, 8)
+# What stands for a file system that nobody could be asked for.
+UNASKED = "?"
+
+# Why dmremap couldn't be asked.
+_unasked: List[str] = []
 
 
 def add_words(parser: ArgumentParser) -> None:
@@ -45,13 +53,16 @@ def add_words(parser: ArgumentParser) -> None:
     program.add_words(parser)
 
 
-def run(words: Namespace) -> None:
+def run(words: Namespace) -> Optional[int]:
     pile = Pile(words.images, words.program)
     pile.search()
     if words.json:
         streams.out.write(json.dumps(object_of(pile), indent=1) + "\n")
     else:
-        streams.out.write("".join(f"{line}\n" for line in lines_of(pile)))
+        streams.out.write("".join(f"{quoting.escaped(line)}\n" for line in lines_of(pile)))
+    whys = _unasked + [array.why for array in pile.arrays if array.why and program.NOT_BUILT in array.why]
+    streams.tell(*whys[:1])
+    return INCOMPLETE if whys else None
 
 
 def object_of(pile: Pile) -> Row:
@@ -67,7 +78,8 @@ def luks_rows(pile: Pile) -> Iterator[Row]:
     """The containers in images and arrays, and those in volumes."""
     found = [(spot.place, *((spot.path, spot.partition) if spot.image else (None, 0)), container)
              for spot, container in pile.containers]
-    volumes = (volume for group in pile.groups for volume in group.volumes if volume.file_system() == "luks")
+    volumes = (volume for group in pile.groups for volume in group.volumes
+               if asked(volume.file_system, UNASKED) == "luks")
     found += [(volume.path, None, 0, container_in(Lenient(volume.device()))) for volume in volumes]
     for name, image, partition, container in found:
         yield {"name": name, "image": image or name, "partition": partition, "version": container.version,
@@ -106,8 +118,18 @@ def array_row(pile: Pile, array: Array) -> Row:
 
 def volume_row(volume: Volume) -> Row:
     return {"name": volume.name, "id": volume.identity, "sectors": volume.sectors, "kind": volume.kind,
-            "file_system": volume.file_system(), "state": volume.state(), "why": volume.why(), "origin": volume.origin,
-            "chunks_used": volume.chunks_used()}
+            "file_system": asked(volume.file_system, UNASKED), "state": asked(volume.state, UNKNOWN),
+            "why": asked(volume.why, program.NOT_BUILT), "origin": volume.origin,
+            "chunks_used": asked(volume.chunks_used, None)}
+
+
+def asked(ask: Callable[[], Any], otherwise: Any) -> Any:
+    """What is found out of a volume, or something else where that takes dmremap and there is none."""
+    try:
+        return ask()
+    except NoProgram as refusal:
+        _unasked.append(str(refusal))
+        return otherwise
 
 
 def lines_of(pile: Pile) -> Iterator[str]:

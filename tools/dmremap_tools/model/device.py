@@ -57,6 +57,11 @@ class Device:
         others = (extent for extent in self.extents(start, size) if extent.source is not self)
         return next(filter(None, (extent.source.lack(extent.start, extent.size) for extent in others)), None)
 
+    def lacks(self, start: int, size: int) -> Iterator[Run]:
+        """Those of these bytes of a source that aren't there."""
+        if self.lack(start, size) is not None:
+            yield start, start + size
+
     def ended(self) -> str:
         """What is said of bytes past its end."""
         return f"{self.name} ends at byte {self.size}"
@@ -84,6 +89,19 @@ class Missing(Device):
 
     def load(self, start: int, size: int) -> bytes:
         raise Gap("missing", self.name)
+
+
+class Unread(Missing):
+    """Bytes of an image that weren't read from its disk, each in its place there."""
+
+    def __init__(self, image: "Image", run: Run) -> None:
+        super().__init__(f"{image.name} lacks its bytes {run[0]} to {run[1] - 1}, as its map says")
+        self.image = image
+
+
+def ground(source: Device) -> Device:
+    """Where the bytes of a source have their places: the image, if they weren't read from its disk."""
+    return source.image if isinstance(source, Unread) else source
 
 
 class Known(Device):
@@ -170,9 +188,10 @@ class Copies(Device):
             return None
         return super().lack(start, size)
 
-    def best(self) -> Device:
-        """A copy that has all bytes, or else the first."""
-        return next((copy for copy in self._copies if copy.lack(0, self.size) is None), self._copies[0])
+    def best(self) -> Optional[Device]:
+        """A copy that has all bytes, or the only one."""
+        only = self._copies[0] if len(self._copies) == 1 else None
+        return next((copy for copy in self._copies if copy.lack(0, self.size) is None), only)
 
     def _extents(self, start: int, size: int) -> Iterator[Extent]:
         return self._best(self._copies, start, size)
@@ -192,7 +211,7 @@ class Image(Device):
     """The whole sectors of a file or a disk; `path` is as it was given. Some may not have been read from it."""
 
     def __init__(self, path: str, unread: Sequence[Run] = ()) -> None:
-        self.path, self._unread, self.is_whole, name = path, unread, not unread, quoting.shown(path)
+        self.path, self.is_whole, name = path, not unread, quoting.shown(path)
         try:
             descriptor = os.open(path, os.O_RDONLY | os.O_NONBLOCK | os.O_CLOEXEC)
             # By this a file is the same one under another name.
@@ -205,6 +224,7 @@ class Image(Device):
             raise Refusal(name, streams.why(fault))
         self.bytes, self.other_form = self._file.size, ""
         super().__init__(name, self.bytes // SECTOR * SECTOR)
+        self._unread = [(*run, Unread(self, run)) for run in unread]
         try:
             disk_image.check_form(descriptor, name)
         except Refusal as refusal:
@@ -215,9 +235,7 @@ class Image(Device):
 
     def _extents(self, start: int, size: int) -> Iterator[Extent]:
         for begin, end, run in cut(self._unread, start, start + size):
-            if run:
-                why = f"{self.name} lacks its bytes {run[0]} to {run[1] - 1}, as its map says"
-            yield Extent(Missing(why), 0, end - begin) if run else Extent(self, begin, end - begin)
+            yield Extent(run[2] if run else self, begin, end - begin)
 
     def load(self, start: int, size: int) -> bytes:
         try:
@@ -306,9 +324,9 @@ def lacking(device: Device, size: int) -> List[Run]:
     """The runs of the first bytes of a device that aren't there."""
     runs: List[Run] = []
     for at, extent in joined(device, 0, size) if device.lack(0, size) is not None else ():
-        if extent.source.lack(extent.start, extent.size) is not None:
-            begin = runs.pop()[0] if runs and runs[-1][1] == at else at
-            runs.append((begin, at + extent.size))
+        for begin, end in extent.source.lacks(extent.start, extent.size):
+            begin, end = begin - extent.start + at, end - extent.start + at
+            runs.append((runs.pop()[0] if runs and runs[-1][1] == begin else begin, end))
     return runs
 
 

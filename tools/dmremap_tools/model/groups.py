@@ -52,6 +52,8 @@ class Volume:
         try:
             why = self._refused()
             return Missing(why) if why else self.side.volume(self.key)
+        except NoProgram:
+            raise
         except Refusal as refusal:
             return Missing(refusal.why)
 

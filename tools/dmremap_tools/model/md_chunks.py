@@ -3,6 +3,7 @@ data of rows with parity. A member of these that is missing is computed from the
 the sum of g^d D_d in GF(2^8) with the polynomial 0x11d and g = 2."""
 
 import bisect
+import contextlib
 import functools
 import itertools
 from typing import Any, Dict, Iterator, List, NamedTuple, NoReturn, Optional, Sequence, Tuple
@@ -224,6 +225,13 @@ class Computed(Device):
             return None
         except Gap as gap:
             return gap.why
+
+    def lacks(self, start: int, size: int) -> Iterator[Run]:
+        for row, begin, count in self._rows.parts(start, size):
+            with contextlib.suppress(Gap):
+                self._gone(row, begin, count)
+                continue
+            yield begin, begin + count
 
     def load(self, start: int, size: int) -> bytes:
         return b"".join(self._solved(*part) for part in self._rows.parts(start, size))

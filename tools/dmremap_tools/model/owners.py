@@ -12,7 +12,7 @@ from dmremap_tools.base.config_text import shown
 from dmremap_tools.base.numbers import SECTOR
 from dmremap_tools.base.refusal import Refusal
 from dmremap_tools.metadata.volume_group import Segment
-from dmremap_tools.model.device import ALL, ZEROS, Device, Gap, blocks_of, joined
+from dmremap_tools.model.device import ALL, ZEROS, Device, Gap, blocks_of, ground, joined
 from dmremap_tools.model.groups import REMOVED, Group
 from dmremap_tools.model.layout import LOWER, Layout
 from dmremap_tools.model.mapping import INVALID_SNAPSHOT, NoProgram
@@ -251,7 +251,7 @@ class Stack:
             why, sources = self._reading(upper)
             for at, extent in joined(self.side.plain(lower), first * SECTOR, (end - first) * SECTOR):
                 stop, moved = extent.start + extent.size, at - extent.start
-                starts, sizes, places = sources.get(extent.source, ((), (), ()))
+                starts, sizes, places = sources.get(ground(extent.source), ((), (), ()))
                 for row in range(max(0, bisect_right(starts, extent.start) - 1), bisect_right(starts, stop - 1)):
                     begin, until = max(extent.start, starts[row]), min(stop, starts[row] + sizes[row])
                     if begin < until:
@@ -269,10 +269,11 @@ def reading_of(device: Device) -> Tuple[Optional[str], Dict[Device, List["array[
     """What a volume lacks, and where its bytes are read: the starts, the sizes and the places in it, by the sources."""
     lacks, rows = None, {}  # type: Optional[str], Dict[Device, List[Tuple[int, int, int]]]
     for at, extent in joined(device, 0, device.size):
-        why = extent.source.lack(extent.start, extent.size)
+        source = ground(extent.source)
+        why = None if source is not extent.source else source.lack(extent.start, extent.size)
         lacks = lacks or why
-        if why is None and extent.source is not ZEROS:
-            rows.setdefault(extent.source, []).append((extent.start, extent.size, at))
+        if why is None and source is not ZEROS:
+            rows.setdefault(source, []).append((extent.start, extent.size, at))
     return lacks, {source: [array("Q", each) for each in zip(*sorted(found))] for source, found in rows.items()}
 
 

@@ -7,6 +7,7 @@ from dmremap_tools.base.disk_image import file_system_of
 from dmremap_tools.base.luks_header import Container, container_in
 from dmremap_tools.base.numbers import SECTOR
 from dmremap_tools.base.partition_table import Table, backup_of, table_of
+from dmremap_tools.base.program import NoProgram
 from dmremap_tools.base.refusal import Refusal
 from dmremap_tools.model import mapping, md_superblock, physical_volume
 from dmremap_tools.model.device import Device, Image, Lenient, Part, Run
@@ -48,8 +49,8 @@ class Spot(NamedTuple):
         return self.path + (f":{self.partition}" if self.partition else "")
 
 
-# What is meant by a name: what it is called, and its bytes.
-Target = NamedTuple("Target", [("name", str), ("device", Device), ("size", int)])
+# What is meant by a name: what it is called, its bytes, and the ids of what it lies on, if that has some.
+Target = NamedTuple("Target", [("name", str), ("device", Device), ("size", int), ("ids", List[str])])
 # What a spot is: a word for it, and what is to be said of it.
 Found = NamedTuple("Found", [("spot", Spot), ("what", str), ("note", str)])
 
@@ -178,8 +179,11 @@ class Pile:
                 newer = [spot for spot, other in self._damaged if other == identity or other not in self._members]
                 if newer and array.device and array.may_be_old:
                     array.give_up(MAY_BE_NEWER.format(newer[0].device.name))
-                if array.device and not self._is_member(Spot(array.device, None)):
-                    self._look_into(Spot(array.device, None))
+                try:
+                    if array.device and not self._is_member(Spot(array.device, None)):
+                        self._look_into(Spot(array.device, None))
+                except NoProgram as refusal:
+                    array.give_up(refusal.why)
 
     def target(self, name: str) -> Target:
         """What a name means. One that means nothing, or several things, is refused, with what to say instead."""
@@ -188,7 +192,8 @@ class Pile:
             try:
                 path = quoting.shown(self._volume_named(name).path)
             except Refusal:
-                return Target(name, device, device.size)
+                ids = [array.identity for array in self.arrays if array.device is device]
+                return Target(name, device, device.size, ids)
             raise Refusal(shown, f"both an image and a volume are called so: say ./{shown}, or {path}")
         try:
             is_whole = self._volume_named(name).why() is None
@@ -197,7 +202,8 @@ class Pile:
         if not is_whole:
             self.search()
         volume = self._volume_named(name)
-        return Target(volume.path, volume.device(), volume.sectors * SECTOR)
+        ids = [volume.identity, *sorted(volume.side.physical_ids.values()), volume.side.text.key().hex()[:16]]
+        return Target(volume.path, volume.device(), volume.sectors * SECTOR, ids)
 
     def device_named(self, name: str) -> Optional[Device]:
         """The image, the partition or the array of this name."""
