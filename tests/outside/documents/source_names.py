@@ -9,7 +9,7 @@ from documents import text_of
 from harness import Case
 
 # What these documents have at most, so that each is read at one sitting.
-BYTES = {"ARCHITECTURE.md": 9900, "DECISIONS.md": 5200, "DEVELOPING.md": 9400, "PROMISES.md": 18300}
+BYTES = {"ARCHITECTURE.md": 9900, "DECISIONS.md": 5200, "DEVELOPING.md": 9600, "PROMISES.md": 18300}
 # And all pages together.
 ALL_BYTES = 184000
 SOURCES = ("crates/*/*/**/*.rt", "crates/*/*/**/*.antt", "crates/*/must-fail/*", "crates.txt", "HANDLES", "tools/*/*",
