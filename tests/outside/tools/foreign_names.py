@@ -101,6 +101,9 @@ def check_paths(tally, pile):
             at = DATA + 3 * models.EXTENT, DATA + 10 * models.EXTENT + 8
             tally.same("a store in %r" % name, read, 0, "1 R disk0 %d 4\n1 R disk0 %d 4\n" % at)
         shutil.rmtree(made, ignore_errors=True)
+    got = models.tool_calls.call(pile.top, ["metadata", "image?offset=0"], folder=pile.folder)
+    tally.same("the text of a file that is called as a place in another", got, 1, "", "dmremap-tools metadata: image?offset=0: a file is called so, and here it means "
+               "a byte of image: give the file another name, or a link to it\n")
 
 
 class ForeignNames(Case, checks=[check_fields, check_paths]):

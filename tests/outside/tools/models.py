@@ -842,7 +842,7 @@ def check_served(tally, pile):
     tally.holds("how a server ends", status in (130, 143), status)
 
 
-def served(pile, volume_name, image, do):
+def served(pile, volume_name, image, do, more=()):
     """What a function gets of the plugin's module, in a process of its own, with something in the place of nbdkit."""
     with tempfile.TemporaryFile() as kept, tempfile.TemporaryFile() as said:
         sys.stdout.flush()
@@ -854,7 +854,7 @@ def served(pile, volume_name, image, do):
                 sys.modules["nbdkit"] = types.SimpleNamespace(THREAD_MODEL_SERIALIZE_ALL_REQUESTS=1, EXTENT_HOLE=1, EXTENT_ZERO=2, set_error=lambda _: None)
                 plugin = importlib.import_module("dmremap_tools.images.plugin")
                 signal.alarm(60)
-                for key, value in (("program", pile.program.path), ("volume", volume_name), ("image", image)):
+                for key, value in (("program", pile.program.path), ("volume", volume_name), ("image", image), *more):
                     plugin.config(key, value)
                 plugin.get_ready()
                 pickle.dump(do(plugin), kept)

@@ -12,10 +12,16 @@ from models import A, DATA, EXTENT, HIDDEN, SECTOR, content_of, disk, extents_of
 from physical_volumes import gpt, mbr
 
 
+UNMAPPED = b"no map was given: only what the images lack counts as missing\n"
+
+
 def asked(pile, given, *words):
     """What the command prints, or why it doesn't."""
     images = words or pile.images()
-    return models.tool_calls.call(pile.top, ["owner", "--program", pile.program.path, *images], given=given, folder=pile.folder)
+    got = models.tool_calls.call(pile.top, ["owner", "--program", pile.program.path, *images], given=given, folder=pile.folder)
+    if got.status == 0 and "--map" not in words:
+        got.err = got.err[:-len(UNMAPPED)] if got.err.endswith(UNMAPPED) else got.err + b"nothing is said of maps"
+    return got
 
 
 def lines_of(pile, name, *images):

@@ -2,7 +2,8 @@
 
 Takes images, which are searched as by `scan`, and standard input: lines IMAGE FIRST or IMAGE FIRST COUNT, in sectors of 512
 bytes unless --bytes or --sector-size says otherwise, or a kernel's log, of which the lines with `dev DISK, sector N` are taken.
-With --map IMAGE=MAP, asks for the areas that a map of ddrescue doesn't list as finished.
+With --map IMAGE=MAP, asks for the areas that a map of ddrescue doesn't list as finished, and reads nothing there. Only the length
+says whether a map is that of its image.
 
 Prints a line for each run of sectors and each way up: the image, the first sector, how many, and who has them, with their own
 sectors: partition, array, volumes from below. Volumes count whether they are active or not. A sector may belong to an origin
@@ -39,6 +40,7 @@ EXAMPLE = "echo 'sda.img 12096 8' | dmremap-tools owner sda.img sdb.img"
 QUERY = re.compile(r"(.+?) ([0-9]+)(?: ([0-9]+))?")
 # A kernel's block layer counts in 512 bytes, whatever sectors the disk itself has.
 KERNEL_SECTOR = re.compile(r"\bdev ([!-+\--~]{1,255}), sector ([0-9]+)\b.*")
+UNMAPPED = "no map was given: only what the images lack counts as missing"
 KERNEL_LINE = re.compile(r"(?:<\d+>)?\[ *\d+\.\d+\].*|.*\bkernel: .*")
 
 
@@ -69,6 +71,8 @@ def run(words: Namespace) -> None:
         first = max(inside, first)
         if first < end:
             write(name, first, end - first, (unknown(device.ended()), None))
+    if not words.map:
+        streams.tell(UNMAPPED)
 
 
 def asked(words: Namespace) -> Iterator[Tuple[str, int, int]]:

@@ -17,8 +17,8 @@ read at their names, or where --paths says. (If an image is called as a format i
 `filefrag -v` for a file of the volume, TARGET is that file. A snapshot is read by its store, which lies on these disks, too;
 --fresh takes snapshots as new, with the sectors of their origins alone.
 
-If a disk has errors, read it into an image with ddrescue first, and give its map. To mount a file system in OUT, use `mount -o ro,loop,noload`;
-to take a file from it, `debugfs -R 'dump /FILE OUT' OUT`.
+If a disk has errors, read it into an image with ddrescue first, and give its map. To mount a file system in OUT, use
+`mount -o ro,loop,noload`; to take a file from it, `debugfs -R 'dump /FILE OUT' OUT`.
 """
 
 from argparse import ArgumentParser, Namespace

@@ -1,8 +1,8 @@
 """Serves a volume out of images as a disk, by nbdkit, until it is interrupted.
 
-Takes GROUP/VOLUME and images, as `save` does, with their maps of ddrescue. Prints the URI of the disk, and commands that copy it, check it, take a file from
-it and mount it. Nothing is ever written, neither to an image nor to the disk. A read of sectors that are missing or can't be
-read fails; every other one is answered.
+Takes GROUP/VOLUME and images, as `save` does, with their maps of ddrescue. Prints the URI of the disk, and commands that copy it,
+check it, take a file from it and mount it. Nothing is ever written, neither to an image nor to the disk. A read of sectors that
+are missing or can't be read fails; every other one is answered.
 
 Needs nbdkit with its plugin for Python. The commands need libnbd-bin (nbdcopy, nbdfuse), qemu-utils (qemu-img) and e2fsprogs.
 Mounting the file that nbdfuse shows takes root.

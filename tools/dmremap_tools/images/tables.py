@@ -121,7 +121,8 @@ class GroupTables(Tables):
             start += device.start if isinstance(device, Part) else 0
             lower = device.lower if isinstance(device, Part) else device.best()
             if lower is None:
-                raise Refusal(device.name, f"no copy of {device.name} is whole, and no table can say which is read: use `save` or `serve`")
+                raise Refusal(device.name, f"no copy of {device.name} is whole, and no table can say which is read: use `save` "
+                              "or `serve`")
             device = lower
         if isinstance(device, Image):
             name = self._names.setdefault(device, f"disk{len(self.disks)}")
@@ -146,7 +147,8 @@ class GroupTables(Tables):
         places = {name: os.path.abspath(image.path) for name, image in self.disks.items()}
         for path in places.values():
             if quoting.is_odd(path):
-                raise Refusal(quoting.shown(path), "it is no UTF-8, as PATHS has to be: give the image another name, or a link to it")
+                raise Refusal(quoting.shown(path), "it is no UTF-8, as PATHS has to be: give the image another name, or a "
+                              "link to it")
         file, disks, paths = map(shlex.quote, self.write(folder, places))
         has_snapshots = any(line.target == "snapshot" for line in self.lines())
         streams.out.write(f"dmremap map table {file} {disks}" + f" --paths {paths}" * has_snapshots + "\n")

@@ -12,7 +12,7 @@ from dmremap_tools.base.refusal import Refusal
 from dmremap_tools.metadata.volume_group import Group, Record, Segment, Volume
 from dmremap_tools.model import pools, raid_volume
 from dmremap_tools.model.device import Device, Extent, Missing
-from dmremap_tools.model.mapping import Mapped, Tables, snapshot_of
+from dmremap_tools.model.mapping import Mapped, NoProgram, Tables, snapshot_of
 from dmremap_tools.model.physical_volume import Text
 
 # The most sectors of an extent, and extents of a volume: more than lvm2 makes.
@@ -231,6 +231,8 @@ class Deferred(Device):
     def _made(self) -> Device:
         try:
             return self._make()
+        except NoProgram:
+            raise
         except Refusal as refusal:
             return Missing(refusal.why)
 
