@@ -22,7 +22,7 @@ def check_document(tally, program, top):
     """Pastes the blocks of each recipe that need nothing else, twice."""
     recipes = [(title, shown_by(transcripts.blocks(text))) for title, text in RECIPE.findall(page(top, "RECIPES.md"))]
     lost = [title for title, pairs in recipes if None in pairs]
-    tally.holds("blocks of recipes", not lost, "what is printed comes after no command, or in another kind of block: %s" % ", ".join(lost))
+    tally.holds("blocks of recipes", not lost, "what is printed is below no commands in %s" % ", ".join(lost))
     begin = dict(recipes)[BEGIN][0][0]
     folder = make_folder(program, top, begin)
     for command, _ in transcripts.of_markdown(page(top, "TUTORIAL.md")):
@@ -39,12 +39,13 @@ def check_mounted(tally, program, top):
     blocks = [shown_by(transcripts.blocks(text)) for _, text in RECIPE.findall(page(top, "RECIPES.md"))]
     pairs = [it for found in blocks for it in filter(None, found) if it[0].startswith(MOUNTED)]
     tally.holds("recipes that mount", pairs, "there are none")
-    missing = [it for it in ("nbdkit", "nbdfuse", "losetup") if not shutil.which(it, path=os.environ["PATH"] + transcripts.ADMINISTRATORS)]
-    if os.geteuid() or missing or not os.path.exists("/dev/fuse") or run(["losetup", "-f"]).status:
-        tally.skip("mounting a served volume", "that takes root, a loop device, fuse, nbdkit and nbdfuse; missing: %s" % ", ".join(missing))
-        return
     begin = next(found[0][0] for found in blocks if found)
-    check_recipe(tally, make_folder(program, top, begin), begin, "the recipe that mounts", pairs)
+    folder = make_folder(program, top, begin)
+    is_there = all(shutil.which(it, path=environment(folder)["PATH"]) for it in ("nbdkit", "nbdfuse", "losetup"))
+    if not is_there or os.geteuid() or not os.path.exists("/dev/fuse") or run(["losetup", "-f"], env=environment(folder)).status:
+        tally.skip("mounting a served volume", "that takes root, a loop device, fuse, nbdkit and nbdfuse")
+        return
+    check_recipe(tally, folder, begin, "the recipe that mounts", pairs)
 
 
 def check_recipe(tally, folder, begin, title, pairs):
