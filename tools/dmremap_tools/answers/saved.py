@@ -262,15 +262,14 @@ def tell(gap: range) -> None:
 
 def parts_of(extent: Extent) -> Iterator[Tuple[int, bytes, bool]]:
     """The bytes of an extent in blocks: how many, the bytes unless they are zeros, and whether they are there."""
-    source, begin, end = extent.source, extent.start, extent.start + extent.size
+    source = extent.source
     if source is ZEROS:
         yield extent.size, b"", True
-        return
-    for first, stop, gap in cut(list(source.lacks(begin, extent.size)), begin, end):
-        if gap:
-            yield stop - first, b"", False
-            continue
+    elif source.lack(extent.start, extent.size) is not None:
+        yield extent.size, b"", False
+    else:
+        begin, end = extent.start, extent.start + extent.size
         # Holes of an image aren't read.
-        runs = list(source.runs(first, stop)) if isinstance(source, Image) and stop - first >= BLOCK else [(first, stop)]
-        for at, until, run in cut(runs, first, stop):
-            yield from read_blocks(source.load, at, until) if run else [(until - at, b"", True)]
+        runs = list(source.runs(begin, end)) if isinstance(source, Image) and extent.size >= BLOCK else [(begin, end)]
+        for first, stop, run in cut(runs, begin, end):
+            yield from read_blocks(source.load, first, stop) if run else [(stop - first, b"", True)]
