@@ -241,8 +241,31 @@ def check_turns(tally, pile):
     tally.same("and once that has ended", pile.call("save", "vg0/home", "out", "one", "--resume", "out.map"), 0)
 
 
+def check_again(tally, pile):
+    """A run that goes on with fewer maps of images, which would take zeros for data, or with more, where zeros may have been taken."""
+    content, first = disk("a", A, GROUP), DATA + 3 * EXTENT
+    words = put(pile, "one", content, (first + 7, 2))
+    again = ["save", "vg0/home", "out", "one", "--resume", "out.map"]
+    tally.holds("a run with a map", pile.call(*again, *words).status == 4, "it ends otherwise")
+    kept = [read(pile, name) for name in ("out", "out.map")]
+    tally.same("going on without it", pile.call(*again), 1, "", "dmremap-tools save: out.map: it was begun with 1 maps of images: give them again as --map IMAGE=MAP\n")
+    tally.holds("what that leaves", [read(pile, name) for name in ("out", "out.map")] == kept, "something else")
+    # Meanwhile ddrescue read more.
+    put(pile, "one", content, (first + 8, 1))
+    tally.holds("going on with it", pile.call(*again, *words).status == 4 and read(pile, "out") == without(HOME, (8, 1)), "it ends otherwise")
+    put(pile, "one", content)
+    tally.holds("going on with all", pile.call(*again, *words).status == 0 and read(pile, "out") == HOME, "it ends otherwise")
+    for name in ("out", "out.map"):
+        os.unlink(os.path.join(pile.folder, name))
+    put(pile, "one", content, (first + 7, 2))
+    tally.same("a run without a map", pile.call(*again), 0)
+    got = pile.call(*again, *words)
+    why = b"out.map: it was begun without some map of an image, and what that lacks may be in OUT as zeros: give a new name as --resume, and another OUT\n"
+    tally.holds("going on with one", got.status == 1 and got.err.endswith(why), got.err)
+
+
 class RescueMaps(Case, checks=[
-    check_copies, check_gaps, check_lengths, check_rows, check_owners, check_tables, check_sources, check_turns
+    check_copies, check_gaps, check_lengths, check_rows, check_owners, check_tables, check_sources, check_turns, check_again
 ]):
     """Piles of images with maps, each in an empty folder."""
 

@@ -46,8 +46,10 @@ def run(words: Namespace) -> bool:
         if not words.fresh:
             disks.check_stores(part)
         ids = [sum_of(part, found if words.extents is not None else []), *map(disks.identity, part.sizes)]
-        source = Source(volume, ids)
+        source = Source(volume, ids, len(words.map))
         saved = SavedMap(words.resume, source, size, [(at * SECTOR, (at + count) * SECTOR) for at, _, count in extents])
+        if saved.has_more_maps:
+            saved.check_finished([(at * SECTOR, (at + count) * SECTOR) for at, _, count in extents])
         todo = list(left(extents, saved))
         if words.resume is None and not words.allow_missing:
             check(begun.words, volume, todo, disks)

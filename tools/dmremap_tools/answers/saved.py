@@ -18,12 +18,13 @@ from dmremap_tools.layouts import rescue_map
 from dmremap_tools.layouts.rescue_map import BAD, FINISHED, UNTRIED, Area
 from dmremap_tools.model.device import BLOCK, ZEROS, Device, Extent, Image, Lenient, Missing, Run, cut, read_blocks
 
-OF = re.compile(r"# Of (.*) of ([0-9]+) sectors, from (.*)")
+OF = re.compile(r"# Of (.*) of ([0-9]+) sectors, from (.*?)(?:, with ([0-9]+) maps)?")
 HEAD = "# Mapfile. Created by dmremap-tools save\n# current_pos  current_status  current_pass\n"
 # Bytes in which labels, superblocks and partition tables have ids, and an id of what can't be read.
 HEAD_BYTES, ANY = 8192, "?"
 NEW = "give a new name as --resume, and another OUT"
 TAKEN = "another save goes on by it, or began it just now: wait until that has ended, or give another name"
+LATER = "it was begun without some map of an image, and what that lacks may be in OUT as zeros"
 PARTLY = "give --resume MAP to save the rest: the map says then what is missing"
 NOTHING = bytes(BLOCK)
 # How often a map is written, in seconds.
@@ -35,10 +36,11 @@ class Absent(Missing):
 
 
 class Source(NamedTuple):
-    """What is saved: what it is called, and ids of what it is read from."""
+    """What is saved: what it is called, ids of what it is read from, and how many maps of images were given."""
 
     name: str
     ids: List[str]
+    maps: int
 
 
 def head_of(device: Device) -> str:
@@ -61,7 +63,7 @@ class SavedMap:
     def __init__(self, path: Optional[str], source: Source, size: int, wanted: Sequence[Run]) -> None:
         self.size, self.is_begun, self.is_made = size, path is not None and os.path.lexists(path), False
         self.place = None if path is None else written.Place(path)
-        self._source, self._lock = source, -1
+        self._source, self._lock, self.has_more_maps = source, -1, False
         # What isn't wanted reads as zeros.
         self._areas = joined(Area(begin, end, UNTRIED if run else FINISHED) for begin, end, run in cut(wanted, 0, size))
         self._marks: List[Area] = []
@@ -90,14 +92,24 @@ class SavedMap:
         if said[1] != own[1] or said[2] != own[2] or not is_same:
             what = f"{said[1]} of {said[2]} sectors" + ", from other images" * (said[1] == own[1] and said[2] == own[2])
             raise Refusal(self.place.shown, f"it is the map of {quoting.shown(what)}, and this is {own[1]} of {own[2]}: {NEW}")
-        self._source = self._source._replace(ids=known)
+        maps = int(said[4] or 0)
+        if self._source.maps < maps:
+            raise Refusal(self.place.shown, f"it was begun with {maps} maps of images: give them again as --map IMAGE=MAP")
+        self._source, self.has_more_maps = self._source._replace(ids=known), self._source.maps > maps
         if (self._areas[0].begin, self._areas[-1].end) != (0, self.size) if self._areas else self.size:
             raise Refusal(self.place.shown, f"a map of another file than one of {self.size} bytes: {NEW}")
 
     def _said(self) -> "re.Match[str]":
         """The line that says what it is the map of."""
-        sectors, ids = -(-self.size // SECTOR), " ".join(self._source.ids)
-        return OF.fullmatch(quoting.escaped(f"# Of {self._source.name} of {sectors} sectors, from {ids}"))
+        sectors, ids, maps = -(-self.size // SECTOR), " ".join(self._source.ids), self._source.maps
+        with_maps = f", with {maps} maps" if maps else ""
+        return OF.fullmatch(quoting.escaped(f"# Of {self._source.name} of {sectors} sectors, from {ids}{with_maps}"))
+
+    def check_finished(self, lost: Sequence[Run]) -> None:
+        """Refuses to go on where bytes are finished that are lost by a map which is new to this run."""
+        found = (area for run in lost for *_, area in cut(self._areas, *run))
+        if any(area and area.status == FINISHED for area in found):
+            raise Refusal(self.place.shown, f"{LATER}: {NEW}")
 
     def left(self, begin: int, end: int) -> Iterator[Run]:
         """The parts of an area that were not finished when the run began, in whole sectors."""
@@ -250,15 +262,14 @@ def tell(gap: range) -> None:
 
 def parts_of(extent: Extent) -> Iterator[Tuple[int, bytes, bool]]:
     """The bytes of an extent in blocks: how many, the bytes unless they are zeros, and whether they are there."""
-    source, begin, end = extent.source, extent.start, extent.start + extent.size
+    source = extent.source
     if source is ZEROS:
         yield extent.size, b"", True
-        return
-    for first, stop, gap in cut(list(source.lacks(begin, extent.size)), begin, end):
-        if gap:
-            yield stop - first, b"", False
-            continue
+    elif source.lack(extent.start, extent.size) is not None:
+        yield extent.size, b"", False
+    else:
+        begin, end = extent.start, extent.start + extent.size
         # Holes of an image aren't read.
-        runs = list(source.runs(first, stop)) if isinstance(source, Image) and stop - first >= BLOCK else [(first, stop)]
-        for at, until, run in cut(runs, first, stop):
-            yield from read_blocks(source.load, at, until) if run else [(until - at, b"", True)]
+        runs = list(source.runs(begin, end)) if isinstance(source, Image) and extent.size >= BLOCK else [(begin, end)]
+        for first, stop, run in cut(runs, begin, end):
+            yield from read_blocks(source.load, first, stop) if run else [(stop - first, b"", True)]

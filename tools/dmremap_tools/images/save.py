@@ -7,7 +7,7 @@ the bytes of the volume, with holes where it reads as zeros. Without a map, OUT 
 Refuses a volume if something of it is missing, and leaves no OUT. With --resume or --allow-missing, these sectors are reported
 and become holes. Sectors that can't be read are reported and become holes in any case. The status is 4 then, or 0 with
 --allow-missing. --resume MAP writes these areas as a map of ddrescue; if MAP is there already, a run that was broken off goes
-on. MAP says which volume it is of, and no other one goes on by it.
+on. MAP says which volume it is of, and no other one goes on by it. Give the maps of images each time.
 
 With --map IMAGE=MAP, for each image that has one, the areas that a map of ddrescue doesn't list as finished aren't there. What
 another member of an array or another leg has is taken from that. Only the length says whether a map is that of its image.
@@ -30,7 +30,7 @@ from dmremap_tools.base import given, names, quoting, streams
 from dmremap_tools.base.refusal import INCOMPLETE, Refusal, WrongWords
 from dmremap_tools.layers import stack
 from dmremap_tools.layouts import rescue_map
-from dmremap_tools.model.device import Extent, joined
+from dmremap_tools.model.device import Extent, joined, lacking
 from dmremap_tools.model.pile import Pile, Target
 
 EXAMPLE = "dmremap-tools save vg0/home home.img sda.img sdb.img --resume home.map"
@@ -74,8 +74,10 @@ def copy(words: Namespace) -> bool:
         raise Refusal(quoting.shown(target.name), f"{why}; or {PARTLY}")
     if why:
         streams.tell(f"{quoting.shown(target.name)}: {why}")
-    source = Source(target.name, target.ids or [head_of(target.device)])
+    source = Source(target.name, target.ids or [head_of(target.device)], len(words.map))
     saved = SavedMap(words.resume, source, target.size, [(0, target.size)])
+    if saved.has_more_maps:
+        saved.check_finished(lacking(target.device, target.size))
     return put_together(words.target, saved, extents_of(target, saved))
 
 

@@ -57,11 +57,6 @@ class Device:
         others = (extent for extent in self.extents(start, size) if extent.source is not self)
         return next(filter(None, (extent.source.lack(extent.start, extent.size) for extent in others)), None)
 
-    def lacks(self, start: int, size: int) -> Iterator[Run]:
-        """Those of these bytes of a source that aren't there."""
-        if self.lack(start, size) is not None:
-            yield start, start + size
-
     def ended(self) -> str:
         """What is said of bytes past its end."""
         return f"{self.name} ends at byte {self.size}"
@@ -324,9 +319,9 @@ def lacking(device: Device, size: int) -> List[Run]:
     """The runs of the first bytes of a device that aren't there."""
     runs: List[Run] = []
     for at, extent in joined(device, 0, size) if device.lack(0, size) is not None else ():
-        for begin, end in extent.source.lacks(extent.start, extent.size):
-            begin, end = begin - extent.start + at, end - extent.start + at
-            runs.append((runs.pop()[0] if runs and runs[-1][1] == begin else begin, end))
+        if extent.source.lack(extent.start, extent.size) is not None:
+            begin = runs.pop()[0] if runs and runs[-1][1] == at else at
+            runs.append((begin, at + extent.size))
     return runs
 
 

@@ -3,7 +3,6 @@ data of rows with parity. A member of these that is missing is computed from the
 the sum of g^d D_d in GF(2^8) with the polynomial 0x11d and g = 2."""
 
 import bisect
-import contextlib
 import functools
 import itertools
 from typing import Any, Dict, Iterator, List, NamedTuple, NoReturn, Optional, Sequence, Tuple
@@ -226,12 +225,14 @@ class Computed(Device):
         except Gap as gap:
             return gap.why
 
-    def lacks(self, start: int, size: int) -> Iterator[Run]:
-        for row, begin, count in self._rows.parts(start, size):
-            with contextlib.suppress(Gap):
-                self._gone(row, begin, count)
-                continue
-            yield begin, begin + count
+    def _extents(self, start: int, size: int) -> Iterator[Extent]:
+        """In parts, as of a chunk some sectors may be computed and others not."""
+        for part in self._rows.parts(start, size):
+            try:
+                self._gone(*part)
+                yield Extent(self, *part[1:])
+            except Gap as gap:
+                yield Extent(device.Missing(gap.why), 0, part[2])
 
     def load(self, start: int, size: int) -> bytes:
         return b"".join(self._solved(*part) for part in self._rows.parts(start, size))
