@@ -5,8 +5,7 @@
     python3 tests/reading PROMISE --book          prints that itself: the sources, and last the contracts
     python3 tests/reading PROMISE --whole         also has what is left to other promises
     python3 tests/reading PROMISE --format FORMAT leaves out what only texts of other formats need
-    python3 tests/reading --write                 writes the tables of docs/READING.md anew
-    python3 tests/reading --check                 tells where docs/READING.md and docs/PROMISES.md lack something
+    python3 tests/reading --check                 tells what docs/PROMISES.md lacks
     python3 tests/reading --unused                prints the definitions that no contract and no proof uses
 
 PROMISE is a word of the first list, or `all`, as if none is given to the later ones. FORMAT is table, concise or lvm.
@@ -103,7 +102,7 @@ def asked():
     words = argparse.ArgumentParser(description=__doc__, formatter_class=argparse.RawDescriptionHelpFormatter)
     words.add_argument("promise", nargs="?", choices=[it[0] for it in PROMISES] + ["all"], metavar="PROMISE")
     words.add_argument("--format", choices=sorted(FORMATS))
-    for it in ("--book", "--whole", "--write", "--check", "--unused"):
+    for it in ("--book", "--whole", "--check", "--unused"):
         words.add_argument(it, action="store_true")
     return words.parse_args()
 
@@ -120,9 +119,6 @@ def main():
         rows = ["%s: %s" % (it.file, it.name) for it in unused(sources)]
     elif words.check:
         rows = pages.lacks(sources)
-    elif words.write:
-        pages.write(sources)
-        rows = []
     elif words.promise or words.format or words.book or words.whole:
         names = [words.promise] if words.promise not in (None, "all") else [it[0] for it in PROMISES]
         rows = printed(sources, names, words.format, words.book, words.whole)

@@ -1,64 +1,28 @@
-"""The pages that speak of promises: the tables of docs/READING.md, and the contracts that docs/PROMISES.md names."""
+"""The page that lists the promises: the contracts that docs/PROMISES.md names, and how much a reader of `map` reads."""
 
 import os
 import re
 
 from promises import PROMISES, counts, in_order, named, needed
 
-READING = os.path.join("docs", "READING.md")
+PAGE = os.path.join("docs", "PROMISES.md")
 COLUMN = re.compile(r"^\|(.*\| Contract \|.*)\n\|[-|]+\n((?:\|.*\n)*)", re.M)
 CODE = re.compile(r"`([^`]+)`")
-# A file as docs/PROMISES.md has it: the crate, and the module in it.
-MODULE = re.compile(r"(\w+)/([\w/]+)$")
-
-
-def tables(sources):
-    """The tables of docs/READING.md, each by its first line."""
-    promises = [("`%s`: %s" % (name, says), "`%s`" % "`, `".join(names), *counted(sources, name)) for name, names, says in PROMISES]
-    return {"| Promise | Contracts | Definitions | Lines | Whole |\n": rows(promises)}
-
-
-def counted(sources, promise):
-    """The cells of a promise: the definitions and lines of what a reader needs, and, if there are more, those with what
-    other promises have."""
-    own, whole = [counts(needed(sources, promise, is_whole=it)) for it in (False, True)]
-    return ["%d + %d" % own[:2], str(own[2]), "" if whole == own else "%d + %d, %d" % whole]
-
-
-def rows(cells):
-    """The lines of a table after its first."""
-    return ["|%s\n" % ("---|" * len(cells[0]))] + ["| %s |\n" % " | ".join(it) for it in cells]
-
-
-def written(sources):
-    """docs/READING.md with its tables as the sources give them."""
-    lines = lines_of(sources, READING)
-    for head, others in tables(sources).items():
-        begin = lines.index(head) + 1 if head in lines else len(lines)
-        end = next((at for at in range(begin, len(lines)) if not lines[at].startswith("|")), len(lines))
-        lines[begin:end] = others
-    return lines
-
-
-def lines_of(sources, name):
-    with open(os.path.join(sources.top, name), encoding="utf-8") as it:
-        return it.readlines()
-
-
-def write(sources):
-    text = "".join(written(sources))
-    with open(os.path.join(sources.top, READING), "w", encoding="utf-8") as it:
-        it.write(text)
+# How much `map` names, as the page has it.
+FIGURES = ("For `map`: %d definitions and %d types, traits and constants, %d lines; "
+           "with `--whole` %d and %d, %d lines.")
 
 
 def lacks(sources):
-    """What the pages lack, and where a list would have an item before one that it names."""
-    found = [] if written(sources) == lines_of(sources, READING) else [
-        "docs/READING.md has other tables than `python3 tests/reading --write` makes"]
+    """What the page lacks, and where a list would have an item before one that it names."""
+    with open(os.path.join(sources.top, PAGE), encoding="utf-8") as it:
+        text = it.read()
+    figures = FIGURES % tuple(count for is_whole in (False, True) for count in counts(needed(sources, "map", is_whole=is_whole)))
+    found = [] if figures in text else ["%s lacks: %s" % (PAGE, figures)]
     for name, _, _ in PROMISES:
         for is_whole in (False, True):
             found += ["the list of %s: %s" % (name, it) for it in disorder(sources, needed(sources, name, is_whole=is_whole))]
-    return found + NamedContracts(sources).lacks()
+    return found + NamedContracts(sources, text).lacks()
 
 
 def disorder(sources, items):
@@ -82,37 +46,27 @@ def leads(item, other):
 
 
 class NamedContracts:
-    """The contracts that docs/PROMISES.md names in its tables: functions, with their clauses and files."""
+    """The contracts that the page names in its tables: functions, with their clauses."""
 
-    def __init__(self, sources):
-        self.sources = sources
+    def __init__(self, sources, text):
+        self.sources, self.text = sources, text
         self.listed = [it for _, names, _ in PROMISES for it in names]
-        # The file of each function so far; what is lacking; and the function that was named last, with its items.
-        self.files, self.found, self.name, self.last = {}, [], None, []
+        # The functions and types so far; what is lacking; and the function that was named last, with its items.
+        self.there, self.found, self.name, self.last = set(), [], None, []
 
     def lacks(self):
-        text = "".join(lines_of(self.sources, os.path.join("docs", "PROMISES.md")))
-        for head, cells in COLUMN.findall(text):
+        for head, cells in COLUMN.findall(self.text):
             column = [it.strip() for it in head.split("|")].index("Contract") + 1
             for row in cells.splitlines():
                 for word in CODE.findall(row.split("|")[column]):
                     self.read(word)
-        there = set(self.files) | {it.split("::")[0] for it in self.files}
-        self.found += ["docs/PROMISES.md doesn't name %s" % it for it in self.listed if it not in there]
-        self.found += ["docs/PROMISES.md tells no file of %s" % name for name, file in self.files.items() if not file]
-        return self.found
+        there = self.there | {it.split("::")[0] for it in self.there}
+        return self.found + ["%s doesn't name %s" % (PAGE, it) for it in self.listed if it not in there]
 
     def read(self, word):
-        """Takes in a word of code: a function or a type, the file of the one before, or a clause of that."""
-        module = MODULE.match(word)
+        """Takes in a word of code: a function or a type, or a clause of the one before."""
         if word in self.listed or word.split("::")[0] in self.listed:
             self.name, self.last = word, named(self.sources, word)
-            told = {it.file for it in self.last} & set(self.files.values())
-            self.files.setdefault(word, min(told, default=None))
-        elif module and self.last:
-            file = "crates/%s/src/%s.rt" % module.groups()
-            is_there = file in {it.file for it in self.last}
-            self.found += [] if is_there else ["docs/PROMISES.md: %s isn't in %s" % (self.name, word)]
-            self.files[self.name] = file
+            self.there.add(word)
         elif not any(word in it.clauses for it in self.last):
-            self.found.append("docs/PROMISES.md: %s is no clause of %s" % (word, self.name))
+            self.found.append("%s: %s is no clause of %s" % (PAGE, word, self.name))

@@ -23,7 +23,10 @@ PROMISES = [
                "CheckedName::new", "DeviceNameRule", "DiskNameRule"], "texts that are read"),
     ("written", ["write_all", "close", "close_and_tell", "write_table", "write_concise", "write_runs"],
      "texts that are written"),
-    ("lvm", ["lvm_text::parse", "one_answer", "end_line", "Section", "text_fault", "VolumeGroup", "parse_metadata"], "LVM2 metadata"),
+    ("lvm", ["lvm_text::parse", "one_answer", "end_line", "Section", "text_fault", "VolumeGroup", "parse_metadata",
+             "parse_owned"], "LVM2 metadata"),
+    ("heads", ["read_heads", "HeadFault::message", "spelled_heads_are_read", "ring_bytes_are_read", "first_label_is_taken",
+               "sum_of"], "the heads of physical volumes"),
     ("names", ["build_name", "split_name", "undouble", "spaced_parts", "NameFault::message"], "names of LVM2 volumes"),
     ("stack", ["Stack::load", "Stack::depth", "Stack::snapshots", "Stack::into_parts", "Stack::len", "Looker::look", "Looker::len",
                "place_count", "places_are_apart"],
@@ -37,6 +40,7 @@ PROMISES = [
     ("replay", ["Replay"], "answers of a replay"),
     ("alone", ["tops_are_alone", "play_goes_on", "requests_are_alone", "errors_have_causes", "nothing_is_lost"],
      "each top device alone, and where errors come from"),
+    ("restarts", ["lists_are_left", "cuts_are_alone", "restarts", "restarts_go_on"], "what a restart after a power cut finds"),
     ("power_cut", ["answer_after_cut", "Fault::tell"], "the program `power_cut`"),
 ]
 

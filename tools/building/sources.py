@@ -1,4 +1,5 @@
-"""What the program is made of: the sources of its crates, and their sums."""
+"""What the program is made of: the sources of its crates, and their sums. Run by itself, it prints the path of the program that
+fits them, and builds none."""
 
 import contextlib
 import hashlib
@@ -12,6 +13,8 @@ OUT = os.path.join(TOP, "out")
 PARTS = ("src", "specs", "proofs")
 # What is built, and what rt links it from.
 BUILT = ("crates/dmremap/out/dmremap", "crates/dmremap/out/dmremap.o")
+# Where ./try keeps its program, with its names and sums.
+TRIED = "out/try/dmremap"
 
 
 def stands_on(top):
@@ -83,8 +86,18 @@ def fits(built=BUILT, folder=OUT):
         return False
 
 
+def found():
+    """Returns the path of the program that fits the sources: the proved one, or else that of ./try, or nothing."""
+    kept = ((BUILT, OUT), ([TRIED], os.path.join(TOP, os.path.dirname(TRIED))))
+    return next((os.path.join(TOP, built[0]) for built, folder in kept if fits(built, folder)), "")
+
+
 def look_at_made(before, built=BUILT, folder=OUT):
     """Fails where a program that was just made doesn't fit, though the sources are as before: another would fit no more."""
     if not fits(built, folder) and state() == before:
         may_run = os.access(os.path.join(TOP, built[0]), os.X_OK)
         raise Failed("%s was built, and %s" % (built[0], "then changed" if may_run else "there is no leave to run it"))
+
+
+if __name__ == "__main__":
+    os.write(1, os.fsencode(found()))

@@ -2,6 +2,7 @@ pub mod FittingLemmas
 mod ImageLemmas
 pub mod ListLemmas
 pub mod LogLemmas
+pub mod RestartLemmas
 pub mod RowLemmas
 pub mod SpellingLemmas
 pub mod SpeltLemmas
@@ -9,3 +10,4 @@ pub mod StartLemmas
 pub mod StateLemmas
 pub mod StoreLemmas
 pub mod WalkLemmas
+pub mod WorkedStore

@@ -1,5 +1,5 @@
-"""What a reader has to read: docs/READING.md counts what `tests/reading` finds, whose lists lack nothing, and
-docs/PROMISES.md names the same contracts, with clauses and files that are there."""
+"""What a reader has to read: the lists of `tests/reading` lack nothing, and docs/PROMISES.md names the same contracts,
+with clauses that are there, and how much `map` names."""
 
 import os
 import re

@@ -21,14 +21,15 @@ def check_commands(tally, program, top):
     if not tally.holds("the commands for a long trace", len(commands) == 2, "RECIPES has %d" % len(commands)):
         return
     folder = make_folder(program, top)
-    pieces = run(["./dmremap", "map", "lvm", "vg0.backup"], given=bytes_of(folder, "requests"), folder=folder)
-    totals = run(["sh", "-c", "./dmremap map lvm vg0.backup < requests | ./dmremap-tools report | grep ^total | sort"], folder=folder)
+    env = dict(os.environ, PATH=folder + os.pathsep + os.environ["PATH"])
+    pieces = run([program.path, "map", "lvm", "vg0.backup"], given=bytes_of(folder, "requests"), folder=folder)
+    totals = run(["sh", "-c", "dmremap map lvm vg0.backup < requests | dmremap-tools report | grep ^total | sort"], folder=folder, env=env)
     tally.holds("one run over a long trace", pieces.status == totals.status == 0 and totals.out.count(b"\n") == 2, totals.err)
     if not shutil.which("parallel"):
         tally.skip("a long trace in parts", "there is no parallel")
         return
-    tally.same("totals by parts", run(["bash", "-c", commands[0]], folder=folder), 0, totals.out)
-    tally.same("pieces by parts", run(["bash", "-c", commands[1]], folder=folder))
+    tally.same("totals by parts", run(["bash", "-c", commands[0]], folder=folder, env=env), 0, totals.out)
+    tally.same("pieces by parts", run(["bash", "-c", commands[1]], folder=folder, env=env))
     tally.holds("numbers by parts", bytes_of(folder, "pieces") == pieces.out, "they differ")
 
 

@@ -125,6 +125,7 @@ TABLES = [
     table(member(0, level="raid1", chunk="", sizes="     Array Size : 30 KiB\n", role="spare") + member(1, level="raid1", chunk="", sizes="     Array Size : 30 KiB\n"),
           "m: 0 60 linear /dev/sdb 2048\n", message="left out: /dev/sda, which is no active device\n"),
     table(members(2, level="raid1", chunk="", sizes="     Array Size : 30 KiB\n", state="RA"), "m: 0 60 linear /dev/sda 2048\n"),
+    table(old(0, events="0.5") + old(1, events="0.9"), "m: 0 64 linear /dev/sdb 0\n", message="left out: /dev/sda, which was away when others changed\n"),
     table(old(0, others="faulty removed") + old(1), "m: 0 64 linear /dev/sda 0\n", message="left out: /dev/sdb, which the array has dropped\n"),
     table(old(0, state="spare") + old(1), "m: 0 64 linear /dev/sdb 0\n", message="left out: /dev/sda, which is no active device\n"),
 ]

@@ -15,6 +15,8 @@ from harness import Case
 from tool_calls import TOOL, call, samples
 
 STACKS = 120
+# Where the store lies on the disk of the sample.
+STORE = 206848
 # A program that answers about a level other than about the whole.
 WRONG = """#!/bin/sh
 case "$*" in
@@ -128,16 +130,19 @@ def check_json(tally, explain):
 
 
 def check_stacks(tally, explain, program):
-    """Random stacks with snapshots: the levels make dmremap's answer of the whole together, or the command would refuse."""
+    """Random stacks with snapshots: the levels make dmremap's answer of the whole together, or the command would refuse. Every
+    other one begins from its stores, which lie on disks of one image."""
     dice = random.Random(79)
     shown = 0
+    program.file("explained/image", bytes(64 * 512))
+    program.file("explained/paths", "".join("%s image\n" % it for it in explained_rows.DISKS))
     for number in range(STACKS):
         devices, lengths = stack(dice)
         program.file("explained/random", ";".join("%s,,,%s,%s" % (name, flags, ",".join(lines)) for name, flags, lines in devices) + "\n")
         requests = [request(dice, dice.choice(devices)[0], lengths) for _ in range(dice.randrange(6))]
         program.file("explained/earlier", "".join(it + "\n" for it in requests))
         last = request(dice, devices[-1][0], lengths)
-        words = ["map", "concise", "random", "random.disks", "--before", "earlier"]
+        words = ["map", "concise", "random", "random.disks", "--before", "earlier", *["--paths", "paths"] * (number % 2)]
         answer = program.run(words, given=last + "\n", folder=explain.folder)
         got = explain.run([*words, last])
         if answer.status == 1:
@@ -194,7 +199,7 @@ def check_stores(tally, explain, program):
     """Snapshots that begin as their stores are, if that is asked for."""
     words = ["map", "lvm", "vg0-snapshot.backup", "R vg0-snap 8000 16", "W vg0-snap 8000 1", "R vg0-lv0 0 1"]
     with open(os.path.join(samples(explain.top), "snap.store"), "rb") as it, open(os.path.join(explain.folder, "sda1.img"), "wb") as image:
-        image.seek(206848 * 512)
+        image.seek(STORE * 512)
         image.write(it.read())
         image.truncate(1050624 * 512)
     program.file("explained/paths", "/dev/sda1 sda1.img\n")
@@ -206,6 +211,13 @@ def check_stores(tally, explain, program):
         program.file("explained/paths", listed)
         got = explain.run(["--paths", "paths", *words])
         tally.holds("a store by the paths %r" % listed, got.status == 0 and why in got.out.decode(), "status %s, %r, %r" % (got.status, got.err, got.out))
+    with open(os.path.join(explain.folder, "sda1.img"), "r+b") as image:
+        image.seek(STORE * 512 + 4)
+        image.write(bytes(4))
+    program.file("explained/paths", "/dev/sda1 sda1.img\n")
+    got = explain.run(["--paths", "paths", *words])
+    why = b"the header of vg0-snap's store says that it is invalid: it was full once, so all of the snapshot fails\n"
+    tally.holds("a store whose header says that it is invalid", got.status == 0 and got.out.count(why) == 2 and b"no place" not in got.out, "status %s, %r, %r" % (got.status, got.err, got.out))
     got = explain.run(["--paths", "nowhere", *words])
     tally.holds("a store without paths", got.status == 0 and b"nowhere" in got.out, "status %s, %r, %r" % (got.status, got.err, got.out))
 

@@ -42,7 +42,7 @@ def check_small_chunks(tally, program, top):
     text = array_rows.members(3, level="raid5", layout="left-symmetric", size=1 << 40, chunk="     Chunk Size : 1K\n")
     examined, pieces = program.file("layers/examined", text), program.file("layers/pieces", "1 R /dev/md0 0 1048576\n")
     begun = os.times()
-    got = call(top, ["md", "--follow", "/dev/md0", examined, pieces], memory=MEMORY)
+    got = call(top, ["md", "--follow", "/dev/md0", examined, pieces], memory=8 << 20)
     ended = os.times()
     wanted = "".join("1 R /dev/sd%s %d 2\n" % (disk, 2048 + 2 * row) for row in range(1 << 18) for disk in (("ab", "ca", "bc")[row % 3]))
     tally.same("a long read through small chunks", got, 0, wanted)

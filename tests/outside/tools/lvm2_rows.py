@@ -135,6 +135,8 @@ ABOVE = volume("c", striped(4, ("b", 0)))
 MOVED = volume("home", striped(4, ("pvmove0", 0)), status='["READ", "WRITE", "VISIBLE", "LOCKED"]')
 PVMOVE = other("pvmove0", "mirror", '\t\t\t\tmirror_count = 2\n\n\t\t\t\tmirrors = [\n\t\t\t\t\t"pv0", 0,\n\t\t\t\t\t"pv0", 40\n\t\t\t\t]\n',
                status='["READ", "WRITE", "PVMOVE", "LOCKED"]')
+# As many sectors as chunks would have, and not as rows of them.
+NO_ROWS = volume("u", striped(4, ("pv0", 30), ("pv0", 40), ("pv0", 50), size="\t\t\t\tstripe_size = 8\n"))
 UNEVEN = volume("u", striped(3, ("pv0", 30), ("pv0", 40), ("pv0", 50), size="\t\t\t\tstripe_size = 16\n"))
 EVEN = volume("u", striped(6, ("pv0", 30), ("pv0", 40), ("pv0", 50), size="\t\t\t\tstripe_size = 16\n"))
 LONG = "l" * 126
@@ -150,8 +152,8 @@ VOLUMES = [
         [("home {", "left out: home: it lies on the volume pvmove0"), ("pvmove0 {", OTHER % ("pvmove0", "mirror"))], lines("snap", 2, 20)),
     # A volume may have the key of a physical volume: on which a stripe lies, its key alone says.
     row("a volume called as a physical one", [plain("pv0", 2, 50), HOME], (), (), lines("pv0", 2, 50) + LINES),
-    row("stripes that don't divide a volume", [HOME, UNEVEN], [gone(UNEVEN)],
-        [("u {", "left out: u: its segment1 isn't divided evenly by its stripes, so that no kernel takes it")], LINES),
+    *(row("stripes that don't divide a volume", [HOME, each], [gone(each)],
+          [("u {", "left out: u: its segment1 isn't divided evenly by its stripes, so that no kernel takes it")], LINES) for each in (UNEVEN, NO_ROWS)),
     row("stripes that divide one", [HOME, EVEN], (), (), LINES + "g-u: 0 48 striped 3 16 /dev/sda 248 /dev/sda 328 /dev/sda 408\n"),
     row("a name that no device can have", [plain(LONG, 1, 8), plain(FULL, 1, 9)], [gone(plain(LONG, 1, 8))],
         [(LONG + " {", "left out: %s..: the name of its device has more than 127 bytes" % LONG[:100])], lines(FULL, 1, 9)),
@@ -255,6 +257,8 @@ NO_DEVICE = "changed: device: pv0 has none, so that the disk has this name"
 DISKS = [
     row("a disk after pvresize", (), [("dev_size = 1600", "dev_size = 1608")],
         [("dev_size", "changed: dev_size: " + AT_LEAST + ", and not 1600")], LINES, GROWN),
+    row("a disk that lacks a sector", (), [("dev_size = 1607", "dev_size = 1608")],
+        [("dev_size", "changed: dev_size: " + AT_LEAST + ", and not 1607")], LINES, GROWN.replace("1600", "1607")),
     row("a disk as long as its extents", (), (), (), LINES, GROWN.replace("1600", "1608")),
     row("a disk without a size", (), [("pv0 {", "pv0 { dev_size = 1608")],
         [("pv0 {", NO_SIZE)], LINES, (GROUP % HOME).replace(SIZE, "")),

@@ -12,10 +12,16 @@ from models import A, DATA, EXTENT, HIDDEN, SECTOR, content_of, disk, extents_of
 from physical_volumes import gpt, mbr
 
 
+UNMAPPED = b"no map was given: only what the images lack counts as missing\n"
+
+
 def asked(pile, given, *words):
     """What the command prints, or why it doesn't."""
     images = words or pile.images()
-    return models.tool_calls.call(pile.top, ["owner", "--program", pile.program.path, *images], given=given, folder=pile.folder)
+    got = models.tool_calls.call(pile.top, ["owner", "--program", pile.program.path, *images], given=given, folder=pile.folder)
+    if got.status == 0 and "--map" not in words:
+        got.err = got.err[:-len(UNMAPPED)] if got.err.endswith(UNMAPPED) else got.err + b"nothing is said of maps"
+    return got
 
 
 def lines_of(pile, name, *images):
@@ -107,6 +113,7 @@ HELD = [
     ("a container", KEYED[:64 << 9], ["disk 0 32 = LUKS1 header", "disk 32 32 = LUKS1 data, encrypted"]),
     ("a container whose header is damaged", containers.flipped(containers.version_2()[:1 << 14], 300),
      ["disk 0 32 = LUKS2 container: its header of LUKS is damaged: restore it in a copy by `cryptsetup luksHeaderRestore`"]),
+    ("a container whose data is elsewhere", containers.version_2(json=containers.text_of(data=0)) + bytes(1 << 16), ["disk 0 128 = LUKS2 header"]),
     ("nothing that is known", b"x" * (64 << 9), ["disk 0 64 = unknown: nothing is found in it"]),
     ("nothing", bytes(64 << 9), ["disk 0 64 = unknown: nothing is found in it"]),
     ("swap", bytes(4086) + b"SWAPSPACE2" + bytes(4096), ["disk 0 16 = swap"]),
@@ -258,15 +265,18 @@ def check_arrays(tally, pile):
     far = [[chunks[2 * row + leg] for row in range(8)] + [chunks[2 * row + (leg - 1) % 2] for row in range(8)] for leg in range(2)]
     for name, level, layout, legs, size in (
             ("raid5", 5, 2, five, 64), ("raid6", 6, 2, six, 64), ("raid10 near", 10, 0x102, near, 64), ("raid10 far", 10, 0x201, far, 128),
-            ("raid1", 1, 0, [[data], [data]], 128), ("raid0", 0, 1, [chunks[0::2], chunks[1::2]], 0)):
-        roles, found = tuple(range(len(legs))), set()
+            ("raid1", 1, 0, [[data], [data]], 128), ("raid0", 0, 1, [chunks[0::2], chunks[1::2]], 0),
+            # The rest of a chunk isn't data of the array.
+            ("raid5 of 60 sectors", 5, 2, five, 60)):
+        roles, found, count = tuple(range(len(legs))), set(), 112 if size == 60 else 128
         for number, leg in enumerate(legs):
             pile.put("m%d" % number, member(b"".join(leg), level, number, roles, 7, layout=layout, size=size))
         for number in roles:
-            here, besides = agrees(tally, "member %d of %s" % (number, name), pile, "m%d" % number, {"md:array": data})
+            contents = {"md:array": data[:count * SECTOR]}
+            here, besides = agrees(tally, "member %d of %s" % (number, name), pile, "m%d" % number, contents)
             found |= here.get("md:array", set())
             tally.holds("what it keeps", "superblock of md:array, with what it keeps free" in besides, besides)
-        tally.holds("all sectors of " + name, found == set(range(128)), sorted(set(range(128)) - found)[:5])
+        tally.holds("all sectors of " + name, found == set(range(count)), sorted(set(range(count)) - found)[:5])
         for number in roles:
             os.unlink(os.path.join(pile.folder, "m%d" % number))
     for number, leg in enumerate(five):

@@ -13,13 +13,8 @@ LVM, IDENTITY = bytes.fromhex("79d3d6e607f5c244a23c238f2a3df928"), b"an identity
 
 
 def checksum(content):
-    """The CRC-32 of LVM2, bit by bit: its polynomial is that of zlib, reflected, and its first value is lvm2's own."""
-    value = 0xF597A6CF
-    for byte in content:
-        value ^= byte
-        for _ in range(8):
-            value = value >> 1 ^ (0xEDB88320 if value & 1 else 0)
-    return value
+    """The CRC-32 of LVM2, which is that of zlib but for its first value and its last step."""
+    return zlib.crc32(content, 0xF597A6CF ^ 0xFFFFFFFF) ^ 0xFFFFFFFF
 
 
 def text_of_area(group, identity, number):
@@ -64,26 +59,27 @@ def mbr(*entries):
     return (bytes(446) + packed).ljust(510, b"\0") + b"\x55\xaa"
 
 
-def gpt(*entries, sector=SECTOR, damage=None, last=99):
+def gpt(*entries, sector=SECTOR, damage=None, last=99, entry=128):
     """The first sectors of a disk with a GPT, whose entries are a first and a last sector; an empty one is none.
-    `damage` is a byte that isn't what it was, `last` the last sector of the disk."""
-    table = gpt_table(entries)
-    disk = bytearray(mbr((0xEE, 1, last)).ljust(sector, b"\0") + gpt_header(table, 1, last, 2).ljust(sector, b"\0") + table)
+    `damage` is a byte that isn't what it was, `last` the last sector of the disk, `entry` the bytes of an entry."""
+    table = gpt_table(entries, entry)
+    head = gpt_header(table, 1, last, 2, entry).ljust(sector, b"\0")
+    disk = bytearray(mbr((0xEE, 1, last)).ljust(sector, b"\0") + head + table)
     if damage is not None:
         disk[damage] ^= 1
     return bytes(disk)
 
 
-def gpt_table(entries):
+def gpt_table(entries, size=128):
     """The entries of a GPT."""
-    table = b"".join(LVM + IDENTITY + struct.pack("<QQ", *it) + bytes(80) if it else bytes(128) for it in entries)
+    table = b"".join((LVM + IDENTITY + struct.pack("<QQ", *it) if it else b"").ljust(size, b"\0") for it in entries)
     return table.ljust(128 * 128, b"\0")
 
 
-def gpt_header(table, place, other, at):
+def gpt_header(table, place, other, at, entry=128):
     """The header of a GPT in one sector, which has its other copy in another, and whose entries begin at a third."""
     usable = max(place, other) - 1 - len(table) // SECTOR
-    fields = struct.pack("<QQQQ16sQLLL", place, other, 34, usable, IDENTITY, at, 128, 128, zlib.crc32(table))
+    fields = struct.pack("<QQQQ16sQLLL", place, other, 34, usable, IDENTITY, at, len(table) // entry, entry, zlib.crc32(table))
     header = b"EFI PART" + struct.pack("<LL", 0x10000, 92)
     return header + struct.pack("<LL", zlib.crc32(header + bytes(8) + fields), 0) + fields
 

@@ -154,6 +154,9 @@ def check_costs(tally, program, top):
     path = os.path.join(program.folder, "plot.svg")
     got = call(top, ["report", *PLOT, "disks", "pieces"], folder=program.folder, memory=MEMORY)
     tally.holds("a plot of many disks", got.status == 0 and picture_in(path).count("<image ") == 1024, "status %s, %r" % (got.status, got.err))
+    # What costs time are the pixels: of each disk only those of the column in which something was done.
+    widths = re.findall(r'<image x="[0-9.]+" y="[0-9]+" width="([0-9.]+)"', picture_in(path))
+    tally.holds("the pixels of many disks", len(widths) == 1024 and all(float(it) < 4 for it in widths), widths[:3])
     program.file("pieces", "".join(rows))
     got = call(top, ["report", *PLOT, "disks", "pieces"], folder=program.folder, memory=MEMORY)
     tally.same("a plot of too many disks", got, 1, "", "dmremap-tools report: pieces: pieces on more than 1024 disks, too many for a picture: give those of fewer\n")

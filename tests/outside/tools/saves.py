@@ -5,6 +5,7 @@ import contextlib
 import errno
 import os
 import random
+import re
 import signal
 import subprocess
 import sys
@@ -92,12 +93,13 @@ def check_volumes(tally, program, top):
 
 def refused(tally, top, disks, name, why):
     """What isn't all there is refused, and there is no file."""
-    tally.same("a volume with " + name, disks.save(top, "refused"), 1, "", "dmremap-tools save: v: %s; give --map MAP to save the rest: the map says then "
+    tally.same("a volume with " + name, disks.save(top, "refused"), 1, "", "dmremap-tools save: v: %s; give --resume MAP to save the rest: the map says then "
                "what is missing\n" % why)
     tally.holds("what that leaves", not os.path.exists(disks.target("refused")), "it is there")
 
 
 MAP = """\
+# Of v of %d sectors, from %s
 # Mapfile. Created by dmremap-tools save
 # current_pos  current_status  current_pass
 0x%08X     %s               1
@@ -105,31 +107,44 @@ MAP = """\
 """
 
 
+def said_of(disks, top, *words):
+    """What the first line of a map says that a run makes: the sectors and the ids."""
+    target, rescue = (disks.target(name) for name in ("said of", "said of.map"))
+    disks.save(top, "said of", *words, "--resume", rescue)
+    sectors, ids = re.match(r"# Of v of ([0-9]+) sectors, from (.*)\n", read(rescue).decode()).groups()
+    for path in target, rescue:
+        os.unlink(path)
+    return int(sectors), ids
+
+
 def check_gaps(tally, program, top):
     """A disk that is missing, and sectors that can't be read: holes, a map of ddrescue, and a run that goes on by it."""
     disks = Disks(program)
+    sectors, ids = said_of(disks, top)
     os.rename(disks.paths["c"], disks.paths["c"] + ".away")
     with open(disks.paths["b"], "r+b") as file:
         file.truncate(36 * SECTOR)
     missing = "missing: c: No such file or directory\n"
     with unreadable(range(9, 10)):
-        got = disks.save(top, "begun", "--map", disks.target("map"))
+        got = disks.save(top, "begun", "--resume", disks.target("map"))
     tally.same("a volume with gaps", got, 4, "", LOST % (1, 1) + missing + LOST % (20, 28))
     areas = [(0, 1, "+"), (1, 1, "-"), (2, 26, "+"), (28, 12, "-"), (40, 8, "?")]
     text = "".join("0x%08X  0x%08X  %s\n" % (SECTOR * at, SECTOR * count, it) for at, count, it in areas)
-    tally.holds("its map", read(disks.target("map")).decode() == MAP % (SECTOR, "?") + text, read(disks.target("map")))
+    # What can't be read has no id: of sectors in which ids are, and of a disk that isn't there.
+    lacking = re.sub("([abc]):[0-9a-f]+", r"\1:?", ids)
+    tally.holds("its map", read(disks.target("map")).decode() == MAP % (sectors, lacking, SECTOR, "?") + text, read(disks.target("map")))
     os.rename(disks.paths["c"] + ".away", disks.paths["c"])
     program.file("save/image b", disks.content["b"])
     program.file("save/table", TABLE.replace("error", "zero"))
     # What is finished isn't read again.
     with unreadable(range(0, 1)):
-        got = disks.save(top, "begun", "--map", disks.target("map"))
+        got = disks.save(top, "begun", "--resume", disks.target("map"))
     tally.same("a volume that goes on", got, 4, "", LOST % (1, 40))
-    got = disks.save(top, "begun", "--map", disks.target("map"))
+    got = disks.save(top, "begun", "--resume", disks.target("map"))
     tally.same("a volume that is finished", got, 0)
     tally.holds("what it has", read(disks.target("begun")) == disks.volume(), "it is another")
     text = "0x%08X  0x%08X  +\n" % (0, SECTOR * 48)
-    tally.holds("its last map", read(disks.target("map")).decode() == MAP % (SECTOR * 48, "+") + text, read(disks.target("map")))
+    tally.holds("its last map", read(disks.target("map")).decode() == MAP % (sectors, ids, SECTOR * 48, "+") + text, read(disks.target("map")))
 
 
 OF_PARTITION = """contents = "Text Format Volume Group"
@@ -234,7 +249,7 @@ def check_labels(tally, program, top):
         words = [program.file("save/table", "v: 0 8 linear p 0\n"), program.file("save/disks", "p 64\n")]
         listed = program.file("save/paths", "p %s?offset=%s\n" % (path, "9" * figures))
         got = tool_calls.call(top, ["save", "--program", program.path, "--paths", listed, "v", target, "table", *words])
-        tally.same("saving from a place of %d figures" % figures, got, 1, "", "dmremap-tools save: v: %s; give --map MAP to save the rest: the map says "
+        tally.same("saving from a place of %d figures" % figures, got, 1, "", "dmremap-tools save: v: %s; give --resume MAP to save the rest: the map says "
                    "then what is missing\n" % told)
 
 
@@ -262,17 +277,19 @@ def check_odd_file(tally, program, top):
                " ext:     logical_offset:        physical_offset: length:   expected: flags:\n"
                "   0:        0..       4:          1..         5:      5:            \n"
                "   1:        5..       9:         42..        46:      5:         30: last,eof\n/f: 2 extents found\n")
-    words = ["odd", "--extents", program.file("save/extents", extents), "--map", disks.target("odd.map")]
+    words = ["odd", "--extents", program.file("save/extents", extents)]
+    sectors, ids = said_of(disks, top, *words[1:])
+    words += ["--resume", disks.target("odd.map")]
     os.rename(disks.paths["c"], disks.paths["c"] + ".away")
     tally.same("an odd file without a disk", disks.save(top, *words), 4, "", "missing: c: No such file or directory\n" + LOST % (5, 5))
     text = "0x%08X  0x%08X  +\n0x%08X  0x%08X  ?\n" % (0, 5 * SECTOR, 5 * SECTOR, 5001 - 5 * SECTOR)
-    tally.holds("its map", read(disks.target("odd.map")).decode() == MAP % (5 * SECTOR, "?") + text, read(disks.target("odd.map")))
+    tally.holds("its map", read(disks.target("odd.map")).decode() == MAP % (sectors, re.sub("c:[0-9a-f]+", "c:?", ids), 5 * SECTOR, "?") + text, read(disks.target("odd.map")))
     os.rename(disks.paths["c"] + ".away", disks.paths["c"])
     for _ in range(2):
         tally.same("an odd file that goes on", disks.save(top, *words), 0)
         volume = disks.volume()
         tally.holds("what it has", read(disks.target("odd")) == (volume[SECTOR:6 * SECTOR] + volume[42 * SECTOR:47 * SECTOR])[:5001], "it is another")
-        text = MAP % (5001, "+") + "0x%08X  0x%08X  +\n" % (0, 5001)
+        text = MAP % (sectors, ids, 5001, "+") + "0x%08X  0x%08X  +\n" % (0, 5001)
         tally.holds("its last map", read(disks.target("odd.map")).decode() == text, read(disks.target("odd.map")))
 
 
@@ -286,7 +303,7 @@ def check_edges(tally, program, top):
     program.file("edges/paths", "a image\n")
     for number, bad in enumerate((range(at_once - 1, at_once + 2), range(at_once - 1, at_once), range(at_once, at_once + 1), range(2 * at_once - 3, 2 * at_once + 3))):
         with unreadable(bad):
-            got = tool_calls.call(top, ["save", "--program", program.path, "--paths", "paths", "--map", "m%d" % number, "v", "out%d" % number, "table", "table", "disks"],
+            got = tool_calls.call(top, ["save", "--program", program.path, "--paths", "paths", "--resume", "m%d" % number, "v", "out%d" % number, "table", "table", "disks"],
                                   folder=folder)
         tally.same("what can't be read at %s" % bad, got, 4, "", LOST % (len(bad), bad.start))
         wanted = content[:bad.start * SECTOR] + bytes(len(bad) * SECTOR) + content[bad.stop * SECTOR:]
@@ -298,25 +315,32 @@ def check_refusals(tally, program, top):
     disks = Disks(program)
     program.file("save/there", "")
     os.symlink("behind", disks.target("link"))
-    said = "dmremap-tools save: %s\n"
+    said, own = "dmremap-tools save: %s\n", "# Of v of %d sectors, from %s\n" % said_of(disks, top)
+    new = "give a new name as --resume, and another OUT"
     rows = [
         ("there", [], 1, "%s: it is there already: give another name, or remove it first" % disks.target("there")),
         ("link", [], 1, "%s: it is there already: give another name, or remove it first" % disks.target("link")),
         ("no/where", [], 5, "%s: No such file or directory" % disks.target("no/where")),
-        ("new", ["--map", program.file("save/m", "x\n")], 1, "%s:1: not a map of ddrescue: give another file as --map" % disks.target("m")),
-        ("new", ["--map", program.file("save/m2", "0x0 ?\n0x0 0x200 +\n")], 1, "%s: a map of another file than one of 24576 bytes: give its own" % disks.target("m2")),
-        ("new", ["--map", program.file("save/m3", "0x0 ?\n0x0 0x6000 ?\n")], 1,
-         "%s: the map says that it was begun, and it isn't there: give a --map that isn't there either" % disks.target("new")),
-        ("there", ["--map", disks.target("m3")], 1, "%s: it isn't the file that was begun: it has 0 bytes and not 24576: give that, or another --map" % disks.target("there")),
-        ("new", ["--map", disks.target("")], 5, "%s: Is a directory" % disks.target("")),
-        ("new", ["--map", disks.target("link")], 5, "%s: No such file or directory" % disks.target("link")),
-        ("new", ["--map", "/proc/none"], 5, "/proc/none: No such file or directory"),
+        ("new", ["--resume", program.file("save/m", "x\n")], 1, "%s:1: not a map of ddrescue: give another file as --resume" % disks.target("m")),
+        ("new", ["--resume", program.file("save/m2", own + "0x0 ?\n0x0 0x200 +\n")], 1, "%s: a map of another file than one of 24576 bytes: %s" % (disks.target("m2"), new)),
+        ("new", ["--resume", program.file("save/m4", "0x0 ?\n0x0 0x6000 ?\n")], 1,
+         "%s: it doesn't say of which volume it is, as those do that save writes: %s" % (disks.target("m4"), new)),
+        ("new", ["--resume", program.file("save/m5", own.replace("v", "w") + "0x0 ?\n0x0 0x6000 ?\n")], 1,
+         "%s: it is the map of w of 48 sectors, and this is v of 48: %s" % (disks.target("m5"), new)),
+        ("new", ["--resume", program.file("save/m6", own.replace("a:", "a:0") + "0x0 ?\n0x0 0x6000 ?\n")], 1,
+         "%s: it is the map of v of 48 sectors, from other images, and this is v of 48: %s" % (disks.target("m6"), new)),
+        ("new", ["--resume", program.file("save/m3", own + "0x0 ?\n0x0 0x6000 ?\n")], 1,
+         "%s: the map says that it was begun, and it isn't there: give a --resume that isn't there either" % disks.target("new")),
+        ("there", ["--resume", disks.target("m3")], 1, "%s: it isn't the file that was begun: it has 0 bytes and not 24576: give that, or another --resume" % disks.target("there")),
+        ("new", ["--resume", disks.target("")], 5, "%s: Is a directory" % disks.target("")),
+        ("new", ["--resume", disks.target("link")], 5, "%s: No such file or directory" % disks.target("link")),
+        ("new", ["--resume", "/proc/none"], 5, "/proc/none: No such file or directory"),
     ]
     packed = program.file("save/packed", b"\xfd7zXZ\0")
     program.file("save/path", "a %s\n" % packed)
     program.file("save/table", TABLE.replace("error", "zero"))
     got = tool_calls.call(top, ["save", "--program", program.path, "--paths", disks.target("path"), "v", disks.target("new"), *disks.source])
-    tally.holds("an image that is compressed", got.status == 1 and b"packed: it is compressed (xz): unpack it; give --map" in got.err, "status %s, %r" % (got.status, got.err))
+    tally.holds("an image that is compressed", got.status == 1 and b"packed: it is compressed (xz): unpack it; give --resume" in got.err, "status %s, %r" % (got.status, got.err))
     listed = program.file("save/path", "a x\n/dev/b y\n")
     got = tool_calls.call(top, ["save", "--program", program.path, "--paths", listed, "v", disks.target("new"), *disks.source])
     tally.same("a path of no disk", got, 1, "", said % "%s: no disk is called /dev/b: give a name that the tables have" % listed)
@@ -338,7 +362,7 @@ def check_refusals(tally, program, top):
     got = tool_calls.call(top, ["save", "--program", dies, *disks.words[2:], "v", disks.target("new"), *disks.source])
     tally.same("saving by a dmremap that dies", got, 5, "", said % "%s: it was ended by signal 9" % dies)
     tally.holds("what that leaves", not os.path.exists(disks.target("new")), "it is there")
-    for more in (["-"], ["new", "--map", "-"]):
+    for more in (["-"], ["new", "--resume", "-"]):
         got = tool_calls.call(top, ["save", *disks.words, "v", *more[:1], *disks.source, *more[1:]], folder=os.path.dirname(disks.target("new")))
         tally.same("saving to standard output: %s" % more, got, 2, "", said % "'-' is no file to write: give it a name")
         tally.holds("what that leaves", not os.path.exists(disks.target("-")) and not os.path.exists(disks.target("new")), "it is there")
@@ -357,18 +381,20 @@ def check_outputs(tally, program, top):
     whole = program.file("save/images", b"")
     image, said = disks.paths["a"], "dmremap-tools save: %s\n"
     os.link(image, disks.target("image"))
-    begun = program.file("save/begun map", "0x0 ?\n0x0 0x8000 ?\n")
     program.file("save/long", "v: 0 64 linear b 0\n")
+    long, begun = ["table", disks.target("long"), disks.source[2]], disks.target("begun map")
+    tool_calls.call(top, ["save", *disks.words, "v", disks.target("begun long"), *long, "--resume", begun])
+    program.file("save/begun map", read(begun).replace(b"  +\n", b"  ?\n"))
     rows = [
-        ("the map as its target", "one", ["--map", disks.target("../save/one")], "%s: two outputs can't be one file: give another name" % disks.target("one")),
-        ("the map over a disk", "one", ["--map", image], READ_TOO % image),
-        ("the map over a table", "one", ["--map", disks.source[1]], READ_TOO % disks.source[1]),
+        ("the map as its target", "one", ["--resume", disks.target("../save/one")], "%s: two outputs can't be one file: give another name" % disks.target("one")),
+        ("the map over a disk", "one", ["--resume", image], READ_TOO % image),
+        ("the map over a table", "one", ["--resume", disks.source[1]], READ_TOO % disks.source[1]),
     ]
     for name, target, words, message in rows:
         tally.same("saving with " + name, disks.save(top, target, *words), 2, "", said % message)
         tally.holds("what is left of it", not os.path.exists(disks.target("one")) and read(image) == disks.content["a"], "it is another")
     for target in "image a", "image":
-        got = tool_calls.call(top, ["save", *disks.words, "v", disks.target(target), "table", disks.target("long"), disks.source[2], "--map", begun])
+        got = tool_calls.call(top, ["save", *disks.words, "v", disks.target(target), *long, "--resume", begun])
         tally.same("saving over %s, of another disk" % target, got, 2, "", said % READ_TOO % disks.target(target))
         tally.holds("what is left of the disk", read(image) == disks.content["a"], "it is another")
     os.unlink(whole)
@@ -378,7 +404,7 @@ def check_outputs(tally, program, top):
     os.rename(image, disks.target("a disk.new"))
     program.file("save/paths", "a %s\nb %s\nc %s\n" % (disks.target("a disk.new"), disks.paths["b"], disks.paths["c"]))
     for name, target, to in (("a target called so", "beside.new", "beside"), ("a disk called so", "two", "a disk"), ("a link called so", "three", "linked")):
-        tally.same("saving with a map, and " + name, disks.save(top, target, "--map", disks.target(to)))
+        tally.same("saving with a map, and " + name, disks.save(top, target, "--resume", disks.target(to)))
         is_so = read(disks.target(target)) == disks.volume() and read(disks.target("a disk.new")) == disks.content["a"]
         tally.holds("what it leaves", is_so and read(precious) == b"precious\n", "something is another")
     os.symlink("precious", disks.target("link there"))
@@ -401,7 +427,7 @@ def check_ends(tally, program, top):
     folder = os.path.dirname(disks.target("it"))
     before = set(os.listdir(folder))
     for number, status in ((signal.SIGTERM, 143), (signal.SIGHUP, 129), (signal.SIGINT, 130)):
-        for with_map in [], ["--map", disks.target("its map")]:
+        for with_map in [], ["--resume", disks.target("its map")]:
             words = ["save", "--program", slow, *disks.words[2:], "v", disks.target("it"), *disks.source, *with_map]
             ran = subprocess.Popen([sys.executable, os.path.join(top, tool_calls.TOOL), *words], stderr=subprocess.PIPE, start_new_session=True)
             while not os.path.exists(slow + ".begun") and ran.poll() is None:
@@ -433,11 +459,12 @@ def check_mutations(tally, program, top):
                " ext:     logical_offset:        physical_offset: length:   expected: flags:\n"
                "   0:        0..       4:          1..         5:      5:            \n"
                "   1:        5..       9:         42..        46:      5:         30: last,eof\n/f: 2 extents found\n")
-    texts = {"extents": extents.encode(), "paths": read(os.path.join(program.folder, "save/paths")), "map": b"0x0 ?\n0x0 0x2000 +\n0x2000 0x4000 ?\n"}
+    own = "# Of v of %d sectors, from %s\n" % said_of(disks, top)
+    texts = {"extents": extents.encode(), "paths": read(os.path.join(program.folder, "save/paths")), "map": own.encode() + b"0x0 ?\n0x0 0x2000 +\n0x2000 0x4000 ?\n"}
     words = ["save", "--program", program.path, "--paths", "paths", "v", "out", *disks.source]
     dice = random.Random(1)
     for number in range(TRIES):
-        more, changed = (["--extents", "extents"], dice.choice(["extents", "paths"])) if number % 2 else (["--map", "map"], dice.choice(["paths", "map"]))
+        more, changed = (["--extents", "extents"], dice.choice(["extents", "paths"])) if number % 2 else (["--resume", "map"], dice.choice(["paths", "map"]))
         for name, text in texts.items():
             program.file("changed/" + name, mutated(text, dice) if name == changed else text)
         out = program.file("changed/out", bytes(0x6000))

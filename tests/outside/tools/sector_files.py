@@ -49,11 +49,13 @@ def check_sample(tally, program, top):
 
 
 def check_refusals(tally, program, top):
-    """What is no file system."""
+    """What is no file system, of which the sectors are counted; what looks like one, without debugfs and with it."""
     image = program.file("files/none", bytes(100352))
+    tally.same("files of no file system", files(program, top, [(0, 1), (7, 2)], image), 0, said((3, "no file system"), sectors=196, lost=3))
+    image = program.file("files/magic", bytes(1080) + b"\x53\xef" + bytes(100352 - 1082))
     got = files(program, top, [(0, 1)], image)
     begins = ("dmremap-tools lost: %s: debugfs says: " % image).encode()
-    tally.holds("files of no file system", (got.status, got.out) == (1, b"") and got.err.startswith(begins), got.err)
+    tally.holds("files of a damaged file system", (got.status, got.out) == (1, b"") and got.err.startswith(begins), got.err)
 
 
 def check_large_inodes(tally, program, top):
@@ -73,14 +75,18 @@ def check_large_inodes(tally, program, top):
 def check_killed(tally, program, top):
     """A debugfs that is killed: where it is asked for something besides, that is no answer; and where other options help, it is."""
     sample, real = os.path.join(tool_calls.samples(top), "home.img"), found("debugfs")
-    folder = os.path.dirname(program.file("killed/map", "0x0 ?\n0x0 0x8000 -\n"))
+    folder = os.path.dirname(program.file("killed/map", "0x0 ?\n0x0 0x8000 -\n0x8000 0x7000 +\n"))
     words = [sys.executable, os.path.join(top, tool_calls.TOOL), "lost", "--program", program.path, sample, sample, "--saved", sample, "--map", sample + "=" + os.path.join(folder, "map")]
+    whole = run(words).out
     for at, pattern, status in (("many", '*" -f "*', 5), ("first", '*" -R stats "*', 5), ("plain", '"plain -R"*', 0)):
         script = program.file("killed/debugfs", '#!/bin/sh\ncase "$DIES_AT $*" in %s) kill -9 $$ ;; esac\nexec %s "$@"\n' % (pattern, real))
         os.chmod(script, 0o755)
         got = run(words, env=dict(os.environ, DIES_AT=at, PATH=folder + os.pathsep + os.environ["PATH"]))
         is_told = (script + ": it was ended by signal 9\n").encode() in got.err
-        tally.holds("files by a debugfs that is killed, " + at, got.status == status and bool(got.out) == (status == 0) and is_told, "%s, %r, %r" % (got.status, got.out, got.err))
+        # Other options don't tell what is free.
+        rows, wanted = ([row for row in out.splitlines() if b"/" in row] for out in (got.out, b"" if status else whole))
+        is_so = is_told and got.status == status and bool(got.out) == (not status) and rows == wanted
+        tally.holds("files by a debugfs that is killed, " + at, is_so, "%s, %r, %r" % (got.status, got.out, got.err))
 
 
 def made(tally, program, name, contents, *words, size="8M"):
@@ -182,13 +188,17 @@ def check_lost_inodes(tally, program, top):
     if not image:
         return
     table = int(re.search(r"inode table at (\d+)", asked_of(image, "stats"))[1])
-    inodes = sorted(int(re.search(r"Inode (\d+) is part", asked_of(image, "imap " + it))[1]) for it in names)
+    inode_of = {it: int(re.search(r"Inode (\d+) is part", asked_of(image, "imap " + it))[1]) for it in names}
+    inodes = sorted(inode_of.values())
     # Two inodes of 256 bytes lie in a sector.
     first, last = (2 * table + (it - 1) // 2 for it in (inodes[0], inodes[-1]))
     write_at(image, 512 * first, bytes(512 * (last + 1 - first)))
     got = files(program, top, [(first, last + 1 - first)], image)
-    named = {it.split("inode table: ")[-1] for it in got.out.decode().splitlines()}
-    tally.holds("the names of lost inodes", (got.status, got.err) == (0, b"") and names <= named, "%r, %r" % (got.out, got.err))
+    # Each is told with the lost sectors of its block, which has four inodes; the one before these is that of /lost+found.
+    blocks = {name: (inode - 1) // 4 for name, inode in [*inode_of.items(), ("/lost+found", inodes[0] - 1)]}
+    lost = range(first, last + 1)
+    rows = [(sum(2 * (table + at) + half in lost for half in (0, 1)), "inode table: " + name) for name, at in sorted(blocks.items())]
+    tally.same("the names of lost inodes", got, 0, said(*rows, sectors=16384, lost=len(lost)))
 
 
 def read(path):
@@ -210,18 +220,33 @@ def check_xfs(tally, program, top):
     if lost:
         tally.skip("files of XFS", "there is no " + lost[0])
         return
+    check_xfs_inodes(tally, program, top)
     image = made_xfs(tally, program)
     if image:
         check_whole_xfs(tally, program, top, image)
         check_damaged_xfs(tally, program, top, image)
 
 
-def made_xfs(tally, program):
+def check_xfs_inodes(tally, program, top):
+    """An inode of two sectors, of which either one is asked for."""
+    image = made_xfs(tally, program, "-i", "size=1024")
+    if not image:
+        return
+    with open(image, "rb") as file:
+        # It begins so, as that of a file that all may read.
+        sector = file.read(8 << 20).index(b"IN\x81\xa4") // 512
+    for at in (sector, sector + 1):
+        got = files(program, top, [(at, 1)], image)
+        is_so = got.status == 0 and re.match(rb"1 sectors: inode table: /(d/f\.|g)\n", got.out)
+        tally.holds("sector %d of an inode of XFS" % (at - sector), is_so, "%r, %r" % (got.out, got.err))
+
+
+def made_xfs(tally, program, *words):
     """An XFS file system with two files, or None."""
     image = os.path.join(program.folder, "xfs.img")
     big, small = program.file("xfs/big", os.urandom(50000)), program.file("xfs/small", b"x")
     proto = program.file("xfs/proto", "/none\n0 0\nd--755 0 0\nd d--755 0 0\nf. ---644 0 0 %s\n$\ng ---644 0 0 %s\n$\n" % (big, small))
-    ran = run([found("mkfs.xfs"), "-q", "-f", "-d", "file,name=%s,size=300m" % image, "-p", proto])
+    ran = run([found("mkfs.xfs"), "-q", "-f", "-d", "file,name=%s,size=300m" % image, *words, "-p", proto])
     return image if tally.holds("an XFS file system is made", ran.status == 0, ran.err) else None
 
 

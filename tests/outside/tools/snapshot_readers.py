@@ -201,10 +201,10 @@ def check_extents(case):
                 wanted.append([at, 1, disk, sector])
         got = case.call("extents", *PATHS, name, *SOURCE)
         case.tally.same("the extents of " + name, got, 0, "".join("%d %d %s %d\n" % tuple(it) for it in wanted), case.told(name))
-    case.put("lines", "v: 0 16 linear d 0\nv: 16 8 zero\nv: 24 1 linear d 16\nv: 25 1 linear e 17\nv: 26 2 error\nv: 28 2097152 linear f 0\n")
+    case.put("lines", "v: 0 16 linear d 0\nv: 16 8 zero\nv: 24 1 linear d 16\nv: 25 1 linear e 17\nv: 26 2 error\nv: 28 2097152 linear f 0\nv: 2097180 2097152 zero\n")
     case.put("lines.disks", DISKS + "f 2097152\n")
     case.tally.same("extents of other lines", case.call("extents", "v", "table", "lines", "lines.disks"), 0,
-                    "0 16 d 0\n16 8 zero\n24 1 d 16\n25 1 e 17\n26 2 error\n28 2097152 f 0\n")
+                    "0 16 d 0\n16 8 zero\n24 1 d 16\n25 1 e 17\n26 2 error\n28 2097152 f 0\n2097180 2097152 zero\n")
     case.tally.same("extents of no device", case.call("extents", "w", "table", "lines", "lines.disks"), 1, "", TOOL + " extents: lines: no device w: `dmremap table` prints their names\n")
 
 

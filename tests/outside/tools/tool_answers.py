@@ -163,6 +163,8 @@ DD = [
     (["--paths", "within"], "R w 0 3\n", 1, "set -e\nrefused\n", "--paths: a begins at byte 100, within a sector: give a multiple of 512"),
     ([], "W w 0 3\n", 1, "set -e\nrefused\n", "PROGRAM:1: a write, give --image: 1 W a 3 3"),
     (["--image", "i"], "R v 7 3\n", 1, "set -e\nrefused\n", "PROGRAM:1: no sectors of a disk, leave them out: 1 error 3"),
+    (["--image", "i"], "R v 3 4\nR w 0 2\n", 0, "set -e\ndd if='/dev/zero' bs=512 skip=0 count=4 status=none of='i' seek=0 conv=notrunc\n"
+     "dd if='a' bs=512 skip=3 count=2 status=none of='i' seek=4 conv=notrunc\n", ""),
     (["--paths", "twice"], "R w 0 1\n", 1, "refused\n", "twice:2: named before, give each name and path once: a c"),
     (["--paths", "half"], "R w 0 1\n", 1, "refused\n", "half:1: not a line of PATHS, give NAME PATH: a"),
     ([], "R w 0\n", 1, "refused\n", "standard input:1: not a request, give R or W, a device, a sector and how many: R w 0"),

@@ -14,7 +14,7 @@ from dmremap_tools.layouts import svg
 COLUMNS, ROWS, CELL, MARGIN = 450, 150, 2, 20
 # A column has a byte for each cell, with how often it was read, up to the darkest, and then how often it was written.
 COLUMN, DARKEST = 2 * ROWS, 16
-CLAMPED, UNTOUCHED = bytes(min(it, DARKEST) for it in range(256)), bytes(COLUMN)
+CLAMPED = bytes(min(it, DARKEST) for it in range(256))
 COLOURS = ((31, 95, 191), (192, 48, 32))
 STEP = 1e-6
 # More take more memory than a picture is worth.
@@ -61,10 +61,17 @@ def pixel(read: int, written: int) -> bytes:
     return bytes([*mixed, 64 + 191 * min(most, DARKEST) // DARKEST])
 
 
-def pixels(columns: Sequence[Sequence[int]]) -> List[bytes]:
-    """The rows of the picture, the last sectors above."""
-    cells = list(zip(*columns))
-    return [b"".join(map(pixel, cells[row], cells[row + ROWS])) for row in reversed(range(ROWS))]
+def pixels(columns: Dict[int, bytearray]) -> List[bytes]:
+    """The rows of the picture from the first of some columns to the last of them, the last sectors above."""
+    cells, first = list(zip(*columns.values())), min(columns)
+    places, blank = [4 * (place - first) for place in columns], bytes(4 * (max(columns) + 1 - first))
+    rows: List[bytes] = []
+    for read, written in zip(reversed(cells[:ROWS]), reversed(cells[ROWS:])):
+        row = bytearray(blank) if any(read) or any(written) else blank
+        for place, colour in zip(places, map(pixel, read, written)) if row is not blank else ():
+            row[place:place + 4] = colour
+        rows.append(row)
+    return rows
 
 
 def halved(columns: Dict[int, bytearray]) -> Dict[int, bytearray]:
@@ -128,8 +135,9 @@ class Fields:
         out.write(svg.head(width + 2 * MARGIN, end + MARGIN))
         for top, disk in zip(range(MARGIN, end, high + 40), shown):
             out.write(svg.text(MARGIN, top, f"{disk}: sectors 0 (below) to {self._sizes[disk] - 1} (above), {reach}"))
-            columns = [self._fields[disk].get(it, UNTOUCHED) for it in range(self._used)]
-            out.write(svg.image(MARGIN, top + 6, width, high, pixels(columns)))
+            columns, wide = self._fields[disk], width / self._used
+            first, count = min(columns), max(columns) + 1 - min(columns)
+            out.write(svg.image(MARGIN + first * wide, top + 6, count * wide, high, pixels(columns)))
             out.write(f'<rect x="{MARGIN}" y="{top + 6}" width="{width}" height="{high}" fill="none" stroke="#888"/>\n')
         out.write(f'<g fill="#1f5fbf">{svg.text(MARGIN, end, "read")}</g>\n'
                   f'<g fill="#c03020">{svg.text(MARGIN + 60, end, "written")}</g>\n</svg>\n')

@@ -3,17 +3,19 @@ read as its store says, which is on these disks, too."""
 
 import contextlib
 import functools
+import hashlib
 import os
 import tempfile
 from argparse import Namespace
 from typing import Dict, Iterable, Iterator, List, Set, Tuple
 
-from dmremap_tools.answers.saved import PARTLY, Absent, SavedMap, put_together
+from dmremap_tools.answers.saved import ANY, PARTLY, Absent, SavedMap, Source, head_of, put_together
 from dmremap_tools.base import given, names, pieces, quoting, requests, streams, written
 from dmremap_tools.base.numbers import SECTOR
 from dmremap_tools.base.paths import Place
 from dmremap_tools.base.refusal import Refusal
 from dmremap_tools.layers import stack
+from dmremap_tools.layouts import rescue_map
 from dmremap_tools.model import device
 from dmremap_tools.model.device import Device, Image, Missing, Part
 from dmremap_tools.requests import filefrag
@@ -39,22 +41,38 @@ def run(words: Namespace) -> bool:
         else:
             end = begun.loaded.length(volume, words.file)
             size, extents = end * SECTOR, [(0, 0, end)]
-        disks = Disks(begun.places, begun.loaded.sizes)
-        saved = SavedMap(words.map, size, [(at * SECTOR, (at + count) * SECTOR) for at, _, count in extents])
+        part = begun.loaded.part([volume])
+        disks = Disks(begun.places, begun.loaded.sizes, words)
+        if not words.fresh:
+            disks.check_stores(part)
+        ids = [sum_of(part, found if words.extents is not None else []), *map(disks.identity, part.sizes)]
+        source = Source(volume, ids, len(words.map))
+        saved = SavedMap(words.resume, source, size, [(at * SECTOR, (at + count) * SECTOR) for at, _, count in extents])
+        if saved.has_more_maps:
+            saved.check_finished([(at * SECTOR, (at + count) * SECTOR) for at, _, count in extents])
         todo = list(left(extents, saved))
-        if words.map is None and not words.allow_missing:
+        if words.resume is None and not words.allow_missing:
             check(begun.words, volume, todo, disks)
         return put_together(words.target, saved, extents_of(begun.words, volume, todo, disks))
 
 
-class Disks:
-    """The disks of tables, each at the place that `places` has for it, or at its name. Nothing is written over one."""
+def sum_of(part: stack.Stack, extents: List[Extent]) -> str:
+    """A sum over what says where the bytes of a volume lie, and those of a file in it. A line that gives no bytes of disks
+    may become another."""
+    lines = [f"{it.name} {line}" for it in part.devices for line in it.lines if line.target not in ("zero", "error")]
+    return hashlib.sha256("\n".join([*lines, *map(str, extents)]).encode()).hexdigest()[:16]
 
-    def __init__(self, places: Dict[str, Place], disks: Iterable[str]) -> None:
+
+class Disks:
+    """The disks of tables, each at the place that `places` has for it, or at its name, where maps of ddrescue may say what
+    is missing. Nothing is written over one."""
+
+    def __init__(self, places: Dict[str, Place], disks: Iterable[str], words: Namespace) -> None:
         self._places = places
         self.device = functools.lru_cache(MOST_OPEN)(self._opened)
         for name in disks:
             written.note_input(self._place(name).path)
+        self.unread = rescue_map.unread_in(words, [self._place(name).path for name in disks])
 
     def _place(self, name: str) -> Place:
         return self._places.get(name) or Place(name)
@@ -64,7 +82,7 @@ class Disks:
         place = self._place(name)
         try:
             os.close(stack.opened(place.path))
-            image = Image(place.path)
+            image = Image(place.path, self.unread.get(place.path, ()))
         except Refusal as refusal:
             return Absent(refusal.why)
         # They may begin within a sector of the image.
@@ -74,9 +92,22 @@ class Disks:
     def check(self, volume: str, name: str, end: int) -> None:
         """Refuses a volume that lies on a disk that isn't there, or ends before this sector."""
         disk = self.device(name)
-        if disk.lack(0, end * SECTOR):
+        if isinstance(disk, Absent) or end * SECTOR > disk.size:
             why = disk.name if isinstance(disk, Absent) else f"it ends before sector {end}"
             raise Refusal(volume, f"{quoting.shown(self._place(name).path)}: {why}; {PARTLY}")
+
+    def check_stores(self, part: stack.Stack) -> None:
+        """Refuses snapshots whose stores lie on images that have gaps by their maps, as dmremap reads these itself."""
+        stores = [it.lines[0].words[1] for it in part.devices if it.lines[0].target == "snapshot"]
+        for name in sorted(part.below(stores)[1]):
+            if self.unread.get(self._place(name).path):
+                raise Refusal(quoting.shown(self._place(name).path), "a store lies on it, which dmremap reads without its map: "
+                              "give GROUP/VOLUME and images, or --fresh for the origin's sectors alone")
+
+    def identity(self, name: str) -> str:
+        """The name of a disk, and an id of it."""
+        disk = self.device(name)
+        return f"{name}:{ANY if isinstance(disk, Absent) else head_of(disk)}"
 
 
 def check(command: List[str], volume: str, todo: List[Extent], disks: Disks) -> None:
@@ -86,6 +117,10 @@ def check(command: List[str], volume: str, todo: List[Extent], disks: Disks) -> 
         for at, piece in found:
             if piece.what == "error":
                 raise Refusal(volume, f"its sectors from {at} on fail to be read, as the tables say; {PARTLY}")
+            if piece.disk and disks.unread:
+                why = disks.device(piece.disk).lack(piece.start * SECTOR, piece.count * SECTOR)
+                if why:
+                    raise Refusal(volume, f"{why}; {PARTLY}")
             if piece.disk:
                 ends[piece.disk] = max(ends.get(piece.disk, 0), piece.start + piece.count)
     for name, end in ends.items():

@@ -1,21 +1,31 @@
-"""A file that is put together, and how far it is, as a map of ddrescue, by which a later run goes on."""
+"""A file that is put together, and how far it is, as a map of ddrescue, by which a later run goes on. The map says first of
+which volume it is, so that no other one goes on by it, and is locked while a run goes on, so that no other run does."""
 
 import contextlib
+import fcntl
 import functools
+import hashlib
 import os
+import re
 import stat
 import time
-from typing import Iterable, Iterator, List, Optional, Sequence, Tuple
+from typing import Iterable, Iterator, List, NamedTuple, Optional, Sequence, Tuple
 
-from dmremap_tools.base import streams, written
+from dmremap_tools.base import quoting, streams, written
 from dmremap_tools.base.numbers import SECTOR
 from dmremap_tools.base.refusal import Refusal
 from dmremap_tools.layouts import rescue_map
 from dmremap_tools.layouts.rescue_map import BAD, FINISHED, UNTRIED, Area
-from dmremap_tools.model.device import BLOCK, ZEROS, Extent, Image, Missing, Run, cut, read_blocks
+from dmremap_tools.model.device import BLOCK, ZEROS, Device, Extent, Image, Lenient, Missing, Run, cut, read_blocks
 
+OF = re.compile(r"# Of (.*) of ([0-9]+) sectors, from (.*?)(?:, with ([0-9]+) maps)?")
 HEAD = "# Mapfile. Created by dmremap-tools save\n# current_pos  current_status  current_pass\n"
-PARTLY = "give --map MAP to save the rest: the map says then what is missing"
+# Bytes in which labels, superblocks and partition tables have ids, and an id of what can't be read.
+HEAD_BYTES, ANY = 8192, "?"
+NEW = "give a new name as --resume, and another OUT"
+TAKEN = "another save goes on by it, or began it just now: wait until that has ended, or give another name"
+LATER = "it was begun without some map of an image, and what that lacks may be in OUT as zeros"
+PARTLY = "give --resume MAP to save the rest: the map says then what is missing"
 NOTHING = bytes(BLOCK)
 # How often a map is written, in seconds.
 STEP = 30
@@ -25,20 +35,81 @@ class Absent(Missing):
     """Bytes of a disk that isn't here, so that they weren't tried."""
 
 
-class SavedMap:
-    """The areas of a file of so many bytes, of which only some, given by begin and end, have to be put together."""
+class Source(NamedTuple):
+    """What is saved: what it is called, ids of what it is read from, and how many maps of images were given."""
 
-    def __init__(self, path: Optional[str], size: int, wanted: Sequence[Run]) -> None:
-        self.size, self.is_begun = size, path is not None and os.path.lexists(path)
+    name: str
+    ids: List[str]
+    maps: int
+
+
+def head_of(device: Device) -> str:
+    """An id of a device that has none of its own: a sum over its first bytes, or ANY where some can't be read."""
+    head = Lenient(device).read(0, HEAD_BYTES)
+    return hashlib.sha256(head).hexdigest()[:16] if len(head) == min(HEAD_BYTES, device.size) else ANY
+
+
+def merged(one: str, other: str) -> Optional[str]:
+    """The id that both may be, of which either may not be known; None where they differ."""
+    if one.endswith(ANY) and other.startswith(one[:-len(ANY)]):
+        return other
+    return one if one == other or other.endswith(ANY) and one.startswith(other[:-len(ANY)]) else None
+
+
+class SavedMap:
+    """The areas of a file of so many bytes, of which only some, given by begin and end, have to be put together; of the map
+    at `path`, if there is one, which has to be of the same source. It is locked as long as this run goes on."""
+
+    def __init__(self, path: Optional[str], source: Source, size: int, wanted: Sequence[Run]) -> None:
+        self.size, self.is_begun, self.is_made = size, path is not None and os.path.lexists(path), False
         self.place = None if path is None else written.Place(path)
+        self._source, self._lock, self.has_more_maps = source, -1, False
         # What isn't wanted reads as zeros.
         self._areas = joined(Area(begin, end, UNTRIED if run else FINISHED) for begin, end, run in cut(wanted, 0, size))
         self._marks: List[Area] = []
         if self.is_begun:
+            self._lock = self._locked(path)
             self._areas = rescue_map.read(path, is_written=True)
-            if (self._areas[0].begin, self._areas[-1].end) != (0, size) if self._areas else size:
-                why = f"a map of another file than one of {size} bytes: give its own"
-                raise Refusal(self.place.shown, why)
+            self._check(path)
+
+    def _locked(self, path: str) -> int:
+        """The descriptor of the map that is there, by which it is locked."""
+        with self.place.failing():
+            descriptor = os.open(path, os.O_RDONLY)
+            lock(descriptor, self.place.shown)
+            if not os.path.samestat(os.fstat(descriptor), os.stat(path)):
+                raise Refusal(self.place.shown, TAKEN)
+        return descriptor
+
+    def _check(self, path: str) -> None:
+        """Refuses a map of something else, and takes from it which disk had which id."""
+        said, own = OF.fullmatch(next(iter(streams.Lines(path, True)), "")), self._said()
+        if not said:
+            raise Refusal(self.place.shown, f"it doesn't say of which volume it is, as those do that save writes: {NEW}")
+        ids = said[3].split(" ")
+        known = [merged(one, other) for one, other in zip(ids, own[3].split(" "))]
+        is_same = len(ids) == len(self._source.ids) and None not in known
+        if said[1] != own[1] or said[2] != own[2] or not is_same:
+            what = f"{said[1]} of {said[2]} sectors" + ", from other images" * (said[1] == own[1] and said[2] == own[2])
+            raise Refusal(self.place.shown, f"it is the map of {quoting.shown(what)}, and this is {own[1]} of {own[2]}: {NEW}")
+        maps = int(said[4] or 0)
+        if self._source.maps < maps:
+            raise Refusal(self.place.shown, f"it was begun with {maps} maps of images: give them again as --map IMAGE=MAP")
+        self._source, self.has_more_maps = self._source._replace(ids=known), self._source.maps > maps
+        if (self._areas[0].begin, self._areas[-1].end) != (0, self.size) if self._areas else self.size:
+            raise Refusal(self.place.shown, f"a map of another file than one of {self.size} bytes: {NEW}")
+
+    def _said(self) -> "re.Match[str]":
+        """The line that says what it is the map of."""
+        sectors, ids, maps = -(-self.size // SECTOR), " ".join(self._source.ids), self._source.maps
+        with_maps = f", with {maps} maps" if maps else ""
+        return OF.fullmatch(quoting.escaped(f"# Of {self._source.name} of {sectors} sectors, from {ids}{with_maps}"))
+
+    def check_finished(self, lost: Sequence[Run]) -> None:
+        """Refuses to go on where bytes are finished that are lost by a map which is new to this run."""
+        found = (area for run in lost for *_, area in cut(self._areas, *run))
+        if any(area and area.status == FINISHED for area in found):
+            raise Refusal(self.place.shown, f"{LATER}: {NEW}")
 
     def left(self, begin: int, end: int) -> Iterator[Run]:
         """The parts of an area that were not finished when the run began, in whole sectors."""
@@ -59,8 +130,31 @@ class SavedMap:
         left = next((area for area in areas if area.status != FINISHED), None)
         now, status = (left.begin, UNTRIED) if left else (self.size, FINISHED)
         rows = "".join(f"0x{area.begin:08X}  0x{area.end - area.begin:08X}  {area.status}\n" for area in areas)
-        text = f"{HEAD}0x{now:08X}     {status}               1\n#      pos        size  status\n{rows}"
-        self.place.write(text.encode("ascii"))
+        text = f"{self._said()[0]}\n{HEAD}0x{now:08X}     {status}               1\n#      pos        size  status\n{rows}"
+        with self.place.failing():
+            descriptor = self.place.begin()
+            held = os.dup(descriptor)
+            lock(held, self.place.shown)
+            with open(descriptor, "wb", closefd=False) as file:
+                file.write(text.encode("utf-8", "backslashreplace"))
+        self.place.close()
+        try:
+            self.place.put(is_new=not self.is_begun and not self.is_made)
+        except Refusal:
+            raise Refusal(self.place.shown, TAKEN)
+        self._lock, released, self.is_made = held, self._lock, True
+        if released >= 0:
+            os.close(released)
+
+
+def lock(descriptor: int, shown: str) -> None:
+    """Locks a map, unless another run has, as long as the descriptor is open. Some file systems have no locks."""
+    try:
+        fcntl.flock(descriptor, fcntl.LOCK_EX | fcntl.LOCK_NB)
+    except BlockingIOError:
+        raise Refusal(shown, TAKEN)
+    except OSError:
+        pass
 
 
 def append(areas: List[Area], area: Area) -> List[Area]:
@@ -85,14 +179,14 @@ class Target:
         if not is_begun:
             self.place.check_new()
         elif not os.path.lexists(path):
-            why = "the map says that it was begun, and it isn't there: give a --map that isn't there either"
+            why = "the map says that it was begun, and it isn't there: give a --resume that isn't there either"
             raise Refusal(self.place.shown, why)
         self._descriptor = self.place.go_on() if is_begun else self.place.begin()
         with self.place.failing():
             found = os.fstat(self._descriptor)
             if is_begun and (found.st_size != size or not stat.S_ISREG(found.st_mode)):
                 why = f"it isn't the file that was begun: it has {found.st_size} bytes and not {size}: "
-                raise Refusal(self.place.shown, why + "give that, or another --map")
+                raise Refusal(self.place.shown, why + "give that, or another --resume")
             os.ftruncate(self._descriptor, size)
 
     def write(self, at: int, content: bytes) -> None:
@@ -149,13 +243,14 @@ def put_together(path: str, saved: SavedMap, extents: Iterator[Tuple[int, Extent
 
 
 def begin(target: Target, saved: SavedMap) -> None:
-    """Puts a file in its place, once its map is there: without that it would look whole."""
+    """Puts a file in its place, once its map is there: without that it would look whole. A map of this run alone is removed
+    where that fails."""
     try:
         saved.write()
         if not saved.is_begun:
             target.place.put(is_new=True)
     except BaseException:
-        if not saved.is_begun:
+        if not saved.is_begun and saved.is_made:
             saved.place.remove()
         raise
 

@@ -20,14 +20,24 @@ READ = 68 << 10
 MAGICS = [
     ("luks", 0, b"LUKS\xba\xbe"), ("xfs", 0, b"XFSB"), ("btrfs", 0x10040, b"_BHRfS_M"),
     ("f2fs", 0x400, b"\x10\x20\xf5\xf2"), ("ntfs", 3, b"NTFS    "), ("exfat", 3, b"EXFAT   "),
-    ("bitlocker", 3, b"-FVE-FS-"), ("squashfs", 0, b"hsqs"), ("iso9660", 0x8001, b"CD001"), ("udf", 0x8001, b"BEA01"),
-    ("reiserfs", 0x10034, b"ReIsEr"), ("jfs", 0x8000, b"JFS1"),
-    ("bcachefs", 0x1018, b"\xc6\x85\x73\xf6\x4e\x1a\x45\xca\x82\x65\xf5\x7f\x48\xba\x6d\x81"),
+    ("bitlocker", 3, b"-FVE-FS-"), ("squashfs", 0, b"hsqs"), ("reiserfs", 0x10034, b"ReIsEr"), ("jfs", 0x8000, b"JFS1"),
+    ("bcachefs", 0x1018, b"\xc6\x85\x73\xf6\x66\xce\x90\xa9\xd9\x6a\x60\xcf\x80\x3d\xf7\xef"),
     ("vfat", 0x52, b"FAT32   "), ("vfat", 0x36, b"FAT1"), ("erofs", 0x400, b"\xe2\xe1\xf5\xe0"),
     ("nilfs2", 0x406, b"\x34\x34"), ("lvm2", 0x200, b"LABELONE"), ("zfs", 0x4000, b"\x0c\xb1\xba\0\0\0\0\0")]
 # A swap area says what it is at the end of its first page.
 PAGES, SWAPS = (4096, 8192, 16384, 65536), (b"SWAPSPACE2", b"SWAP-SPACE")
 EXT_AT, EXT_MAGIC = 0x400, b"\x53\xef"
+# The descriptors of a disc, one every 2 KiB, whose names follow a byte, and those that UDF alone has, which may come after
+# those of iso9660.
+DISC, DISC_SECTOR, ISO, UDF = 0x8001, 0x800, b"CD001", (b"NSR02", b"NSR03")
+# The superblock of bcache says where it lies, in sectors; bcachefs once began with the same magic.
+BCACHE_AT, BCACHE_SECTOR = 0x1018, b"\x08\0\0\0\0\0\0\0"
+BCACHE = b"\xc6\x85\x73\xf6\x4e\x1a\x45\xca\x82\x65\xf5\x7f\x48\xba\x6d\x81"
+# Where squashfs has its version, of which 4 is the one that is made now.
+SQUASHFS, SQUASHFS_VERSION_AT = 4, 28
+# Partition tables of other machines, by what they have at a place.
+OTHER_TABLES = [("Sun", 508, b"\xda\xbe"), ("SGI", 0, b"\x0b\xe5\xa9\x41"), ("Apple", 512, b"PM\0\0"),
+                ("BSD", 512, b"\x57\x45\x56\x82"), ("BSD", 64, b"\x57\x45\x56\x82")]
 # Features that ext3 and ext4 have: bits of compat, incompat and ro_compat.
 HAS_JOURNAL = 0x4
 EXT4_INCOMPATIBLE = 0x40 | 0x80 | 0x100 | 0x200 | 0x400 | 0x1000 | 0x4000 | 0x8000 | 0x10000
@@ -137,4 +147,18 @@ def file_system_of(image: Image) -> Optional[str]:
             return "ext4" if is_ext4 else "ext3" if compatible & HAS_JOURNAL else "ext2"
     if any(head[page - 10:page] in SWAPS for page in PAGES if page <= len(head)):
         return "swap"
-    return next((name for name, at, content in MAGICS if head.startswith(content, at)), None)
+    if head.startswith(BCACHE, BCACHE_AT):
+        return "bcache" if head.startswith(BCACHE_SECTOR, BCACHE_AT - 16) else "bcachefs"
+    disc = [head[at:at + len(ISO)] for at in range(DISC, len(head), DISC_SECTOR)]
+    if ISO in disc or any(it in disc for it in UDF):
+        return "udf" if any(it in disc for it in UDF) else "iso9660"
+    found = next((name for name, at, content in MAGICS if head.startswith(content, at)), None)
+    if found == "squashfs" and head[SQUASHFS_VERSION_AT] < SQUASHFS:
+        return "squashfs3"
+    return found
+
+
+def other_table_of(image: Image) -> Optional[str]:
+    """The kind of partition table that a disk has which isn't followed, or None."""
+    head = image.read(0, 2 * 512)
+    return next((name for name, at, content in OTHER_TABLES if head.startswith(content, at)), None)

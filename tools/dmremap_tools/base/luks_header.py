@@ -21,10 +21,15 @@ FIRST, SLOT, SLOTS, FIRST_BYTES = struct.Struct(">104xLL56x40s"), struct.Struct(
 SECOND = struct.Struct(">6sHQQ48x32s64x40s48xQ")
 DAMAGED = "its header of LUKS is damaged: restore it in a copy by `cryptsetup luksHeaderRestore`"
 SECOND_ALONE = "its first header is damaged, the second one is sound: repair a copy by cryptsetup repair"
+BAD_JSON = ("the text of its header of LUKS goes on behind its end, or has none, which cryptsetup refuses: restore it in a "
+            "copy by `cryptsetup luksHeaderRestore`")
+BAD_AREAS = ("the areas for keys in its header of LUKS overlap or lie outside of their room, which cryptsetup refuses: "
+             "restore it in a copy by `cryptsetup luksHeaderRestore`")
+TOO_SHORT = "it ends before the data of its container does: give the whole disk"
 UNSAID = "its header of LUKS doesn't say where the data is: see `cryptsetup luksDump`"
 
 
-# A sound header of version 2: where it is, its size, how often it was written, the id, and its text.
+# A sound header of version 2: where it is, its size, how often it was written, the id, and its text with what follows.
 Header = NamedTuple("Header", [("place", int), ("size", int), ("sequence", int), ("uuid", str), ("text", bytes)])
 # A container: its version and id, in sectors where its data begins, how long that is, if it doesn't go on to the end of
 # the disk, and what headers and keys take; and what is wrong with it. Data that would begin within the header lies on
@@ -39,11 +44,15 @@ def container_in(image: Image) -> Optional[Container]:
     if is_first and version == 1 and len(head) >= FIRST_BYTES:
         start, key_bytes, uuid = FIRST.unpack_from(head)
         ends = [key + -(-key_bytes * stripes // SECTOR) for key, stripes in SLOT.iter_unpack(head[SLOTS])]
-        return Container(1, _text(uuid), start, None, max(-(-FIRST_BYTES // SECTOR), *ends))
-    newest = max(headers, key=lambda it: it.sequence, default=None)
+        fault = TOO_SHORT if start * SECTOR >= image.size else None
+        return Container(1, _text(uuid), start, None, max(-(-FIRST_BYTES // SECTOR), *ends), fault)
+    newest: Optional[Header] = max(headers, key=lambda it: it.sequence, default=None)
     if newest is not next(iter(headers), None):
         streams.tell(f"{image.path}: its second header of LUKS is newer: that is read")
     found = _container_of(newest) if newest else Container(version, fault=DAMAGED)
+    end = 0 if found.start is None else (found.start + (found.length or 1)) * SECTOR
+    if end > image.size and found.start >= found.header:
+        found = found._replace(fault=TOO_SHORT)
     if is_first:
         return found._replace(version=version)
     return None if found.start is None else found._replace(fault=SECOND_ALONE)
@@ -72,13 +81,17 @@ def _header_at(image: Image, place: int) -> Optional[Header]:
     digest = hashlib.new(_text(kind), head[:SUM_AT] + bytes(SUM_BYTES) + head[SUM_AT + SUM_BYTES:] + area).digest()
     if len(area) < size - BINARY or not head.startswith(digest, SUM_AT):
         return None
-    return Header(place, size, sequence, _text(uuid), area.split(b"\0", 1)[0])
+    return Header(place, size, sequence, _text(uuid), area)
 
 
 def _container_of(header: Header) -> Container:
     """The container of one segment that a header of version 2 tells of."""
+    text, end, rest = header.text.partition(b"\0")
+    if not text.startswith(b"{") or not end or rest.strip(b"\0"):
+        return Container(2, fault=BAD_JSON)
     try:
-        said = json.loads(header.text.decode("utf-8"))
+        said = json.loads(text.decode("utf-8"))
+        areas = sorted((int(it["area"]["offset"]), int(it["area"]["size"])) for it in said.get("keyslots", {}).values())
         segments = [(str(it["type"]), str(it["offset"]), str(it["size"])) for it in said["segments"].values()]
         keys = numbers.read(str(said.get("config", {}).get("keyslots_size", 0))) or 0
     except (ValueError, KeyError, TypeError, AttributeError, RecursionError):
@@ -92,6 +105,10 @@ def _container_of(header: Header) -> Container:
     if start is None or start % SECTOR or is_odd:
         return Container(2, fault=UNSAID)
     header_sectors = -(-(2 * header.size + keys) // SECTOR)
+    ends = [2 * header.size] + [offset + size for offset, size in areas]
+    is_apart = all(end <= offset for end, (offset, _) in zip(ends, areas))
+    if not is_apart or keys and ends[-1] > 2 * header.size + keys:
+        return Container(2, header.uuid, None, None, header_sectors, BAD_AREAS)
     return Container(2, header.uuid, start // SECTOR, length and length // SECTOR, header_sectors)
 
 

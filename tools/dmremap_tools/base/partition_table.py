@@ -15,9 +15,9 @@ GPT = b"EFI PART"
 GPT_SECTORS = (512, 4096)
 # How many bytes of entries are read.
 MOST_ENTRIES = 1 << 20
-# How long the header is and its sum, where it is, the first and the last usable sector, and of the entries: where they
+# How long the header is and its sum, where it is and the other copy, the first and the last usable sector, and of the entries: where they
 # begin, how many there are, how long each is, and their sum.
-HEADER = struct.Struct("<12xLL4xQ8xQQ16xQLLL")
+HEADER = struct.Struct("<12xLL4xQQQQ16xQLLL")
 # The type of a partition, its first sector and its last.
 ENTRY = struct.Struct("<16s16xQQ")
 # An MBR has four entries from here on, and these two bytes after them.
@@ -30,8 +30,8 @@ Partition = NamedTuple("Partition", [("number", int), ("start", int), ("size", i
 # An entry of an MBR: its first byte, the type of a partition, its first sector, and its sectors.
 Entry = NamedTuple("Entry", [("flags", int), ("kind", int), ("start", int), ("size", int)])
 # A partition table: its kind, which copy was read of a GPT, the bytes of a sector, its partitions, what it takes
-# itself: starts and ends in bytes, and how it is damaged.
-Table = namedtuple("Table", "kind copy sector partitions taken fault", defaults=(None,))
+# itself: starts and ends in bytes, how it is damaged, and the end of the disk, if it says that.
+Table = namedtuple("Table", "kind copy sector partitions taken fault end", defaults=(None, None))
 
 
 class DamagedTable(Refusal):
@@ -72,7 +72,8 @@ def _gpt_at(image: Image, place: int, sector: int, copy: str) -> Optional[Table]
         return None
     if len(header) < sector:
         raise cut_off
-    size, header_sum, belongs, first_usable, last_usable, start, count, length, entries_sum = HEADER.unpack_from(header)
+    (size, header_sum, belongs, other, first_usable, last_usable, start, count, length,
+     entries_sum) = HEADER.unpack_from(header)
     if not 92 <= size <= sector or zlib.crc32(header[:16] + bytes(4) + header[20:size]) != header_sum:
         return None
     if belongs * sector != place or length < 128 or count * length > MOST_ENTRIES:
@@ -86,7 +87,7 @@ def _gpt_at(image: Image, place: int, sector: int, copy: str) -> Optional[Table]
     partitions = [Partition(number, first * sector, (last - first + 1) * sector)
                   for number, (kind, first, last) in enumerate(found, 1) if any(kind) and first <= last]
     taken = [(0, first_usable * sector), ((last_usable + 1) * sector, image.size)]
-    return Table("GPT", copy, sector, partitions, taken)
+    return Table("GPT", copy, sector, partitions, taken, None, (max(other, belongs) + 1) * sector)
 
 
 def _mbr_of(image: Image, entries: List[Entry], size: int) -> Table:

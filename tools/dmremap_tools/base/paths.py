@@ -30,14 +30,25 @@ def place_of(path: str) -> Place:
     return Place(match[1], int(match[2]), True) if match else Place(path)
 
 
+def line(name: str, path: str, start: int = 0) -> str:
+    """The line of PATHS by which a disk is read in this file from this byte on. A path that no line says is refused."""
+    place = Place(path, start)
+    said = path if not start and place_of(path) == place else f"{path}?offset={start}"
+    place.check_sectors(name)
+    if "\n" in path or place_of(said)[:2] != place[:2]:
+        raise Refusal(quoting.shown(path), "no line of PATHS can say this path: give the file another name, or a link to it")
+    return f"{name} {said}\n"
+
+
 def add_words(parser: ArgumentParser, is_needed: bool = False) -> None:
     parser.add_argument("--paths", metavar="PATHS", required=is_needed,
                         help="lines NAME PATH: a disk of the tables, and its path on this machine; PATH?offset=BYTES "
                         "is a partition of a whole disk, which begins there")
 
 
-def read(path: str, form: Optional[Pattern[str]] = None) -> Dict[str, str]:
-    """The path of each name. A path may have spaces in it; where `form` is given, it has to be of that form."""
+def read(path: str, form: Optional[Pattern[str]] = None, are_apart: bool = True) -> Dict[str, str]:
+    """The path of each name. A path may have spaces in it; where `form` is given, it has to be of that form. Two names may
+    have one path unless they `are_apart`."""
     paths: Dict[str, str] = {}
     taken = set()
     source = streams.Lines(path)
@@ -45,16 +56,16 @@ def read(path: str, form: Optional[Pattern[str]] = None) -> Dict[str, str]:
         name, _, place = line.partition(" ")
         if not name or not place or "\0" in line or (form and not form.fullmatch(place)):
             source.refuse_line("not a line of PATHS, give NAME PATH")
-        if name in paths or place in taken:
+        if name in paths or are_apart and place in taken:
             source.refuse_line("named before, give each name and path once")
         paths[name] = place
         taken.add(place)
     return paths
 
 
-def places(path: Optional[str]) -> Dict[str, Place]:
+def places(path: Optional[str], are_apart: bool = True) -> Dict[str, Place]:
     """The place of each name, of a file that may not be given."""
-    return {name: place_of(it) for name, it in read(path).items()} if path is not None else {}
+    return {name: place_of(it) for name, it in read(path, None, are_apart).items()} if path is not None else {}
 
 
 def check_known(where: Optional[str], named: Iterable[str], disks: Container[str]) -> None:

@@ -1,12 +1,13 @@
 """Other programs: dmremap, and what commands ask, as debugfs. How they fail is told in words."""
 
+import functools
 import os
 import shutil
 import subprocess
 import sys
 import tempfile
 from argparse import ArgumentParser
-from typing import Any, NoReturn, Optional, Sequence, Tuple
+from typing import Any, List, NoReturn, Optional, Sequence, Tuple
 
 from dmremap_tools.base import quoting, streams
 from dmremap_tools.base.refusal import Refusal
@@ -14,6 +15,14 @@ from dmremap_tools.base.refusal import Refusal
 OUTPUT_FAILED = 5
 # The statuses with which dmremap refuses words, texts or requests, or is out of memory.
 REFUSALS = (1, 2, 3, 4, 6)
+# What stands beside the script that builds dmremap, and tells which program was built of the sources that are there.
+SOURCES = os.path.join("tools", "building", "sources.py")
+NOT_BUILT = "no program is built here: run ./dmremap --version, which builds and proves it, or ./try --version"
+NOT_PROVED = "the program that ./try made is asked, of which nothing is proved: ./dmremap --version builds the one to act on"
+
+
+class NoProgram(Refusal):
+    """There is no dmremap to ask."""
 
 
 def add_words(parser: ArgumentParser) -> None:
@@ -22,12 +31,28 @@ def add_words(parser: ArgumentParser) -> None:
 
 
 def dmremap(given: Optional[str]) -> str:
-    """The path of dmremap: the one that was given, or that beside this tool, or that on the path."""
-    if given is not None:
-        return given
+    """The path of dmremap: the one that was given, or that beside this tool, or that on the path. The script that would
+    build it is never run: what it left, or ./try, is taken in its place if it fits the sources; else NoProgram."""
     tools = os.path.abspath(sys.argv[0]), os.path.realpath(sys.argv[0])
-    beside = [os.path.join(os.path.dirname(it), "dmremap") for it in tools]
-    return next((it for it in beside if os.access(it, os.X_OK)), None) or shutil.which("dmremap") or "dmremap"
+    places = [given] if given is not None else [os.path.join(os.path.dirname(it), "dmremap") for it in tools]
+    found = [path for path in map(shutil.which, [*places, *["dmremap"] * (given is None)]) if path]
+    built = next(filter(None, map(_built, found)), None)
+    if found and not built:
+        raise NoProgram("dmremap", NOT_BUILT)
+    return built or given or "dmremap"
+
+
+@functools.lru_cache(None)
+def _built(path: str) -> Optional[str]:
+    """A program itself, or in place of the script of a repository the one that fits the sources there, if there is one."""
+    sources = os.path.join(os.path.dirname(os.path.realpath(path)), SOURCES)
+    if not os.path.isfile(sources):
+        return path
+    words: List[str] = [sys.executable or "python3", "-E", "-s", "-S", "-B", sources]
+    found = subprocess.run(words, stdin=subprocess.DEVNULL, stdout=subprocess.PIPE, stderr=subprocess.DEVNULL).stdout
+    if os.path.basename(os.path.dirname(found)) == b"try":
+        streams.tell(NOT_PROVED)
+    return os.fsdecode(found) or None
 
 
 def found(name: str) -> str:

@@ -1,8 +1,9 @@
 """The way of a request down a stack: its steps down the devices, as a tree and as an object of JSON, and what they make
 together.
 
-Each level is an answer of dmremap itself, about the same stack in which what lies below some devices is disks: so
-earlier requests reach it as they do in the whole. Those that share their snapshots' state are asked for at once, in the
+Each level is an answer of dmremap itself. A device without a state is asked alone, over disks in place of what lies
+below it; snapshots and their origin in the same stack in which that is disks, so that earlier requests reach them as
+they do in the whole. Those that share their snapshots' state are asked for at once, in the
 order in which the whole comes to them. What is asked for a step is cut so that each answer has one line of the device
 and, where a snapshot is written, one of its chunks: so its pieces say whether a chunk was taken, and which cause an
 error has. Together the levels have to give what dmremap answers about the whole."""
@@ -10,9 +11,9 @@ error has. Together the levels have to give what dmremap answers about the whole
 import functools
 import itertools
 import os
-from typing import Any, Dict, Iterator, List, NamedTuple, Optional, Tuple
+from typing import Any, Collection, Dict, Iterator, List, NamedTuple, Optional, Tuple
 
-from dmremap_tools.base import names, paths, quoting, streams, tables
+from dmremap_tools.base import names, paths, quoting, store_places, streams, tables
 from dmremap_tools.base.given import put
 from dmremap_tools.base.numbers import SECTOR
 from dmremap_tools.base.pieces import Mapped as Answering, Piece
@@ -27,6 +28,7 @@ SNAPSHOT, ORIGIN = "snapshot", "snapshot-origin"
 SEE = "dmremap-tools store says which request fills a store"
 INVALID = ("%s was lost before this, so all of it fails: its store was full, or its origin failed to be read when it "
            "had to be copied. " + SEE)
+HEADER = "the header of %s's store says that it is invalid: it was full once, so all of the snapshot fails"
 FULL = "no place is left in the store of %s, which is lost by this: " + SEE
 KEPT = "no place is left in the store of %s, which keeps what it has, as its kind is K"
 UNREAD = "%s can't be read in the whole of chunk %d, which had to be copied first, so that %s is lost by this"
@@ -155,12 +157,14 @@ class Asked(NamedTuple):
             count = min(chunk, self.line.length - first)
         return ["R %s %d %d" % (names.of_path(self.kept), first, count), *asked]
 
-    def pieces(self, got: List[List[Piece]], stores: Dict[str, str]) -> Iterator[Tuple[Piece, str]]:
+    def pieces(self, got: List[List[Piece]], stores: Dict[str, str], invalid: Collection[str]
+               ) -> Iterator[Tuple[Piece, str]]:
         """The pieces of its own answer, of those to the requests, and what is to be said of each. `stores` has the
-        snapshots by the disks of their stores."""
+        snapshots by the disks of their stores; the headers of the `invalid` ones say that they are."""
         at, origin = self.start, got.pop(0) if self.kept is not None else []
         for piece in got[1] if self.is_watched else got[0]:
-            yield piece, self._cause(got, origin) if piece.what == "error" else self._note(piece, at, got, stores)
+            note = self._cause(got, origin, invalid) if piece.what == "error" else self._note(piece, at, got, stores)
+            yield piece, note
             if piece.what not in ("copy", "fill"):
                 at += piece.count
 
@@ -178,7 +182,7 @@ class Asked(NamedTuple):
         chunks = "chunk %d" % first if first == last else "chunks %d to %d" % (first, last)
         return "%s, %s" % (chunks, TAKEN if piece.disk in stores else NOT_TAKEN)
 
-    def _cause(self, got: List[List[Piece]], origin: List[Piece]) -> str:
+    def _cause(self, got: List[List[Piece]], origin: List[Piece], invalid: Collection[str]) -> str:
         device, line = self.device, self.line
         if line is None:
             return "it goes on to sector %d, and %s ends at %d" % (self.start + self.count, device.name, device.end())
@@ -189,6 +193,8 @@ class Asked(NamedTuple):
         lower = line.words[0][len(names.MAPPER):]
         if line.target == ORIGIN:
             return BELOW % lower
+        if device.name in invalid:
+            return HEADER % device.name
         fails = any(it.what == "error" for it in origin)
         was_lost, is_lost = (all(it.what == "error" for it in answer) for answer in (got[0], got[-1]))
         if not fails and (was_lost or not self.is_watched):
@@ -251,6 +257,15 @@ class Levels:
         self._disks = dict(zip([*self._by_path, *loaded.sizes], free))
         self._meant = {disk: path for path, disk in self._disks.items()}
 
+    @functools.cached_property
+    def _invalid(self) -> List[str]:
+        """The snapshots whose stores are invalid before any request, by what their headers say."""
+        if not self._told.listed:
+            return []
+        snapshots = [it for it in self._stack.devices if it.lines[0].target == SNAPSHOT]
+        counts = store_places.chunks_in([self._told.asked, "map", *self._told.words], snapshots)
+        return [name for name, count in counts.items() if count is None]
+
     def ways(self, requests: List[str]) -> Iterator[Way]:
         """The way of each request, after those before it."""
         for number, request in enumerate(requests):
@@ -298,10 +313,10 @@ class Levels:
         requests = [request for _, _, part in asked for request in part.requests()]
         if len(requests) > 4 * MOST:
             raise Refusal(str(steps[0][1]), TOO_MANY)
-        answers = iter(self._answers(words, requests))
+        answers = iter(self._answers(words, requests, unit.startswith(OVER)))
         for key, step, part in asked:
             pieces = step.lines.setdefault(part.line, [])
-            for piece, note in part.pieces([next(answers) for _ in part.requests()], stores):
+            for piece, note in part.pieces([next(answers) for _ in part.requests()], stores, self._invalid):
                 disk, to = (self._meant.get(it, it) for it in (piece.disk, piece.to))
                 pieces.append(Part(piece._replace(disk=disk, to=to), note, self._by_path))
                 yield from ((key, it) for it in pieces[-1].below)
@@ -315,9 +330,10 @@ class Levels:
 
     def _cut(self, unit: str, kept: Optional[str]) -> Tuple[List[str], Dict[str, str]]:
         """The words of a stack in which what is below a unit is disks, save the origin that stays; and of which
-        snapshot each store is."""
-        devices, sizes = {it.name: it for it in self._stack.devices}, dict(self._stack.sizes)
-        stores, copies = {}, {}
+        snapshot each store is. A device alone has no other devices beside it, whose stores may lie on it."""
+        has_state = unit.startswith(OVER)
+        devices = {it.name: it for it in self._stack.devices} if has_state else {}
+        sizes, stores, copies = dict(self._stack.sizes), {}, {}
         for device in self._members(unit):
             changed = devices[device.name] = tables.Device(device.name, device.flags)
             changed.lines += [self._cut_line(it, kept) for it in device.lines]
@@ -332,12 +348,14 @@ class Levels:
                     path, copy = self._meant[store], os.path.join(self._folder, store)
                     below = self._source.disks.get(path) or Mapped(path, self._source, names.of_path(path))
                     copy_store(below, int(chunk), copy)
-                    copies[store] = "%s %s?offset=0" % (store, copy)
+                    copies[store] = paths.line(store, copy)
+        if not has_state:
+            sizes = {disk: size for disk, size in sizes.items() if disk in {*devices[unit].lowers()}}
         level, paths_here = os.path.join(self._folder, "level"), os.path.join(self._folder, "PATHS")
         os.makedirs(level, exist_ok=True)
-        put(paths_here, (it + "\n" for it in [*self._listed, *copies.values()]))
+        put(paths_here, [*(it + "\n" for it in self._listed), *copies.values()])
         words = Stack(list(devices.values()), sizes).write(level)
-        return words + (["--paths", paths_here] if self._told.listed else []), stores
+        return words + (["--paths", paths_here] if self._told.listed and has_state else []), stores
 
     def _cut_line(self, line: tables.Line, kept: Optional[str]) -> tables.Line:
         words = list(line.words)
@@ -346,9 +364,9 @@ class Levels:
                 words[at] = self._disks[words[at]]
         return tables.Line(line.start, line.length, line.target, words)
 
-    def _answers(self, words: List[str], requests: List[str]) -> List[List[Piece]]:
+    def _answers(self, words: List[str], requests: List[str], has_state: bool = True) -> List[List[Piece]]:
         found: List[List[Piece]] = [[] for _ in requests]
-        command = [self._told.asked, "map", *words, "--before", self._before]
+        command = [self._told.asked, "map", *words, *["--before", self._before] * has_state]
         with Answering(command, (it + "\n" for it in requests)) as mapped:
             for piece in mapped.answers:
                 found[piece.request - 1].append(piece)
@@ -357,7 +375,7 @@ class Levels:
 
 def _source_of(loaded: Stack, listed: Optional[str]) -> Tables:
     """The devices of a stack, on disks that are where PATHS says. Of others nothing can be read."""
-    source, places = Tables(), paths.places(listed)
+    source, places = Tables(), paths.places(listed, are_apart=False)
     source.devices = {it.name: it for it in loaded.devices}
     for disk, size in loaded.sizes.items():
         source.disks[disk] = Missing(disk, size * SECTOR)

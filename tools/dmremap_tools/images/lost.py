@@ -1,9 +1,10 @@
 """Says which files of a volume are hit by sectors that are missing or can't be read.
 
 Takes GROUP/VOLUME and images, as `save` does. With --map IMAGE=MAP, for each image that has one, the areas that a map of
-ddrescue doesn't list as finished are missing, too. What another member of an array or another leg has isn't lost. Prints a line
-for each file: how many of its sectors are lost, and its path. `folder` stands before a folder, whose files may be lost whole.
-The last line says how many sectors are lost in all. In place of a path, a line may have
+ddrescue doesn't list as finished are missing, too. Only the length says whether a map is that of its image: one of another
+length is refused. What another member of an array or another leg has isn't lost. Prints a line for each file: how many of its
+sectors are lost, and its path. `folder` stands before a folder, whose files may be lost whole. The last line says how many
+sectors are lost in all. In place of a path, a line may have
 
     inode N            a file without a name, such as the journal, or whose folder is lost; ?/PATH: a folder above may be lost
     inode table: FILE  the inode of this file lies there; `inode table` alone has inodes of no file
@@ -12,6 +13,7 @@ The last line says how many sectors are lost in all. In place of a path, a line 
     unused             nothing uses it
     no file            unused or the file system's own: bitmaps that can't be read don't say which
     past its end       the part of the volume behind the file system
+    no file system     none is there that is followed
 
 Needs debugfs of e2fsprogs for ext2, ext3 and ext4, and xfs_db of xfsprogs for XFS. These read the volume in its image, if it
 lies there in one piece. Otherwise they read a copy in the folder for temporary files, or the one that --saved names, which
@@ -27,8 +29,9 @@ from typing import Optional, Sequence
 from dmremap_tools.answers.saved import parts_of
 from dmremap_tools.base import program, streams
 from dmremap_tools.base.numbers import SECTOR
+from dmremap_tools.base.paths import Place
 from dmremap_tools.layouts import rescue_map
-from dmremap_tools.layouts.file_systems import Run, system_in
+from dmremap_tools.layouts.file_systems import NoSystem, Run, system_in
 from dmremap_tools.model.device import Image, joined, lacking
 from dmremap_tools.model.pile import Pile, Target
 
@@ -45,27 +48,28 @@ def add_words(parser: ArgumentParser) -> None:
 
 
 def run(words: Namespace) -> None:
-    pile = Pile(words.images, words.program, rescue_map.unread_in(words.map, words.images))
+    pile = Pile(words.images, words.program, rescue_map.unread_in(words, words.images))
     target = pile.target(words.volume)
     lost = lacking(target.device, target.size)
     runs = [Run(begin // SECTOR, (end - begin) // SECTOR) for begin, end in lost]
     if runs:
         with tempfile.TemporaryDirectory(prefix="dmremap-tools-") as folder:
-            path = words.saved or place_of(target) or copied(target, os.path.join(folder, "volume.img"))
-            for line in lines_of(path, target.name, runs):
+            place = Place(words.saved) if words.saved else place_of(target) or copied(target, os.path.join(folder, "volume.img"))
+            for line in lines_of(place, target.name, runs):
                 streams.out.write(line + "\n")
-    streams.out.write(f"{sum(run.count for run in runs)} sectors lost of {target.size // SECTOR}\n")
+    unmapped = "" if words.map else "; no map was given: only sectors that the images lack"
+    streams.out.write(f"{sum(run.count for run in runs)} sectors lost of {target.size // SECTOR}{unmapped}\n")
 
 
-def place_of(target: Target) -> Optional[str]:
-    """Where a volume lies, if it is all in one piece of an image."""
+def place_of(target: Target) -> Optional[Place]:
+    """Where a volume lies, if it is all in one piece of an image, by a path that debugfs takes."""
     (_, first), *others = joined(target.device, 0, target.size)
-    if others or not isinstance(first.source, Image):
+    if others or not isinstance(first.source, Image) or "?" in first.source.path:
         return None
-    return first.source.path + (f"?offset={first.start}" if first.start else "")
+    return Place(first.source.path, first.start)
 
 
-def copied(target: Target, path: str) -> str:
+def copied(target: Target, path: str) -> Place:
     """A copy of a volume, with holes where it has zeros or lacks bytes."""
     with open(path, "wb") as file:
         for at, extent in joined(target.device, 0, target.size):
@@ -76,12 +80,15 @@ def copied(target: Target, path: str) -> str:
                     file.write(content)
                 at += size
         file.truncate(target.size)
-    return path
+    return Place(path)
 
 
-def lines_of(path: str, volume: str, runs: Sequence[Run]) -> "list[str]":
+def lines_of(place: Place, volume: str, runs: Sequence[Run]) -> "list[str]":
     """A line for each file that some of these sectors belong to."""
-    system = system_in(path, volume, runs)
+    try:
+        system = system_in(place, volume, runs)
+    except NoSystem:
+        return [f"{sum(run.count for run in runs)} sectors: no file system"]
     counts: "Counter[str]" = Counter()
     for each in runs:
         for block, first, end in each.parts(system.sectors):

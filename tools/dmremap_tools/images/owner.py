@@ -2,7 +2,8 @@
 
 Takes images, which are searched as by `scan`, and standard input: lines IMAGE FIRST or IMAGE FIRST COUNT, in sectors of 512
 bytes unless --bytes or --sector-size says otherwise, or a kernel's log, of which the lines with `dev DISK, sector N` are taken.
-With --map IMAGE=MAP, asks for the areas that a map of ddrescue doesn't list as finished.
+With --map IMAGE=MAP, asks for the areas that a map of ddrescue doesn't list as finished, and reads nothing there. Only the length
+says whether a map is that of its image.
 
 Prints a line for each run of sectors and each way up: the image, the first sector, how many, and who has them, with their own
 sectors: partition, array, volumes from below. Volumes count whether they are active or not. A sector may belong to an origin
@@ -39,6 +40,7 @@ EXAMPLE = "echo 'sda.img 12096 8' | dmremap-tools owner sda.img sdb.img"
 QUERY = re.compile(r"(.+?) ([0-9]+)(?: ([0-9]+))?")
 # A kernel's block layer counts in 512 bytes, whatever sectors the disk itself has.
 KERNEL_SECTOR = re.compile(r"\bdev ([!-+\--~]{1,255}), sector ([0-9]+)\b.*")
+UNMAPPED = "no map was given: only what the images lack counts as missing"
 KERNEL_LINE = re.compile(r"(?:<\d+>)?\[ *\d+\.\d+\].*|.*\bkernel: .*")
 
 
@@ -53,9 +55,10 @@ def add_words(parser: ArgumentParser) -> None:
 
 
 def run(words: Namespace) -> None:
-    unread = rescue_map.unread_in(words.map, words.images)
-    mapped = ((path, begin // SECTOR, (end - begin) // SECTOR) for path, runs in unread.items() for begin, end in runs)
-    pile = Pile(words.images, words.program)
+    unread = rescue_map.unread_in(words, words.images)
+    paths = [path for path, _ in rescue_map.pairs(words.map, words.images)]
+    mapped = ((path, begin // SECTOR, (end - begin) // SECTOR) for path in paths for begin, end in unread[path])
+    pile = Pile(words.images, words.program, unread)
     owners = Owners(pile)
     device_named = functools.lru_cache(maxsize=None)(pile.device_named)
     for name, first, count in mapped if words.map else asked(words):
@@ -69,6 +72,8 @@ def run(words: Namespace) -> None:
         first = max(inside, first)
         if first < end:
             write(name, first, end - first, (unknown(device.ended()), None))
+    if not words.map:
+        streams.tell(UNMAPPED)
 
 
 def asked(words: Namespace) -> Iterator[Tuple[str, int, int]]:
@@ -113,7 +118,10 @@ class Owners:
         for spot, container in pile.containers:
             self._known[spot.device] = of_container(spot.device, container)
         for volume in pile.volumes:
-            self._known[volume.device] = groups.of(volume)
+            if volume.question is None:
+                self._known[volume.device] = groups.of(volume)
+            elif volume.device not in pile.tables:
+                self._known[volume.device] = all_of(unknown(volume.question))
 
     def on(self, device: Device) -> Ground:
         return lambda first, end: (self._known.get(device) or self._of_other(device))(first, end)

@@ -4,6 +4,7 @@ arguments of nbdkit-python-plugin(3)."""
 import errno
 import itertools
 import os
+from argparse import Namespace
 from typing import Any, Callable, Dict, List, Tuple
 
 import nbdkit  # type: ignore
@@ -11,6 +12,7 @@ import nbdkit  # type: ignore
 from dmremap_tools.base import streams
 from dmremap_tools.base.numbers import SECTOR
 from dmremap_tools.base.refusal import Refusal
+from dmremap_tools.layouts import rescue_map
 from dmremap_tools.model.device import ZEROS, joined
 from dmremap_tools.model.pile import Pile, Target
 
@@ -33,7 +35,9 @@ def config(key: str, value: str) -> None:
 def get_ready() -> None:
     global _target
     try:
-        _target = Pile(_given["image"], _given.get("program", [None])[-1]).target(_given["volume"][-1])
+        words = Namespace(map=_given.get("map", []), map_of_other_length="map_of_other_length" in _given)
+        unread = rescue_map.unread_in(words, _given["image"])
+        _target = Pile(_given["image"], _given.get("program", [None])[-1], unread).target(_given["volume"][-1])
     except Refusal as refusal:
         streams.tell(f"dmremap-tools serve: {refusal}")
         os._exit(1)

@@ -4,31 +4,36 @@ Takes GROUP/VOLUME, the file to write, and images, which are searched as by `sca
 out if only one group has such a volume. A partition (disk.img:2), an array (md:NAME) or an image can be named as well. OUT gets
 the bytes of the volume, with holes where it reads as zeros. Without a map, OUT has its name only once it is whole.
 
-Refuses a volume if something of it is missing, and leaves no OUT. With --map or --allow-missing, these sectors are reported and
-become holes. Sectors that can't be read are reported and become holes in any case. The status is 4 then, or 0 with
---allow-missing. --map MAP writes these areas as a map of ddrescue; if MAP is there already, a run that was broken off goes on.
+Refuses a volume if something of it is missing, and leaves no OUT. With --resume or --allow-missing, these sectors are reported
+and become holes. Sectors that can't be read are reported and become holes in any case. The status is 4 then, or 0 with
+--allow-missing. --resume MAP writes these areas as a map of ddrescue; if MAP is there already, a run that was broken off goes
+on. MAP says which volume it is of, and no other one goes on by it. Give the maps of images each time.
+
+With --map IMAGE=MAP, for each image that has one, the areas that a map of ddrescue doesn't list as finished aren't there. What
+another member of an array or another leg has is taken from that. Only the length says whether a map is that of its image.
 
 Also takes VOLUME TARGET FORMAT FILE [DISKS], with FORMAT, FILE and DISKS as for `dmremap map`. The disks that they name are
 read at their names, or where --paths says. (If an image is called as a format is, write ./table.) With --extents, the output of
 `filefrag -v` for a file of the volume, TARGET is that file. A snapshot is read by its store, which lies on these disks, too;
 --fresh takes snapshots as new, with the sectors of their origins alone.
 
-If a disk has errors, read it into an image with ddrescue first. To mount a file system in OUT, use `mount -o ro,loop,noload`;
-to take a file from it, `debugfs -R 'dump /FILE OUT' OUT`.
+If a disk has errors, read it into an image with ddrescue first, and give its map. To mount a file system in OUT, use
+`mount -o ro,loop,noload`; to take a file from it, `debugfs -R 'dump /FILE OUT' OUT`.
 """
 
 from argparse import ArgumentParser, Namespace
 from typing import Iterator, Optional, Tuple
 
 from dmremap_tools.answers import save as by_tables
-from dmremap_tools.answers.saved import PARTLY, SavedMap, put_together
+from dmremap_tools.answers.saved import PARTLY, SavedMap, Source, head_of, put_together
 from dmremap_tools.base import given, names, quoting, streams
 from dmremap_tools.base.refusal import INCOMPLETE, Refusal, WrongWords
 from dmremap_tools.layers import stack
-from dmremap_tools.model.device import Extent, joined
+from dmremap_tools.layouts import rescue_map
+from dmremap_tools.model.device import Extent, joined, lacking
 from dmremap_tools.model.pile import Pile, Target
 
-EXAMPLE = "dmremap-tools save vg0/home home.img sda.img sdb.img --map home.map"
+EXAMPLE = "dmremap-tools save vg0/home home.img sda.img sdb.img --resume home.map"
 USAGE = "usage: GROUP/VOLUME OUT IMAGE.., or VOLUME TARGET FORMAT FILE [DISKS]"
 # Bytes whose places are asked for at once.
 WINDOW = 256 << 20
@@ -38,7 +43,8 @@ def add_words(parser: ArgumentParser) -> None:
     parser.add_argument("volume", metavar="GROUP/VOLUME", help="the volume, by its name")
     parser.add_argument("target", metavar="OUT")
     parser.add_argument("images", metavar="IMAGE", nargs="+", help="a file or a block device; or FORMAT FILE [DISKS]")
-    parser.add_argument("--map", metavar="MAP", help="a map of ddrescue to write; a later run reads it, and goes on")
+    parser.add_argument("--resume", metavar="MAP", help="a map of ddrescue to write; a later run reads it, and goes on")
+    rescue_map.add_words(parser)
     parser.add_argument("--allow-missing", action="store_true", help="save what is there, and end with status 0")
     parser.add_argument("--extents", metavar="EXTENTS", help="with FORMAT: what filefrag -v printed of a file")
     names.add_words(parser)
@@ -47,8 +53,8 @@ def add_words(parser: ArgumentParser) -> None:
 
 def run(words: Namespace) -> Optional[int]:
     form, *others = words.images
-    if words.map is not None and words.map.partition("=")[0] in words.images and "=" in words.map:
-        raise WrongWords("--map MAP is a file that save writes: give the maps of images to lost or owner", USAGE)
+    if not all("=" in word for word in words.map):
+        raise WrongWords("--map IMAGE=MAP is the map of ddrescue of an image: give the one that save writes as --resume", USAGE)
     if form in given.FORMATS and 1 <= len(others) <= 2:
         words.form, words.file, words.disks = form, others[0], others[1] if len(others) == 2 else None
         is_partly = by_tables.run(words)
@@ -62,13 +68,16 @@ def run(words: Namespace) -> Optional[int]:
 
 def copy(words: Namespace) -> bool:
     """Copies what is asked for, and says whether something is missing."""
-    target = Pile(words.images, words.program).target(words.volume)
+    target = Pile(words.images, words.program, rescue_map.unread_in(words, words.images)).target(words.volume)
     why = target.device.lack(0, target.size)
-    if why and not (words.map or words.allow_missing):
+    if why and not (words.resume or words.allow_missing):
         raise Refusal(quoting.shown(target.name), f"{why}; or {PARTLY}")
     if why:
         streams.tell(f"{quoting.shown(target.name)}: {why}")
-    saved = SavedMap(words.map, target.size, [(0, target.size)])
+    source = Source(target.name, target.ids or [head_of(target.device)], len(words.map))
+    saved = SavedMap(words.resume, source, target.size, [(0, target.size)])
+    if saved.has_more_maps:
+        saved.check_finished(lacking(target.device, target.size))
     return put_together(words.target, saved, extents_of(target, saved))
 
 

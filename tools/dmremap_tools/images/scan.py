@@ -2,8 +2,9 @@
 
 Takes images, files or block devices, in any order. Nothing is written to them. Prints a tree. Each image is read where labels
 and superblocks lie, and as a whole if nothing sound is there. Something foreign or damaged gets a line, and hides nothing else.
-To copy a volume, run `save GROUP/VOLUME OUT IMAGE..`. dmremap is asked where volumes lie. For a LUKS container, two ways into
-it are printed. The one without root reads version 2 only if its sectors have 512 bytes.
+To copy a volume, run `save GROUP/VOLUME OUT IMAGE..`. dmremap is asked where volumes lie. Without it, `?` stands for the file
+system, and the status is 4. For a LUKS container, two ways into it are printed. The one without root reads version 2 only if its
+sectors have 512 bytes.
 
 With --json, prints one object instead, in which `why` is null if nothing is wrong:
 
@@ -13,23 +14,27 @@ With --json, prints one object instead, in which `why` is null if nothing is wro
     groups   name, id, seqno, state, images, former_names, notes, volumes: a list of
              name, id, sectors, kind, file_system, state, why, origin, chunks_used
 
-A group's state is complete, missing (a disk isn't there), truncated (an image ends too soon), forked (its disks were changed
-separately; each side is an entry) or removed. A volume's state is whole, incomplete, invalid (a snapshot), removed or not
-followed.
+A group's state is complete, missing (a disk isn't there, or its metadata can't be read), truncated (an image ends too soon),
+forked (its disks were changed separately; each side is an entry) or removed. A volume's state is whole, incomplete, invalid (a
+snapshot), removed or not followed.
 """
 
+import functools
 import json
 import shlex
 from argparse import ArgumentParser, Namespace
-from typing import Any, Dict, Iterator, List, Optional
+from typing import Any, Callable, Dict, Iterator, List, Optional
 
-from dmremap_tools.base import program, quoting, streams
+from dmremap_tools.base import partition_table, program, quoting, streams
 from dmremap_tools.base.luks_header import Container, container_in
 from dmremap_tools.base.numbers import SECTOR
+from dmremap_tools.base.program import NoProgram
+from dmremap_tools.base.refusal import INCOMPLETE, Refusal
+from dmremap_tools.model import md_superblock
 from dmremap_tools.model.device import Device, Lenient
-from dmremap_tools.model.groups import WHOLE, Group, Volume
+from dmremap_tools.model.groups import UNKNOWN, WHOLE, Group, Volume
 from dmremap_tools.model.md_array import Array
-from dmremap_tools.model.pile import Pile, Spot
+from dmremap_tools.model.pile import Found, Pile, Spot
 
 EXAMPLE = "dmremap-tools scan disk1.img disk2.img /dev/sdc"
 Row = Dict[str, Any]
@@ -37,6 +42,11 @@ UNITS = ("bytes", "KiB", "MiB", "GiB", "TiB", "PiB", "EiB")
 COPIES = {"first": " (first copy)", "backup": " (backup copy, as the first is damaged)"}
 # How many columns the name of a volume gets at least, and its length, its kind and what begins there.
 COLUMNS = (24, 10, 10, 8)
+# What stands for a file system that nobody could be asked for.
+UNASKED = "?"
+
+# Why dmremap couldn't be asked.
+_unasked: List[str] = []
 
 
 def add_words(parser: ArgumentParser) -> None:
@@ -45,13 +55,16 @@ def add_words(parser: ArgumentParser) -> None:
     program.add_words(parser)
 
 
-def run(words: Namespace) -> None:
+def run(words: Namespace) -> Optional[int]:
     pile = Pile(words.images, words.program)
     pile.search()
     if words.json:
         streams.out.write(json.dumps(object_of(pile), indent=1) + "\n")
     else:
-        streams.out.write("".join(f"{line}\n" for line in lines_of(pile)))
+        streams.out.write("".join(f"{quoting.escaped(line)}\n" for line in lines_of(pile)))
+    whys = _unasked + [array.why for array in pile.arrays if array.why and program.NOT_BUILT in array.why]
+    streams.tell(*whys[:1])
+    return INCOMPLETE if whys else None
 
 
 def object_of(pile: Pile) -> Row:
@@ -67,7 +80,8 @@ def luks_rows(pile: Pile) -> Iterator[Row]:
     """The containers in images and arrays, and those in volumes."""
     found = [(spot.place, *((spot.path, spot.partition) if spot.image else (None, 0)), container)
              for spot, container in pile.containers]
-    volumes = (volume for group in pile.groups for volume in group.volumes if volume.file_system() == "luks")
+    volumes = (volume for group in pile.groups for volume in group.volumes
+               if asked(volume.file_system, UNASKED) == "luks")
     found += [(volume.path, None, 0, container_in(Lenient(volume.device()))) for volume in volumes]
     for name, image, partition, container in found:
         yield {"name": name, "image": image or name, "partition": partition, "version": container.version,
@@ -101,22 +115,34 @@ def array_row(pile: Pile, array: Array) -> Row:
     stale = [pile.spot_of[member.device].place for member in array.stale]
     return {"name": array.label, "id": array.identity, "level": array.level, "members": members,
             "missing": array.missing, "stale": stale, "sectors": array.device.size // SECTOR if array.device else None,
-            "why": array.why}
+            "why": array.note}
 
 
 def volume_row(volume: Volume) -> Row:
     return {"name": volume.name, "id": volume.identity, "sectors": volume.sectors, "kind": volume.kind,
-            "file_system": volume.file_system(), "state": volume.state(), "why": volume.why(), "origin": volume.origin,
-            "chunks_used": volume.chunks_used()}
+            "file_system": asked(volume.file_system, UNASKED), "state": asked(volume.state, UNKNOWN),
+            "why": asked(volume.why, program.NOT_BUILT), "origin": volume.origin,
+            "chunks_used": asked(volume.chunks_used, None)}
+
+
+def asked(ask: Callable[[], Any], otherwise: Any) -> Any:
+    """What is found out of a volume, or something else where that takes dmremap and there is none."""
+    try:
+        return ask()
+    except NoProgram as refusal:
+        _unasked.append(str(refusal))
+        return otherwise
 
 
 def lines_of(pile: Pile) -> Iterator[str]:
+    on = pile.found_on
     for spot in (spot for spot in pile.spots() if spot.device is spot.image):
         table, inner = pile.tables.get(spot.device), held_by(pile, spot.device)
         if table:
             count = f"{len(table.partitions)} partition" + "s" * (len(table.partitions) != 1)
             fault = f": {table.fault}" if table.fault else ""
-            yield f"{quoting.shown(spot.place)}: {table.kind}{COPIES.get(table.copy, '')}, {count}{fault}"
+            own = f"; and {what_is(pile, on, spot.device)}" if spot.device in on else ""
+            yield f"{quoting.shown(spot.place)}: {table.kind}{COPIES.get(table.copy, '')}, {count}{fault}{own}"
             yield from (f"  {line}" for line in inner)
         else:
             yield f"{quoting.shown(spot.place)}: {inner[0]}"
@@ -124,7 +150,7 @@ def lines_of(pile: Pile) -> Iterator[str]:
         row = array_row(pile, array)
         missing = f", {array.missing} missing" if array.missing else ""
         stale = f"; stale, so not read: {shown_list(row['stale'])}" if array.stale else ""
-        why = f": {array.why}" if array.why else ""
+        why = f": {array.note}" if array.note else ""
         what = f"{array.level} of {array.count}{missing}: {shown_list(row['members'])}"
         yield f"{quoting.shown(array.label)}: {what}{stale}{why}"
         yield from (f"  {line}" for line in (held_by(pile, array.device) if array.device else ()))
@@ -139,24 +165,23 @@ def lines_of(pile: Pile) -> Iterator[str]:
 
 def held_by(pile: Pile, device: Device) -> List[str]:
     """What lies on a device, in words: a line for each partition, or one for all of it."""
-    table = pile.tables.get(device)
+    table, found = pile.tables.get(device), pile.found_on
     if not table:
-        return [what_is(pile, device)]
-    return [f"{number}: {what_is(pile, partition)}" for number, partition in table.partitions.items()]
+        return [what_is(pile, found, device)]
+    return [f"{number}: {what_is(pile, found, partition)}" for number, partition in table.partitions.items()]
 
 
-def what_is(pile: Pile, device: Device) -> str:
+def what_is(pile: Pile, on: Dict[Device, List[Found]], device: Device) -> str:
     for array in pile.arrays:
         if any(member.device is device for member in [*array.by_role.values(), *array.stale]):
             return f"member of {array.label}"
     words: List[str] = []
-    for found in pile.found:
-        if found.spot.device is device or found.spot.image is device:
-            group = next((group.name for group in reversed(pile.groups) if found.spot.device.name in group.places), "")
-            without = " without a group" if found.what == "physical volume" else ""
-            what = found.what + (f" of {quoting.shown(group)}" if group else without)
-            is_noted = found.note and found.what != "unknown"
-            words.append(quoting.shown(f"{what}: {found.note}" if is_noted else found.note or what))
+    for found in on.get(device, ()):
+        group = next((group.name for group in reversed(pile.groups) if found.spot.device.name in group.places), "")
+        without = " without a group" if found.what == "physical volume" else ""
+        what = found.what + (f" of {quoting.shown(group)}" if group else without)
+        is_noted = found.note and found.what != "unknown"
+        words.append(quoting.shown(f"{what}: {found.note}" if is_noted else found.note or what))
     return "; ".join(words) or "looked into no more"
 
 
@@ -173,6 +198,26 @@ def group_lines(group: Group) -> Iterator[str]:
         notes = [origin, chunks, row["state"] if row["state"] != WHOLE else "", row["why"] or ""]
         line = " ".join(column.ljust(width) for column, width in zip(columns, COLUMNS))
         yield f"  {line} {': '.join(filter(None, notes))}".rstrip()
+        inner = asked(functools.partial(held_in, volume), None) if row["why"] is None else None
+        if inner:
+            name = shlex.quote(f"{group.name}/{volume.name}")
+            way = quoting.escaped(f"dmremap-tools save {name} inner.img IMAGE.. && dmremap-tools scan inner.img")
+            yield f"    {inner} lies in it: {way}"
+
+
+def held_in(volume: Volume) -> Optional[str]:
+    """What lies in a volume that `scan` would look into."""
+    if volume.file_system() == "lvm2":
+        return "a physical volume"
+    try:
+        if md_superblock.found_in(volume.device())[0]:
+            return "a member of an md array"
+        table = partition_table.table_of(Lenient(volume.device()))
+    except NoProgram:
+        raise
+    except Refusal:
+        return None
+    return table and f"a partition table ({table.kind})"
 
 
 def shown_list(words: List[str]) -> str:

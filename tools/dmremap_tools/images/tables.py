@@ -2,7 +2,9 @@
 
 Takes GROUP, a name or an id, images, which are searched as by `scan`, and a folder for the three files, none of which may be
 there yet. FILE is table text: the volumes under the names that lvm2 gives them, snapshots over their origins and stores, and
-the md arrays that they lie on. DISKS lists the images, and PATHS says where they are. Prints the command line that uses them. A
+the md arrays that they lie on. DISKS lists the images, and PATHS says where they are; an image whose path no line of PATHS can
+say is refused. With --map IMAGE=MAP, what a map of ddrescue doesn't list as finished isn't there: of copies one that is whole is
+taken, and what a volume lacks is reported. Prints the command line that uses them. A
 volume that a layer computes, such as a thin one or one with parity, has no table. It is reported; `save` and `serve` read it.
 """
 
@@ -13,7 +15,9 @@ from typing import Dict, Tuple, Union
 
 from dmremap_tools.base import names, program, quoting, streams, tables
 from dmremap_tools.base.numbers import SECTOR
+from dmremap_tools.base.program import NoProgram
 from dmremap_tools.base.refusal import Refusal
+from dmremap_tools.layouts import rescue_map
 from dmremap_tools.model.device import Copies, Device, Image, Part
 from dmremap_tools.model.layout import Layout
 from dmremap_tools.model.mapping import FILES, Mapped, Tables
@@ -26,12 +30,14 @@ Devices = Dict[str, tables.Device]
 def add_words(parser: ArgumentParser) -> None:
     parser.add_argument("group", metavar="GROUP", help="the group, by its name or its id")
     parser.add_argument("images", metavar="IMAGE", nargs="+", help="a file or a block device")
+    rescue_map.add_words(parser)
     parser.add_argument("--to", metavar="FOLDER", required=True, help="where the files are written")
     program.add_words(parser)
 
 
 def run(words: Namespace) -> None:
-    groups = Pile(words.images, words.program).groups_named(words.group)
+    pile = Pile(words.images, words.program, rescue_map.unread_in(words, words.images))
+    groups = pile.groups_named(words.group)
     if len(groups) > 1:
         raise Refusal(quoting.shown(words.group), "several groups or sides of one are called so: say the id, or give the images of one side")
     group = groups[0]
@@ -41,6 +47,11 @@ def run(words: Namespace) -> None:
     for volume in (volume for volume in group.volumes if volume.side is group.side and not volume.is_removed):
         try:
             made.devices.update(made.volume(volume.key))
+            why = volume.why()
+            if why:
+                streams.tell(f"{quoting.shown(volume.name)}: {why}")
+        except NoProgram:
+            raise
         except Refusal as refusal:
             streams.tell(f"left out: {quoting.shown(volume.name)}: {refusal.why}")
     if not made.devices:
@@ -108,7 +119,11 @@ class GroupTables(Tables):
         start = 0
         while isinstance(device, Copies) or isinstance(device, Part) and not device.holes:
             start += device.start if isinstance(device, Part) else 0
-            device = device.lower if isinstance(device, Part) else device.best()
+            lower = device.lower if isinstance(device, Part) else device.best()
+            if lower is None:
+                raise Refusal(device.name, f"no copy of {device.name} is whole, and no table can say which is read: use `save` "
+                              "or `serve`")
+            device = lower
         if isinstance(device, Image):
             name = self._names.setdefault(device, f"disk{len(self.disks)}")
             self.disks[name] = device
@@ -130,6 +145,10 @@ class GroupTables(Tables):
             if os.path.lexists(path):
                 raise Refusal(quoting.shown(path), "it is there already: give another folder, or remove it first")
         places = {name: os.path.abspath(image.path) for name, image in self.disks.items()}
+        for path in places.values():
+            if quoting.is_odd(path):
+                raise Refusal(quoting.shown(path), "it is no UTF-8, as PATHS has to be: give the image another name, or a "
+                              "link to it")
         file, disks, paths = map(shlex.quote, self.write(folder, places))
         has_snapshots = any(line.target == "snapshot" for line in self.lines())
         streams.out.write(f"dmremap map table {file} {disks}" + f" --paths {paths}" * has_snapshots + "\n")

@@ -122,13 +122,13 @@ def start(words: argparse.Namespace, source: Given, devices: Optional[Iterable[s
 def rows_of(places: Dict[str, paths.Place]) -> Iterator[str]:
     """PATHS, with these disks."""
     for disk, place in places.items():
-        place.check_sectors(disk)
+        row = paths.line(disk, place.path, place.start)
         descriptor = opened(place.path)
         if stat.S_ISBLK(os.fstat(descriptor).st_mode):
             streams.tell(f"{quoting.shown(place.path)} is a block device: if a snapshot on it is in use, suspend it first, or give an "
                          "image that was read with O_DIRECT, as `dd iflag=direct` does")
         os.close(descriptor)
-        yield f"{disk} {place.path}?offset={place.start}\n"
+        yield row
 
 
 def opened(path: str) -> int:

@@ -16,18 +16,20 @@ from collections import namedtuple
 from typing import Callable, Collection, Dict, Iterable, Iterator, List, NamedTuple, Optional, Sequence, Set, Tuple
 
 from dmremap_tools.base import paths, program, quoting, streams
+from dmremap_tools.base.disk_image import EXT_AT, EXT_MAGIC
 from dmremap_tools.base.numbers import SECTOR
 from dmremap_tools.base.refusal import Refusal
 from dmremap_tools.layers.stack import opened
 
 MOST_BLOCKS = MOST_INODES = 1000000
 MOST_COMPLAINTS = 3
-XFS_DB = "xfs_db"
+XFS_DB, DEBUGFS = "xfs_db", "debugfs"
 # What the superblock says: sizes in bytes, numbers of blocks, and logarithms of blocks and inodes.
 Geometry = namedtuple("Geometry", "blocksize dblocks agblocks agblklog inopblog inodesize")
 XFS_FIGURE = re.compile(r"^(%s) = ([0-9]{1,20})$" % "|".join(Geometry._fields), re.M)
 USE = re.compile(r"^block [0-9]{1,20} \(([0-9]{1,10})/([0-9]{1,10})\) type ([a-z0-9]+)(?: inode ([0-9]{1,20}))?$", re.M)
-XFS, BTRFS, BTRFS_AT = b"XFSB", b"_BHRfS_M", 65536 + 64
+# Where it is seen by which bytes what begins there.
+MAGICS = {"btrfs": (65536 + 64, b"_BHRfS_M"), "xfs": (0, b"XFSB"), "ext": (EXT_AT + 56, EXT_MAGIC)}
 # Bytes of one request, of which the system takes 131,071, and debugfs 8,191 where it reads many.
 LONGEST, LONGEST_OF_MANY, MOST_AT_ONCE = 100000, 8000, 4096
 NO_ANSWER = b"pwd"
@@ -57,6 +59,10 @@ UNSURE = {"bigalloc", "meta_bg"}
 # With one of these only some groups have a superblock: with the first these are, and the second says which.
 SPARSE_FEATURES = {"sparse_super", "sparse_super2"}
 SPARSE = {0, *(base ** power for base in (3, 5, 7) for power in range(41))}
+
+
+class NoSystem(Refusal):
+    """Nothing is there that these programs read."""
 
 
 class Run(NamedTuple):
@@ -218,20 +224,25 @@ class XfsSystem(FileSystem):
         return asked([program.found(XFS_DB), *options, "--", self.image], map(str.encode, commands))
 
 
-def system_in(image: str, volume: str, runs: Sequence[Run]) -> FileSystem:
+def system_in(place: paths.Place, volume: str, runs: Sequence[Run]) -> FileSystem:
     """The file system in an image of a volume, with the files that have these runs of sectors looked up."""
-    place = paths.place_of(image)
     descriptor, at = opened(place.path), place.start
-    is_btrfs = is_xfs = False
-    with contextlib.suppress(OSError):
-        is_btrfs = os.pread(descriptor, len(BTRFS), at + BTRFS_AT) == BTRFS
-    with contextlib.suppress(OSError):
-        is_xfs = os.pread(descriptor, len(XFS), at) == XFS
+    image = place.path + f"?offset={at}" * bool(at)
+    found = {}
+    for kind, (start, magic) in MAGICS.items():
+        with contextlib.suppress(OSError):
+            found[kind] = os.pread(descriptor, len(magic), at + start) == magic
     os.close(descriptor)
-    if is_btrfs:
+    if "?" in place.path:
+        raise Refusal(quoting.shown(image), "debugfs takes what follows a `?` in a path as an option: give the file another name")
+    if found.get("btrfs"):
         raise Refusal(quoting.shown(image), "it is btrfs, whose files have no places: see `btrfs inspect-internal logical-resolve`")
-    if not is_xfs:
-        return ExtSystem(image, volume, runs)
+    if not found.get("xfs"):
+        try:
+            return ExtSystem(image, volume, runs)
+        except Refusal as fault:
+            is_known = found.get("ext") or program.found(DEBUGFS) == DEBUGFS
+            raise fault if is_known else NoSystem(fault.where, fault.why)
     if program.found(XFS_DB) == XFS_DB:
         raise Refusal(quoting.shown(image), "it is XFS, which xfs_db reads, and that isn't here: install xfsprogs")
     if at:

@@ -1,11 +1,13 @@
-"""The map in which ddrescue says what it could read: areas of a disk, in bytes, each with a status."""
+"""The map in which ddrescue says what it could read: areas of a disk, in bytes, each with a status; and the option --map, by
+which commands that search images take one for each. What a map doesn't have as read isn't there."""
 
+import os
 import re
-from argparse import ArgumentParser
+from argparse import ArgumentParser, Namespace
 from typing import Dict, List, NamedTuple, Sequence, Tuple
 
-from dmremap_tools.base import numbers, quoting, streams
-from dmremap_tools.base.refusal import WrongWords
+from dmremap_tools.base import disk_image, numbers, quoting, streams, written
+from dmremap_tools.base.refusal import Refusal, WrongWords
 
 FINISHED, BAD, UNTRIED = "+", "-", "?"
 # A map says first where ddrescue stands. An area has a position, a size and a status.
@@ -21,7 +23,7 @@ def read(path: str, is_written: bool = False) -> List[Area]:
     source, areas = streams.Lines(path, is_written), []
     rows = (row for row in source if row and not row.startswith("#"))
     if not CURRENT.fullmatch(next(rows, "")):
-        source.refuse("not a map of ddrescue: " + ("give another file as --map" if is_written
+        source.refuse("not a map of ddrescue: " + ("give another file as --resume" if is_written
                                                    else "give the file that it wrote"))
     end = None
     for row in rows:
@@ -35,16 +37,61 @@ def read(path: str, is_written: bool = False) -> List[Area]:
 
 
 def add_words(parser: ArgumentParser) -> None:
-    parser.add_argument("--map", metavar="IMAGE=MAP", action="append", default=[], help="the map of ddrescue of an image")
+    parser.add_argument("--map", metavar="IMAGE=MAP", action="append", default=[],
+                        help="the map of ddrescue of an image: what it doesn't list as finished isn't there")
+    parser.add_argument("--map-of-other-length", action="store_true",
+                        help="take a map that begins or ends elsewhere than its image does")
 
 
-def unread_in(given: Sequence[str], images: Sequence[str]) -> Dict[str, List[Tuple[int, int]]]:
-    """The runs of bytes that maps of images have as not finished, in whole sectors, by the images' paths."""
-    found: Dict[str, List[Tuple[int, int]]] = {}
+def pairs(given: Sequence[str], images: Sequence[str]) -> List[Tuple[str, str]]:
+    """The image and the map of each word IMAGE=MAP. Both may have a `=` in them."""
+    found: Dict[object, Tuple[str, str]] = {}
     for word in given:
-        path, is_given, map_path = word.rpartition("=")
-        if not is_given or path in found or path not in images:
+        meant = {image for image in images if word.startswith(image + "=")}
+        image = min(meant, default="")
+        key = written.identity_at(image) or image
+        if len(meant) != 1 or key in found:
             raise WrongWords(f"--map: not IMAGE=MAP of one of the images, or given twice: {quoting.shown(word)}")
-        found[path] = [(area.begin // numbers.SECTOR * numbers.SECTOR, -(-area.end // numbers.SECTOR) * numbers.SECTOR)
-                       for area in read(map_path) if area.status != FINISHED]
+        found[key] = image, word[len(image) + 1:]
+    return list(found.values())
+
+
+def unread_in(words: Namespace, images: Sequence[str]) -> Dict[str, List[Tuple[int, int]]]:
+    """The runs of bytes that the maps of images don't have as finished, in whole sectors, by the images' paths."""
+    found: Dict[str, List[Tuple[int, int]]] = {}
+    for path, map_path in pairs(words.map, images):
+        runs = unread(map_path, path, words.map_of_other_length)
+        same = (image for image in images if written.identity_at(image) == written.identity_at(path))
+        found.update(dict.fromkeys([path, *same], runs))
     return found
+
+
+def unread(map_path: str, image: str, is_any_length: bool) -> List[Tuple[int, int]]:
+    """Those of one map, up to the end of its image. One of another length is refused, unless `is_any_length`: what lies
+    before and behind its rows wasn't read."""
+    areas, size = read(map_path), size_of(image)
+    begin, end = (areas[0].begin, areas[-1].end) if areas else (0, 0)
+    if (begin, sectors(end)) != (0, sectors(size)) and not is_any_length:
+        said = f"it is of the bytes {begin} to {end}, and {quoting.shown(image)} has {size}"
+        raise Refusal(streams.name_of(map_path), f"{said}: give the map of this image, or with --map-of-other-length take "
+                      "what it doesn't list as not read")
+    runs: List[Tuple[int, int]] = []
+    for area in [Area(0, begin, UNTRIED), *areas, Area(end, max(end, size), UNTRIED)]:
+        first, stop = area.begin // numbers.SECTOR, min(sectors(area.end), sectors(size))
+        first = max(first, runs[-1][1] // numbers.SECTOR) if runs else first
+        if area.status != FINISHED and first < stop:
+            runs.append((first * numbers.SECTOR, stop * numbers.SECTOR))
+    return runs
+
+
+def sectors(size: int) -> int:
+    """How many sectors so many bytes touch."""
+    return -(-size // numbers.SECTOR)
+
+
+def size_of(path: str) -> int:
+    try:
+        with open(path, "rb", opener=lambda name, flags: os.open(name, flags | os.O_NONBLOCK)) as file:
+            return disk_image.length_of(file, quoting.shown(path))
+    except OSError as fault:
+        raise Refusal(quoting.shown(path), streams.why(fault))

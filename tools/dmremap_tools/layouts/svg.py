@@ -38,12 +38,12 @@ def size_of(sectors: int) -> str:
     return "%.4g %s" % (count / 1024 ** unit, ("B", "KiB", "MiB", "GiB", "TiB", "PiB", "EiB")[unit])
 
 
-def image(x: int, y: int, width: int, height: int, rows: Sequence[bytes]) -> str:
+def image(x: float, y: int, width: float, height: int, rows: Sequence[bytes]) -> str:
     """Pixels, as rows of four bytes for each, stretched to a size."""
     def part(kind: bytes, content: bytes) -> bytes:
         return struct.pack(">I", len(content)) + kind + content + struct.pack(">I", zlib.crc32(kind + content))
     shape = struct.pack(">IIBBBBB", len(rows[0]) // 4, len(rows), 8, 6, 0, 0, 0)
     content = zlib.compress(b"".join(b"\0" + row for row in rows), 9)
     png = b"\x89PNG\r\n\x1a\n" + part(b"IHDR", shape) + part(b"IDAT", content) + part(b"IEND", b"")
-    return ('<image x="%d" y="%d" width="%d" height="%d" preserveAspectRatio="none" style="image-rendering:pixelated" '
+    return ('<image x="%.6g" y="%d" width="%.6g" height="%d" preserveAspectRatio="none" style="image-rendering:pixelated" '
             'xlink:href="data:image/png;base64,%s"/>\n' % (x, y, width, height, base64.b64encode(png).decode()))

@@ -22,6 +22,7 @@ numbers. No checksum tells whether another physical volume has a later text, or 
 """
 
 import argparse
+import os
 from typing import List
 
 from dmremap_tools.base import numbers, quoting, streams
@@ -49,6 +50,10 @@ def run(words: argparse.Namespace) -> None:
     if len(words.heads) > 1 and is_of_one:
         raise WrongWords("--list, --seqno and --at take one HEAD")
     places = [place_of(path) for path in words.heads]
+    for path, place in zip(words.heads, places):
+        if place.is_said and os.path.lexists(path):
+            raise Refusal(quoting.shown(path), f"a file is called so, and here it means a byte of {quoting.shown(place.path)}: give "
+                          "the file another name, or a link to it")
     check_newest(place.path for place in places)
     images = [it for place in places for it in _volumes_in(place)]
     if len(images) > 1 and is_of_one:

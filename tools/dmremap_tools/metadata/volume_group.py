@@ -13,6 +13,8 @@ TYPES = (STRIPED, LINEAR, SNAPSHOT) + NO_STORE
 NOT_ASKED = "not asked for"
 # Limits of dmremap: bytes of a name, and columns of stripes.
 NAME, COLUMNS = 127, 128
+# How many legs of a raid have no data.
+PARITIES = {b"raid4": 1, b"raid5": 1, b"raid6": 2}
 # The most snapshots of each other that are told; lvm2 makes none, and dmremap refuses what is left of more.
 MOST_LEVELS = 16
 
@@ -25,6 +27,12 @@ class Segment:
         self.kind: Optional[bytes] = node.value(b"type", bytes)
         self.count, self.stripe_size = (node.value(it, int) for it in (b"extent_count", b"stripe_size"))
         self.stripes: List[Tuple[Value, Value]] = list(zip(stripes[::2], stripes[1::2]))
+
+    @property
+    def length(self) -> Optional[int]:
+        """The extents that are there to be read: without those of each leg into which a reshape moves data."""
+        legs, moved = len(self.node.values(b"raids")) // 2, self.node.value(b"reshape_count", int) or 0
+        return self.count and self.count - moved * (legs - PARITIES.get((self.kind or b"")[:5], 0))
 
     def is_even(self, extent_size: Optional[int]) -> bool:
         """Whether its stripes divide it. What is missing is left for dmremap to tell."""
@@ -42,7 +50,7 @@ class Volume:
         self.node, self.name = node, node.key
         self.why: Optional[str] = None
         self.segments = [Segment(it) for it in node.sections()]
-        self.extents = sum(it.count or 0 for it in self.segments)
+        self.extents = sum(it.length or 0 for it in self.segments)
 
     def record(self) -> "Optional[Record]":
         """The snapshot that this volume stands for, or None for a volume that is one."""

@@ -8,7 +8,7 @@ import functools
 import itertools
 import os
 from array import array
-from typing import Any, Callable, Iterator, List, NamedTuple, Optional, Sequence, Tuple, TypeVar
+from typing import Any, Callable, Dict, Iterable, Iterator, List, NamedTuple, Optional, Sequence, Tuple, TypeVar
 
 from dmremap_tools.base import disk_image, quoting, streams, written
 from dmremap_tools.base.numbers import SECTOR
@@ -31,6 +31,10 @@ AnyRun = TypeVar("AnyRun", bound=Tuple[Any, ...])
 
 class Gap(Refusal):
     """Bytes that aren't there: their image is missing, ends before them, or can't be read."""
+
+
+class Doubt(str):
+    """Why nobody can be sure of bytes that are there."""
 
 
 class Device:
@@ -84,6 +88,19 @@ class Missing(Device):
 
     def load(self, start: int, size: int) -> bytes:
         raise Gap("missing", self.name)
+
+
+class Unread(Missing):
+    """Bytes of an image that weren't read from its disk, each in its place there."""
+
+    def __init__(self, image: "Image", run: Run) -> None:
+        super().__init__(f"{image.name} lacks its bytes {run[0]} to {run[1] - 1}, as its map says")
+        self.image = image
+
+
+def ground(source: Device) -> Device:
+    """Where the bytes of a source have their places: the image, if they weren't read from its disk."""
+    return source.image if isinstance(source, Unread) else source
 
 
 class Known(Device):
@@ -170,29 +187,66 @@ class Copies(Device):
             return None
         return super().lack(start, size)
 
-    def best(self) -> Device:
-        """A copy that has all bytes, or else the first."""
-        return next((copy for copy in self._copies if copy.lack(0, self.size) is None), self._copies[0])
+    def best(self) -> Optional[Device]:
+        """A copy that has all bytes, or the only one."""
+        only = self._copies[0] if len(self._copies) == 1 else None
+        return next((copy for copy in self._copies if copy.lack(0, self.size) is None), only)
 
     def _extents(self, start: int, size: int) -> Iterator[Extent]:
-        return self._best(self._copies, start, size)
+        return copied([(copy, start) for copy in self._copies], size)
 
-    def _best(self, copies: Sequence[Device], start: int, size: int) -> Iterator[Extent]:
-        """The extents of the first copy, and of the next ones where it lacks bytes."""
-        is_last = len(copies) == 1 or copies[0].lack(start, size) is None
-        for extent in copies[0].extents(start, size):
-            if is_last or extent.source.lack(extent.start, extent.size) is None:
-                yield extent
+
+def copied(copies: Sequence[Tuple[Device, int]], size: int) -> Iterator[Extent]:
+    """The extents of so many bytes of the first copy, and of the next ones where it lacks some. Each is a device, and
+    where the bytes begin in it."""
+    (device, start), *others = copies
+    is_last = not others or device.lack(start, size) is None
+    done = 0
+    for extent in device.extents(start, size):
+        if is_last or extent.source.lack(extent.start, extent.size) is None:
+            yield extent
+        else:
+            yield from copied([(other, at + done) for other, at in others], extent.size)
+        done += extent.size
+
+
+class Agreed(Device):
+    """Bytes that several devices have, where these are the same; `why` is said of those that aren't."""
+
+    def __init__(self, name: str, sides: Sequence[Device], why: str) -> None:
+        super().__init__(name, min(side.size for side in sides))
+        self._sides, self._why, self._known = sides, why, {}  # type: Sequence[Device], str, Dict[int, List[Run]]
+
+    def _extents(self, start: int, size: int) -> Iterator[Extent]:
+        for number, offset, count in blocks_of(start, size, BLOCK):
+            if number not in self._known:
+                begin = number * BLOCK
+                self._known[number] = joint(self._differing(begin, min(begin + BLOCK, self.size)))
+            at = number * BLOCK + offset
+            yield from Part(self.name, self._sides[0], 0, self.size, self._known[number], self._why).extents(at, count)
+
+    def _differing(self, begin: int, end: int) -> Iterator[Run]:
+        """The sectors of some bytes that aren't the same on all sides, or can't be read there."""
+        try:
+            contents = [side.read(begin, end - begin) for side in self._sides]
+        except (Gap, OSError):
+            middle = begin + max((end - begin) // 2 // SECTOR, 1) * SECTOR
+            if middle < end:
+                yield from self._differing(begin, middle)
+                yield from self._differing(middle, end)
             else:
-                yield from self._best(copies[1:], start, extent.size)
-            start += extent.size
+                yield begin, end
+            return
+        for at in range(0, end - begin, SECTOR if contents.count(contents[0]) < len(contents) else end - begin):
+            if len({content[at:at + SECTOR] for content in contents}) > 1:
+                yield begin + at, begin + at + SECTOR
 
 
 class Image(Device):
     """The whole sectors of a file or a disk; `path` is as it was given. Some may not have been read from it."""
 
     def __init__(self, path: str, unread: Sequence[Run] = ()) -> None:
-        self.path, self._unread, self.is_whole, name = path, unread, not unread, quoting.shown(path)
+        self.path, self.is_whole, name = path, not unread, quoting.shown(path)
         try:
             descriptor = os.open(path, os.O_RDONLY | os.O_NONBLOCK | os.O_CLOEXEC)
             # By this a file is the same one under another name.
@@ -205,6 +259,7 @@ class Image(Device):
             raise Refusal(name, streams.why(fault))
         self.bytes, self.other_form = self._file.size, ""
         super().__init__(name, self.bytes // SECTOR * SECTOR)
+        self._unread = [(*run, Unread(self, run)) for run in unread]
         try:
             disk_image.check_form(descriptor, name)
         except Refusal as refusal:
@@ -215,9 +270,7 @@ class Image(Device):
 
     def _extents(self, start: int, size: int) -> Iterator[Extent]:
         for begin, end, run in cut(self._unread, start, start + size):
-            if run:
-                why = f"{self.name} lacks its bytes {run[0]} to {run[1] - 1}, as its map says"
-            yield Extent(Missing(why), 0, end - begin) if run else Extent(self, begin, end - begin)
+            yield Extent(run[2] if run else self, begin, end - begin)
 
     def load(self, start: int, size: int) -> bytes:
         try:
@@ -276,6 +329,15 @@ def cut(runs: Sequence[AnyRun], start: int, end: int) -> Iterator[Tuple[int, int
             start = min(run[1], end)
     if start < end:
         yield start, end, None
+
+
+def joint(runs: Iterable[Run]) -> List[Run]:
+    """Some runs in their order, with those that meet in one."""
+    found: List[Run] = []
+    for begin, end in sorted(runs):
+        last = found.pop() if found and begin <= found[-1][1] else (begin, begin)
+        found.append((last[0], max(last[1], end)))
+    return found
 
 
 def blocks_of(start: int, size: int, block: int) -> Iterator[Tuple[int, int, int]]:

@@ -2,29 +2,29 @@
 time before."""
 
 import functools
-import itertools
 import re
-from typing import Callable, Dict, Iterable, Iterator, List, NamedTuple, Optional, Sequence, Set, Tuple
+from typing import Callable, Iterable, Iterator, List, NamedTuple, Optional, Sequence, Set, Tuple
 
 from dmremap_tools.base.config_text import shown
 from dmremap_tools.base.disk_image import file_system_of
 from dmremap_tools.base.numbers import SECTOR
 from dmremap_tools.base.refusal import Refusal
-from dmremap_tools.model.device import Device, Lenient, Missing
-from dmremap_tools.model.layout import Layout, Use
-from dmremap_tools.model.mapping import INVALID_SNAPSHOT, NoProgram
-from dmremap_tools.model.physical_volume import PhysicalVolume, Text
+from dmremap_tools.model.device import Device, Doubt, Lenient, Missing
+from dmremap_tools.model.layout import Layout
+from dmremap_tools.model.mapping import INVALID_SNAPSHOT, NoProgram, Tables
+from dmremap_tools.model.physical_volume import Leftover, PhysicalVolume, Text
+from dmremap_tools.model.removed import History, Holder, Later, holders_of
 
 COMPLETE, LACKING, TRUNCATED, FORKED = "complete", "missing", "truncated", "forked"
 TWO_SIDES = ("disks of this group were changed apart from each other, and both sides have a volume of this name: give "
              "the images of one side alone ({})")
 NEWER = ("{} has {} ({}), and what can be read is the one with the seqno {}: restore one of them by vgcfgrestore on "
          "copies of the disks (`metadata` prints it)")
+UNREAD = ("{} is of this group, too, and its current text can't be read ({}): it may have another state of this volume. Leave "
+          "that image out, or restore its metadata on a copy (vgcfgrestore; `metadata --list` shows what is left)")
+MAYBE = ("{} may be the disk of this group that isn't found, and it can't be read as that ({}): restore its label on a copy "
+         "(pvcreate --uuid UUID --restorefile TEXT), or leave that image out")
 WHOLE, INVALID, INCOMPLETE, UNKNOWN, REMOVED = "whole", "invalid", "incomplete", "not followed", "removed"
-# Where the volumes of a text begin, as lvm2 writes it, and where they end, and the id of each.
-VOLUMES, HISTORY = b"\nlogical_volumes {", b"\nhistorical_logical_volumes {"
-SINCE, LEFT = "nothing tells who wrote there since", "nothing tells which of its sectors are left"
-IDENTITY = re.compile(rb'\n[ \t]*[A-Za-z0-9_+.-]+ \{\n[ \t]*id = "([^"\n]*)"')
 Refused = Callable[[], Optional[str]]
 
 
@@ -52,6 +52,8 @@ class Volume:
         try:
             why = self._refused()
             return Missing(why) if why else self.side.volume(self.key)
+        except NoProgram:
+            raise
         except Refusal as refusal:
             return Missing(refusal.why)
 
@@ -79,6 +81,10 @@ class Volume:
         return UNKNOWN if isinstance(self._made, Missing) else INCOMPLETE
 
     def file_system(self) -> Optional[str]:
+        return self._file_system
+
+    @functools.cached_property
+    def _file_system(self) -> Optional[str]:
         try:
             return file_system_of(Lenient(self._made))
         except NoProgram:
@@ -88,21 +94,6 @@ class Volume:
 
     def chunks_used(self) -> Optional[int]:
         return getattr(self._made, "chunks_used", None)
-
-
-@functools.lru_cache(None)
-def uses_of(text: Text) -> List[Tuple[Use, str]]:
-    """What the volumes of a text use of physical volumes, and which volume that is."""
-    side = Layout(text, Missing)
-    return [(use, side.path(name)) for name in side.group.volumes for use in side.uses(name)]
-
-
-@functools.lru_cache(maxsize=1 << 12)
-def ids_in(text: Text) -> Set[str]:
-    body = text.body()
-    begin, end = body.find(VOLUMES), body.find(HISTORY)
-    region = body[begin:end if end > begin else len(body)] if begin >= 0 else b""
-    return {identity.decode("ascii", "replace") for identity in IDENTITY.findall(region)}
 
 
 class Group:
@@ -124,11 +115,41 @@ class Group:
         return next((it for it in self.volumes if name == it.name or same_id(name, it.identity)), hidden)
 
 
-class Holder(NamedTuple):
-    """A text, and the physical volumes of which it is the current one."""
+class Unread(NamedTuple):
+    """What has texts of groups of which none can be read as current: a physical volume, by its id, or what is left of
+    one, and why."""
 
-    text: Text
-    volumes: List[PhysicalVolume]
+    place: str
+    identity: str
+    fault: str
+    texts: List[Text]
+
+    def is_of(self, side: Layout) -> bool:
+        """Whether it has texts of the group of a side, or is a physical volume of it."""
+        return self.identity in side.physical_ids.values() or any(text.identity == side.text.identity for text in self.texts)
+
+    def is_explained(self, holder: Holder, side: Layout) -> bool:
+        """Whether it has the text of a side, and none after that. What has no id is one of the side's disks that isn't
+        here otherwise, or else a copy of one."""
+        mine = [text for text in self.texts if text.identity == holder.text.identity]
+        last = max((text.seqno for text in mine), default=-1)
+        is_lacking = any(isinstance(device, Missing) for device in side.physical.values())
+        has_text = any(text.key() == holder.text.key() for text in mine if text.said_time())
+        return has_text and last == holder.text.seqno and bool(self.identity or is_lacking)
+
+    def is_apart(self, holder: Holder) -> bool:
+        """Whether it has a text that isn't in the rings of a side: a later one, or another one with a number of these."""
+        rings = {text.key() for volume in holder.volumes for text in volume.older} | {holder.text.key()}
+        first = min(text.seqno for volume in holder.volumes for text in [holder.text, *volume.older])
+        mine = (text for text in self.texts if text.identity == holder.text.identity and text.said_time())
+        return any(text.seqno >= first and text.key() not in rings for text in mine)
+
+    def names(self, holder: Holder) -> Optional[Set[bytes]]:
+        """The names of the volumes that its last text of a group has, or None where it has no text that can be read."""
+        mine = (text for text in self.texts if text.identity == holder.text.identity)
+        last = max(mine, key=lambda text: (text.seqno, text.said_time() or b""), default=None)
+        is_whole = last and last.said_time() and not last.fault()
+        return set(Layout(last, Missing).group.volumes) if is_whole else None
 
 
 def same_id(one: str, other: str) -> bool:
@@ -139,7 +160,7 @@ def same_id(one: str, other: str) -> bool:
 def sides_of(current: Iterable[Holder]) -> List[Holder]:
     """The current texts that count: the newest, and those that are no older text of another one that counts."""
     sides: List[Holder] = []
-    for holder in sorted(current, key=lambda holder: -holder.text.seqno):
+    for holder in sorted(current, key=lambda holder: (-holder.text.seqno, holder.text.key())):
         before = next((side for side in sides if is_behind(holder, side)), None)
         if before:
             before.volumes.extend(holder.volumes)
@@ -166,26 +187,24 @@ def state_of(side: Layout) -> Tuple[str, List[str]]:
         why = device.lack(0, start * SECTOR + count * side.extent)
         if why is not None:
             notes.append(f"{shown(key)}: {why}")
-            if state != LACKING:
+            if state != LACKING and not isinstance(why, Doubt):
                 state = LACKING if isinstance(device, Missing) else TRUNCATED
     return state, notes
 
 
 class Texts:
     """All texts of some physical volumes, of any group: those that are current, with the ones that have them, and older
-    ones, whose volumes may have written where a removed volume was."""
+    ones, whose volumes may have written where a removed volume was; and those of which nothing tells what is current."""
 
-    def __init__(self, volumes: Sequence[PhysicalVolume]) -> None:
-        self._volumes = volumes
-        # The texts by the ids of their groups, and by their keys.
-        self._known: Dict[str, Dict[bytes, Holder]] = {}
-        for volume in volumes:
-            for text, its_own in [(text, []) for text in volume.older] + [(text, [volume]) for text in volume.current]:
-                holders = self._known.setdefault(text.identity, {})
-                holders.setdefault(text.key(), Holder(text, [])).volumes.extend(its_own)
+    def __init__(self, volumes: Sequence[PhysicalVolume], leftovers: Sequence[Leftover] = ()) -> None:
+        self._volumes, self._known = volumes, holders_of(volumes)
         # Why the current text of a physical volume can't be read, by its id.
         unread = [volume for volume in volumes if volume.faults and not volume.current]
-        self._lost = {volume.identity: f"{volume.place}: {volume.faults[0]}" for volume in unread}
+        self._later = Later(self._known, {volume.identity: f"{volume.place}: {volume.faults[0]}" for volume in unread})
+        self._unread = [Unread(volume.place, volume.identity, volume.faults[0], volume.texts) for volume in unread]
+        self._unread = sorted(self._unread + [Unread(left.device.name, "", left.fault, left.texts) for left in leftovers])
+        # The removed volumes of all texts are loaded together.
+        self._tables = Tables()
 
     def groups(self) -> Iterator[Group]:
         """The groups that are there, and then those that were removed."""
@@ -203,31 +222,45 @@ class Texts:
     def _find(self, identity: str) -> Device:
         """The device of a physical volume. Two of one id are a copy and its original, or were changed apart."""
         here = [volume for volume in self._volumes if volume.identity == identity]
-        believed = [volume for volume in here if not volume.doubt]
+        believed = sorted((volume for volume in here if not volume.doubt), key=lambda volume: volume.place)
         if len(believed) == 1:
-            return believed[0].device
+            return believed[0].data
         if not here:
             return Missing(f"the physical volume {identity} isn't in these images: give the image that has it")
         both = " and ".join(volume.place for volume in believed)
-        return Missing(f"{both} both are the physical volume {identity}: give one of them" if both else here[0].doubt)
+        ages = [max((text.seqno for text in volume.current), default=0) for volume in believed]
+        newest = next((volume.place for volume, age in zip(believed, ages) if age == max(ages) > min(ages)), None)
+        which = f" ({newest} has the newest text, with the seqno {max(ages)})" if newest else ""
+        return Missing(f"{both} both are the physical volume {identity}: give one of them{which}" if both else here[0].doubt)
 
     def _sides(self, holders: Sequence[Holder], texts: List[Text]) -> Iterator[Group]:
         """The group that has these texts, or each side of it."""
         sides = [Layout(holder.text, self._find) for holder in holders]
         living = {identity for side in sides for identity in side.ids.values()}
-        places = (", ".join(volume.place for volume in holder.volumes) for holder in holders)
+        places = sorted(", ".join(sorted(volume.place for volume in holder.volumes)) for holder in holders)
         refused, is_forked = TWO_SIDES.format(" or ".join(places)), len(sides) > 1
         for side, holder in zip(sides, holders):
             (state, notes), newer = state_of(side), self._newer(holder, side)
             named = {name for other in sides if other is not side for name in other.visible()}
-            whys = {name: newer or (refused if name in named else None) for name in side.visible()}
+            related = [each for each in self._unread if each.is_of(side)]
+            unread = [each for each in related if not any(map(each.is_explained, holders, sides))]
+            told = [f"{each.place}: {each.fault}" for each in related]
+            lost = next((each for each in related if each not in unread and not each.identity), None)
+            whys = {name: newer or (refused if name in named else doubt_of(name, unread, holder)) for name in side.visible()}
+            if lost:
+                whys.update({name: why or doubt_by(lost, name, side) for name, why in whys.items()})
             listed = [Volume(side, name, lambda why=why: why) for name, why in whys.items()]
             # Of a side the texts that are in the rings of its disks, and its own.
             rings = (text for volume in holder.volumes for text in [*volume.older, side.text])
             by_key = {text.key(): text for text in rings if text.identity == side.text.identity} if is_forked else {}
             known = list(by_key.values()) or texts
-            listed += self._removed(known, living, newer)
-            yield Group(side, FORKED if is_forked else state, self._volumes, known, listed, newer, notes)
+            doubt = newer or next((UNREAD.format(each.place, each.fault) for each in unread), None)
+            listed += self._removed(known, living, doubt)
+            if unread and state == COMPLETE:
+                state = LACKING
+            if is_forked or any(each.is_apart(holder) for each in unread):
+                state = FORKED
+            yield Group(side, state, self._volumes, known, listed, doubt, notes + told)
 
     def _newer(self, holder: Holder, side: Layout) -> Optional[str]:
         """Why a text may not be the last: a disk that it names has a later one, or one of another sum."""
@@ -242,44 +275,36 @@ class Texts:
                 return NEWER.format(volume.place, which, fault, side.text.seqno)
         return None
 
-    def _after(self, text: Text) -> Iterator[Text]:
-        """The texts that were written after one, as far as that is known."""
-        for other, volumes in (holder for holders in self._known.values() for holder in holders.values()):
-            if other.seqno > text.seqno if other.identity == text.identity else volumes or other.time >= text.time:
-                yield other
-
-    def _refused(self, side: Layout, name: bytes, texts: Sequence[Text], doubt: Optional[str]) -> Optional[str]:
-        """Why a removed volume of a group that has these texts can't be given, or None."""
-        why = doubt or self._why(side, name, [text for text in texts if text.seqno > side.text.seqno])
+    def _refused(self, side: Layout, name: bytes, history: History, doubt: Optional[str]) -> Optional[str]:
+        """Why a removed volume of a group with this history can't be given, or None."""
+        why = doubt or self._later.why(side, name, history)
         restored = f"to see what is left, restore the text with the seqno {side.text.seqno} on copies (vgcfgrestore)"
         return why if doubt or not why else f"{why}: {restored}"
 
-    def _why(self, side: Layout, name: bytes, later: Sequence[Text]) -> Optional[str]:
-        numbers, below = {text.seqno for text in later}, {side.ids[lower] for lower in side.below(name)}
-        between = range(side.text.seqno + 1, max(numbers, default=0))
-        lost = next((number for number in between if number not in numbers), None)
-        if lost:
-            return f"it was removed, and the text with the seqno {lost} that came after it is lost: {SINCE}"
-        # The current text of a disk of this side that can't be read may be a later one, too.
-        faults = map(self._lost.get, side.physical_ids.values())
-        unreadable = next(filter(None, itertools.chain(faults, map(Text.fault, self._after(side.text)))), None)
-        if unreadable:
-            return f"only an older text has it, and a later one can't be read ({unreadable}), so that {SINCE}"
-        mine = side.uses(name)
-        for (identity, first, end), owner in (each for text in self._after(side.text) for each in uses_of(text)):
-            if any(identity == other and first < stop and start < end for other, start, stop in mine):
-                return f"it was removed, and some of its extents belong to {owner} since, so that {LEFT}"
-        if any(below & ids_in(text) for text in later):
-            return "it was removed, and what it was a part of went on without it, and may have changed"
-        return None
-
     def _removed(self, texts: Sequence[Text], living: Set[str], doubt: Optional[str] = None) -> Iterator[Volume]:
         """The volumes of texts, by the newest that has them, that aren't there now; `doubt` refuses them all."""
-        seen = set(living)
+        seen, history = set(living), History(texts)
         for text in sorted(texts, key=lambda text: -text.seqno):
-            ids = ids_in(text) - seen
+            ids = text.volume_ids() - seen
             seen |= ids
-            side = Layout(text, self._find) if ids and not text.fault() else None
+            side = Layout(text, self._find, self._tables) if ids and not text.fault() else None
             for name in side.visible() if side else ():
                 if side.ids[name] in ids:
-                    yield Volume(side, name, functools.partial(self._refused, side, name, texts, doubt), True)
+                    self._tables.waiting.append(functools.partial(side.key_of, name))
+                    yield Volume(side, name, functools.partial(self._refused, side, name, history, doubt), True)
+
+
+def doubt_of(name: bytes, unread: Iterable[Unread], holder: Holder) -> Optional[str]:
+    """Why a volume isn't given, that one side of a group has and the other may have, whose text can't be read."""
+    for each in unread:
+        names = each.names(holder)
+        if names is None or name in names:
+            return UNREAD.format(each.place, each.fault)
+    return None
+
+
+def doubt_by(lost: Unread, name: bytes, side: Layout) -> Optional[str]:
+    """Why a volume isn't given that lies on a missing disk, if what is left of one may be that; None if it may be."""
+    lacking = {side.physical_ids[key] for key, device in side.physical.items() if isinstance(device, Missing)}
+    is_on_it = any(identity in lacking for identity, _, _ in side.uses(name))
+    return MAYBE.format(lost.place, lost.fault) if is_on_it else None

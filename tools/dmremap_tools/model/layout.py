@@ -1,8 +1,8 @@
 """A text of a group, read: its volumes, and their devices over the physical volumes that are there. Linear and striped
 segments are lines of a table, which dmremap maps; any other is a disk of that table, which its own layer computes."""
 
-import contextlib
 import functools
+import itertools
 from typing import Callable, Dict, Iterator, List, NoReturn, Optional, Set, Tuple
 
 from dmremap_tools.base import names, tables
@@ -10,9 +10,9 @@ from dmremap_tools.base.config_text import Node, shown
 from dmremap_tools.base.numbers import SECTOR
 from dmremap_tools.base.refusal import Refusal
 from dmremap_tools.metadata.volume_group import Group, Record, Segment, Volume
-from dmremap_tools.model import pools, raid_volume
+from dmremap_tools.model import integrity, pools, raid_volume
 from dmremap_tools.model.device import Device, Extent, Missing
-from dmremap_tools.model.mapping import Mapped, Tables, snapshot_of
+from dmremap_tools.model.mapping import Mapped, NoProgram, Tables, snapshot_of
 from dmremap_tools.model.physical_volume import Text
 
 # The most sectors of an extent, and extents of a volume: more than lvm2 makes.
@@ -28,20 +28,24 @@ LOWER = (b"stripes", b"mirrors", b"raids", b"raid0_lvs", b"origin", b"cow_store"
 # What makes the device of a segment of each type, of the layout, the volume's name, the segment and its bytes.
 LAYERS: Dict[bytes, Callable[["Layout", str, Segment, int], Device]] = {
     b"thin": pools.thin_of, b"cache": pools.cached_of, b"cache+CACHE_USES_CACHEVOL": pools.cached_of,
-    b"integrity": raid_volume.integrity_of, b"raid1": raid_volume.mirror_of, b"raid5": raid_volume.parity_of,
-    b"raid5_ls": raid_volume.parity_of}
+    b"integrity": integrity.integrity_of, **dict.fromkeys(raid_volume.KINDS, raid_volume.raid_of)}
+# What no volume of a user's is called.
+MOVES = b"pvmove"
 POOLS = (b"thin-pool", b"cache-pool", b"vdo-pool")
 NEXT = "activate the group's copy on a machine with lvm2 for this volume; the others are followed here"
 ODD = "restore an older text by vgcfgrestore on copies of the disks (`metadata --list` shows what there is)"
+# What devices are called in tables.
+NUMBERS = itertools.count()
 # Sectors of a physical volume: its id, the first one, and the one after the last.
 Use = Tuple[str, int, int]
 
 
 class Layout:
     """The volumes by their names; `find` gives the device of a physical volume by its id, or one that is missing. Of a
-    group whose disks were changed apart from each other there is one for each side."""
+    group whose disks were changed apart from each other there is one for each side. All volumes are loaded together, or
+    with `shared` those of several texts that are wanted."""
 
-    def __init__(self, text: Text, find: Callable[[str], Device]) -> None:
+    def __init__(self, text: Text, find: Callable[[str], Device], shared: Optional[Tables] = None) -> None:
         self.text, self.name, self._find, self.group = text, text.group, find, Group(text.node())
         self.extent = (self.group.extent_size or 0) * SECTOR
         self.ids = {name: identity_of(volume.node) for name, volume in self.group.volumes.items()}
@@ -49,8 +53,10 @@ class Layout:
         self.records: Dict[bytes, Record] = {record.store: record for record in self.group.records if record.store}
         # The origins of snapshots, by the names of their stores.
         self.origins = {record.store: record.origin for record in reversed(self.group.records) if not record.is_merging}
-        self.tables = Tables()
-        self._keys = {name: f"v{number}" for number, name in enumerate(self.group.volumes)}
+        self.tables = shared or Tables()
+        self._keys = {name: f"v{next(NUMBERS)}" for name in self.group.volumes}
+        if not shared:
+            self.tables.waiting += [functools.partial(self.key_of, name) for name in reversed(list(self.group.volumes))]
         self._snapshots = 0
         # The bytes of a volume as its user sees them.
         self.volume = functools.lru_cache(None)(self._volume)
@@ -82,9 +88,10 @@ class Layout:
             raise Refusal(self.name, f"its text has no size of extents: {ODD}")
 
     def visible(self) -> List[bytes]:
-        """The volumes that a user sees, without pools. A snapshot has the name of its store, which the text hides."""
+        """The volumes that a user sees, without pools, and what a move leaves. A snapshot has the name of its store, which
+        the text hides."""
         records = {record.volume.name for record in self.group.records}
-        return [name for name, volume in self.group.volumes.items() if name not in records
+        return [name for name, volume in self.group.volumes.items() if name not in records and not name.startswith(MOVES)
                 and not any(segment.kind in POOLS for segment in volume.segments)
                 and (name in self.origins or b"VISIBLE" in volume.node.values(b"status"))]
 
@@ -102,15 +109,8 @@ class Layout:
     def plain(self, name: bytes) -> Device:
         """The bytes that the segments of a volume have."""
         key = self.key_of(name)
-        return Mapped(self.path(name), self._all_tables, key)
-
-    @functools.cached_property
-    def _all_tables(self) -> Tables:
-        """The tables with all volumes that can be followed, as they are loaded together."""
-        for name in self.group.volumes:
-            with contextlib.suppress(Refusal):
-                self.key_of(name)
-        return self.tables
+        self.tables.add_waiting()
+        return Mapped(self.path(name), self.tables, key)
 
     def lower(self, segment: Segment, field: bytes) -> Optional[Device]:
         """The bytes of the volume that a field of a segment names, or None where it has none."""
@@ -142,7 +142,7 @@ class Layout:
         if not volume.segments or volume.extents > MOST_EXTENTS:
             self.refuse(volume.name, "its text says no length")
         for segment in sorted(volume.segments, key=lambda segment: segment.node.value(b"start_extent", int) or 0):
-            count = segment.count or 0
+            count = segment.length or 0
             if segment.node.value(b"start_extent", int) != start or count <= 0:
                 self.refuse(volume.name, f"its {shown(segment.node.key)} doesn't begin where the one before ends")
             yield self._line(volume, segment, start * self.extent // SECTOR, count * self.extent // SECTOR)
@@ -161,9 +161,13 @@ class Layout:
                 self.refuse(name, f"its {which} says no two legs")
             # The second one if all extents were moved. The first is written all the time, while the second isn't whole.
             return tables.Line(first, length, "linear", self._area(name, *legs[moved == segment.count], length))
-        maker = LAYERS.get(kind)
+        maker = LAYERS.get(kind.partition(b"+RESHAPE")[0])
         if maker is None:
-            raise Refusal(self.path(name), f"its {which} is of type {shown(kind)}, which isn't followed: {NEXT}")
+            legs = [self.path(leg) for leg, _ in areas_of(segment) if leg in self.group.volumes]
+            what = f"its {which} is of type {shown(kind)}, which isn't followed"
+            if len(legs) > 1:
+                raise Refusal(self.path(name), f"{what}: save {legs[0]}, or if it was in sync {' or '.join(legs[1:])}")
+            raise Refusal(self.path(name), f"{what}: {NEXT}")
         size = length * SECTOR
         device = Deferred(self.path(name), size, functools.partial(maker, self, self.path(name), segment, size))
         return tables.Line(first, length, "linear", [self.tables.disk(device), "0"])
@@ -231,6 +235,8 @@ class Deferred(Device):
     def _made(self) -> Device:
         try:
             return self._make()
+        except NoProgram:
+            raise
         except Refusal as refusal:
             return Missing(refusal.why)
 

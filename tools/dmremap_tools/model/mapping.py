@@ -12,10 +12,11 @@ import tempfile
 import weakref
 from typing import Any, Callable, Dict, Iterator, List, NamedTuple, NoReturn, Optional, Sequence, Tuple
 
-from dmremap_tools.base import names, numbers, program, quoting, store_places, tables
+from dmremap_tools.base import names, numbers, paths, program, quoting, store_places, tables
 from dmremap_tools.base.config_text import shown
 from dmremap_tools.base.given import put
 from dmremap_tools.base.numbers import SECTOR
+from dmremap_tools.base.program import NoProgram
 from dmremap_tools.base.refusal import Refusal
 from dmremap_tools.metadata.volume_group import Record
 from dmremap_tools.model.device import ZEROS, Device, Extent, Gap, Lenient, Missing
@@ -41,10 +42,6 @@ BROKEN = f"the store: its list goes on behind a free place, {store_places.DAMAGE
 Piece = NamedTuple("Piece", [("what", str), ("disk", str), ("start", int), ("count", int)])
 
 
-class NoProgram(Refusal):
-    """There is no dmremap to ask."""
-
-
 class Tables:
     """Tables that are loaded together. A line names a device here by its path, and anything else below it as a disk."""
 
@@ -54,6 +51,8 @@ class Tables:
         # What writes to a file what the program reads of the disk that a store is.
         self.stores: Dict[str, Callable[[str], None]] = {}
         self._names: Dict[Device, str] = {}
+        # What adds devices that are to be loaded together with those that are there.
+        self.waiting: List[Callable[[], object]] = []
 
     def disk(self, device: Device) -> str:
         """The name of the disk that a device is here."""
@@ -64,6 +63,12 @@ class Tables:
     def add(self, name: str, lines: Sequence[tables.Line]) -> None:
         self.devices[name] = tables.Device(name)
         self.devices[name].lines += lines
+
+    def add_waiting(self) -> None:
+        """Adds the devices that wait, as far as they can be followed."""
+        while self.waiting:
+            with contextlib.suppress(Refusal):
+                self.waiting.pop()()
 
     def closure(self, wanted: Sequence[str]) -> "Tables":
         """Tables with some of the devices and what they lie on."""
@@ -115,16 +120,17 @@ class Tables:
         except Refusal as refusal:
             return refusal
 
-    def write(self, folder: str, places: Dict[str, str]) -> List[str]:
-        """Writes FILE, DISKS, and PATHS with these places; the paths of the three. A disk that is too short gets as
-        many sectors as lines say, as reading tells what it lacks."""
+    def write(self, folder: str, files: Dict[str, str]) -> List[str]:
+        """Writes FILE, DISKS, and PATHS with these files; the paths of the three. A disk that is too short gets as many
+        sectors as lines say, as reading tells what it lacks."""
+        listed = [paths.line(name, file) for name, file in files.items()]
         ends = {name: min(device.size // SECTOR, numbers.LONGEST_DEVICE) for name, device in self.disks.items()}
         for disk, start, count in self.spans():
             ends[disk] = max(ends[disk], start + (count or 0))
         written = [os.path.join(folder, name) for name in FILES]
         put(written[0], [tables.text_of(list(self.devices.values()), False)])
         put(written[1], (f"{name} {end}\n" for name, end in ends.items()))
-        put(written[2], (f"{name} {place}\n" for name, place in places.items()))
+        put(written[2], listed)
         return written
 
 
@@ -140,8 +146,8 @@ class Child:
             copies = {name: os.path.join(folder, name) for name in source.stores}
             for name, path in copies.items():
                 source.stores[name](path)
-            file, disks, paths = source.write(folder, {name: path + "?offset=0" for name, path in copies.items()})
-            words = [self._name, "map", "table", file, disks] + ["--paths", paths] * bool(copies)
+            file, disks, listed = source.write(folder, copies)
+            words = [self._name, "map", "table", file, disks] + ["--paths", listed] * bool(copies)
             self.chunks = store_places.chunks_in(words, source.devices.values()) if source.stores else {}
             try:
                 self._child = program.start(words, stdin=subprocess.PIPE, stdout=subprocess.PIPE, stderr=self._said)

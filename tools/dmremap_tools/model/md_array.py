@@ -1,12 +1,14 @@
 """md arrays: which members count, and the bytes of the array, also where members are missing."""
 
 import functools
-from typing import Dict, Iterator, List, Optional, Sequence, Tuple
+from typing import Dict, Iterable, Iterator, List, Optional, Sequence, Tuple
 
+from dmremap_tools.base import quoting
 from dmremap_tools.base.numbers import SECTOR
 from dmremap_tools.base.refusal import Refusal
 from dmremap_tools.model import md_chunks, md_superblock
-from dmremap_tools.model.device import ALL, Copies, Device, Extent, Missing, Part, Run, blocks_of
+from dmremap_tools.model.device import (Agreed, Copies, Device, Doubt, Extent, Missing, Part, Run, blocks_of, copied,
+                                        cut, joint)
 from dmremap_tools.model.mapping import Mapped, Tables
 from dmremap_tools.model.md_superblock import Member, level_name
 
@@ -14,15 +16,53 @@ from dmremap_tools.model.md_superblock import Member, level_name
 MOST_CHUNK, MOST_MEMBERS = 1 << 21, 384
 START = "assemble it with mdadm --readonly"
 NO_CHUNK = "its members have no whole chunk: " + START
+NONE_IN_SYNC = "of its members only {} is here, which is a spare, or was being filled: give the other members"
+APART = ("its members were written to apart from each other, as the superblocks of each side say that the other one "
+         "failed: give the images of one side alone ({})")
+UNSYNCED = ("member {} of {} is missing, from which the others were being filled, and nothing tells whether that had "
+            "come here: give its image, or, if all had been filled before, start the array without it on copies (mdadm "
+            "--assemble --run)")
+# The bits of a member that doesn't have all data.
+NOT_ALL = md_superblock.RECOVERING | md_superblock.REPLACEMENT | md_superblock.FROM_BITMAP
+
+
+def put_together(members: Sequence[Member]) -> "Array":
+    """The array of some members. Where two sides of it ran apart, its bytes are those that are the same on both."""
+    first, *others = map(Array, sides_of(members))
+    if not others:
+        return first
+    sides = [" and ".join(each.device.name for each in side.members) for side in (first, *others)]
+    why, devices = Doubt(APART.format(" or ".join(sides))), [side.device for side in (first, *others)]
+    first.device, first.apart = Agreed(first.label, devices, why) if all(devices) else None, why
+    first.why = None if first.device else why
+    for side in others:
+        first.members, first.stale = [*first.members, *side.members], [*first.stale, *side.members]
+    return first
+
+
+def sides_of(members: Sequence[Member]) -> Iterator[List[Member]]:
+    """The members of an array, freshest first. Those that ran apart from these, so that each says that the other isn't
+    in the array any more, are sides of their own."""
+    waiting = sorted(members, key=lambda it: (-it.superblock.events, it.superblock.number, it.device.name))
+    while waiting:
+        apart = [member for member in waiting if lacks(waiting[0], member) and lacks(member, waiting[0])]
+        yield [member for member in waiting if member not in apart]
+        waiting = apart
+
+
+def lacks(member: Member, other: Member) -> bool:
+    """Whether a member with a place says that another one has none."""
+    mine, number = member.superblock, other.superblock.number
+    return mine.role is not None and number < len(mine.roles) and mine.roles[number] >= md_superblock.NO_PLACE
 
 
 class Array(md_chunks.Members):
-    """An array of members with one id, by their superblocks. `device` has its bytes, unless `why` says why nobody can
-    say them."""
+    """An array of members with one id, by their superblocks, the freshest first. `device` has its bytes, unless `why`
+    says why nobody can say them; `apart` says that they ran apart from others."""
 
     def __init__(self, members: Sequence[Member]) -> None:
-        self.members, self.tables = members, Tables()
-        self.best = max(members, key=lambda member: member.superblock.events)
+        self.members, self.tables = list(members), Tables()
+        self.best = self.members[0]
         superblock, level = self.best.superblock, level_name(self.best.superblock)
         layout, chunk = superblock.layout, superblock.chunk
         copies = md_chunks.Copies(layout & 0xFF, layout >> 8 & 0xFF, bool(layout >> 16 & 1))
@@ -32,12 +72,16 @@ class Array(md_chunks.Members):
         self.identity = superblock.array.hex()
         self.label = f"md:{superblock.name.rpartition(':')[2] or self.identity}"
         self.by_role: Dict[int, Member] = {}
+        self._filling: Dict[int, Member] = {}
         self.stale: List[Member] = []
         self.why: Optional[str] = None
+        self.apart: Optional[str] = None
         self.device: Optional[Device] = None
         try:
             self._take()
             self._check()
+            resync = min(member.superblock.resync for member in self.by_role.values())
+            self._dirty = [(begin * SECTOR, end * SECTOR) for begin, end in md_superblock.unsynced(self.best, resync)]
             self._data = [self._data_of(role) for role in range(self.count)]
             self.device = self._made()
         except Refusal as refusal:
@@ -53,18 +97,28 @@ class Array(md_chunks.Members):
         copies = max(self.copies.near * self.copies.far, 1)
         return self.missing >= (1 if self.level == "raid1" else -(-self.data // copies))
 
+    @functools.cached_property
+    def note(self) -> Optional[str]:
+        """What is to be said of its bytes: why nobody can say them, or what of them isn't known."""
+        if self.why or self.apart or not self.device:
+            return self.why or self.apart
+        return self.device.lack(0, self.device.size) if self.missing else None
+
     def give_up(self, why: str) -> None:
         """Says why nobody can say its bytes."""
         self.device, self.why = None, why
 
     def _take(self) -> None:
-        """Those with the most events, or one less, count, in the role that the freshest superblock gives them."""
+        """Those with the most events, or one less, count, in the role that the freshest superblock gives them. Of one
+        that was being filled what it has counts where no other one is there."""
         best, twice = self.best.superblock, None
-        for member in sorted(self.members, key=lambda member: -member.superblock.events):
+        for member in self.members:
             superblock = member.superblock
             role = best.roles[superblock.number] if superblock.number < len(best.roles) else md_superblock.NO_PLACE
             is_fresh = superblock.events + 1 >= best.events and role < self.count
-            if not is_fresh or superblock.features & (md_superblock.RECOVERING | md_superblock.REPLACEMENT):
+            if is_fresh and superblock.features & NOT_ALL == md_superblock.RECOVERING:
+                self._filling.setdefault(role, member)
+            if not is_fresh or superblock.features & NOT_ALL:
                 self.stale.append(member)
             elif role in self.by_role:
                 both = f"{self.by_role[role].device.name} and {member.device.name}"
@@ -73,6 +127,8 @@ class Array(md_chunks.Members):
                 self.by_role[role] = member
         if twice:
             self.refuse(twice)
+        if not self.by_role:
+            self.refuse(NONE_IN_SYNC.format(quoting.some([member.device.name for member in self.members], " and ")))
 
     def _check(self) -> None:
         superblock, copies = self.best.superblock, self.copies.near * self.copies.far
@@ -95,38 +151,56 @@ class Array(md_chunks.Members):
             self.refuse(NO_CHUNK)
 
     def _made(self) -> Device:
+        size = self.best.superblock.used * SECTOR
         if self.level == "raid1":
-            # The freshest first, as one event less is let pass.
-            order = sorted(self.by_role, key=lambda role: -self.by_role[role].superblock.events)
-            return Copies(self.label, [self._data[role] for role in order], self.best.superblock.used * SECTOR)
+            # The freshest first, as one event less is let pass. Where they aren't in step, the first one's bytes count.
+            order = sorted(self.by_role, key=lambda role: (role != self.source(range(self.count)),
+                                                           -self.by_role[role].superblock.events, role))
+            order += [role for role in sorted(self._filling) if role not in self.by_role]
+            return Copies(self.label, [self._in_step(role) for role in order], size)
         # Where all members are there, a table that can say it does.
-        is_whole = self.is_tabled and not self.missing
+        length = self.chunks * self.chunk * SECTOR
+        is_whole = self.is_tabled and not self.missing and not any(
+            member.lack(0, length) for member in self._data if self.level not in ("linear", "raid0"))
         if self.level in md_chunks.PARITY and not is_whole:
-            resync = self.best.superblock.resync
-            doubtful = [] if resync == md_superblock.CLEAN else [(resync * SECTOR, ALL)]
-            return md_chunks.Rows(self.label, self, self._data, self.sectors * SECTOR, doubtful)
+            return md_chunks.Rows(self.label, self, self._data, self.sectors * SECTOR, self._dirty)
         if self.level == "raid10" and not is_whole:
-            return CopiedChunks(self, self._data)
+            return CopiedChunks(self, self._data, self._dirty)
         self.tables.add("array", list(self.lines()) or self.refuse(NO_CHUNK))
         return Mapped(self.label, self.tables, "array")
+
+    def source(self, roles: Iterable[int]) -> Optional[int]:
+        """Of the members with these roles the first that is in the array, from which others are filled."""
+        return next((role for role in roles if role in self.best.superblock.roles), None)
+
+    def _in_step(self, role: int) -> Device:
+        """A copy of a mirror, without what isn't known to be in step with the member that others are filled from."""
+        data, first = self._data[role], self.source(range(self.count))
+        if role == first or not self._dirty:
+            return data
+        return Part(data.name, data, 0, data.size, self._dirty, self.unsynced(first))
+
+    def unsynced(self, role: Optional[int]) -> str:
+        """Why bytes that may not have been copied from a member aren't known."""
+        return Doubt(UNSYNCED.format(role, self.label))
 
     def length(self, member: Member) -> int:
         """The sectors of a member that are the array's."""
         return member.superblock.length if self.level in ("linear", "raid0") else member.superblock.used
 
     def _data_of(self, role: int) -> Device:
-        """The data of a member, without what its log says it lacks."""
-        member, name = self.by_role.get(role), f"member {role} of {self.label}"
+        """The data of a member, without what its log says it lacks, and what wasn't filled yet."""
+        member, name = self.by_role.get(role) or self._filling.get(role), f"member {role} of {self.label}"
         if not member:
             return Missing(f"{name} is missing: give its image", 1 << 62)
-        first = member.superblock.start * SECTOR
-        runs: List[Run] = []
-        for start, count in sorted(md_superblock.bad_blocks(member)):
-            begin, end = start * SECTOR - first, (start + count) * SECTOR - first
-            last = runs.pop() if runs and begin <= runs[-1][1] else (begin, begin)
-            runs.append((last[0], max(last[1], end)))
+        first, length = member.superblock.start * SECTOR, self.length(member) * SECTOR
+        runs = [((start * SECTOR - first), (start + count) * SECTOR - first)
+                for start, count in md_superblock.bad_blocks(member)]
         why = f"{name} lacks these bytes, as its log of bad blocks says: give the other members"
-        return Part(name, member.device, first, self.length(member) * SECTOR, runs, why)
+        if role not in self.by_role:
+            runs.append((member.superblock.filled * SECTOR, length))
+            why = f"{name} is missing, and {member.device.name} was being filled in its place: give its image"
+        return Part(name, member.device, first, length, joint(runs), why)
 
     def spot(self, role: int, row: int = 0) -> List[str]:
         return [self.tables.disk(self._data[role]), str(row)]
@@ -139,27 +213,32 @@ class Array(md_chunks.Members):
 
 
 class CopiedChunks(Device):
-    """Chunks that have copies on several members (raid10)."""
+    """Chunks that have copies on several members (raid10). Those in `dirty` runs may not be in step."""
 
-    def __init__(self, array: Array, members: Sequence[Device]) -> None:
+    def __init__(self, array: Array, members: Sequence[Device], dirty: Sequence[Run]) -> None:
         super().__init__(array.label, array.sectors * SECTOR)
-        self._array, self._members, self._chunk = array, members, array.chunk * SECTOR
+        self._array, self._members, self._dirty, self._chunk = array, members, dirty, array.chunk * SECTOR
 
-    def _copies_of(self, number: int) -> Iterator[Tuple[Device, int]]:
-        """The members that have a chunk, and where, in bytes."""
+    def _copies_of(self, number: int) -> Iterator[Tuple[int, int]]:
+        """The roles of the members that have a chunk, and where, in bytes."""
         for copy in range(self._array.copies.near * self._array.copies.far):
             role, row = self._array.place(number, copy)
-            yield self._members[role], row * self._chunk
+            yield role, row * self._chunk
 
     @functools.cached_property
     def is_whole(self) -> bool:
         """Where each member has all of its bytes or none, as many chunks as there are members tell it."""
-        whole = [member for member in self._members if member.lack(0, self._array.chunks * self._chunk) is None]
+        length = self._array.chunks * self._chunk
+        whole = [role for role, member in enumerate(self._members) if member.lack(0, length) is None]
         numbers = range(min(self._array.count, self.size // self._chunk))
-        return all(any(member in whole for member, _ in self._copies_of(number)) for number in numbers)
+        return not self._dirty and all(any(role in whole for role, _ in self._copies_of(it)) for it in numbers)
 
     def _extents(self, start: int, size: int) -> Iterator[Extent]:
-        for number, offset, count in blocks_of(start, size, self._chunk):
-            copies = list(self._copies_of(number))
-            member, place = next((copy for copy in copies if copy[0].lack(copy[1] + offset, count) is None), copies[0])
-            yield from member.extents(place + offset, count)
+        for begin, end, run in cut(self._dirty, start, start + size):
+            for number, offset, count in blocks_of(begin, end - begin, self._chunk):
+                copies = list(self._copies_of(number))
+                first = self._array.source(role for role, _ in copies) if run else None
+                places = [(self._members[role], at + offset) for role, at in copies if first in (None, role)]
+                if first is not None and first not in self._array.by_role:
+                    places = [(Missing(self._array.unsynced(first)), 0)]
+                yield from copied(places, count)

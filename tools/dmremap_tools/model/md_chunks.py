@@ -28,8 +28,8 @@ POLYNOMIAL = 0x11D
 UNCLEAN = "the array wasn't shut down cleanly, so that its parity may be old: give the missing member"
 # The layout of raid10: how many near copies, how many far ones, and whether these lie in the next row.
 Copies = NamedTuple("Copies", [("near", int), ("far", int), ("is_offset", bool)])
-# The roles of a row: those of its data in their order, and those of P and Q where the rule for these is known.
-Row = NamedTuple("Row", [("data", List[int]), ("parity", Optional[int]), ("syndrome", Optional[int])])
+# The roles of a row: those of its data in their order, of P, and in raid6 of Q, and which power of g each has there.
+Row = NamedTuple("Row", [("data", List[int]), ("parity", int), ("syndrome", Optional[int]), ("powers", Dict[int, int])])
 
 
 class Shape:
@@ -70,11 +70,18 @@ class Shape:
         return (role + at + turn * near) % self.count, row + turn * (1 if is_offset else self.chunks // far)
 
     def row(self, row: int) -> Row:
+        """Q follows P, but in the last layout of DDF; the powers go up from the device after Q, in DDF from the first on."""
         data = [self.place(row * self.data + column)[0] for column in range(self.data)]
-        if self.level != "raid6":
-            return Row(data, next(role for role in range(self.count) if role not in data), None)
-        parity = (data[0] - 2) % self.count if self.layout == "left-symmetric" else None
-        return Row(data, parity, None if parity is None else (parity + 1) % self.count)
+        parity, *rest = (role for role in range(self.count) if role not in data)
+        if not rest:
+            return Row(data, parity, None, {})
+        is_around, is_swapped = (parity, rest[0]) == (0, self.count - 1), self.layout == "ddf-N-continue"
+        if is_around != is_swapped and not self.layout.endswith("-6"):
+            parity, rest = rest[0], [parity]
+        after = rest[0] + 1
+        order = [role % self.count for role in range(after, after + self.count) if role % self.count in data]
+        is_of_ddf = self.layout.startswith("ddf")
+        return Row(data, parity, rest[0], {role: role if is_of_ddf else power for power, role in enumerate(order)})
 
     def number(self, role: int, row: int) -> Optional[int]:
         """The number of the chunk of data that a member has in a row, or None where that has parity there."""
@@ -225,6 +232,15 @@ class Computed(Device):
         except Gap as gap:
             return gap.why
 
+    def _extents(self, start: int, size: int) -> Iterator[Extent]:
+        """In parts, as of a chunk some sectors may be computed and others not."""
+        for part in self._rows.parts(start, size):
+            try:
+                self._gone(*part)
+                yield Extent(self, *part[1:])
+            except Gap as gap:
+                yield Extent(device.Missing(gap.why), 0, part[2])
+
     def load(self, start: int, size: int) -> bytes:
         return b"".join(self._solved(*part) for part in self._rows.parts(start, size))
 
@@ -236,9 +252,6 @@ class Computed(Device):
         lacks = {role: why for role, why in whys if why is not None}
         if len(lacks) > self._shape.count - self._shape.data:
             raise Gap(self.name, quoting.some(list(lacks.values()), "; "))
-        if self._shape.level == "raid6" and self._shape.row(row).syndrome is None:
-            why = f"no rule is known for parity of the layout {self._shape.layout}: give the missing member"
-            raise Gap(self.name, f"{lacks[self._role]}: {why}")
         return list(lacks)
 
     def _solved(self, row: int, at: int, count: int) -> bytes:
@@ -248,14 +261,14 @@ class Computed(Device):
         lost = [role for role in gone if role in roles.data]
         if len(lost) == 1 and roles.parity in have:
             return added([have[role] for role in have if role != roles.syndrome])
-        data = [(number, have[role]) for number, role in enumerate(roles.data) if role in have]
-        syndrome = added([have[roles.syndrome or 0]] + [times(content, number) for number, content in data])
-        mine = roles.data.index(self._role)
+        data = [(roles.powers[role], have[role]) for role in roles.data if role in have]
+        syndrome = added([have[roles.syndrome or 0]] + [times(content, power) for power, content in data])
+        mine = roles.powers[self._role]
         if len(lost) == 1:
             return times(syndrome, -mine)
         # g^x D_x + g^y D_y = syndrome and D_x + D_y = both, so D_x = (syndrome + g^y both) / (g^x + g^y).
-        other = roles.data.index(next(role for role in lost if role != self._role))
-        both = added([have[roles.parity or 0]] + [content for _, content in data])
+        other = next(roles.powers[role] for role in lost if role != self._role)
+        both = added([have[roles.parity]] + [content for _, content in data])
         return times(added([syndrome, times(both, other)]), -LOGARITHMS[POWERS[mine] ^ POWERS[other]])
 
 

@@ -4,11 +4,12 @@ is believed that its sum doesn't confirm, or that says that it lies elsewhere.""
 import functools
 import itertools
 import struct
-from typing import Iterator, List, NamedTuple, Optional, Tuple
+from typing import Iterator, List, NamedTuple, Optional, Sequence, Tuple
 
-from dmremap_tools.base import streams
+from dmremap_tools.base import partition_table, streams
 from dmremap_tools.base.disk_image import Image, Unreadable
 from dmremap_tools.base.numbers import SECTOR
+from dmremap_tools.base.refusal import Refusal
 from dmremap_tools.model.device import Device, Lenient
 
 MAGIC = 0xA92B4EFC
@@ -16,30 +17,39 @@ LINEAR, STRIPED, MIRRORED = -1, 0, 1
 NAMES = {LINEAR: "linear", STRIPED: "raid0", MIRRORED: "raid1", 4: "raid4", 5: "raid5", 6: "raid6", 10: "raid10"}
 # Versions 1.x: the fields up to the table of roles, which follows them, where their sum is, and for how many roles
 # there is room.
-FIRST, SUM_AT, MOST_BYTES = struct.Struct("<8xL4x16s32s8xlLQLL32xQQQ8xL21xBHl8xQQLL32x"), 216, 4096
+FIRST, SUM_AT, MOST_BYTES = struct.Struct("<8xL4x16s32s8xlLQLLl28xQQQQL21xBHl8xQQLL32x"), 216, 4096
 MOST_ROLES = (MOST_BYTES - FIRST.size) // 2
 # Roles from here on are none: a spare, a faulty member, a journal.
 NO_PLACE = 0xFFF0
 # Bits of their feature map: a bitmap, a member that is being filled, a reshape, bad blocks, a member that is being
-# replaced, a journal, and the layout of raid0 that is said.
-BITMAP, RECOVERING, RESHAPING, BAD_BLOCKS, REPLACEMENT, JOURNAL, LAYOUT_SAID = 0x1, 0x2, 0x4, 0x8, 0x10, 0x200, 0x1000
+# replaced, one that is being filled by the bitmap, a journal, and the layout of raid0 that is said.
+BITMAP, RECOVERING, RESHAPING, BAD_BLOCKS, REPLACEMENT, FROM_BITMAP = 0x1, 0x2, 0x4, 0x8, 0x10, 0x80
+JOURNAL, LAYOUT_SAID = 0x200, 0x1000
 # Those that don't change where data lies.
 HARMLESS = BITMAP | BAD_BLOCKS | LAYOUT_SAID
 CLEAN = (1 << 64) - 1
+# A bitmap: its magic, the id of its array, the count of events, how many sectors it speaks of, its state, and the bytes
+# of each bit; and where these begin.
+BITMAP_FORM, BITMAP_MAGIC, BITMAP_STALE, BITS_AT = struct.Struct("<4s4x16sQ8xQLL"), b"bitm", 0x2, 256
+MOST_BITS = 1 << 25
 # Version 0.90: it lies in the last 64 KiB of a member that begin at a multiple of that, and has the bytes of a page.
 OLD, OLD_ROOM, OLD_MINOR, OLD_RESHAPING = "0.90", 1 << 16, 90, 91
+# The versions that lie behind their data, which begins where the member does.
+AT_END = (OLD, "1.0")
 # The word where it says what the device itself is, and the bits there that say whether it has all data.
 OLD_SELF, OLD_ACTIVE, OLD_FAULTY = 992, 0b110, 0b1001
 MOST_DEVICES = 4096
 # A superblock: its version, and where it lies in the member; the array, its level, layout, sectors of a chunk and
 # number of places; the first sector of this member's data, how many it has, and how many the array uses of each; how
 # often the array had changed; the number of the member, its place, if it has one, and the place of each number; the
-# bits of its feature map; the array's name; up to which sector it is in sync; and the power of two of sectors in which
-# its log of bad blocks counts, how many sectors that has, and where.
+# bits of its feature map; the array's name; up to which sector it is in sync; the power of two of sectors in which its
+# log of bad blocks counts, how many sectors that has, and where; where its bitmap is, in sectors from here on; and up to
+# which sector of its data a member that is being filled has been.
 Superblock = NamedTuple("Superblock", [
     ("version", str), ("at", int), ("array", bytes), ("level", int), ("layout", int), ("chunk", int), ("places", int),
     ("start", int), ("length", int), ("used", int), ("events", int), ("number", int), ("role", Optional[int]),
-    ("roles", Tuple[int, ...]), ("features", int), ("name", str), ("resync", int), ("bad_log", Tuple[int, int, int])])
+    ("roles", Tuple[int, ...]), ("features", int), ("name", str), ("resync", int), ("bad_log", Tuple[int, int, int]),
+    ("bitmap", int), ("filled", int)])
 # A device with a superblock.
 Member = NamedTuple("Member", [("device", Device), ("superblock", Superblock)])
 
@@ -63,13 +73,42 @@ def damaged(image: Image, size: Optional[int] = None) -> List[int]:
     return [at for at, _, found in _found(image, image.size if size is None else size) if not found]
 
 
-def members_in(device: Device) -> Tuple[List[Member], List[int], List[Tuple[int, bytes]]]:
-    """The members that a device is by sound superblocks of versions 1.x; where one of version 0.90 begins; and where
-    any of 1.x does, with the id of its array. The last of them is in force."""
+def found_in(device: Device) -> Tuple[List[Superblock], List[Tuple[int, bytes]]]:
+    """The sound superblocks of a device; and where something begins as one and isn't sound, with the id of its array."""
     found = list(_found(Lenient(device), device.size))
-    old = [at for at, content, _ in found if content[4:8] == bytes(4)]
-    first = [(at, content[16:32]) for at, content, _ in found if content[4:8] != bytes(4)]
-    return [Member(device, each) for _, _, each in found if each and each.version != OLD], old, first
+    return [each for _, _, each in found if each], [(at, content[16:32]) for at, content, each in found if not each]
+
+
+def outermost(found: Sequence[Superblock], size: int) -> List[Superblock]:
+    """Of the sound superblocks of a device of so many bytes the one that owns it, or those of which nothing tells
+    which one does. One whose data is longer than the device, or ends before a superblock at the end of it, belongs to
+    what is made of the device."""
+    fitting = [each for each in found if each.start + each.length <= size // SECTOR] or list(found)
+    last = max((each for each in fitting if each.version in AT_END), key=lambda each: each.at, default=None)
+    return [each for each in fitting
+            if last is None or each is last or each.version in AT_END or (each.start + each.length) * SECTOR > last.at]
+
+
+def unsynced(member: Member, resync: int) -> List[Tuple[int, int]]:
+    """The runs of sectors of an array whose copies or parity may be older than its data, by how far the last resync
+    came: what the member's bitmap says was being written, or all from there on. In raid10 they are the array's sectors,
+    in other levels those of each member's data."""
+    superblock = member.superblock
+    if resync == CLEAN:
+        return []
+    if superblock.features & BITMAP:
+        at = superblock.at + superblock.bitmap * SECTOR
+        content = Lenient(member.device).read(at, BITMAP_FORM.size).ljust(BITMAP_FORM.size, b"\0")
+        magic, array, events, sectors, state, chunk = BITMAP_FORM.unpack(content)
+        is_sound = (magic, array) == (BITMAP_MAGIC, superblock.array) and not state & BITMAP_STALE
+        each = chunk // SECTOR if is_sound and events >= superblock.events else 0
+        count = -(-sectors // each) if each else 0
+        bits = Lenient(member.device).read(at + BITS_AT, -(-count // 8)) if 0 < count <= MOST_BITS else b""
+        if count and len(bits) >= -(-count // 8):
+            dirty = (place for place in range(count) if bits[place // 8] >> place % 8 & 1)
+            runs = ((max(place * each, resync), (place + 1) * each) for place in dirty)
+            return [run for run in runs if run[0] < run[1]]
+    return [(resync, CLEAN)]
 
 
 def bad_blocks(member: Member) -> List[Tuple[int, int]]:
@@ -87,7 +126,8 @@ def _found(image: Image, size: int) -> Iterator[Tuple[int, bytes, Optional[Super
     sectors = size // SECTOR
     for version, sector in (("1.0", (sectors - 16) & ~7), ("1.1", 0), ("1.2", 8)):
         content = _read(image, sector * SECTOR) if sector >= 0 else b""
-        if content[:8] == struct.pack("<LL", MAGIC, 1):
+        is_one = content[:8] == struct.pack("<LL", MAGIC, 1)
+        if is_one and not (version == "1.0" and _is_of_partition(image, content, sector)):
             yield sector * SECTOR, content, _first_version(content, version, sector)
     at = size // OLD_ROOM * OLD_ROOM - OLD_ROOM
     content = _read(image, at) if at >= 0 else b""
@@ -117,23 +157,42 @@ def _sum(content: bytes, order: str) -> int:
     return (total & 0xFFFFFFFF) + (total >> 32) & 0xFFFFFFFF
 
 
-def _first_version(content: bytes, version: str, sector: int) -> Optional[Superblock]:
-    """A superblock of version 1.x at this sector of a member, or None where it isn't sound."""
+def _is_of_partition(image: Image, content: bytes, sector: int) -> bool:
+    """Whether a superblock of version 1.0 at the end of a disk is that of a partition, by where it says that it lies."""
+    begin = (sector - (_summed(content) or sector)) * SECTOR
+    try:
+        tables = [partition_table.table_of(image, each) for each in partition_table.GPT_SECTORS] if begin > 0 else []
+    except Refusal:
+        return False
+    return any(begin == partition.start for table in tables if table for partition in table.partitions)
+
+
+def _summed(content: bytes) -> Optional[int]:
+    """The sector at which a superblock of version 1.x says that it lies, or None where its sum is wrong."""
     if len(content) < FIRST.size:
         return None
-    (features, array, name, level, layout, used, chunk, count, start, length, belongs, number, shift, log_size,
-     log_offset, events, resync, stored, most) = FIRST.unpack_from(content)
-    size = FIRST.size + 2 * most
+    fields = FIRST.unpack_from(content)
+    size = FIRST.size + 2 * fields[-1]
     summed = content[:SUM_AT] + bytes(4) + content[SUM_AT + 4:size]
+    is_sound = fields[-1] <= MOST_ROLES and len(content) >= size and _sum(summed, "<") == fields[-2]
+    return fields[11] if is_sound else None
+
+
+def _first_version(content: bytes, version: str, sector: int) -> Optional[Superblock]:
+    """A superblock of version 1.x at this sector of a member, or None where it isn't sound."""
+    if _summed(content) != sector:
+        return None
+    (features, array, name, level, layout, used, chunk, count, bitmap, start, length, _, filled, number, shift,
+     log_size, log_offset, events, resync, _, most) = FIRST.unpack_from(content)
+    size = FIRST.size + 2 * most
     is_placed = start >= sector + -(-size // SECTOR) if version != "1.0" else start + length <= sector
-    if most > MOST_ROLES or len(content) < size or _sum(summed, "<") != stored or belongs != sector or not is_placed \
-            or not 0 < count <= MOST_DEVICES or start + length > 1 << 55:
+    if not is_placed or not 0 < count <= MOST_DEVICES or start + length > 1 << 55:
         return None
     roles = struct.unpack_from(f"<{most}H", content, FIRST.size)
     role = roles[number] if number < most and roles[number] < NO_PLACE else None
     name = name.split(b"\0", 1)[0].decode("utf-8", "replace")
     return Superblock(version, sector * SECTOR, array, level, layout, chunk, count, start, length, used, events, number,
-                      role, roles, features, name, resync, (shift, log_size, log_offset))
+                      role, roles, features, name, resync, (shift, log_size, log_offset), bitmap, filled)
 
 
 def _old_version(content: bytes, order: str, at: int) -> Optional[Superblock]:
@@ -151,4 +210,4 @@ def _old_version(content: bytes, order: str, at: int) -> Optional[Superblock]:
     array = struct.pack(">4L", words[5], *words[13:16])
     features = RESHAPING if words[2] == OLD_RESHAPING else 0
     return Superblock(OLD, at, array, level, words[64], words[65] // SECTOR, words[10], 0, at // SECTOR, 2 * words[8],
-                      high << 32 | low, number, role if is_active else None, (), features, "", CLEAN, (0, 0, 0))
+                      high << 32 | low, number, role if is_active else None, (), features, "", CLEAN, (0, 0, 0), 0, 0)

@@ -12,12 +12,12 @@ from dmremap_tools.base.config_text import shown
 from dmremap_tools.base.numbers import SECTOR
 from dmremap_tools.base.refusal import Refusal
 from dmremap_tools.metadata.volume_group import Segment
-from dmremap_tools.model.device import ALL, ZEROS, Device, Gap, blocks_of, joined
+from dmremap_tools.model.device import ALL, ZEROS, Device, Gap, blocks_of, ground, joined
 from dmremap_tools.model.groups import REMOVED, Group
 from dmremap_tools.model.layout import LOWER, Layout
 from dmremap_tools.model.mapping import INVALID_SNAPSHOT, NoProgram
-from dmremap_tools.model.md_chunks import Shape
 from dmremap_tools.model.physical_volume import PhysicalVolume
+from dmremap_tools.model.raid_volume import numbers_in
 
 # How many things may lie on each other, and how many ways up there are beside some for each sector.
 DEEPEST, MOST_WAYS, MOST_OF_SECTOR = 40, 4096, 8
@@ -27,7 +27,7 @@ WINDOW, MOST_SECTORS = 1 << 11, 1 << 18
 BARE = (b"zero", b"error", b"snapshot", b"thin", b"thin-pool", b"cache", b"cache+CACHE_USES_CACHEVOL", b"cache-pool",
         b"integrity")
 SNAPSHOT = (b"origin", b"cow_store", b"merging_store")
-INTEGRITY, RAID5 = (b"origin", b"integrity"), (b"raid5", b"raid5_ls")
+INTEGRITY = (b"origin", b"integrity")
 # What a volume is to another one whose sectors it doesn't have one by one, by the field that names it.
 ROLES = {b"metadata": "metadata", b"meta_dev": "journal", b"mirror_log": "log", b"pool": "data", b"data": "data",
          b"cache_pool": "cache", b"cache_vol": "cache", b"origin": "origin"}
@@ -206,6 +206,9 @@ class Stack:
         upper, segment, field, place, begin = above
         kind, columns, chunk = segment.kind or b"", len(segment.stripes), segment.stripe_size or 0
         leg, legs, is_leg = place // 2, len(segment.node.values(b"raids")) // 2, field == b"raids" and place % 2 == 1
+        if field == b"raid0_lvs":
+            leg, legs, is_leg = place, len(segment.node.values(field)), True
+        numbers = numbers_in(segment, legs) if is_leg and chunk else None
         length, to = (segment.count or 0) * self.extent, (segment.node.value(b"start_extent", int) or 0) * self.extent
         chunks = functools.partial(chunks_of, name=self.path(upper), above=self.on(upper), begin=begin, to=to,
                                    length=length)
@@ -216,11 +219,10 @@ class Stack:
                 columns, chunk, place = 1, ALL, 0
             first, end = max(first, begin), min(end, begin - -length // columns)
             yield from chunks(first, end, chunk, lambda row: [row * columns + place])
-        elif is_leg and kind in RAID5 and chunk and legs > 1:
-            shape = Shape("raid5", legs, "left-symmetric", chunk)
+        elif numbers:
             parity = self._part("parity", upper)
-            yield from chunks(first, end, chunk, lambda row: [shape.number(leg, row)], parity=parity)
-        elif field == b"raids":
+            yield from chunks(first, end, chunk, lambda row: [numbers(leg, row)], parity=parity)
+        elif field in (b"raids", b"raid0_lvs"):
             yield Run(first, end, self._part("part" if is_leg else "superblock", upper))
         elif field not in SNAPSHOT or kind.startswith(b"cache"):
             # What a snapshot reads of its origin and of its store is found otherwise; a thin one reads its pool. Which
@@ -251,7 +253,7 @@ class Stack:
             why, sources = self._reading(upper)
             for at, extent in joined(self.side.plain(lower), first * SECTOR, (end - first) * SECTOR):
                 stop, moved = extent.start + extent.size, at - extent.start
-                starts, sizes, places = sources.get(extent.source, ((), (), ()))
+                starts, sizes, places = sources.get(ground(extent.source), ((), (), ()))
                 for row in range(max(0, bisect_right(starts, extent.start) - 1), bisect_right(starts, stop - 1)):
                     begin, until = max(extent.start, starts[row]), min(stop, starts[row] + sizes[row])
                     if begin < until:
@@ -269,10 +271,11 @@ def reading_of(device: Device) -> Tuple[Optional[str], Dict[Device, List["array[
     """What a volume lacks, and where its bytes are read: the starts, the sizes and the places in it, by the sources."""
     lacks, rows = None, {}  # type: Optional[str], Dict[Device, List[Tuple[int, int, int]]]
     for at, extent in joined(device, 0, device.size):
-        why = extent.source.lack(extent.start, extent.size)
+        source = ground(extent.source)
+        why = None if source is not extent.source else source.lack(extent.start, extent.size)
         lacks = lacks or why
-        if why is None and extent.source is not ZEROS:
-            rows.setdefault(extent.source, []).append((extent.start, extent.size, at))
+        if why is None and source is not ZEROS:
+            rows.setdefault(source, []).append((extent.start, extent.size, at))
     return lacks, {source: [array("Q", each) for each in zip(*sorted(found))] for source, found in rows.items()}
 
 

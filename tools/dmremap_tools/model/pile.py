@@ -2,30 +2,53 @@
 
 from typing import Dict, List, NamedTuple, Optional, Sequence, Tuple
 
-from dmremap_tools.base import quoting
+from dmremap_tools.base import disk_image, quoting, signatures
 from dmremap_tools.base.disk_image import file_system_of
-from dmremap_tools.base.luks_header import Container, container_in
+from dmremap_tools.base.luks_header import SECOND_ALONE, Container, container_in
 from dmremap_tools.base.numbers import SECTOR
 from dmremap_tools.base.partition_table import Table, backup_of, table_of
+from dmremap_tools.base.program import NoProgram
 from dmremap_tools.base.refusal import Refusal
 from dmremap_tools.model import mapping, md_superblock, physical_volume
-from dmremap_tools.model.device import Device, Image, Lenient, Part, Run
+from dmremap_tools.base.signatures import Signature
+from dmremap_tools.model.device import Device, Doubt, Image, Lenient, Part, Run
 from dmremap_tools.model.groups import REMOVED, Group, Texts, Volume, same_id
-from dmremap_tools.model.md_array import Array
-from dmremap_tools.model.md_superblock import Member
-from dmremap_tools.model.physical_volume import PhysicalVolume
+from dmremap_tools.model.md_array import Array, put_together
+from dmremap_tools.model.md_superblock import AT_END, MIRRORED, OLD, Member, Superblock
+from dmremap_tools.model.physical_volume import Leftover, PhysicalVolume
 
+# What blkid calls otherwise than is done here.
+SAME = {"crypto_LUKS": "luks", "LVM2_member": "lvm2", "BitLocker": "bitlocker", "zfs_member": "zfs"}
+# A disk of a controller is at most by this part longer than what a volume has of it, and a volume has no more of them.
+# Before this byte a physical volume has no data.
+SLACK, MOST_STRIPES, FIRST_DATA = 40, 32, 1 << 13
 NOTHING, SCAN, BIG_SECTOR = "nothing is found in it", "`scan` lists what is there", 4096
-# The most disks, partitions and arrays that are looked at, and the most levels of arrays that are members of others.
-MOST_SPOTS, MOST_LEVELS = 1 << 13, 8
+# The most disks, partitions and arrays that are looked at, the most levels of arrays that are members of others, and the
+# number up to which partitions are asked for.
+MOST_SPOTS, MOST_LEVELS, MOST_ASKED = 1 << 13, 8, 1 << 8
 MANY = f"no more than {MOST_SPOTS} disks, partitions and arrays are looked at: give fewer images"
 NESTED = (f"its members lie on arrays in {MOST_LEVELS} levels, and no more are followed: assemble it with mdadm "
           "--readonly")
-OLD = "a member of an md array with metadata 0.90, which isn't followed: assemble copies with mdadm --readonly"
+OLD_MEMBER = "a member of an md array with metadata 0.90, which isn't followed: assemble copies with mdadm --readonly"
 DAMAGED = ("its md superblock at byte {} is damaged: give the other members alone, or of a mirror this image alone, or "
            "make the array anew on copies (mdadm --create --assume-clean)")
 MAY_BE_NEWER = ("it lacks members, and {} may be one with newer data, as its md superblock is damaged: leave that out "
                 "to take what is here")
+FOREIGN = ("a signature of {} at byte {} says that something has these bytes that isn't followed: put that together and "
+           "give its device, or, if the signature is only left over, take it out of a copy by wipefs")
+TWO_OWNERS = ("{} has sound md superblocks of several arrays, which nothing tells apart: take the one that is older out of "
+              "a copy (mdadm --zero-superblock --metadata)")
+TABLE_TOO = ("there are both an md superblock and a partition table ({}): name {} to take the partition, or {} to take the "
+             "array")
+TABLE_OVER_LABEL = ("the disk has a partition table ({}) as well, which was made later, so that others may have written "
+                    "there: to take it as it was, take the table out of a copy (dd if=/dev/zero of=COPY count=1 "
+                    "conv=notrunc)")
+OLDER_ARRAY = ("a member of {}, whose member {} has a partition table since: leave that out to take the array without it")
+OTHER_TABLE = ("a partition table ({}) that isn't followed begins it: attach a copy by losetup -P, and give its partitions, or "
+               "cut them out by dd")
+AS_ANOTHER = "partition {} begins at the same byte and has it all, so that it is told there"
+STRIPES = ("the physical volume in it says that it has {} bytes, where this is a disk of {}, which seems to be one of the "
+           "stripes of a controller: give an image of the controller's volume, or of the whole disk if it was cut off")
 ONE_MEMBER = ("{} has {} bytes, and the physical volume in it {}: it seems to be one member of an array whose md "
               "superblock is lost, or is cut off: give the whole disk, or all members with their superblocks")
 
@@ -48,8 +71,8 @@ class Spot(NamedTuple):
         return self.path + (f":{self.partition}" if self.partition else "")
 
 
-# What is meant by a name: what it is called, and its bytes.
-Target = NamedTuple("Target", [("name", str), ("device", Device), ("size", int)])
+# What is meant by a name: what it is called, its bytes, and the ids of what it lies on, if that has some.
+Target = NamedTuple("Target", [("name", str), ("device", Device), ("size", int), ("ids", List[str])])
 # What a spot is: a word for it, and what is to be said of it.
 Found = NamedTuple("Found", [("spot", Spot), ("what", str), ("note", str)])
 
@@ -65,10 +88,17 @@ class Pile:
         self.arrays: List[Array] = []
         self.containers: List[Tuple[Spot, Container]] = []
         self.volumes: List[PhysicalVolume] = []
+        self.leftovers: List[Leftover] = []
         self.groups: List[Group] = []
         self._members: Dict[bytes, List[Member]] = {}
         # Members with damaged superblocks, and the ids that these give their arrays.
         self._damaged: List[Tuple[Spot, bytes]] = []
+        # Disks that were members of arrays before they had a partition table, by the ids of these.
+        self._left: Dict[bytes, Spot] = {}
+        # Why nobody can be sure of what lies on a device; and who else says that it has it.
+        self._questions: Dict[Device, str] = {}
+        # Of these a table and a superblock both say that they are theirs, so that partitions can be taken by name.
+        self._two_readings: List[Device] = []
         self.spot_of: Dict[Device, Spot] = {}
         self._unknown: List[Spot] = []
         images: Dict[object, Image] = {}
@@ -78,13 +108,13 @@ class Pile:
         for image in images.values():
             if image.other_form or not image.size:
                 self._say(Spot(image, image), "foreign", image.other_form or "it is empty")
-            elif not self._is_member(Spot(image, image)):
-                self._look_into(Spot(image, image))
+            else:
+                self._look_at(Spot(image, image))
         self._assemble()
         if not self.arrays:
             # A half of a mirror alone has all data.
             for spot, _ in self._damaged:
-                self._look_into(spot)
+                self._look_into(spot, table_in(spot.device, known_in(spot.device)))
         self._group()
         # What isn't known may be the other half of a mirror, with newer data.
         if any(array.device and array.may_be_old for array in self.arrays):
@@ -96,6 +126,7 @@ class Pile:
         for spot in waiting:
             for volume in physical_volume.volumes_within(spot.image):
                 inner = self.spot_of[volume.device] = Spot(volume.device, spot.image)
+                volume.question = self._question_of(spot)
                 self.volumes.append(volume)
                 self.found = [found for found in self.found if found.spot is not spot]
                 self._say(inner, "physical volume", f"found at byte {volume.start} by looking through the whole image")
@@ -112,83 +143,244 @@ class Pile:
         for volume in cut:
             if volume.start or volume.identity in on_arrays or volume.device in damaged:
                 volume.doubt = ONE_MEMBER.format(volume.place, volume.device.size, volume.size)
-        self.groups = list(Texts(self.volumes).groups())
+        for volume in self.volumes:
+            image, end = self.spot_of[volume.device].image, place_of(volume.device) + volume.size
+            if image and volume.question is None and self._is_striped(image, end):
+                volume.question = STRIPES.format(volume.size, image.size)
+        self.groups = list(Texts(self.volumes, self.leftovers).groups())
 
     def spots(self) -> List[Spot]:
         """All devices that were looked at: images, partitions, arrays and their partitions."""
         others = [found.spot for found in self.found if found.spot.device not in self.spot_of]
         return [*self.spot_of.values(), *others]
 
+    @property
+    def found_on(self) -> Dict[Device, List[Found]]:
+        """What was found on each device. What looking through an image found is on that."""
+        found_on: Dict[Device, List[Found]] = {}
+        for found in self.found:
+            device, image, partition = found.spot
+            found_on.setdefault(device if partition or not image else image, []).append(found)
+        return found_on
+
     def _say(self, spot: Spot, what: str, note: str = "") -> None:
         self.found.append(Found(spot, what, note))
 
-    def _look_into(self, spot: Spot) -> None:
-        """Looks at what is no member: a disk with partitions is these."""
-        known = known_in(spot.device)
-        table = None if known in ("luks", "lvm2") else table_in(spot.device, known)
-        if not table:
-            self._recognise(spot, known)
-            return
-        self.tables[spot.device] = table
-        for number, device in table.partitions.items():
-            inner = Spot(device, spot.image, number)
-            if not self._is_member(inner):
-                self._recognise(inner, known_in(inner.device))
+    def _is_striped(self, image: Image, end: int) -> bool:
+        """Whether something on a disk that ends at this byte seems to be on several such disks: if it is about as long
+        as some of them, or longer than this one, where another one of that length has nothing that is known."""
+        times = -(-end // image.size)
+        is_multiple = 1 < times <= MOST_STRIPES and end > times * (image.size - image.size // SLACK)
+        alike = (spot.image for spot in self._unknown if spot.image is not image)
+        return end > image.size and (is_multiple or any(other.size == image.size for other in alike))
 
-    def _is_member(self, spot: Spot) -> bool:
-        """Whether it is a member of an array, which is looked into no more."""
+    def _question_of(self, spot: Spot) -> Optional[str]:
+        """Why nobody can be sure of what lies on a device, or on what it lies on."""
+        device: Optional[Device] = spot.device
+        while device and device not in self._questions:
+            device = device.lower if isinstance(device, Part) else None
+        return self._questions[device] if device else None
+
+    def _look_at(self, spot: Spot) -> None:
+        """Says what a device is, from the outside in: a member of an array, a disk with partitions, or what lies on
+        it. Where both a superblock and a table say that it is theirs, the one that fits has it."""
         if len(self.spot_of) >= MOST_SPOTS:
-            raise Refusal(spot.device.name, MANY)
+            self._say(spot, "foreign", MANY)
+            return
         self.spot_of[spot.device] = spot
-        members, old, damaged = md_superblock.members_in(spot.device)
-        if members:
-            self._members.setdefault(members[-1].superblock.array, []).append(members[-1])
-        elif old:
-            self._say(spot, "md member", OLD)
-        elif damaged:
-            self._damaged.append((spot, damaged[-1][1]))
+        device, known = spot.device, known_in(spot.device)
+        found, damaged = md_superblock.found_in(device)
+        owners = md_superblock.outermost(found, device.size)
+        table = table_in(device, known) if known != "luks" and not spot.partition else None
+        if owners and table:
+            of_table = self._is_of_table(owners[0], device, table)
+            if of_table:
+                self._left.update((each.array, spot) for each in owners)
+                owners = []
+            elif of_table is None:
+                kind, numbers = table.kind, [f"{spot.place}:{number}" for number in table.partitions]
+                array = Array([Member(device, owners[0])]).label
+                self._questions[device] = Doubt(TABLE_TOO.format(kind, quoting.some(numbers, " or "), array))
+                self._two_readings.append(device)
+                self._look_into(spot, table)
+            else:
+                table = None
+        if not owners and table and volumes_of(table)[1]:
+            damaged = []
+        foreign = [each for each in self._foreign(spot) if not covers(device, owners, table, each.at)]
+        if foreign:
+            each = foreign[0]
+            self._questions[device] = Doubt(FOREIGN.format(each.kind, each.at))
+        if not owners and not damaged:
+            self._look_into(spot, table)
+        for superblock in owners:
+            if superblock.version == OLD:
+                self._say(spot, "md member", OLD_MEMBER)
+            else:
+                self._members.setdefault(superblock.array, []).append(Member(device, superblock))
+            if len(owners) > 1:
+                self._questions[device] = Doubt(TWO_OWNERS.format(device.name))
+        if damaged and not owners:
+            if any(identity for _, identity in damaged):
+                self._damaged.append((spot, damaged[-1][1]))
             self._say(spot, "md member", DAMAGED.format(damaged[-1][0]))
-        return bool(members or old or damaged)
 
-    def _recognise(self, spot: Spot, known: Optional[str]) -> None:
+    def _foreign(self, spot: Spot) -> List[Signature]:
+        """Who else says that a device is theirs."""
+        found = signatures.signatures_in(Lenient(spot.device))
+        if spot.device is spot.image:
+            found += signatures.asked_of(spot.image.path)
+        kind = self._told_by_blkid(spot).get("TYPE", "") if spot.partition else ""
+        if signatures.is_foreign(kind) and all(kind != each.kind for each in found):
+            found.append(Signature(kind, 0))
+        return sorted(set(found), key=lambda each: each.at)
+
+    def _told_by_blkid(self, spot: Spot) -> Dict[str, str]:
+        """What blkid says of an image or one of the first partitions, if it is there."""
+        if not spot.image or spot.partition > MOST_ASKED:
+            return {}
+        return signatures.named_by_blkid(spot.path, place_of(spot.device), spot.device.size)
+
+    def _is_of_table(self, superblock: Superblock, device: Device, table: Table) -> Optional[bool]:
+        """Whether a device with a superblock and a partition table is the table's, or None if nothing tells."""
+        ends = [table.end or 0] + [part.start + part.size for part in table.partitions.values()]
+        if superblock.version in AT_END:
+            # A table of the array itself ends where that does.
+            return superblock.at < max(ends) <= device.size
+        volumes, fitting = volumes_of(table)
+        begin, size = superblock.start * SECTOR, superblock.length * SECTOR
+        if all((part.start, part.size) == (begin, size) for part in fitting) and superblock.level == MIRRORED:
+            fitting = []
+        if fitting or begin + size > device.size:
+            return True
+        return None if volumes and superblock.level != MIRRORED else False
+
+    def _look_into(self, spot: Spot, table: Optional[Table]) -> None:
+        """Looks at what is no member: a disk with partitions is these."""
+        label = physical_volume.label_of(Lenient(spot.device))[0] if table and not table.fault else None
+        if not table or label:
+            question = Doubt(TABLE_OVER_LABEL.format(table.kind)) if table else None
+            self._recognise(spot, known_in(spot.device), question)
+        if table:
+            self.tables[spot.device] = table
+            longest: Dict[int, Tuple[int, int]] = {}
+            for number, part in table.partitions.items():
+                longest[part.start] = max(longest.get(part.start, (0, 0)), (part.size, -number))
+            for number, part in table.partitions.items():
+                other = -longest[part.start][1]
+                if other == number:
+                    self._look_at(Spot(part, spot.image, number))
+                else:
+                    self._say(Spot(part, spot.image, number), "foreign", AS_ANOTHER.format(other))
+
+    def _recognise(self, spot: Spot, known: Optional[str], question: Optional[str] = None) -> None:
         """Says what a device is that has no partitions and is no member."""
-        container = container_in(Lenient(spot.device))
-        volume = None if container else physical_volume.volume_in(spot.device)
-        if container:
+        container, volume = container_in(Lenient(spot.device)), physical_volume.volume_in(spot.device)
+        if container and (container.fault != SECOND_ALONE or not volume and not known):
+            container = container._replace(fault=container.fault or question or self._question_of(spot))
             self.containers.append((spot, container))
             self._say(spot, f"LUKS{container.version}", container.fault or "")
         elif volume:
+            volume.question = question or self._question_of(spot)
             self.volumes.append(volume)
-            self._say(spot, "physical volume", "; ".join(volume.faults))
-        elif known:
-            self._say(spot, known)
+            self._say(spot, "physical volume", "; ".join(volume.faults + ([volume.question] if volume.question else [])))
         else:
-            self._say(spot, "unknown", "; ".join(physical_volume.label_of(Lenient(spot.device))[1]) or NOTHING)
-            if spot.image and not spot.partition:
-                self._unknown.append(spot)
+            self._recognise_leftover(spot, known, question or self._question_of(spot))
+
+    def _recognise_leftover(self, spot: Spot, known: Optional[str], question: Optional[str]) -> None:
+        """Says what a device is without a sound label: what is left of a physical volume, or something else."""
+        known = None if known == "lvm2" else known
+        leftover = None if known else physical_volume.leftover_in(spot.device, spot.device is spot.image)
+        volume = leftover.volume() if leftover else None
+        if volume:
+            volume.question = question
+            self.volumes.append(volume)
+            self._say(spot, "physical volume", question or leftover.fault)
+            return
+        self.leftovers += [leftover] if leftover else []
+        known, other = self._named(spot, known)
+        note = leftover.note() if leftover else OTHER_TABLE.format(other) if other else NOTHING if not known else ""
+        self._say(spot, known or "unknown", question or note)
+        if not known and spot.image and not spot.partition:
+            self._unknown.append(spot)
+
+    def _named(self, spot: Spot, known: Optional[str]) -> Tuple[Optional[str], Optional[str]]:
+        """The names of what begins a device, and of a partition table that isn't followed, as blkid says them where it
+        can be asked."""
+        told = self._told_by_blkid(spot)
+        kind, table = told.get("TYPE"), told.get("PTTYPE")
+        other = disk_image.other_table_of(Lenient(spot.device)) or (table if table not in (None, "dos", "gpt") else None)
+        return SAME.get(kind, kind) if kind and (known or spot.partition) else known, other
 
     def _assemble(self) -> None:
-        """Puts the arrays together, and looks at them in turn, as one may be a member of another."""
+        """Puts the arrays together and looks at them, again if one turns out to be a member of another."""
+        made: Dict[bytes, Array] = {}
         for level in range(MOST_LEVELS + 1):
-            for identity in list(self._members)[len(self.arrays):]:
-                array = Array(self._members[identity])
-                self.arrays.append(array)
+            known = {identity: {member.device for member in array.members} for identity, array in made.items()}
+            others = [identity for identity, members in self._members.items()
+                      if known.get(identity, set()) != {member.device for member in members}]
+            for identity in others:
+                if identity in made:
+                    self._forget(made.pop(identity).device)
+                if not self._members[identity]:
+                    continue
+                array = made[identity] = put_together(self._members[identity])
                 if level == MOST_LEVELS:
                     array.give_up(NESTED)
                 newer = [spot for spot, other in self._damaged if other == identity or other not in self._members]
                 if newer and array.device and array.may_be_old:
                     array.give_up(MAY_BE_NEWER.format(newer[0].device.name))
-                if array.device and not self._is_member(Spot(array.device, None)):
-                    self._look_into(Spot(array.device, None))
+                if array.device:
+                    whys = (self._question_of(self.spot_of[member.device]) for member in array.members)
+                    question = next(filter(None, whys), None)
+                    self._questions.update({array.device: question} if question else {})
+                    try:
+                        self._look_at(Spot(array.device, None))
+                    except NoProgram as refusal:
+                        array.give_up(refusal.why)
+        self.arrays = list(made.values())
+        for identity, spot in self._left.items():
+            if identity in made and self._is_bare(made[identity]):
+                self._let_go(made[identity], spot)
+
+    def _forget(self, device: Optional[Device]) -> None:
+        """Takes back what was found on the device of an array."""
+        def is_elsewhere(other: Device) -> bool:
+            return other is not device and (not isinstance(other, Part) or is_elsewhere(other.lower))
+        self.found = [found for found in self.found if is_elsewhere(found.spot.device)]
+        self.volumes = [volume for volume in self.volumes if is_elsewhere(volume.device)]
+        self.leftovers = [each for each in self.leftovers if is_elsewhere(each.device)]
+        self.containers = [each for each in self.containers if is_elsewhere(each[0].device)]
+        self._damaged = [each for each in self._damaged if is_elsewhere(each[0].device)]
+        self.spot_of = {other: spot for other, spot in self.spot_of.items() if is_elsewhere(other)}
+        for members in self._members.values():
+            members[:] = [member for member in members if is_elsewhere(member.device)]
+
+    def _is_bare(self, array: Array) -> bool:
+        """Whether nothing is found in an array."""
+        return array.device is None or any(found.spot.device is array.device and found.what == "unknown"
+                                           for found in self.found)
+
+    def _let_go(self, array: Array, spot: Spot) -> None:
+        """Tells an array no more in which there is nothing, and of which a member was taken for something else."""
+        self.arrays.remove(array)
+        self._forget(array.device)
+        for member in array.members:
+            self._say(self.spot_of[member.device], "md member", OLDER_ARRAY.format(array.label, spot.device.name))
 
     def target(self, name: str) -> Target:
         """What a name means. One that means nothing, or several things, is refused, with what to say instead."""
         device, shown = self.device_named(name), quoting.shown(name)
         if device:
+            is_part = isinstance(device, Part) and device.lower not in self._two_readings
+            question = self._question_of(self.spot_of[device]) if is_part else None
+            if question:
+                raise Refusal(shown, question)
             try:
                 path = quoting.shown(self._volume_named(name).path)
             except Refusal:
-                return Target(name, device, device.size)
+                ids = [array.identity for array in self.arrays if array.device is device]
+                return Target(name, device, device.size, ids)
             raise Refusal(shown, f"both an image and a volume are called so: say ./{shown}, or {path}")
         try:
             is_whole = self._volume_named(name).why() is None
@@ -197,7 +389,8 @@ class Pile:
         if not is_whole:
             self.search()
         volume = self._volume_named(name)
-        return Target(volume.path, volume.device(), volume.sectors * SECTOR)
+        ids = [volume.identity, *sorted(volume.side.physical_ids.values()), volume.side.text.key().hex()[:16]]
+        return Target(volume.path, volume.device(), volume.sectors * SECTOR, ids)
 
     def device_named(self, name: str) -> Optional[Device]:
         """The image, the partition or the array of this name."""
@@ -239,7 +432,7 @@ class Pile:
 
     def _unread_notes(self) -> str:
         """What of a pile can't be read, in which something may be that isn't found."""
-        notes = [(array.label, array.why) for array in self.arrays if array.why]
+        notes = [(array.label, array.note) for array in self.arrays if array.note]
         notes += [(found.spot.path, found.note) for found in self.found if found.note not in ("", NOTHING)]
         whys = quoting.some([f"{quoting.shown(where)}: {why}" for where, why in notes], "; ")
         return f" ({whys})" if whys else ""
@@ -258,6 +451,30 @@ def known_in(device: Device) -> Optional[str]:
     return "lvm2" if physical_volume.label_of(image)[0] else file_system_of(image)
 
 
+def volumes_of(table: Table) -> Tuple[List[Part], List[Part]]:
+    """The partitions in which physical volumes are, and those of them that are just as long as these."""
+    labels = {part: physical_volume.label_of(Lenient(part))[0] for part in table.partitions.values()}
+    found = [part for part, label in labels.items() if label]
+    return found, [part for part in found if labels[part].size == part.size]
+
+
+def place_of(device: Device) -> int:
+    """The byte of an image at which a part of it begins."""
+    return device.start + place_of(device.lower) if isinstance(device, Part) else 0
+
+
+def covers(device: Device, owners: Sequence[Superblock], table: Optional[Table], at: int) -> bool:
+    """Whether a byte lies in the midst of what is found to have it: the data of a member, of a partition or of a physical
+    volume, or a disk of which a GPT says how long it is."""
+    runs = [(each.start * SECTOR, (each.start + each.length) * SECTOR) for each in owners]
+    if table:
+        runs += [(part.start, part.start + part.size) for part in table.partitions.values()] + [(0, table.end or 0)]
+    label = physical_volume.label_of(Lenient(device))[0]
+    if label and not table:
+        runs.append((FIRST_DATA, label.size))
+    return any(begin <= at < end <= device.size for begin, end in runs)
+
+
 def table_in(device: Device, known: Optional[str]) -> Optional[Table]:
     """The partition table of a device, with these by their numbers. The backup of a GPT alone, without anything at the
     beginning that speaks of it, is one if nothing is known of the device itself, and an MBR, which has no sum, if then
@@ -273,7 +490,7 @@ def table_in(device: Device, known: Optional[str]) -> Optional[Table]:
         number: Part(f"{device.name}:{number}", device, start, size) for number, start, size in table.partitions})
         for table in found if table]
     for table in tables:
-        devices = table.partitions.values()
-        if table.kind != "MBR" or any(known_in(each) or md_superblock.members_in(each)[0] for each in devices):
+        devices = {each.start: each for each in table.partitions.values()}.values()
+        if table.kind != "MBR" or any(known_in(each) or md_superblock.found_in(each)[0] for each in devices):
             return table
-    return tables[0] if tables and not known else None
+    return tables[0] if tables and known in (None, "lvm2") else None

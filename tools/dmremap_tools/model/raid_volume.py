@@ -1,99 +1,194 @@
-"""LVM's own raid1 and raid5: pairs of a volume with a superblock of dm-raid, that says which count, and of data. Below
-the legs of raid1 may be dm-integrity with its metadata on a volume of its own: the data's sectors, but for those that
-its journal still holds.
+"""LVM's own raid0 to raid10: pairs of a volume with a superblock of dm-raid, which says what is in sync, and of data, which
+is laid out as md lays out its members. The kernel's dm-raid.c has both, and which legs it reads."""
 
-The journal has sections of 8 sectors of entries, and a block for each entry. The last 8 bytes of each sector are a
-commit id, and those that belong there are in the entry, as is the sum of the block. Sections are replayed as the kernel
-does it: from the oldest on, up to one that wasn't written whole."""
-
+import itertools
 import struct
 from collections import namedtuple
-from typing import Any, Dict, Iterator, List, NamedTuple, Optional, Set, Tuple
+from typing import Any, Callable, Dict, List, Optional, Sequence, Tuple
 
+from dmremap_tools.base import tables
 from dmremap_tools.base.config_text import shown
 from dmremap_tools.base.numbers import SECTOR
 from dmremap_tools.base.refusal import Refusal
 from dmremap_tools.metadata.volume_group import Segment
-from dmremap_tools.model.device import ALL, Copies, Device, Gap, Known, Missing, Overlaid, Part, Run, sorted_entries
-from dmremap_tools.model.md_chunks import Rows, Shape
-from dmremap_tools.model.pools import sum_of
+from dmremap_tools.model.device import ALL, Copies, Device, Gap, Missing, Part, Run
+from dmremap_tools.model.mapping import Mapped, Tables
+from dmremap_tools.model.md_chunks import LAYOUTS, PARITY, Rows, Shape
 
-FORM, MAGIC, V190 = struct.Struct("<4L4Q3L4xQ12xl8xQ16x"), 0x64526D44, 1
+FORM, MAGIC, V190 = struct.Struct("<4L4Q4LQ12xl8xQ40xL"), 0x64526D44, 1
 Superblock = namedtuple("Superblock", "magic compat_features num_devices array_position events failed_devices "
-                        "disk_recovery_offset array_resync_offset level layout stripe_sectors reshape_position "
-                        "delta_disks data_offset")
-CLEAN, LEFT_SYMMETRIC, MOST_LEGS = (1 << 64) - 1, 2, 64
+                        "disk_recovery_offset array_resync_offset level layout stripe_sectors flags reshape_position "
+                        "delta_disks data_offset incompat_features")
+CLEAN, MOST_LEGS = (1 << 64) - 1, 64
+# The level and the layout of md that the superblocks of each type of segment have; that of raid10 counts near copies, too.
+NEAR = 1 << 8
+KINDS: Dict[bytes, Tuple[str, int]] = {
+    b"raid0": ("raid0", 0), b"raid0_meta": ("raid0", 0), b"raid1": ("raid1", 0), b"raid10": ("raid10", NEAR),
+    b"raid10_near": ("raid10", NEAR), b"raid4": ("raid5", 4), b"raid5": ("raid5", 2), b"raid5_ls": ("raid5", 2),
+    b"raid5_rs": ("raid5", 3), b"raid5_la": ("raid5", 0), b"raid5_ra": ("raid5", 1), b"raid5_n": ("raid5", 5),
+    b"raid6": ("raid6", 8), b"raid6_zr": ("raid6", 8), b"raid6_nr": ("raid6", 9), b"raid6_nc": ("raid6", 10),
+    b"raid6_n_6": ("raid6", 5), b"raid6_ls_6": ("raid6", 18), b"raid6_rs_6": ("raid6", 19), b"raid6_la_6": ("raid6", 16),
+    b"raid6_ra_6": ("raid6", 17)}
 # The bitmap of what is being written (bitmap_super_t of the kernel's md-bitmap.h): its sync_size in sectors, and its
 # chunksize.
 BITMAP, BITMAP_MAGIC, BITMAP_AT, BITS_AT = struct.Struct("<4s36xQ4xL"), b"bitm", 4096, 256
-# Magic, version, integrity_tag_size, journal_sections, provided_data_sectors, flags, log2_sectors_per_block and salt.
-INTEGRITY, INTEGRITY_MAGIC = struct.Struct("<8sBxHLQLB19x16s"), b"integrt\0"
-FIXED_HMAC = 16
-KNOWN_FLAGS = 2 | 8 | FIXED_HMAC
-JOURNAL_START, ENTRY_SECTORS, ID_AT, MOST_JOURNAL = 8, 8, 504, 256 << 20
-IDS = [0x1111111111111111 * commit for commit in (1, 2, 3, 4)]
-# An entry whose sector is above this is none; the kind of sums that are checked, and the bytes of one.
-NO_SECTOR, HASH, HASH_SIZE = 1 << 63, b"crc32c", 4
-OTHER_LEG = "give the disk of another leg, or activate it with lvm2"
-# Where a journal is, how many sections it has, and how these are laid out: the bytes of a section, of an entry and of a
-# block, and the entries in a sector; and what goes before that which is summed, or None without sums.
-Journal = NamedTuple("Journal", [
-    ("meta", Device), ("sections", int), ("size", int), ("entry", int), ("block", int), ("per_sector", int),
-    ("salt", Optional[bytes])])
+NEXT, OTHERS = "activate it with lvm2", "give the disks of the other legs"
+NEWER = "{}, so that nothing tells whether that leg is newer: leave its disk out to take the other one"
+APART = ("{} and {} were written apart from each other, as one says that the other failed, which says nothing of that: "
+         "leave the disk of one of them out")
+ODD = "its superblock has other chunks than the text, or a layout that isn't followed: " + NEXT
 
 
-def mirror_of(layout: Any, name: str, segment: Segment, size: int) -> Device:
-    """A mirror: the first leg that has the bytes. Before the legs are alike, that is the first leg alone."""
-    legs, best, _, faults = legs_of(layout, name, segment, 1)
-    if faults:
-        raise Refusal(name, f"{faults[0]}, so that nothing tells whether that leg is newer: leave its disk out to take "
-                      "the other one")
-    legs_here = legs if best.array_resync_offset == CLEAN else legs[:1]
-    parts = [leg if isinstance(leg, Missing) else Part(leg.name, leg, 0, size) for leg in legs_here]
-    return Copies(name, parts, size)
+def raid_of(layout: Any, name: str, segment: Segment, size: int) -> Device:
+    """The device of a segment with legs."""
+    return Legs(layout, name, segment).device(size)
 
 
-def parity_of(layout: Any, name: str, segment: Segment, size: int) -> Device:
-    """Chunks with parity, where one leg may be missing."""
-    (legs, best, meta, _), chunk = legs_of(layout, name, segment, 5), segment.stripe_size or 0
-    if not 0 < chunk == best.stripe_sectors or best.layout != LEFT_SYMMETRIC:
-        raise Refusal(name, "its superblock has other chunks than the text, or a layout that isn't followed: activate "
-                      "it with lvm2")
-    resync = best.array_resync_offset
-    doubtful = dirty_runs(meta) if resync == CLEAN else [(resync * SECTOR, ALL)]
-    return Rows(name, Shape("raid5", len(legs), "left-symmetric", chunk), legs, size, doubtful)
+class Legs:
+    """The legs of a segment: the volumes of each, and their superblocks, or why one can't be read: its disk isn't there,
+    or what is there is none of this leg."""
+
+    def __init__(self, layout: Any, name: str, segment: Segment) -> None:
+        self._layout, self._name, self._chunk = layout, name, segment.stripe_size or 0
+        # The superblocks say whether a reshape goes on, of which the type has a word.
+        self._level, self._form = KINDS[(segment.kind or b"").partition(b"+")[0]]
+        self._pairs = pairs_of(name, segment)
+        self._found: Dict[int, Superblock] = {}
+        self._missing: Dict[int, str] = {}
+        self._faults: Dict[int, str] = {}
+        for leg, (meta, _) in enumerate(self._pairs):
+            device = self._plain(meta) if meta else Missing(NEXT)
+            try:
+                self._found[leg] = self._superblock_of(device, leg)
+            except Gap as gap:
+                (self._missing if device.lack(0, SECTOR) else self._faults)[leg] = f"{shown(meta)}: {gap.why}"
+
+    def device(self, size: int) -> Device:
+        """The bytes of the segment."""
+        count = len(self._pairs)
+        if not self._found and self._level != "raid0":
+            whys = "; ".join([*self._faults.values(), *self._missing.values()])
+            raise Refusal(self._name, whys + ": give the disks of all legs" * bool(self._faults))
+        # Of those with as many events the one that knows more of what failed.
+        ages = {leg: (found.events, bin(found.failed_devices).count("1")) for leg, found in self._found.items()}
+        best = max(ages, key=lambda leg: ages[leg], default=0)
+        self._check_agreement(best)
+        legs = [self._leg(leg, best) for leg in range(count)]
+        if self._level == "raid0":
+            return self._striped(legs, size)
+        copies = {"raid1": count, "raid10": self._found[best].layout - NEAR}.get(self._level, 1)
+        sets = [range(first, first + copies) for first in range(0, count, copies)]
+        # Those that may have run on without the others.
+        alone = [each for each in sets if not self._faults.keys().isdisjoint(each)]
+        if len(alone) >= len(sets) - PARITY.get(self._level, 0):
+            raise Refusal(self._name, NEWER.format(next(iter(self._faults.values()))))
+        if self._level in PARITY:
+            return self._rows(legs, best, size)
+        return self._striped([self._mirror(each, legs, best, size // len(sets)) for each in sets], size)
+
+    def _plain(self, name: bytes) -> Device:
+        device: Device = self._layout.plain(name)
+        return device
+
+    def _superblock_of(self, meta: Device, leg: int) -> Superblock:
+        """The superblock that a leg of this number has; a Gap where it has none."""
+        found = Superblock(*FORM.unpack(meta.read(0, FORM.size)))
+        if found.magic != MAGIC:
+            raise Gap(meta.name, "it has no superblock of dm-raid")
+        if found.compat_features & V190 and (found.flags or found.reshape_position != CLEAN or found.delta_disks):
+            raise Refusal(self._name, f"it is being reshaped: {NEXT}")
+        if (found.num_devices, found.array_position, f"raid{found.level}") != (len(self._pairs), leg, self._level):
+            raise Gap(meta.name, "its superblock is of another array, or of another place in it")
+        copies = found.layout - NEAR
+        is_near = self._level == "raid10" and 1 < copies <= found.num_devices and found.num_devices % copies == 0
+        is_known = (is_near or found.layout == self._form) and found.compat_features in (0, V190) and not found.incompat_features
+        if not is_known or self._level != "raid1" and not 0 < self._chunk == found.stripe_sectors:
+            raise Refusal(self._name, ODD)
+        return found
+
+    def _stale(self, leg: int, best: int) -> Optional[str]:
+        """Why a leg with a superblock isn't to be read, or None."""
+        events, newest = self._found[leg].events, self._found[best].events
+        if events + 1 < newest:
+            return f"it is stale: its superblock has {events} events, and another one {newest}"
+        return "another leg says that it failed" if self._failed(best, leg) else None
+
+    def _failed(self, one: int, other: int) -> bool:
+        """Whether the superblock of a leg says that another one failed."""
+        return one in self._found and self._found[one].failed_devices >> other & 1 == 1
+
+    def _is_rebuilt(self, leg: int) -> bool:
+        """Whether a leg was being filled, so that it has the first bytes alone."""
+        return leg in self._found and self._found[leg].disk_recovery_offset != CLEAN
+
+    def _check_agreement(self, best: int) -> None:
+        """Refuses legs of which each says that the other failed, or one that says it of another that is as new."""
+        fresh = {leg for leg in self._found if not self._stale(leg, best)}
+        for one, other in itertools.permutations(self._found, 2):
+            if self._failed(one, other) and (self._failed(other, one) or {one, other} <= fresh and not self._is_rebuilt(other)):
+                raise Refusal(self._name, APART.format(*(shown(self._pairs[leg][1]) for leg in sorted((one, other)))))
+        if len({found.data_offset for found in self._found.values() if found.compat_features}) > 1:
+            raise Refusal(self._name, f"its superblocks say several places of its data: {NEXT}")
+
+    def _leg(self, leg: int, best: int) -> Device:
+        """The data of a leg, as far as it is to be read."""
+        data, found = self._pairs[leg][1], self._found.get(leg)
+        if not found and self._level == "raid0":
+            return self._plain(data)
+        why = self._stale(leg, best) if found else self._faults.get(leg)
+        if why or not found:
+            return Missing(f"{shown(data)}: {why}: {OTHERS}" if why else f"{shown(data)}: {self._missing[leg]}")
+        device, start = self._plain(data), found.data_offset * SECTOR if found.compat_features else 0
+        holes = [(found.disk_recovery_offset * SECTOR, ALL)] if self._is_rebuilt(leg) else []
+        return Part(device.name, device, start, device.size - start, holes, f"{shown(data)}: it was being rebuilt: {OTHERS}")
+
+    def _mirror(self, legs: Sequence[int], data: Sequence[Device], best: int, size: int) -> Device:
+        """Some legs that are copies of each other. Where they weren't alike yet, the first one that was there is read."""
+        resync, copies = self._found[best].array_resync_offset, [data[leg] for leg in legs]
+        if resync != CLEAN:
+            sound = (leg for leg in legs if not self._failed(best, leg) and not self._is_rebuilt(leg))
+            first, end = next(sound, legs[0]), resync * SECTOR * (self._level == "raid1")
+            why = f"{shown(self._pairs[first][1])} was being copied to the other legs: give the disk of that one"
+            copies = [data[leg] if leg == first else Part(data[leg].name, data[leg], 0, size, [(end, ALL)], why) for leg in legs]
+        return Copies(self._name, [Part(copy.name, copy, 0, size) for copy in copies], size)
+
+    def _rows(self, legs: Sequence[Device], best: int, size: int) -> Device:
+        """Chunks with parity. Where that may be old, as of what was being written last, it isn't believed. But what was
+        written while a leg was out stays marked, and is right."""
+        found, numbered = self._found[best], enumerate(legs)
+        gone = [leg for leg, data in numbered if isinstance(data, Missing) or self._is_rebuilt(leg)]
+        doubtful = [(found.array_resync_offset * SECTOR, ALL)]
+        if found.array_resync_offset == CLEAN:
+            was_out = gone and all(self._failed(best, leg) or self._is_rebuilt(leg) for leg in gone)
+            doubtful = [] if was_out else dirty_runs(self._plain(self._pairs[best][0]))
+        shape = Shape(self._level, len(legs), LAYOUTS[self._level][found.layout], self._chunk)
+        self._check_even(shape.data, size)
+        return Rows(self._name, shape, legs, size, doubtful)
+
+    def _striped(self, columns: Sequence[Device], size: int) -> Device:
+        """Columns side by side, as a table says them."""
+        if len(columns) == 1:
+            return columns[0]
+        self._check_even(len(columns), size)
+        made = Tables()
+        places = [word for column in columns for word in (made.disk(column), "0")]
+        made.add("legs", [tables.Line(0, size // SECTOR, "striped", [str(len(columns)), str(self._chunk), *places])])
+        return Mapped(self._name, made, "legs")
+
+    def _check_even(self, columns: int, size: int) -> None:
+        if not self._chunk or size % (columns * self._chunk * SECTOR):
+            raise Refusal(self._name, f"it isn't divided evenly by its stripes, so that no kernel takes it: {NEXT}")
 
 
-def legs_of(layout: Any, name: str, segment: Segment,
-            level: int) -> Tuple[List[Device], Superblock, Device, List[str]]:
-    """The data of each leg of a segment, or why it isn't to be read, the freshest superblock, the device that has it,
-    and what is wrong with others. A leg counts if it has the most events, or one less, didn't fail, and is whole."""
-    names = [value for value in segment.node.values(b"raids") if isinstance(value, bytes)]
-    pairs = list(zip(names[::2], names[1::2]))
-    if not 1 < len(pairs) <= MOST_LEGS or len(pairs) != segment.node.value(b"device_count", int):
-        raise Refusal(name, "its text doesn't say its legs: activate it with lvm2")
-    found: Dict[int, Superblock] = {}
-    missing: Dict[int, str] = {}
-    faults: Dict[int, str] = {}
-    for leg, (meta, _) in enumerate(pairs):
-        device = layout.plain(meta)
-        try:
-            found[leg] = superblock_of(device, len(pairs), leg, level)
-        except Refusal as refusal:
-            (missing if device.lack(0, SECTOR) else faults)[leg] = f"{shown(meta)}: {refusal.why}"
-    if not found:
-        whys = "; ".join([*faults.values(), *missing.values()])
-        raise Refusal(name, whys + ": give the disks of all legs" * bool(faults))
-    freshest = max(found, key=lambda leg: found[leg].events)
-    best = found[freshest]
-    if best.compat_features & V190 and (best.reshape_position != CLEAN or best.data_offset or best.delta_disks):
-        raise Refusal(name, "it is being reshaped: activate it with lvm2")
-    devices: List[Device] = []
-    for leg, (_, data) in enumerate(pairs):
-        fault = None if leg in missing else faults.get(leg) or stale(found[leg], best, leg)
-        why = f"{fault}: give the disks of the other legs" if fault else missing.get(leg)
-        devices.append(Missing(f"{shown(data)}: {why}") if why else layout.plain(data))
-    return devices, best, layout.plain(pairs[freshest][0]), list(faults.values())
+def pairs_of(name: str, segment: Segment) -> List[Tuple[bytes, bytes]]:
+    """The volumes of each leg: that of its superblock, if it has one, and that of its data."""
+    key, count = (b"raid0_lvs", b"stripe_count") if segment.kind == b"raid0" else (b"raids", b"device_count")
+    names = [value for value in segment.node.values(key) if isinstance(value, bytes)]
+    pairs = [(b"", data) for data in names] if segment.kind == b"raid0" else list(zip(names[::2], names[1::2]))
+    told = segment.node.value(b"stripe_count" if segment.kind == b"raid0_meta" else count, int)
+    if not 1 < len(pairs) <= MOST_LEGS or len(pairs) != told:
+        raise Refusal(name, f"its text doesn't say its legs: {NEXT}")
+    return pairs
 
 
 def dirty_runs(meta: Device) -> List[Run]:
@@ -109,101 +204,10 @@ def dirty_runs(meta: Device) -> List[Run]:
     return runs
 
 
-def superblock_of(meta: Device, count: int, leg: int, level: int) -> Superblock:
-    """The superblock that a leg of this number has."""
-    found = Superblock(*FORM.unpack(meta.read(0, FORM.size)))
-    if found.magic != MAGIC:
-        raise Gap(meta.name, "it has no superblock of dm-raid")
-    if (found.num_devices, found.array_position, found.level) != (count, leg, level):
-        raise Gap(meta.name, "its superblock is of another array, or of another place in it")
-    return found
-
-
-def stale(superblock: Superblock, best: Superblock, leg: int) -> Optional[str]:
-    if superblock.events + 1 < best.events:
-        return f"it is stale: its superblock has {superblock.events} events, and another one {best.events}"
-    if best.failed_devices >> leg & 1:
-        return "another leg says that it failed"
-    return "it was being rebuilt" if superblock.disk_recovery_offset != CLEAN else None
-
-
-def integrity_of(layout: Any, name: str, segment: Segment, size: int) -> Device:
-    data, meta = (layout.lower(segment, key) for key in (b"origin", b"meta_dev"))
-    if not data or not meta:
-        raise Refusal(name, f"its text doesn't say where its metadata is: {OTHER_LEG}")
-    mode = segment.node.value(b"mode", bytes)
-    if mode not in (b"J", None):
-        raise Refusal(name, f"integrity of the mode {mode!r} isn't followed: activate it with lvm2")
-    magic, version, tag, sections, provided, flags, shift, salt = INTEGRITY.unpack(meta.read(0, INTEGRITY.size))
-    if magic != INTEGRITY_MAGIC or not 1 <= version <= 5 or shift > 3 or not sections:
-        raise Refusal(name, "its metadata has no superblock of dm-integrity that is followed: activate it with lvm2")
-    if flags & ~KNOWN_FLAGS:
-        raise Refusal(name, "its integrity has a bitmap, a journal with a code or other features that aren't followed: "
-                      "activate it with lvm2")
-    sectors, entry = 1 << shift, -(-(8 + (8 << shift) + tag) // 8) * 8
-    if entry > ID_AT:
-        raise Refusal(name, f"its entries don't fit into a sector: {OTHER_LEG}")
-    section = (ID_AT // entry * ENTRY_SECTORS * sectors + ENTRY_SECTORS) * SECTOR
-    told = [segment.node.value(key, int) for key in (b"tag_size", b"block_size")]
-    if provided * SECTOR < size or sections * section > min(meta.size, MOST_JOURNAL) \
-            or any(said not in (None, here) for said, here in zip(told, (tag, sectors * SECTOR))):
-        raise Refusal(name, f"the superblock of its metadata has other sizes than the text: {OTHER_LEG}")
-    has_sums = segment.node.value(b"internal_hash", bytes) == HASH and tag >= HASH_SIZE
-    summed = (salt if flags & FIXED_HMAC else b"") if has_sums else None
-    journal = Journal(meta, sections, section, entry, sectors * SECTOR, ID_AT // entry, summed)
-    blocks = (each for place in sections_in_order(journal) for each in blocks_in(journal, section_of(journal, place)))
-    held = {block: content for block, content in blocks if (block + 1) * journal.block <= size}
-    content = b"".join(held.values())
-    known = Known(f"the journal of {name}", len(content), lambda start, size: content[start:start + size])
-    pairs = sorted((block, place) for place, block in enumerate(held))
-    return Overlaid(name, data, known, journal.block, sorted_entries(pairs), size)
-
-
-def section_of(journal: Journal, section: int) -> bytes:
-    return journal.meta.read(JOURNAL_START * SECTOR + section * journal.size, journal.size)
-
-
-def sections_in_order(journal: Journal) -> Iterator[int]:
-    """The sections that are replayed. The oldest comes after the last one of the newest commit, which no other commit
-    follows. Each commit goes up to the journal's end, so that those before it are of the one before."""
-    commits = [commits_of(journal, section) for section in range(journal.sections)]
-    used = set().union(*commits)
-    unused = [commit for commit in range(len(IDS)) if commit not in used]
-    if not unused:
-        raise Gap(journal.meta.name, f"nothing tells which commit of its journal is the newest: {OTHER_LEG}")
-    newest = (min(unused) - 1 if len(IDS) - 1 in used else max(used)) % len(IDS)
-    before = (newest - 1) % len(IDS)
-    if before not in used and (newest - 2) % len(IDS) in used:
-        return
-    start = max(section for section, commit in enumerate(commits) if newest in commit) + 1
-    for section in [*range(start, len(commits)), *range(start)]:
-        if commits[section] != {newest if section < start else before}:
-            return
-        yield section
-
-
-def commits_of(journal: Journal, section: int) -> Set[int]:
-    """The commits that the sectors of a section are of. One that was being written has sectors of two."""
-    content = section_of(journal, section)
-    words = (struct.unpack_from("<Q", content, at + ID_AT)[0] ^ at // SECTOR for at in range(0, len(content), SECTOR))
-    ids = {word ^ section << 32 for word in words}
-    if not ids <= set(IDS):
-        raise Gap(journal.meta.name, f"section {section} of its journal is damaged: {OTHER_LEG}")
-    return {IDS.index(identity) for identity in ids}
-
-
-def blocks_in(journal: Journal, content: bytes) -> Iterator[Tuple[int, bytes]]:
-    """The blocks that a section holds: the number of each, and its bytes."""
-    sectors = journal.block // SECTOR
-    for entry in range(journal.per_sector * ENTRY_SECTORS):
-        at = entry % ENTRY_SECTORS * SECTOR + entry // ENTRY_SECTORS * journal.entry
-        sector, ends = int.from_bytes(content[at:at + 8], "little"), at + 8
-        if sector >= NO_SECTOR or sector % sectors:
-            continue
-        start = (ENTRY_SECTORS + entry * sectors) * SECTOR
-        places = zip(range(start, start + journal.block, SECTOR), range(ends, ends + 8 * sectors, 8))
-        block = b"".join(content[begin:begin + ID_AT] + content[end:end + 8] for begin, end in places)
-        tag = int.from_bytes(content[ends + 8 * sectors:ends + 8 * sectors + HASH_SIZE], "little")
-        if journal.salt is not None and sum_of(journal.salt + content[at:ends] + block) ^ 0xFFFFFFFF != tag:
-            raise Gap(journal.meta.name, f"what its journal has of sector {sector} is damaged: {OTHER_LEG}")
-        yield sector // sectors, block
+def numbers_in(segment: Segment, legs: int) -> Optional[Callable[[int, int], Optional[int]]]:
+    """What says which chunk is in a row of a leg, or None where that has parity; None if the text alone doesn't say it."""
+    level, form = KINDS.get(segment.kind or b"", ("", 0))
+    if level in PARITY and legs > PARITY[level] and not segment.node.child(b"reshape_count"):
+        return Shape(level, legs, LAYOUTS[level][form], segment.stripe_size or 0).number
+    copies = {"raid0": 1, "raid10": segment.node.value(b"data_copies", int) or 2}.get(level, 0)
+    return (lambda leg, row: row * (legs // copies) + leg // copies) if copies > 0 and legs % copies == 0 else None

@@ -9,11 +9,11 @@ _dmremap_tools() {
     elif [[ $word == -* ]]; then
         case ${COMP_WORDS[1]} in
             scan) offered="--help --json --program" ;;
-            save) offered="--help --map --allow-missing --extents --ls --program --paths --fresh" ;;
-            serve) offered="--help --socket --program" ;;
-            lost) offered="--help --map --saved --program" ;;
-            owner) offered="--help --map --bytes --sector-size --program" ;;
-            tables) offered="--help --to --program" ;;
+            save) offered="--help --resume --map --map-of-other-length --allow-missing --extents --ls --program --paths --fresh" ;;
+            serve) offered="--help --map --map-of-other-length --socket --program" ;;
+            lost) offered="--help --map --map-of-other-length --saved --program" ;;
+            owner) offered="--help --map --map-of-other-length --bytes --sector-size --program" ;;
+            tables) offered="--help --map --map-of-other-length --to --program" ;;
             filefrag) offered="--help --addresses --debugfs --device --on --size --part --ls" ;;
             trace) offered="--help --times --lower --fio" ;;
             cut) offered="--help --bytes --ls" ;;

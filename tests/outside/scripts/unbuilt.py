@@ -1,0 +1,83 @@
+"""The tools in a tree where the program isn't built, or only tried: they take what there is, and never call `rt`."""
+
+import os
+import shutil
+import subprocess
+import sys
+
+from harness import Case, run
+from trees import Tree
+
+NOT_BUILT = "dmremap: no program is built here: run ./dmremap --version, which builds and proves it, or ./try --version\n"
+NOT_PROVED = "the program that ./try made is asked, of which nothing is proved: ./dmremap --version builds the one to act on\n"
+SOURCE = "crates/low/src/text"
+KEEP = "import sources as it; it.keep(it.made_of(it.TOP, it.TRIED), it.os.path.join(it.OUT, 'try'))"
+SHOWN = "  vg/home                  60 KiB     striped    %s\n"
+
+
+class Tools:
+    """The tools of a tree, or packed, over the samples."""
+
+    def __init__(self, tree, top):
+        self.tree, self.samples = tree, [os.path.join(top, "examples", "samples", name + ".img") for name in "abc"]
+        shutil.copytree(os.path.join(top, "tools", "dmremap_tools"), tree.path("tools/dmremap_tools"), ignore=shutil.ignore_patterns("__pycache__"))
+        shutil.copy(os.path.join(top, "dmremap-tools"), tree.path("dmremap-tools"))
+        subprocess.run([sys.executable, os.path.join(top, "tools", "pack"), tree.path("packed")], check=True)
+        self.ways = [tree.path("dmremap-tools"), tree.path("packed")]
+
+    def call(self, tool, *words, path=()):
+        """What a command does, and how often it called `rt`."""
+        env = self.tree.environment()
+        env["PATH"] = os.pathsep.join([*path, env["PATH"]])
+        got = run([tool, *words], env=env, folder=self.tree.folder)
+        return got, self.tree.called()
+
+    def finds(self, tally, name, system, said="", path=()):
+        """Which file system `scan` says to be in the volume, and what it says besides; `-`: one that nobody is asked about."""
+        for tool in self.ways:
+            got, called = self.call(tool, "scan", *self.samples, path=path)
+            is_so = got.status == (4 if system == "?" else 0) and got.out.decode().endswith(SHOWN % system) and got.err.decode() == said and not called
+            tally.holds("%s, by %s" % (name, os.path.basename(tool)), is_so, "status %s, %r, %r, %s" % (got.status, got.out, got.err, called))
+
+
+def check_unbuilt(tally, tools, tree, program):
+    """Nothing is built; something tried, or built, that fits the sources, and then doesn't; a program on the path, and the script there."""
+    tools.finds(tally, "a scan where nothing is built", "?", NOT_BUILT)
+    for tool in tools.ways:
+        for words, where in ((["save", "vg/home", "out", *tools.samples], "save"), (["serve", "vg/home", *tools.samples], "serve"), (["explain", "map", "lvm", "x"], "explain"),
+                             (["lost", "vg/home", *tools.samples[:2]], "lost"), (["extents", "v", "table", "x", "y"], "extents")):
+            got, called = tools.call(tool, *words)
+            is_so = got.status == 1 and not got.out and got.err.decode() == "dmremap-tools %s: %s" % (where, NOT_BUILT) and not called
+            is_so = is_so or where == "serve" and b"nbdkit: it isn't here" in got.err
+            tally.holds("%s where nothing is built" % where, is_so and not os.path.exists(os.path.join(tree.folder, "out")), "status %s, %r, %s" % (got.status, got.err, called))
+    elsewhere = os.path.join(tree.folder, "on the path")
+    os.makedirs(elsewhere)
+    shutil.copy(program.path, os.path.join(elsewhere, "dmremap"))
+    tools.finds(tally, "a program on the path", "ext2", path=[elsewhere])
+    os.unlink(os.path.join(elsewhere, "dmremap"))
+    os.symlink(tree.script, os.path.join(elsewhere, "dmremap"))
+    tools.finds(tally, "the script on the path", "?", NOT_BUILT, path=[elsewhere])
+    os.makedirs(tree.path("out/try"))
+    shutil.copy(program.path, tree.path("out/try/dmremap"))
+    tools.finds(tally, "a program of unknown sources", "?", NOT_BUILT)
+    subprocess.run([sys.executable, "-c", KEEP], cwd=tree.path("tools/building"), check=True)
+    tools.finds(tally, "a tried program", "ext2", NOT_PROVED)
+    tree.write(SOURCE, "another text\n")
+    tools.finds(tally, "a tried program of other sources", "?", NOT_BUILT)
+    tree.put()
+    tools.finds(tally, "a program that is built", "ext2")
+    tree.write(SOURCE, "a third text\n")
+    tools.finds(tally, "one of other sources", "?", NOT_BUILT)
+    shutil.copy(program.path, os.path.join(elsewhere, "another"))
+    got, _ = tools.call(tools.ways[0], "scan", "--program", os.path.join(elsewhere, "another"), *tools.samples)
+    tally.holds("a program that is given", got.status == 0 and not got.err and b" ext2\n" in got.out, "status %s, %r" % (got.status, got.err))
+    got, called = tools.call(tools.ways[0], "scan", "--program", tree.script, *tools.samples)
+    tally.holds("the script that is given", got.status == 4 and got.err.decode() == NOT_BUILT and not called, "status %s, %r" % (got.status, got.err))
+
+
+class Unbuilt(Case, checks=[check_unbuilt]):
+    """A tree with the tools."""
+
+    def setUp(self):
+        self.tree = Tree(self.program, self.top, "unbuilt")
+        self.tools = Tools(self.tree, self.top)

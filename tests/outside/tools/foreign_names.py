@@ -1,0 +1,113 @@
+"""Names that whoever wrote a disk chose, or that a path has: with a line feed, an escape, quotes, and what means a place in a file.
+No command prints a line or a control character by one, and what `tables` writes is read as the file that was given."""
+
+import os
+import shutil
+
+import containers
+import models
+from harness import Case
+from models import A, DATA, SECTOR, content_of, dashed, disk, linear, member, segment, text, volume
+
+ODD = ["two\nlines a 0 8", "esc\x1b[2Jape", "quo'te\"s\\", "image?offset=0", "\u202eright to left\x85"]
+PLAIN = "plain"
+GROUP = text("vg0", "g", 4, "a", volume("home", "h", linear(0, 5, ("pv0", 3))))
+
+
+def with_fields(name):
+    """A text whose strings have a name in them, as lvm2 writes them."""
+    said = name.replace("\\", "\\\\").replace('"', '\\"').encode()
+    fields = GROUP.replace(b'creation_host = "here"', b'creation_host = "%s"\ndescription = "%s"' % (said, said))
+    fields = fields.replace(b'device = "/dev/a"', b'device = "%s"\ntags = ["%s"]' % (said, said))
+    return fields.replace(b'id = "%s"\nstatus' % dashed("h").encode(), b'id = "%s"\nstatus' % said)
+
+
+def mirror(name):
+    return member(disk("a", A, GROUP), 1, 0, (0, 1), 7, size=len(disk("a", A, GROUP)) // SECTOR, name=name.encode())
+
+
+# Where a name may stand: the images by their paths.
+FIELDS = [
+    ("the path of an image", lambda name: {name: disk("a", A, GROUP)}),
+    ("the path of what isn't known", lambda name: {name: content_of("x", 64)}),
+    ("the path of a member", lambda name: {name: mirror("array")}),
+    ("the path of a container", lambda name: {name: containers.version_1(32) + bytes(64 * SECTOR)}),
+    ("the name of an array", lambda name: {"disk": mirror(name)}),
+    ("the id of a container", lambda name: {"disk": containers.version_1(32)[:168] + name.encode().ljust(40, b"\0") + containers.version_1(32)[208:] + bytes(64 * SECTOR)}),
+    ("the strings of a text", lambda name: {"disk": disk("a", A, with_fields(name))}),
+    ("a type of a segment", lambda name: {"disk": disk("a", A, GROUP.replace(b'type = "striped"', b'type = "%s"' % name.replace('"', "").replace("\\", "").encode()))}),
+]
+
+
+def calls(pile, images, name):
+    """What commands print of these images."""
+    first = images[0]
+    yield pile.call("scan", *images)
+    yield pile.call("scan", "--json", *images)
+    yield models.tool_calls.call(pile.top, ["owner", "--program", pile.program.path, *images], given="%s 0 99\n" % first if "\n" not in first else "", folder=pile.folder)
+    for asked in ("vg0/home", "vg0/none", "md:" + name, first, name + "/" + name):
+        yield pile.call("lost", asked, *images)
+        yield pile.call("save", asked, "out", *images)
+        if os.path.exists(os.path.join(pile.folder, "out")):
+            os.unlink(os.path.join(pile.folder, "out"))
+    yield pile.call("tables", "vg0", *images, "--to", "made")
+    shutil.rmtree(os.path.join(pile.folder, "made"), ignore_errors=True)
+    for words in [], ["--list"]:
+        got = models.tool_calls.call(pile.top, ["metadata", *words, *images], folder=pile.folder)
+        # Without --list the text itself is printed.
+        yield got if words else models.tool_calls.Outcome(got.status, b"", got.err)
+
+
+def check_fields(tally, pile):
+    """Each name in each field: as many lines as of a plain name, and no control character."""
+    for where, images in FIELDS:
+        lines = {}
+        for name in [PLAIN, *ODD]:
+            for old in pile.images():
+                os.unlink(os.path.join(pile.folder, old))
+            for path, content in images(name).items():
+                pile.put(path, content)
+            for number, got in enumerate(calls(pile, pile.images(), name)):
+                said = (got.out + got.err).decode("utf-8", "surrogateescape")
+                odd = [letter for letter in said if letter != "\n" and not letter.isprintable()]
+                lines.setdefault(number, said.count("\n"))
+                # A name may make a path, or a text, one that isn't taken.
+                is_so = got.status in (0, 1, 2, 4) and not odd and (said.count("\n") <= max(lines[number], 1) or number == 1)
+                tally.holds("%s is %r, call %d" % (where, name, number), is_so, "status %s, %r" % (got.status, said[-600:]))
+
+
+def check_paths(tally, pile):
+    """By the tables of an image, dmremap reads the store in it, and not in a file whose path is the beginning of its path; what no
+    line of PATHS says is refused."""
+    known = text("vg0", "g", 4, "a", volume("home", "h", linear(0, 2, ("pv0", 3))), volume("snap", "s", linear(0, 4, ("pv0", 10)), status='"READ", "WRITE"'),
+                 volume("snapshot0", "n", segment(0, 2, "snapshot", "chunk_size = 4", 'origin = "home"', 'cow_store = "snap"')))
+    image = bytearray(disk("a", A, known))
+    store = (DATA + 10 * models.EXTENT) * SECTOR
+    # Chunk 1 was taken, and lies in the third place.
+    image[store:store + 16] = b"SnAp" + (1).to_bytes(4, "little") * 2 + (4).to_bytes(4, "little")
+    image[store + 2048:store + 4096] = (1).to_bytes(8, "little") + (2).to_bytes(8, "little") + bytes(2032)
+    for name in ["image", "image?offset=0", "image?offset=512", "image?offset=0?offset=0", "two\nlines", os.fsdecode(b"\xff"), "sp ace ", "?offset=0"]:
+        for old in pile.images():
+            os.unlink(os.path.join(pile.folder, old))
+        pile.put("image", bytes(len(image)))
+        pile.put("image?offset=0", bytes(len(image)))
+        pile.put(name, image)
+        got = pile.call("tables", "vg0", name, "--to", "made")
+        made = os.path.join(pile.folder, "made")
+        is_said = "\n" not in name and "\udcff" not in name
+        if tally.holds("tables of %r" % name, got.status == (0 if is_said else 1) and os.path.exists(os.path.join(made, "PATHS")) == is_said, "status %s, %r" % (got.status, got.err)) and is_said:
+            words = ["map", "table", *(os.path.join(made, part) for part in ("FILE", "DISKS")), "--paths", os.path.join(made, "PATHS")]
+            read = pile.program.run(words, given="R vg0-snap 0 8\n")
+            at = DATA + 3 * models.EXTENT, DATA + 10 * models.EXTENT + 8
+            tally.same("a store in %r" % name, read, 0, "1 R disk0 %d 4\n1 R disk0 %d 4\n" % at)
+        shutil.rmtree(made, ignore_errors=True)
+    got = models.tool_calls.call(pile.top, ["metadata", "image?offset=0"], folder=pile.folder)
+    tally.same("the text of a file that is called as a place in another", got, 1, "", "dmremap-tools metadata: image?offset=0: a file is called so, and here it means "
+               "a byte of image: give the file another name, or a link to it\n")
+
+
+class ForeignNames(Case, checks=[check_fields, check_paths]):
+    """Piles of images, each in an empty folder."""
+
+    def setUp(self):
+        self.pile = models.empty_pile(self, "foreign_names")

@@ -1,0 +1,356 @@
+"""Which layer owns which bytes of a pile of images: members of arrays, tables, labels and containers that say so of the same
+ones, what is left over of earlier ones, and signatures that nothing follows. Neither the order nor the names of images decide."""
+
+import hashlib
+import os
+import random
+import shutil
+import struct
+
+import containers
+import models
+import physical_volumes
+import tool_calls
+from dmremap_tools.base import disk_image
+from harness import Case
+from models import (A, B, DATA, EXTENT, MIB, SECTOR, content_of, disk, empty_pile, extents_of, linear, member, named, text,
+                    volume, xor)
+
+HOME = [volume("home", "h", linear(0, 5, ("pv0", 3)))]
+ROOT = [volume("root", "r", linear(0, 5, ("pv0", 3)))]
+OLD, NEW = disk("a", A, text("old", "g", 4, "a", *HOME)), disk("b", B, text("new", "k", 3, "b", *ROOT))
+OLD_BYTES, NEW_BYTES = extents_of(A, 3, 5), extents_of(B, 3, 5)
+
+
+def sectors(content):
+    return len(content) // SECTOR
+
+
+def with_mbr(content, *parts):
+    """A disk with an MBR over what it has: partitions, each with its first sector."""
+    made = bytearray(content)
+    for first, part in parts:
+        end = first * SECTOR + len(part)
+        made = made.ljust(end, b"\0")
+        made[first * SECTOR:end] = part
+    table = physical_volumes.mbr(*((0x8E, first, sectors(part)) for first, part in parts))
+    made[440:SECTOR] = table[440:]
+    return bytes(made)
+
+
+def orders(names):
+    """Some orders of images."""
+    dice = random.Random(len(names))
+    return [list(names), list(reversed(names)), dice.sample(list(names), len(names))]
+
+
+def in_any_order(tally, pile, label, images, volume_name, wanted, why=""):
+    """A volume of some images is saved, or, where nothing is wanted, refused, whatever the order and the names of these are."""
+    outcomes = set()
+    for turn, order in enumerate(orders(sorted(images))):
+        names = {name: name if turn == 0 else "%d-%s" % (len(order) - place, "x" * turn) for place, name in enumerate(order)}
+        for name in os.listdir(pile.folder):
+            os.unlink(os.path.join(pile.folder, name))
+        for name, content in images.items():
+            pile.put(names[name], content)
+        got, saved = pile.save(volume_name, *[names[name] for name in order])
+        outcomes.add((got.status, saved))
+        tally.holds(label, saved == wanted and got.status == (wanted is None) and why in got.err.decode(), "order %s: %s, %r" % (order, got.status, got.err))
+    tally.holds(label + ", in any order", len(outcomes) == 1, [(status, saved and len(saved)) for status, saved in outcomes])
+
+
+def with_bitmap(content, dirty, bits=64, chunk=1, events=7):
+    """A member of metadata 1.2 with a bitmap of one bit for each `chunk` sectors of its data, in which some are set."""
+    made = bytearray(content)
+    at, place = 8 * SECTOR, 24 * SECTOR
+    fields = struct.pack("<4sL16sQQQLL", b"bitm", 4, bytes(content[at + 16:at + 32]), events, events, bits * chunk, 0, chunk * SECTOR)
+    made[place:place + 256] = fields.ljust(256, b"\0")
+    made[place + 256:place + 256 + bits // 8] = sum(1 << bit for bit in dirty).to_bytes(bits // 8, "little")
+    struct.pack_into("<l", made, at + 96, (place - at) // SECTOR)
+    struct.pack_into("<L", made, at + 8, 1)
+    return summed(made, at)
+
+
+def summed(image, at):
+    """An image with the sum of the superblock 1.x at this byte."""
+    made = bytearray(image)
+    roles, = struct.unpack_from("<L", made, at + 220)
+    made[at + 216:at + 220] = bytes(4)
+    made[at:at + 256 + 2 * roles] = physical_volumes.md_summed(bytearray(made[at:at + 256 + 2 * roles]), 216)
+    return bytes(made)
+
+
+def check_resync(tally, pile):
+    """Mirrors whose resync was broken off: the member from which others are filled is read, and what is in step of others."""
+    data, other = content_of("in step", 64), content_of("not yet", 64)
+    for level, layout in ((1, 0), (10, 0x102)):
+        both = [member(content, level, number, (0, 1), 7, layout=layout, resync=0) for number, content in enumerate((data, other))]
+        label = "a resync that was broken off, of level %d" % level
+        in_any_order(tally, pile, label, {"a": both[0], "b": both[1]}, "md:array", data)
+        in_any_order(tally, pile, label + ", the first member alone", {"a": both[0]}, "md:array", data)
+        in_any_order(tally, pile, label + ", the second member alone", {"b": both[1]}, "md:array", None, "from which the others were being filled")
+    part = data[:20 * SECTOR] + other[20 * SECTOR:]
+    pile.put("half", member(part, 1, 1, (0, 1), 7, resync=20))
+    got, saved = pile.save("md:array", "half", more=["--resume", "out.map"])
+    tally.holds("what of a second member is in step", got.status == 4 and saved == part[:20 * SECTOR] + bytes(44 * SECTOR), "%s, %r" % (got.status, got.err))
+    ran = with_bitmap(member(data, 1, 1, (0, 1), 7, resync=0), [])
+    in_any_order(tally, pile, "a second member whose bitmap says that all is in step", {"b": ran}, "md:array", data)
+    ran = with_bitmap(member(data, 1, 1, (0, 1), 7, resync=0), [5])
+    in_any_order(tally, pile, "a second member of which a sector was being written", {"b": ran}, "md:array", None, "from which the others were being filled")
+    late = with_bitmap(member(data, 1, 1, (0, 1), 7, resync=0), [], events=6)
+    in_any_order(tally, pile, "a bitmap that is behind", {"b": late}, "md:array", None, "from which the others were being filled")
+    failed = member(data, 1, 1, (0xFFFE, 1), 9, resync=0)
+    in_any_order(tally, pile, "a second member that ran on after the first failed", {"b": failed}, "md:array", data)
+
+
+def check_apart(tally, pile):
+    """Halves that ran apart: what is the same on both is given."""
+    one, other = bytearray(content_of("both", 64)), bytearray(content_of("both", 64))
+    other[40 * SECTOR:41 * SECTOR] = b"x" * SECTOR
+    halves = {name: member(bytes(content), 1, number, roles, events) for name, number, content, roles, events in (
+        ("a", 0, one, (0, 0xFFFE), 20), ("b", 1, other, (0xFFFE, 1), 20))}
+    in_any_order(tally, pile, "halves that ran apart", halves, "md:array", None, "were written to apart from each other")
+    for name, content in halves.items():
+        wanted = bytes(one if name == "a" else other)
+        in_any_order(tally, pile, "one of the halves", {name: content}, "md:array", wanted)
+    same = dict(halves, b=member(bytes(one), 1, 1, (0xFFFE, 1), 23))
+    in_any_order(tally, pile, "halves that ran apart and have the same", same, "md:array", bytes(one))
+    stale = dict(halves, b=member(bytes(other), 1, 1, (0, 1), 17))
+    in_any_order(tally, pile, "a half that was away", stale, "md:array", bytes(one))
+
+
+def check_filled(tally, pile):
+    """Members that were being rebuilt: not read where others are, alone refused without a fault, and read as far as they were filled
+    where another one is missing."""
+    data = content_of("array", 128)
+    chunks = [data[at:at + 8 * SECTOR] for at in range(0, len(data), 8 * SECTOR)]
+    rows = [[] for _ in range(3)]
+    for row in range(8):
+        parity = 2 - row % 3
+        rows[parity].append(xor(chunks[2 * row], chunks[2 * row + 1]))
+        for column in range(2):
+            rows[(parity + 1 + column) % 3].append(chunks[2 * row + column])
+    legs = [b"".join(each) for each in rows]
+    def filling(content, level, number, roles, up_to, layout=0):
+        made = bytearray(member(content[:up_to * SECTOR].ljust(64 * SECTOR, b"?"), level, number, roles, 7, layout=layout))
+        struct.pack_into("<L", made, 8 * SECTOR + 8, 2)
+        struct.pack_into("<Q", made, 8 * SECTOR + 152, up_to)
+        return summed(made, 8 * SECTOR)
+    members = {"m%d" % number: member(leg, 5, number, (0, 1, 2), 7, layout=2) for number, leg in enumerate(legs)}
+    half = dict(members, m2=filling(legs[2], 5, 2, (0, 1, 2), 24, layout=2))
+    in_any_order(tally, pile, "raid5 with a member that was being rebuilt", half, "md:array", data)
+    for name, content in half.items():
+        pile.put(name, content)
+    got, saved = pile.save("md:array", "m0", "m2", more=["--resume", "out.map"])
+    tally.holds("raid5 as far as a member was rebuilt", got.status == 4 and saved[:48 * SECTOR] == data[:48 * SECTOR], "%s, %r" % (got.status, got.err))
+    alone = filling(data, 1, 1, (0, 1), 24)
+    in_any_order(tally, pile, "a half of a mirror that was being rebuilt", {"b": alone}, "md:array", None, "was being filled")
+    pile.put("pv", OLD)
+    pile.put("b", alone)
+    found = pile.scan("b", "pv")
+    tally.holds("what is beside it", named(found["groups"], "name", "old").get("state") == "complete", found)
+
+
+def check_last_partition(tally, pile):
+    """A member with metadata 1.0 or 0.90 in the last partition of a disk, which ends with that."""
+    last = member(content_of("x", 2048), 1, 0, (0, 1), 4, size=2048, version=0)
+    in_any_order(tally, pile, "a group beside a member at the end of the disk", {"sda": with_mbr(b"", (2048, NEW), (8192, last))}, "new/root", NEW_BYTES)
+    other = {"o%d" % number: member(content_of("y", 64), 1, number, (0, 1), 7, name=b"other") for number in range(2)}
+    sda = {"sda": with_mbr(b"", (2048, NEW), (8192, last))}
+    in_any_order(tally, pile, "the same beside a sound array", dict(sda, **other), "new/root", NEW_BYTES)
+    in_any_order(tally, pile, "that member", dict(sda, **other), "md:array", content_of("x", 2048))
+    old = physical_volumes.md_old_member(content_of("x", 2048).ljust(MIB, b"\0"), 1)
+    in_any_order(tally, pile, "a group beside a member with metadata 0.90", {"sda": with_mbr(b"", (2048, NEW), (8192, old))}, "new/root", NEW_BYTES)
+
+
+def check_left_over(tally, pile):
+    """What is left over of an earlier use of a disk: a label, superblocks and a second header of LUKS."""
+    disk_with_both = {"sda": with_mbr(OLD, (4096, NEW))}
+    in_any_order(tally, pile, "a partition of a disk with an old label", disk_with_both, "new/root", NEW_BYTES)
+    in_any_order(tally, pile, "an old label below a table", disk_with_both, "old/home", None, "a partition table (MBR) as well")
+    found = pile.scan()
+    tally.holds("both groups are told", {row["name"] for row in found["groups"]} == {"new", "old"}, found)
+    image, = pile.images()
+    asked = "".join("%s %d 1\n" % (image, first) for first in (4096 + DATA + 24, DATA + 24))
+    got = tool_calls.call(pile.top, ["owner", "--program", pile.program.path, image], given=asked, folder=pile.folder)
+    tally.holds("who has their sectors", b"old/home" not in got.out and b"new/root" in got.out, (got.out, got.err))
+    room = bytes(8192 * SECTOR)
+    raid5 = {"m%d" % number: member(room, 5, number, (0, 1, 2), 7, layout=2, size=len(room) // SECTOR) for number in range(3)}
+    in_any_order(tally, pile, "a partition of what was a member", dict(raid5, m0=with_mbr(raid5["m0"], (2048, NEW))), "new/root", NEW_BYTES)
+    tally.holds("an array without it, in which is nothing", pile.scan()["arrays"] == [], pile.scan()["arrays"])
+    torn = bytearray(with_mbr(raid5["m0"], (2048, NEW)))
+    torn[8 * SECTOR + 100] ^= 1
+    in_any_order(tally, pile, "a partition behind a damaged superblock", {"sda": bytes(torn)}, "new/root", NEW_BYTES)
+    container = containers.version_2()
+    second = bytearray(OLD)
+    second[16384:32768] = container[16384:32768]
+    in_any_order(tally, pile, "a physical volume over an old container", {"sda": bytes(second)}, "old/home", OLD_BYTES)
+
+
+def check_nested(tally, pile):
+    """Arrays on arrays, where the inner superblock is seen on the outer members too."""
+    inner = [member(content_of("leg %d" % number, 64), 0, number, (0, 1), 3, name=b"inner") for number in range(2)]
+    outer = {"%s%d" % (name, leg): member(content, 1, leg, (0, 1), 5, size=sectors(content), version=0, name=name.encode())
+             for name, content in zip("pq", inner) for leg in range(2)}
+    legs = [content_of("leg %d" % number, 64) for number in range(2)]
+    whole = b"".join(leg[at:at + 8 * SECTOR] for at in range(0, 64 * SECTOR, 8 * SECTOR) for leg in legs)
+    in_any_order(tally, pile, "stripes over mirrors", outer, "md:inner", whole)
+    in_any_order(tally, pile, "stripes over a mirror and a disk", {"a": inner[0], "q0": outer["q0"], "q1": outer["q1"]}, "md:inner", whole)
+    stale = dict(outer, q1=member(bytes(len(inner[1])), 1, 1, (0, 1), 2, size=sectors(inner[1]), version=0, name=b"q"))
+    in_any_order(tally, pile, "stripes over a mirror with a stale half", stale, "md:inner", whole)
+
+
+def check_signatures(tally, pile):
+    """Signatures of what nothing follows: what is found there is told, and refused; one in the midst of it says nothing."""
+    for label, place, magic in (("DDF", -SECTOR, b"\xde\x11\xde\x11"), ("IMSM", -2 * SECTOR, b"Intel Raid ISM Cfg Sig. 1.1"),
+                                ("dm-integrity", 0, b"integrt\0"), ("bcache", 0x1008, bytes.fromhex("0800000000000000 0100000000000000 c68573f64e1a45ca8265f57f48ba6d81"))):
+        for where, content in (("", OLD + bytes(MIB)), (" below a table", with_mbr(bytes(8192 * SECTOR), (2048, OLD)))):
+            if label == "bcache" and not where:
+                # It would lie on a metadata area.
+                continue
+            made = bytearray(content)
+            if where and 0 <= place < SECTOR:
+                made[:440] = bytes(440)
+            at = place % len(made)
+            made[at:at + len(magic)] = magic
+            in_any_order(tally, pile, label + where, {"sda": bytes(made)}, "old/home", None, "a signature of")
+            found = pile.scan()
+            tally.holds(label + where + ", told", [row["name"] for row in found["groups"]] == ["old"], found)
+    inside = bytearray(disk("a", A[:-SECTOR] + b"\xde\x11\xde\x11".ljust(SECTOR, b"\0"), text("old", "g", 4, "a", *HOME)))
+    in_any_order(tally, pile, "a signature within a volume", {"sda": bytes(inside)}, "old/home", OLD_BYTES)
+
+
+def check_lengths(tally, pile):
+    """Physical volumes that are about so long as several disks, or longer than one beside another of its length: stripes."""
+    long = text("old", "g", 4, "a", *HOME, extents=2 * 64 + 256)
+    half = physical_volumes.volume((physical_volumes.FIRST, physical_volumes.area(long, SECTOR, size=64 * 1024, others=[(SECTOR, long)])),
+                                   length=DATA * SECTOR, identity=b"a" * 32, size=2 * (DATA * SECTOR + len(A))) + A
+    in_any_order(tally, pile, "one of two stripes", {"sda": half}, "old/home", None, "one of the stripes of a controller")
+    third = physical_volumes.volume((physical_volumes.FIRST, physical_volumes.area(long, SECTOR, size=64 * 1024, others=[(SECTOR, long)])),
+                                    length=DATA * SECTOR, identity=b"a" * 32, size=(DATA * SECTOR + len(A)) * 3 // 2) + A
+    in_any_order(tally, pile, "a disk that is cut off", {"sda": third}, "old/home", OLD_BYTES)
+    in_any_order(tally, pile, "the same beside one of its length", {"sda": third, "sdb": bytes(len(third))}, "old/home", None, "one of the stripes")
+
+
+def check_headless(tally, pile):
+    """A physical volume without its first sectors, whose metadata area lies at its end."""
+    known, size = text("old", "g", 4, "a", *HOME), DATA * SECTOR + len(A)
+    node = known.replace(b"dev_size = %d" % (DATA + 64 * EXTENT), b"dev_size = %d" % (DATA + 64 * EXTENT + 128))
+    ring = physical_volumes.area(node, SECTOR, size=64 * 1024, others=[(SECTOR, node)], start=size)
+    in_any_order(tally, pile, "a physical volume without a label", {"sda": bytes(DATA * SECTOR) + A + bytes(ring)}, "old/home", OLD_BYTES)
+
+
+def check_containers(tally, pile):
+    """Headers of LUKS that cryptsetup refuses are told as that, and a sound one is not."""
+    def slots(*areas):
+        text = ",".join('"%d":{"area":{"offset":"%d","size":"%d"}}' % (number, *area) for number, area in enumerate(areas))
+        return containers.text_of().replace(b'{"segments"', ('{"keyslots":{%s},"segments"' % text).encode(), 1)
+    room = bytes(containers.DATA + MIB)
+    for label, header, why in (
+            ("a sound header", containers.version_2(json=slots((32768, 16384), (49152, 16384))), None),
+            ("areas that overlap", containers.version_2(json=slots((32768, 16384), (40960, 16384))), "the areas for keys"),
+            ("an area within the headers", containers.version_2(json=slots((16384, 16384))), "the areas for keys"),
+            ("an area past its room", containers.version_2(json=slots((65536, 16384))), "the areas for keys"),
+            ("a text with more behind it", containers.version_2(json=containers.text_of() + b"\0x"), "goes on behind its end")):
+        pile.put("sda", header + room[len(header):])
+        row = (pile.scan("sda")["luks"] or [{"why": "none is found"}])[0]
+        tally.holds(label, row["why"] is None if why is None else why in (row["why"] or ""), row)
+    for label, header in (("version 1", containers.version_1(4096)), ("version 2", containers.version_2())):
+        pile.put("sda", header.ljust(65536, b"\0"))
+        row = (pile.scan("sda")["luks"] or [{"why": "none is found"}])[0]
+        tally.holds("a device that is too small, of " + label, "ends before the data" in (row["why"] or ""), row)
+
+
+def check_kinds(tally, pile):
+    """Names of what is like something else."""
+    bcache = bytes.fromhex("c68573f64e1a45ca8265f57f48ba6d81")
+    for name, wanted, places in (
+            ("bcache", "bcache", [(0x1008, b"\x08" + bytes(7)), (0x1018, bcache)]),
+            ("bcachefs", "bcachefs", [(0x1008, b"\x99" * 8), (0x1018, bytes.fromhex("c68573f666ce90a9d96a60cf803df7ef"))]),
+            ("an old bcachefs", "bcachefs", [(0x1008, b"\x99" * 8), (0x1018, bcache)]),
+            ("iso9660", "iso9660", [(0x8001, b"CD001"), (0x8801, b"CD001")]),
+            ("UDF", "udf", [(0x8001, b"BEA01"), (0x8801, b"NSR02")]),
+            ("a disc that is both", "udf", [(0x8001, b"CD001"), (0x8801, b"CD001"), (0x9001, b"BEA01"), (0x9801, b"NSR03")]),
+            ("squashfs", "squashfs", [(0, b"hsqs"), (28, b"\4\0")]),
+            ("squashfs 3", "squashfs3", [(0, b"hsqs"), (28, b"\3\0")])):
+        image = bytearray(MIB)
+        for at, content in places:
+            image[at:at + len(content)] = content
+        path = os.path.join(pile.folder, "sda")
+        pile.put("sda", bytes(image))
+        with open(path, "rb") as file:
+            found = disk_image.file_system_of(disk_image.Image(file, path))
+        tally.holds(name, found == wanted, found)
+    for name, at, content in (("Sun", 508, b"\xda\xbe"), ("SGI", 0, b"\x0b\xe5\xa9\x41"), ("Apple", 512, b"PM\0\0"), ("BSD", 512, b"WEV\x82")):
+        image = bytearray(MIB)
+        image[at:at + len(content)] = content
+        pile.put("sda", bytes(image))
+        whys = [row["why"] for row in pile.scan("sda")["images"][0]["holds"]]
+        tally.holds("a table of " + name, "partition table (%s) that isn't followed" % name in whys[0], whys)
+
+
+class ShuffledPile(models.Pile):
+    """A pile that saves all volumes twice: the other time with its images under other names, and in another order."""
+
+    def __init__(self, tally, program, top, folder):
+        super().__init__(program, top, folder)
+        self.tally = tally
+
+    def save(self, volume, *images, more=()):
+        given = list(images or self.images())
+        folder = os.path.join(self.folder, "out.names")
+        os.makedirs(folder)
+        others = [os.path.join(folder, "%02d-%d" % (len(given) - place, place)) for place in range(len(given))]
+        for name, other in zip(given, others):
+            os.link(os.path.join(self.folder, name), other)
+        outcome = super().save(volume, *reversed(others))
+        shutil.rmtree(folder)
+        got, saved = super().save(volume, *images, more=more)
+        if not more and not any(volume.startswith((name, "./" + name)) for name in given):
+            same = (outcome[0].status, outcome[1]) == (got.status, saved)
+            self.tally.holds("%s of %s, in another order" % (volume, given), same, (outcome[0].status, outcome[0].err, got.status, got.err))
+        return got, saved
+
+
+def check_orders(tally, pile):
+    """The arrays of other tests, saved in two orders under two names each."""
+    for check in (models.check_arrays, models.check_nested, models.check_lost_superblocks, models.check_legs):
+        shuffled = empty_pile(tally, "orders")
+        check(tally, ShuffledPile(tally, shuffled.program, shuffled.top, shuffled.folder))
+
+
+def check_machines(tally, pile):
+    """The machines in the folder that DMREMAP_IMAGES names, if it does: each volume, in two orders under two names."""
+    top = os.environ.get("DMREMAP_IMAGES")
+    if not top:
+        tally.skip("machines in two orders", "DMREMAP_IMAGES names no folder of machines")
+        return
+    for machine in sorted(name for name in os.listdir(top) if os.path.isdir(os.path.join(top, name))):
+        outcomes = []
+        for turn in range(2):
+            folder = os.path.join(pile.folder, "out.%d" % turn)
+            os.makedirs(folder)
+            names = sorted(os.listdir(os.path.join(top, machine)), reverse=bool(turn))
+            images = [os.path.join(folder, "%d%s" % (place, "y" * turn)) for place in range(len(names))]
+            for name, image in zip(names, images):
+                os.symlink(os.path.join(top, machine, name), image)
+            found = pile.scan(*images)
+            volumes = {group["id"] + "/" + row["name"] for group in found["groups"] for row in group["volumes"]}
+            told = sorted((row["id"], row["state"], row["seqno"]) for row in found["groups"])
+            told += sorted((row["id"], row["level"], row["missing"], len(row["members"]), len(row["stale"])) for row in found["arrays"])
+            for name in sorted(volumes):
+                got, saved = pile.save(name, *images)
+                told.append((name, got.status, saved and hashlib.sha256(saved).hexdigest()))
+            outcomes.append(told)
+            shutil.rmtree(folder)
+        tally.holds("%s in two orders" % machine, outcomes[0] == outcomes[1], [each for each in zip(*outcomes) if each[0] != each[1]])
+
+
+class Owned(Case, checks=[
+    check_resync, check_apart, check_filled, check_last_partition, check_left_over, check_nested, check_signatures, check_lengths,
+    check_headless, check_containers, check_kinds, check_orders, check_machines
+]):
+    """Piles of images, each in an empty folder."""
+
+    def setUp(self):
+        self.pile = empty_pile(self, "owned")
