@@ -172,7 +172,11 @@ class Told:
 
     def _why_disks_or_none(self) -> Finding:
         """DISKS is there with metadata, or isn't there."""
-        (wanted, file, disks), kind, named = self.typed.given, self._texts["source"].kind, self._named()
+        (wanted, file, disks), source, named = self.typed.given, self._texts["source"], self._named()
+        kind = source.kind
+        found = source.fault or (None if kind in texts.FORM_OF else self._why_kind("source", source))
+        if found:
+            return found
         form = texts.FORM_OF.get(kind, wanted)
         again = line(self.typed.command, form, file, "disks" if disks is None else disks)
         if form == "lvm" and disks is None:

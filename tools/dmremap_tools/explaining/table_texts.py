@@ -314,7 +314,7 @@ def why_disks(word: str, number: int, disks: Text, file: Text) -> Optional[Findi
     of_disk, count = place._replace(end=len(disk)), len(place.text.split())
     anew = ["a line is DISK LEN, with a space between; make the list anew, as root:",
             list_of(disks_named(file))]
-    odd = "the line has %d words, and not two: DISK LEN" % count if count else "the line is empty"
+    odd = "the line has %d word%s, and not two: DISK LEN" % (count, "s" * (count != 1)) if count else "the line is empty"
     first = next((it.number for it in disks.places() if it.text.split(" ")[0] == disk), 0)
     return word == "syntax" and _unended(disks, number) or {
         "syntax": Finding("there are more spaces than one, or some at the end" if count == 2 else odd, anew, place),
