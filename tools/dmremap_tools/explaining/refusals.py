@@ -3,6 +3,7 @@ request a word is meant, and of the metadata of a group a field, without which s
 
 import difflib
 import os
+import pathlib
 import re
 from typing import Callable, Dict, List, Optional
 
@@ -105,9 +106,9 @@ class Told:
         return found or general(self.asked, message)
 
     def _why_unread(self) -> Optional[Finding]:
-        """The first disk of PATHS that can't be read where that says."""
+        """The first disk of PATHS that can't be read where that says. Nobody is waited for who writes to a pipe."""
         for disk, place in paths.places(self.listed, are_apart=False).items():
-            fault = texts.read(place.path).fault
+            fault = None if pathlib.Path(place.path).is_fifo() else texts.read(place.path).fault
             if fault:
                 return fault._replace(why="the disk %s: %s" % (disk, fault.why))
         return None

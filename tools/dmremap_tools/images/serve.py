@@ -71,7 +71,8 @@ def run(words: Namespace) -> None:
     with tempfile.TemporaryDirectory(prefix="dmremap-tools-") as folder:
         path = os.path.abspath(words.socket or os.path.join(folder, "socket"))
         make_way(path)
-        serve([nbdkit, "-f", "-r", "--exit-with-parent", "-U", path, "python", plugin, *given], path, lines_of(path, file_system_in(target.device)))
+        command = [nbdkit, "-f", "-r", "--exit-with-parent", "-U", path, "python", plugin, *given]
+        serve(command, path, lines_of(path, file_system_in(target.device)))
 
 
 def lines_of(path: str, system: Optional[str]) -> str:
