@@ -35,7 +35,7 @@ FILES = {
               "x: 0 28 linear base 0\nx: 28 4 error\no: 0 32 snapshot-origin /dev/mapper/x\n",
     "errors.disks": "base 32\ncow1 32\ncow2 32\ncow3 64\n", "full": "W p 0 16\n", "lost.before": "W p 0 24\n", "full.k": "W k 0 16\n",
     "lost.paths": "/dev/sda1 disk2.img\n", "disk1.img": bytes(4096), "disks.numbers": "8:1\n",
-    "range.kernel": "a: 0 8 linear sda 96\n", "sda.disks": "sda 100\n", "kernel": "a: 0 8 linear sda 0\nb: 0 8 linear 8:1 0\n",
+    "images": "a: 0 8 linear disk1.img 0\n", "range.kernel": "a: 0 8 linear sda 96\n", "sda.disks": "sda 100\n", "kernel": "a: 0 8 linear sda 0\nb: 0 8 linear 8:1 0\n",
     "read-only": "a,,,rw,0 8 linear /dev/mapper/b 0;b,,,ro,0 8 linear /dev/sda1 0\n",
 }
 # Changes of vg0.backup.
@@ -77,6 +77,7 @@ MISTAKES = [
      """{ echo '8:1' "$(blockdev --getsz '/dev/block/8:1')"; } > disks"""),
     ("the kernel's names without lengths", ["map", "table", "kernel", "disks.numbers"], b"",
      """{ echo sda "$(blockdev --getsz /dev/sda)"; echo '8:1' "$(blockdev --getsz '/dev/block/8:1')"; } > disks"""),
+    ("images without lengths", ["map", "table", "images", "disks.numbers"], b"", """{ echo disk1.img "$(expr $(stat -Lc %s disk1.img) / 512)"; } > disks"""),
     ("a disk in a request", ["map", "table", "tables", "disks", "R sda1 0 8"], b"", "dmremap-tools owner --help"),
     ("another format", ["map", "table", "vg0.backup", "disks"], b"", "dmremap map lvm vg0.backup"),
     ("table text as metadata", ["map", "lvm", "tables"], b"", "dmremap map table tables DISKS"),

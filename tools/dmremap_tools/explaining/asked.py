@@ -47,9 +47,10 @@ def typed(words: List[str]) -> "Typed | Finding":
     if not rest or rest[0] not in FORMATS:
         return _no_format(name, rest)
     if len(rest) > 3:
+        are_requests = texts.read(rest[3]).kind == texts.REQUESTS
         return Finding("there are more words than FORMAT, FILE and DISKS: %s" % quoting.shown(rest[3]),
-                       ["give requests on standard input, and a path with spaces in quotes:",
-                        line(name, *rest[:3], requests=rest[3])])
+                       ["give requests on standard input, and a path with spaces in quotes",
+                        *[line(name, *rest[:3], requests=rest[3])] * are_requests])
     if len(rest) < 2:
         return Finding("FILE is missing", ["give the file with the devices after the format:", line(name, rest[0])])
     return Typed(name, Given(rest[0], rest[1], rest[2] if len(rest) > 2 else None), requests)

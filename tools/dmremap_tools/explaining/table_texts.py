@@ -2,6 +2,7 @@
 what mends it."""
 
 import difflib
+import os
 import re
 from typing import Dict, Iterator, List, Optional, Tuple
 
@@ -16,6 +17,7 @@ FORMS = {"linear": "DEV OFFSET", "striped": "COLUMNS CHUNK DEV OFFSET ..", "zero
 END = ["list the device in DISKS with its length, and name it without %s: answers end at it then;" % names.MAPPER,
        "as root, this does so for a whole machine:", *GET_MACHINE]
 OTHER_NAME = ["write another name, in all places where it stands"]
+LENGTH = "blockdev --getsz %s"
 # Names that mean nothing else to sed.
 PLAIN = re.compile(r"[\w/-]+", re.A)
 # What commands make of lines that dmremap doesn't read.
@@ -330,9 +332,9 @@ def why_disks(word: str, number: int, disks: Text, file: Text) -> Optional[Findi
 
 def list_of(disks: List[str]) -> str:
     """The command that lists some disks."""
-    named = disks[:8] or ["DISK"]
-    if all("/" in it or it == "DISK" for it in named):
-        return GET_DISKS % " ".join(map(shell, named))
+    named = disks[:8]
+    if all(length_of(it) == LENGTH % shell(it) for it in named):
+        return GET_DISKS % (" ".join(map(shell, named)) or "DISK")
     return "  { %s; } > disks" % "; ".join(map(entry_of, named))
 
 
@@ -342,9 +344,11 @@ def entry_of(disk: str) -> str:
 
 
 def length_of(disk: str) -> str:
-    """The command that prints the sectors of a disk, which may be called as the kernel calls it: sda, or 8:0."""
+    """The command that prints the sectors of an image, or of a disk, which may be called as the kernel calls it: sda, or 8:0."""
+    if os.path.isfile(disk):
+        return "expr $(stat -Lc %%s %s) / 512" % shell(disk)
     folder = "" if "/" in disk else "/dev/block/" if NUMBERED.fullmatch(disk) else "/dev/"
-    return "blockdev --getsz %s" % shell(folder + disk)
+    return LENGTH % shell(folder + disk)
 
 
 def disks_named(file: Text) -> List[str]:
