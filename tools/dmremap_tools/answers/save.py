@@ -7,7 +7,7 @@ import hashlib
 import os
 import tempfile
 from argparse import Namespace
-from typing import Dict, Iterable, Iterator, List, Set, Tuple
+from typing import Dict, Iterable, Iterator, List, Tuple
 
 from dmremap_tools.answers.saved import ANY, PARTLY, Absent, SavedMap, Source, head_of, put_together
 from dmremap_tools.base import given, names, pieces, quoting, requests, streams, written
@@ -51,7 +51,7 @@ def run(words: Namespace) -> bool:
         if saved.has_more_maps:
             saved.check_finished([(at * SECTOR, (at + count) * SECTOR) for at, _, count in extents])
         todo = list(left(extents, saved))
-        if words.resume is None and not words.allow_missing:
+        if words.resume is None and not words.allow_missing and not disks.have_all(part):
             check(begun.words, volume, todo, disks)
         return put_together(words.target, saved, extents_of(begun.words, volume, todo, disks))
 
@@ -84,10 +84,16 @@ class Disks:
             os.close(stack.opened(place.path))
             image = Image(place.path, self.unread.get(place.path, ()))
         except Refusal as refusal:
-            return Absent(refusal.why)
+            return Absent(name, refusal.why)
         # They may begin within a sector of the image.
         image.size = image.bytes
         return Part(name, image, place.start, max(0, image.bytes - place.start) // SECTOR * SECTOR)
+
+    def have_all(self, part: stack.Stack) -> bool:
+        """Whether all that tables may name is there, whatever is asked for."""
+        is_there = not any(line.target == "error" for it in part.devices for line in it.lines) and not any(self.unread.values())
+        return is_there and all(isinstance(self.device(name), Part) and size * SECTOR <= self.device(name).size
+                                for name, size in part.sizes.items())
 
     def check(self, volume: str, name: str, end: int) -> None:
         """Refuses a volume that lies on a disk that isn't there, or ends before this sector."""
@@ -130,13 +136,9 @@ def check(command: List[str], volume: str, todo: List[Extent], disks: Disks) -> 
 def extents_of(command: List[str], volume: str, todo: List[Extent], disks: Disks
                ) -> Iterator[Tuple[int, device.Extent]]:
     """Where what is left to do lies, each part with its first byte in the file."""
-    absent: Set[str] = set()
     sources = {"zero": device.ZEROS, "error": Missing("reads fail there")}
     for at, piece in placed(command, volume, todo):
         source, begin = sources.get(piece.what) or disks.device(piece.disk), at * SECTOR
-        if isinstance(source, Absent) and piece.disk not in absent:
-            absent.add(piece.disk)
-            streams.tell(f"missing: {quoting.shown(piece.disk)}: {source.name}")
         for extent in source.extents(piece.start * SECTOR, piece.count * SECTOR):
             yield begin, extent
             begin += extent.size

@@ -62,7 +62,13 @@ class Answers(streams.Lines):
     statuses = 0
 
     def __iter__(self) -> Iterator[Piece]:
-        return map(_piece, filter(None, map(self._fields, super().__iter__())))
+        for text in self.blocks():
+            rows: Iterable[Fields] = _SHORT.findall(text)
+            if len(rows) < text.count("\n"):
+                rows = filter(None, map(self._fields, self.again()))
+                yield from map(_piece, rows)
+            else:
+                yield from (_piece(fields) for fields, _ in zip(rows, self.again()))
 
     def by_blocks(self) -> Iterator[Block]:
         """The pieces, many at once. Refuses those that are out of order."""

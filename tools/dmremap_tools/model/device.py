@@ -49,10 +49,8 @@ class Device:
     def extents(self, start: int, size: int) -> Iterator[Extent]:
         """Where these bytes lie, in their order. What is past its end is missing."""
         inside = max(0, min(size, self.size - start))
-        if inside:
-            yield from self._extents(start, inside)
-        if inside < size:
-            yield Extent(Missing(self.ended()), 0, size - inside)
+        found = self._extents(start, inside) if inside else iter(())
+        return itertools.chain(found, [Extent(Missing(self.ended()), 0, size - inside)]) if inside < size else found
 
     def lack(self, start: int, size: int) -> Optional[str]:
         """Why some of these bytes aren't there, or None if all are."""
@@ -125,6 +123,9 @@ class Part(Device):
         return self.ended() if start + size > self.size else self.lower.lack(self.start + start, size)
 
     def _extents(self, start: int, size: int) -> Iterator[Extent]:
+        return self._around(start, size) if self.holes else self.lower.extents(self.start + start, size)
+
+    def _around(self, start: int, size: int) -> Iterator[Extent]:
         for begin, end, hole in cut(self.holes, start, start + size):
             if hole:
                 yield Extent(Missing(self._why), 0, end - begin)
@@ -269,8 +270,15 @@ class Image(Device):
         return f"{self.name} ends at byte {self.bytes}: give an image of the whole disk"
 
     def _extents(self, start: int, size: int) -> Iterator[Extent]:
-        for begin, end, run in cut(self._unread, start, start + size):
-            yield Extent(run[2] if run else self, begin, end - begin)
+        runs = cut(self._unread, start, start + size) if self._unread else [(start, start + size, None)]
+        return (Extent(run[2] if run else self, begin, end - begin) for begin, end, run in runs)
+
+    def fill(self, start: int, views: Sequence[memoryview]) -> bool:
+        """Reads the bytes from one on into places, and says whether all of them could be read."""
+        try:
+            return os.preadv(self._file.file.fileno(), views, start) == sum(map(len, views))
+        except OSError:
+            return False
 
     def load(self, start: int, size: int) -> bytes:
         try:
