@@ -236,7 +236,7 @@ def put_together(path: str, saved: SavedMap, extents: Iterator[Tuple[int, Extent
     gap, due, absent, buffer = range(0), time.monotonic() + STEP, {""}, memoryview(bytearray(WINDOW))
     try:
         with contextlib.closing(extents):
-            for parts in windows(part for at, extent in extents for part in parts_of(at, extent)):
+            for parts in windows(parts_of(extents)):
                 for begin, end, lack in results(parts, buffer, target):
                     if lack:
                         told = f"missing: {quoting.shown(lack.disk)}: {lack.name}" if isinstance(lack, Absent) else ""
@@ -283,23 +283,22 @@ def tell(gap: range) -> None:
         streams.tell(f"{len(gap)} sectors of the file from {gap.start} on can't be read")
 
 
-def parts_of(at: int, extent: Extent) -> Iterator[Part]:
-    """The bytes of an extent, of which the first one goes to a place, in blocks."""
-    source, begin, size = extent
-    why = None if source is ZEROS else source.lack(begin, size)
-    if source is ZEROS or isinstance(source, Missing):
-        yield Part(at, size, source, begin, source)
-    elif why is not None:
-        yield Part(at, size, source, begin, Missing(why))
-    elif size < BLOCK:
-        yield Part(at, size, source, begin)
-    else:
-        # Holes of an image aren't read.
-        runs = list(source.runs(begin, begin + size)) if isinstance(source, Image) else [(begin, begin + size)]
-        for first, stop, run in cut(runs, begin, begin + size):
-            for start in range(first, stop, BLOCK if run else stop - first):
-                count = min(BLOCK, stop - start) if run else stop - start
-                yield Part(at + start - begin, count, source, start, None if run else ZEROS)
+def parts_of(extents: Iterable[Tuple[int, Extent]]) -> Iterator[Part]:
+    """The bytes of extents, each with the place of its first byte, in blocks."""
+    for at, (source, begin, size) in extents:
+        is_image = isinstance(source, Image)
+        why = None if is_image or source is ZEROS else source.lack(begin, size)
+        if source is ZEROS or why is not None:
+            yield Part(at, size, source, begin, source if why is None or isinstance(source, Missing) else Missing(why))
+        elif size < BLOCK:
+            yield Part(at, size, source, begin)
+        else:
+            # Holes of an image aren't read.
+            runs = list(source.runs(begin, begin + size)) if is_image else [(begin, begin + size)]
+            for first, stop, run in cut(runs, begin, begin + size):
+                for start in range(first, stop, BLOCK if run else stop - first):
+                    count = min(BLOCK, stop - start) if run else stop - start
+                    yield Part(at + start - begin, count, source, start, None if run else ZEROS)
 
 
 def windows(parts: Iterable[Part]) -> Iterator[List[Part]]:
@@ -322,7 +321,7 @@ def results(parts: List[Part], buffer: memoryview, target: Target) -> Iterator[T
     found: List[Tuple[int, int, Optional[Device]]] = []
     for part in parts:
         end = part.at
-        for size, what in loaded(part, buffer[part.at - first:]) if part in unread else [(part.size, part.what)]:
+        for size, what in loaded(part, buffer[part.at - first:]) if unread and part in unread else [(part.size, part.what)]:
             begin, end = end, end + size
             if what is None and target.has(begin, buffer[begin - first:end - first]):
                 what = ZEROS

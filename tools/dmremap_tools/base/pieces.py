@@ -63,20 +63,19 @@ class Answers(streams.Lines):
 
     def __iter__(self) -> Iterator[Piece]:
         for text in self.blocks():
-            rows: Iterable[Fields] = _SHORT.findall(text)
-            if len(rows) < text.count("\n"):
-                rows = filter(None, map(self._fields, self.again()))
-                yield from map(_piece, rows)
+            if _MOVES.fullmatch(text):
+                moves = _columns(text)
+                found = map(Piece, moves.requests, moves.whats, moves.counts, moves.disks, moves.starts)
+                yield from (piece for piece, _ in zip(found, self.again()))
             else:
-                yield from (_piece(fields) for fields, _ in zip(rows, self.again()))
+                yield from map(_piece, filter(None, map(self._fields, self.again())))
 
     def by_blocks(self) -> Iterator[Block]:
         """The pieces, many at once. Refuses those that are out of order."""
         last = 0
         for text in self.blocks():
             if _MOVES.fullmatch(text):
-                words = text.split()
-                moves = _moves(*(words[column::5] for column in range(5)))
+                moves = _columns(text)
                 block: Block = moves.requests, moves, _moves(), []
             else:
                 block = self._mixed(text)
@@ -124,6 +123,12 @@ class Answers(streams.Lines):
 def _piece(fields: Fields) -> Piece:
     request, _, what, disk, start, other, count, to, to_start = fields
     return Piece(int(request), what or other, int(count), disk, int(start or 0), to, int(to_start or 0))
+
+
+def _columns(text: str) -> Moves:
+    """Lines that are moves alone."""
+    words = text.split()
+    return _moves(*(words[column::5] for column in range(5)))
 
 
 def _moves(requests: Sequence[str] = (), whats: Sequence[str] = (), disks: Sequence[str] = (),

@@ -48,9 +48,11 @@ class Device:
 
     def extents(self, start: int, size: int) -> Iterator[Extent]:
         """Where these bytes lie, in their order. What is past its end is missing."""
-        inside = max(0, min(size, self.size - start))
-        found = self._extents(start, inside) if inside else iter(())
-        return itertools.chain(found, [Extent(Missing(self.ended()), 0, size - inside)]) if inside < size else found
+        if 0 < size <= self.size - start:
+            return self._extents(start, size)
+        inside = max(0, self.size - start)
+        rest = [Extent(Missing(self.ended()), 0, size - inside)] if size else []
+        return itertools.chain(self._extents(start, inside) if inside and size else (), rest)
 
     def lack(self, start: int, size: int) -> Optional[str]:
         """Why some of these bytes aren't there, or None if all are."""
@@ -270,8 +272,10 @@ class Image(Device):
         return f"{self.name} ends at byte {self.bytes}: give an image of the whole disk"
 
     def _extents(self, start: int, size: int) -> Iterator[Extent]:
-        runs = cut(self._unread, start, start + size) if self._unread else [(start, start + size, None)]
-        return (Extent(run[2] if run else self, begin, end - begin) for begin, end, run in runs)
+        if not self._unread:
+            return iter([Extent(self, start, size)])
+        parts = cut(self._unread, start, start + size)
+        return (Extent(run[2] if run else self, begin, end - begin) for begin, end, run in parts)
 
     def fill(self, start: int, views: Sequence[memoryview]) -> bool:
         """Reads the bytes from one on into places, and says whether all of them could be read."""
