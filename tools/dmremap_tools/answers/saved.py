@@ -63,7 +63,7 @@ def merged(one: str, other: str) -> Optional[str]:
     return one if one == other or other.endswith(ANY) and one.startswith(other[:-len(ANY)]) else None
 
 
-class Part(NamedTuple):
+class Transfer(NamedTuple):
     """Bytes of a file: the first one, how many, and where they come from; `what` they are if they aren't read, zeros or
     missing."""
 
@@ -283,27 +283,27 @@ def tell(gap: range) -> None:
         streams.tell(f"{len(gap)} sectors of the file from {gap.start} on can't be read")
 
 
-def parts_of(extents: Iterable[Tuple[int, Extent]]) -> Iterator[Part]:
+def parts_of(extents: Iterable[Tuple[int, Extent]]) -> Iterator[Transfer]:
     """The bytes of extents, each with the place of its first byte, in blocks."""
     for at, (source, begin, size) in extents:
         is_image = isinstance(source, Image)
         why = None if is_image or source is ZEROS else source.lack(begin, size)
         if source is ZEROS or why is not None:
-            yield Part(at, size, source, begin, source if why is None or isinstance(source, Missing) else Missing(why))
+            yield Transfer(at, size, source, begin, source if why is None or isinstance(source, Missing) else Missing(why))
         elif size < BLOCK:
-            yield Part(at, size, source, begin)
+            yield Transfer(at, size, source, begin)
         else:
             # Holes of an image aren't read.
             runs = list(source.runs(begin, begin + size)) if is_image else [(begin, begin + size)]
             for first, stop, run in cut(runs, begin, begin + size):
                 for start in range(first, stop, BLOCK if run else stop - first):
                     count = min(BLOCK, stop - start) if run else stop - start
-                    yield Part(at + start - begin, count, source, start, None if run else ZEROS)
+                    yield Transfer(at + start - begin, count, source, start, None if run else ZEROS)
 
 
-def windows(parts: Iterable[Part]) -> Iterator[List[Part]]:
+def windows(parts: Iterable[Transfer]) -> Iterator[List[Transfer]]:
     """Parts that follow each other, as many as a WINDOW has room for, or a longer one that isn't read."""
-    window: List[Part] = []
+    window: List[Transfer] = []
     for part in parts:
         if window and not (part.at == end and end + part.size <= window[0].at + WINDOW):
             yield window
@@ -314,7 +314,7 @@ def windows(parts: Iterable[Part]) -> Iterator[List[Part]]:
         yield window
 
 
-def results(parts: List[Part], buffer: memoryview, target: Target) -> Iterator[Tuple[int, int, Optional[Missing]]]:
+def results(parts: List[Transfer], buffer: memoryview, target: Target) -> Iterator[Tuple[int, int, Optional[Missing]]]:
     """Puts the parts of a window into a file: from where to where, and what lacks there."""
     first, unread = parts[0].at, read(parts, buffer)
     # Of what is done with bytes: None, if they are written.
@@ -334,11 +334,11 @@ def results(parts: List[Part], buffer: memoryview, target: Target) -> Iterator[T
         yield begin, end, what if isinstance(what, Missing) else None
 
 
-def read(parts: List[Part], buffer: memoryview) -> Set[Part]:
+def read(parts: List[Transfer], buffer: memoryview) -> Set[Transfer]:
     """Reads parts of images to their places in a window, by one call where they go on there. Returns those that are
     to be read one by one."""
-    runs: List[List[Part]] = []
-    last: Dict[Optional[Device], List[Part]] = {}
+    runs: List[List[Transfer]] = []
+    last: Dict[Optional[Device], List[Transfer]] = {}
     for part in parts:
         if part.what is None:
             run = last.get(part.source)
@@ -347,7 +347,7 @@ def read(parts: List[Part], buffer: memoryview) -> Set[Part]:
             else:
                 last[part.source] = [part]
                 runs.append(last[part.source])
-    first, unread = parts[0].at, set()  # type: int, Set[Part]
+    first, unread = parts[0].at, set()  # type: int, Set[Transfer]
     for run in runs:
         views = [buffer[part.at - first:part.at - first + part.size] for part in run]
         if not (isinstance(run[0].source, Image) and run[0].source.fill(run[0].start, views)):
@@ -355,7 +355,7 @@ def read(parts: List[Part], buffer: memoryview) -> Set[Part]:
     return unread
 
 
-def loaded(part: Part, view: memoryview) -> Iterator[Tuple[int, Optional[Missing]]]:
+def loaded(part: Transfer, view: memoryview) -> Iterator[Tuple[int, Optional[Missing]]]:
     """The bytes of a part that are read as far as they can be: how many, and what lacks there."""
     at = 0
     for size, content, is_there in read_blocks(part.source.load, part.start, part.start + part.size):

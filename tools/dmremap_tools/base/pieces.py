@@ -62,13 +62,17 @@ class Answers(streams.Lines):
     statuses = 0
 
     def __iter__(self) -> Iterator[Piece]:
+        return map(_piece, filter(None, map(self._fields, super().__iter__())))
+
+    def in_columns(self) -> Iterator[Moves]:
+        """The pieces, many at once, in their order, without what copies and fills write."""
         for text in self.blocks():
             if _MOVES.fullmatch(text):
-                moves = _columns(text)
-                found = map(Piece, moves.requests, moves.whats, moves.counts, moves.disks, moves.starts)
-                yield from (piece for piece, _ in zip(found, self.again()))
+                yield _columns(text)
             else:
-                yield from map(_piece, filter(None, map(self._fields, self.again())))
+                found = map(_piece, filter(None, map(self._fields, self.again())))
+                rows = ((it.request, it.what, it.disk, it.start, it.count) for it in found)
+                yield Moves(*map(list, zip(*rows)))
 
     def by_blocks(self) -> Iterator[Block]:
         """The pieces, many at once. Refuses those that are out of order."""

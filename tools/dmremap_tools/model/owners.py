@@ -72,7 +72,9 @@ def ways_at_once(ground: Ground, first: int, end: int, depth: int = 0) -> Iterat
     """The same of so few sectors that their runs can be listed."""
     found = ground(first, end) if depth < DEEPEST else [Run(first, end, unknown("it lies on itself"))]
     runs = list(dict.fromkeys(found))
-    for run in sorted(runs + [Run(*gap) for gap in gaps(runs, first, end)], key=FIRST):
+    if len(runs) != 1 or runs[0][:2] != (first, end):
+        runs = sorted(runs + [Run(*gap) for gap in gaps(runs, first, end)], key=FIRST)
+    for run in runs:
         start, count = run.sector or 0, run.end - run.first
         above = run.above and ways_at_once(run.above, start, start + count, depth + bool(run.name))
         for way in above or [Way(start, count, ())]:
