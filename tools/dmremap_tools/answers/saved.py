@@ -27,8 +27,8 @@ TAKEN = "another save goes on by it, or began it just now: wait until that has e
 LATER = "it was begun without some map of an image, and what that lacks may be in OUT as zeros"
 PARTLY = "give --resume MAP to save the rest: the map says then what is missing"
 NOTHING = bytes(BLOCK)
-# Bytes that are read before they are written, and into how many places by one call.
-WINDOW, MOST_VIEWS = 4 << 20, 1024
+# Into how many places one call reads at most.
+MOST_VIEWS = 1024
 UNREADABLE = Missing("it can't be read")
 # How often a map is written, in seconds.
 STEP = 30
@@ -233,7 +233,7 @@ def put_together(path: str, saved: SavedMap, extents: Iterator[Tuple[int, Extent
     target = Target(path, saved.size, saved.is_begun)
     if saved.place:
         put_begun(target, saved)
-    gap, due, absent, buffer = range(0), time.monotonic() + STEP, {""}, memoryview(bytearray(WINDOW))
+    gap, due, absent, buffer = range(0), time.monotonic() + STEP, {""}, memoryview(bytearray(BLOCK))
     try:
         with contextlib.closing(extents):
             for parts in windows(parts_of(extents)):
@@ -288,7 +288,7 @@ def parts_of(extents: Iterable[Tuple[int, Extent]]) -> Iterator[Transfer]:
     for at, (source, begin, size) in extents:
         is_image = isinstance(source, Image)
         why = None if is_image or source is ZEROS else source.lack(begin, size)
-        if source is ZEROS or why is not None:
+        if why is not None or source is ZEROS:
             yield Transfer(at, size, source, begin, source if why is None or isinstance(source, Missing) else Missing(why))
         elif size < BLOCK:
             yield Transfer(at, size, source, begin)
@@ -302,10 +302,11 @@ def parts_of(extents: Iterable[Tuple[int, Extent]]) -> Iterator[Transfer]:
 
 
 def windows(parts: Iterable[Transfer]) -> Iterator[List[Transfer]]:
-    """Parts that follow each other, as many as a WINDOW has room for, or a longer one that isn't read."""
+    """Parts that follow each other, as many as a BLOCK has room for, or a longer one that isn't read: larger windows go
+    through the processor's cache twice."""
     window: List[Transfer] = []
     for part in parts:
-        if window and not (part.at == end and end + part.size <= window[0].at + WINDOW):
+        if window and not (part.at == end and end + part.size <= window[0].at + BLOCK):
             yield window
             window = []
         window.append(part)
