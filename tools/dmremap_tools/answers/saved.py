@@ -29,7 +29,7 @@ PARTLY = "give --resume MAP to save the rest: the map says then what is missing"
 NOTHING = bytes(BLOCK)
 # Into how many places one call reads at most.
 MOST_VIEWS = 1024
-UNREADABLE = Missing("it can't be read")
+UNREADABLE, END = Missing("it can't be read"), Missing("it ends")
 # How often a map is written, in seconds.
 STEP = 30
 
@@ -288,10 +288,10 @@ def parts_of(extents: Iterable[Tuple[int, Extent]]) -> Iterator[Transfer]:
     for at, (source, begin, size) in extents:
         is_image = isinstance(source, Image)
         why = None if is_image or source is ZEROS else source.lack(begin, size)
-        if why is not None or source is ZEROS:
-            yield Transfer(at, size, source, begin, source if why is None or isinstance(source, Missing) else Missing(why))
-        elif size < BLOCK:
-            yield Transfer(at, size, source, begin)
+        if why is not None:
+            yield Transfer(at, size, source, begin, source if isinstance(source, Missing) else Missing(why))
+        elif size < BLOCK or source is ZEROS:
+            yield Transfer(at, size, source, begin, ZEROS if source is ZEROS else None)
         else:
             # Holes of an image aren't read.
             runs = list(source.runs(begin, begin + size)) if is_image else [(begin, begin + size)]
@@ -317,22 +317,19 @@ def windows(parts: Iterable[Transfer]) -> Iterator[List[Transfer]]:
 
 def results(parts: List[Transfer], buffer: memoryview, target: Target) -> Iterator[Tuple[int, int, Optional[Missing]]]:
     """Puts the parts of a window into a file: from where to where, and what lacks there."""
-    first, unread = parts[0].at, read(parts, buffer)
-    # Of what is done with bytes: None, if they are written.
-    found: List[Tuple[int, int, Optional[Device]]] = []
-    for part in parts:
-        end = part.at
-        for size, what in loaded(part, buffer[part.at - first:]) if unread and part in unread else [(part.size, part.what)]:
-            begin, end = end, end + size
-            if what is None and target.has(begin, buffer[begin - first:end - first]):
+    first, unread, before = parts[0].at, read(parts, buffer), None  # type: int, Set[Transfer], Optional[Device]
+    begin = end = first
+    for part in [*parts, Transfer(0, 0, ZEROS, 0, END)]:
+        for size, what in loaded(part, buffer[end - first:]) if unread and part in unread else ((part.size, part.what),):
+            if what is None and target.has(end, buffer[end - first:end - first + size]):
                 what = ZEROS
-            if found and found[-1][2] is what:
-                begin = found.pop()[0]
-            found.append((begin, end, what))
-    for begin, end, what in found:
-        if what is None:
-            target.write(begin, buffer[begin - first:end - first])
-        yield begin, end, what if isinstance(what, Missing) else None
+            if what is not before:
+                if before is None:
+                    target.write(begin, buffer[begin - first:end - first])
+                if begin < end:
+                    yield begin, end, before if isinstance(before, Missing) else None
+                begin, before = end, what
+            end += size
 
 
 def read(parts: List[Transfer], buffer: memoryview) -> Set[Transfer]:
