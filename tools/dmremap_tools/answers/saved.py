@@ -305,14 +305,21 @@ def windows(parts: Iterable[Transfer]) -> Iterator[List[Transfer]]:
     """Parts that follow each other, as many as a BLOCK has room for, or a longer one that isn't read: larger windows go
     through the processor's cache twice."""
     window: List[Transfer] = []
-    for part in parts:
-        if window and not (part.at == end and end + part.size <= window[0].at + BLOCK):
-            yield window
-            window = []
-        window.append(part)
-        end = part.at + part.size
+    refused = None
+    try:
+        for part in parts:
+            if window and not (part.at == end and end + part.size <= window[0].at + BLOCK):
+                yield window
+                window = []
+            window.append(part)
+            end = part.at + part.size
+    except Refusal as refusal:
+        # What came before it is saved, and the map says so.
+        refused = refusal
     if window:
         yield window
+    if refused:
+        raise refused
 
 
 def results(parts: List[Transfer], buffer: memoryview, target: Target) -> Iterator[Tuple[int, int, Optional[Missing]]]:
