@@ -243,14 +243,28 @@ def check_headless(tally, pile):
 def check_containers(tally, pile):
     """Headers of LUKS that cryptsetup refuses are told as that, and a sound one is not."""
     def slots(*areas):
-        text = ",".join('"%d":{"area":{"offset":"%d","size":"%d"}}' % (number, *area) for number, area in enumerate(areas))
-        return containers.text_of().replace(b'{"segments"', ('{"keyslots":{%s},"segments"' % text).encode(), 1)
+        return containers.text_of(keys=areas)
+    def changed(old, new):
+        assert old in slots((32768, 16384))
+        return containers.version_2(json=slots((32768, 16384)).replace(old, new))
     room = bytes(containers.DATA + MIB)
     for label, header, why in (
             ("a sound header", containers.version_2(json=slots((32768, 16384), (49152, 16384))), None),
             ("areas that overlap", containers.version_2(json=slots((32768, 16384), (40960, 16384))), "the areas for keys"),
             ("an area within the headers", containers.version_2(json=slots((16384, 16384))), "the areas for keys"),
             ("an area past its room", containers.version_2(json=slots((65536, 16384))), "the areas for keys"),
+            ("a digest of a key that isn't there", changed(b'"keyslots":["0"]', b'"keyslots":["0","7"]'), "breaks a rule of the format (in digests)"),
+            ("a key without a digest", changed(b'"keyslots":["0"]', b'"keyslots":[]'), "breaks a rule of the format (in keyslots)"),
+            ("a token of a key that isn't there", changed(b'"tokens":{}', b'"tokens":{"0":{"type":"any","keyslots":["7"]}}'), "breaks a rule of the format (in tokens)"),
+            ("tokens that are none", changed(b'"tokens":{}', b'"tokens":42'), "breaks a rule of the format (in its parts)"),
+            ("a size that is no string", changed(b'"size":"dynamic"', b'"size":4096'), "breaks a rule of the format (in segments)"),
+            ("flags that are no array", changed(b'"size":"dynamic"', b'"size":"dynamic","flags":"hello"'), "breaks a rule of the format (in segments)"),
+            ("odd sectors", changed(b'"sector_size":512', b'"sector_size":1023'), "breaks a rule of the format (in segments)"),
+            ("no encryption", changed(b'"encryption":"aes-xts-plain64","sector', b'"encryption":"","sector'), "breaks a rule of the format (in segments)"),
+            ("data without a digest", changed(b'"segments":["0"]', b'"segments":[]'), "breaks a rule of the format (in segments)"),
+            ("a key of no form", changed(b'"af":{"type":"luks1"', b'"af":{"type":42'), "breaks a rule of the format (in keyslots)"),
+            ("another length of the text", changed(b'"json_size":"12288"', b'"json_size":"12287"'), "breaks a rule of the format (in config)"),
+            ("more keys than have room", changed(b'"keyslots_size":"32768"', b'"keyslots_size":"102400"'), "breaks a rule of the format (in config)"),
             ("a text with more behind it", containers.version_2(json=containers.text_of() + b"\0x"), "goes on behind its end")):
         pile.put("sda", header + room[len(header):])
         row = (pile.scan("sda")["luks"] or [{"why": "none is found"}])[0]
