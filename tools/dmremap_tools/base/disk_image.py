@@ -25,7 +25,9 @@ MAGICS = [
     ("vfat", 0x52, b"FAT32   "), ("vfat", 0x36, b"FAT1"), ("erofs", 0x400, b"\xe2\xe1\xf5\xe0"),
     ("nilfs2", 0x406, b"\x34\x34"), ("lvm2", 0x200, b"LABELONE"), ("zfs", 0x4000, b"\x0c\xb1\xba\0\0\0\0\0")]
 # A swap area says what it is at the end of its first page.
-PAGES, SWAPS = (4096, 8192, 16384, 65536), (b"SWAPSPACE2", b"SWAP-SPACE")
+PAGES, SWAPS = (4096, 8192, 16384, 32768, 65536), (b"SWAPSPACE2", b"SWAP-SPACE")
+# In place of that stands, while the memory of a machine that sleeps is in it, how it was put there; or that begins the area.
+ASLEEP, ASLEEP_FIRST = (b"S1SUSPEND", b"S2SUSPEND", b"ULSUSPEND", b"LINHIB0001"), b"\xed\xc3\x02\xe9\x98\x56\xe5\x0c"
 EXT_AT, EXT_MAGIC = 0x400, b"\x53\xef"
 # The descriptors of a disc, one every 2 KiB, whose names follow a byte, and those that UDF alone has, which may come after
 # those of iso9660.
@@ -145,6 +147,8 @@ def file_system_of(image: Image) -> Optional[str]:
         if inodes and blocks and block <= 6:
             is_ext4 = incompatible & EXT4_INCOMPATIBLE or read_only & EXT4_READ_ONLY
             return "ext4" if is_ext4 else "ext3" if compatible & HAS_JOURNAL else "ext2"
+    if head.startswith(ASLEEP_FIRST) or any(head.startswith(ASLEEP, page - 10) for page in PAGES):
+        return "swsuspend"
     if any(head[page - 10:page] in SWAPS for page in PAGES if page <= len(head)):
         return "swap"
     if head.startswith(BCACHE, BCACHE_AT):
