@@ -106,12 +106,14 @@ def fetch(folder, package):
         own = os.path.join(folder, "apt")
         os.makedirs(os.path.join(own, "parts"), exist_ok=True)
         os.makedirs(os.path.join(own, "lists", "partial"), exist_ok=True)
-        config = subprocess.run(["apt-config", "shell", "list", "Dir::Etc::sourcelist/f", "parts", "Dir::Etc::sourceparts/d"], check=True, stdout=subprocess.PIPE, text=True).stdout
+        config = subprocess.run(["apt-config", "shell", "list", "Dir::Etc::sourcelist/f", "parts", "Dir::Etc::sourceparts/d"],
+                                check=True, stdout=subprocess.PIPE, text=True).stdout
         for place in re.findall("'(.*)'", config):
             for path in glob.glob(os.path.join(place, "*")) if os.path.isdir(place) else filter(os.path.exists, [place]):
                 with open(path) as listed, open(os.path.join(own, "parts", os.path.basename(path)), "w") as copy:
                     copy.write(re.sub(r"(?m)^(Types: *)?deb\b(?!-)", r"\1deb-src", listed.read()))
-        apt = ["apt-get", "-qq", "-o", "Dir::Etc::sourcelist=/dev/null", "-o", "Dir::Etc::sourceparts=%s/parts" % own, "-o", "Dir::State::lists=%s/lists" % own, "-o", "Dir::Cache=%s" % own]
+        apt = ["apt-get", "-qq", *(word for name, place in (("Etc::sourcelist", os.devnull), ("Etc::sourceparts", own + "/parts"), (
+            "State::lists", own + "/lists"), ("Cache", own)) for word in ("-o", "Dir::%s=%s" % (name, place)))]
         subprocess.run([*apt, "update"], check=True, stdout=subprocess.DEVNULL)
         subprocess.run([*apt, "source", "--download-only", package], check=True, cwd=folder, stdout=subprocess.DEVNULL, stderr=subprocess.DEVNULL)
         source, = glob.glob(os.path.join(folder, package + "_*.dsc"))
@@ -151,8 +153,8 @@ def check_kind(checks, name, content, kind):
 
 
 def below(content, kind, path):
-    """An image with a physical volume below what it has, on the whole disk or in a partition, or None where blkid finds no more there
-    what it did. A disk is made longer in its midst, as signatures count from both ends."""
+    """An image with a physical volume below what it has, on the whole disk or in a partition, or None where wipefs no longer finds
+    that. A disk is made longer in its midst, as signatures count from both ends."""
     for eighth in (4, 6, 7, 2, 1, 8):
         cut = len(content) * eighth // 8 // SECTOR * SECTOR
         first = max(cut, len(owned.OLD)) + models.MIB & -models.MIB
@@ -199,10 +201,10 @@ def compare_signatures(checks, sources):
             checks.both(check_kind, name, content, kind.group(1))
         if kind and signatures.is_foreign(kind.group(1)):
             made = below(content, kind.group(1), checks.path)
-            if made:
+            if made and len(made) % SECTOR == 0:
                 checks.both(check_below, name, made)
             else:
-                print("not tried: a group below %s: blkid finds it no more" % name)
+                print("not tried: a group below %s: %s" % (name, "no disk has such a length" if made else "wipefs finds it no more"))
     for path in sorted(glob.glob(os.path.join(sources, "tests/ts/blkid/images-pt/*.img.xz"))):
         name = os.path.basename(path)[:-len(".img.xz")]
         checks.both(check_partitions, name, content_of(path), read(os.path.join(sources, "tests/expected/blkid/lowprobe-pt-" + name)))
@@ -211,7 +213,8 @@ def compare_signatures(checks, sources):
 def check_header(checks, name, content, wanted=None):
     """A container, which cryptsetup takes or not."""
     write(checks.path, content)
-    is_taken = subprocess.run([found("cryptsetup"), "luksDump", checks.path], stdout=subprocess.DEVNULL, stderr=subprocess.DEVNULL).returncode == 0
+    words = [found("cryptsetup"), "luksDump", checks.path]
+    is_taken = subprocess.run(words, stdout=subprocess.DEVNULL, stderr=subprocess.DEVNULL).returncode == 0
     if wanted not in (None, is_taken):
         print("not tried: %s: the cryptsetup here answers otherwise than its sources expect" % name)
         return
@@ -224,7 +227,7 @@ def check_header(checks, name, content, wanted=None):
 
 def compare_headers(checks, sources):
     tests, made = os.path.join(sources, "tests"), os.path.join(checks.folder, "headers")
-    for path in sorted(glob.glob(os.path.join(tests, "*hdr*.xz")) + glob.glob(os.path.join(tests, "*luks2*.img.xz")) + glob.glob(os.path.join(tests, "compat*.img.xz"))):
+    for path in sorted({path for form in ("*hdr*.xz", "*luks2*.img.xz", "compat*.img.xz") for path in glob.glob(os.path.join(tests, form))}):
         check_header(checks, os.path.basename(path), content_of(path))
     for path in sorted(glob.glob(os.path.join(tests, "luks*.tar.xz")) + [os.path.join(tests, "conversion_imgs.tar.xz")]):
         with tarfile.open(path) as packed:
@@ -235,8 +238,8 @@ def compare_headers(checks, sources):
     write(os.path.join(made, "luks2_valid_hdr.img"), content_of(os.path.join(tests, "luks2_valid_hdr.img.xz")))
     for name, wanted in re.findall(r'(?m)^RUN (\S+)\s+"([RF])"', read(os.path.join(tests, "luks2-validation-test"))):
         script = os.path.join(tests, "generators", "generate-%s.sh" % name)
-        ran = subprocess.run(["bash", script, made, os.path.join(made, "luks2_valid_hdr.img")], cwd=os.path.dirname(script), stdout=subprocess.DEVNULL, stderr=subprocess.DEVNULL)
-        if ran.returncode:
+        words = ["bash", script, made, os.path.join(made, "luks2_valid_hdr.img")]
+        if subprocess.run(words, cwd=os.path.dirname(script), stdout=subprocess.DEVNULL, stderr=subprocess.DEVNULL).returncode:
             print("not tried: %s: its generator needs jq and xxd" % name)
             continue
         with open(os.path.join(made, name), "rb") as image:

@@ -231,6 +231,7 @@ def check_own_signatures(tally, pile):
     for kind, place, magic, is_summed in (
             ("adaptec_raid_member", -SECTOR, b"\x37\xfc\x4d\x1e", False), ("hpt45x_raid_member", -11 * SECTOR, b"\xf3\x16\x78\x5a", False),
             ("drbd", 60 - 8 * SECTOR, b"\x83\x74\x02\x6b", False), ("drbd", 60 - 8 * SECTOR, b"\x83\x74\x02\x6d", False), ("ubi", 0, b"UBI#", False),
+            ("zfs_member", 0x4014, b"\0\0\0\x07version", False), ("zfs_member", 0x44014, b"\0\0\0\x07version", False),
             ("drbdmanage_control_volume", 0, b"$DRBDmgr=q", False), ("VMFS_volume_member", MIB, b"\x0d\xd0\x01\xc0", False),
             ("via_raid_member", -SECTOR, VIA, True), ("jmicron_raid_member", -SECTOR, JMICRON, True),
             ("silicon_medley_raid_member", -SECTOR, SILICON, True)):
@@ -317,6 +318,7 @@ def check_kinds(tally, pile):
             ("iso9660", "iso9660", [(0x8001, b"CD001"), (0x8801, b"CD001")]),
             ("UDF", "udf", [(0x8001, b"BEA01"), (0x8801, b"NSR02")]),
             ("a disc that is both", "udf", [(0x8001, b"CD001"), (0x8801, b"CD001"), (0x9001, b"BEA01"), (0x9801, b"NSR03")]),
+            ("ZFS", "zfs", [(0x4014, b"\0\0\0\x07version")]),
             ("squashfs", "squashfs", [(0, b"hsqs"), (28, b"\4\0")]),
             ("swap", "swap", [(4086, b"SWAPSPACE2")]),
             ("swap of pages of 32 KiB", "swap", [(32758, b"SWAPSPACE2")]),

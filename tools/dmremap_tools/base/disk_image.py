@@ -16,6 +16,8 @@ FORMS = {b"QFI\xfb": "qcow2", b"KDMV": "VMDK", b"vhdxfile": "VHDX"}
 LONGEST_MAGIC = 8
 # What is read of an image: the last magic of those below ends there.
 READ = 68 << 10
+# The first label of ZFS has a list of names and values, of which the first is its version.
+ZFS, ZFS_AT, ZFS_MAGIC = "zfs", 0x4014, b"\0\0\0\x07version"
 # Bytes at a place by which a file system is known.
 MAGICS = [
     ("luks", 0, b"LUKS\xba\xbe"), ("xfs", 0, b"XFSB"), ("btrfs", 0x10040, b"_BHRfS_M"),
@@ -23,7 +25,7 @@ MAGICS = [
     ("bitlocker", 3, b"-FVE-FS-"), ("squashfs", 0, b"hsqs"), ("reiserfs", 0x10034, b"ReIsEr"), ("jfs", 0x8000, b"JFS1"),
     ("bcachefs", 0x1018, b"\xc6\x85\x73\xf6\x66\xce\x90\xa9\xd9\x6a\x60\xcf\x80\x3d\xf7\xef"),
     ("vfat", 0x52, b"FAT32   "), ("vfat", 0x36, b"FAT1"), ("erofs", 0x400, b"\xe2\xe1\xf5\xe0"),
-    ("nilfs2", 0x406, b"\x34\x34"), ("lvm2", 0x200, b"LABELONE"), ("zfs", 0x4000, b"\x0c\xb1\xba\0\0\0\0\0")]
+    ("nilfs2", 0x406, b"\x34\x34"), ("lvm2", 0x200, b"LABELONE"), (ZFS, ZFS_AT, ZFS_MAGIC)]
 # A swap area says what it is at the end of its first page.
 PAGES, SWAPS = (4096, 8192, 16384, 32768, 65536), (b"SWAPSPACE2", b"SWAP-SPACE")
 # In place of that stands, while the memory of a machine that sleeps is in it, how it was put there; or that begins the area.

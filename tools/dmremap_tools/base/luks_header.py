@@ -25,8 +25,8 @@ BAD_JSON = ("the text of its header of LUKS goes on behind its end, or has none,
             "copy by `cryptsetup luksHeaderRestore`")
 BAD_AREAS = ("the areas for keys in its header of LUKS overlap or lie outside of their room, which cryptsetup refuses: "
              "restore it in a copy by `cryptsetup luksHeaderRestore`")
-BAD_TEXT = ("the text of its header of LUKS breaks a rule of the format (in {}), so that cryptsetup refuses it: restore it in a copy "
-            "by `cryptsetup luksHeaderRestore`")
+BAD_TEXT = ("the text of its header of LUKS breaks a rule of the format (in {}), so that cryptsetup refuses it: restore it in "
+            "a copy by `cryptsetup luksHeaderRestore`")
 TOO_SHORT = "it ends before the data of its container does: give the whole disk"
 UNSAID = "its header of LUKS doesn't say where the data is: see `cryptsetup luksDump`"
 

@@ -1,5 +1,5 @@
-"""The text of a header of LUKS version 2: what its objects must have, and how they refer to each other, as the "LUKS2 On-Disk Format
-Specification" says in section 3. Of a text that breaks these rules cryptsetup takes nothing."""
+"""The text of a header of LUKS version 2: what its objects must have, and how they refer to each other, as the "LUKS2 On-Disk
+Format Specification" says in section 3. Of a text that breaks these rules cryptsetup takes nothing."""
 
 import re
 from typing import Any, Dict, Optional
@@ -8,7 +8,8 @@ BINARY, PAGE, MOST_KEYS = 4096, 4096, 128 << 20
 # A number in a string, of at most 64 bits, and an array of strings. Any other string has a letter at least.
 NUMBER, STRINGS = re.compile("[0-9]{1,20}"), [str]
 # What an object must have: members of a type, of one of these, or objects.
-WHOLE = {"keyslots": dict, "tokens": dict, "segments": dict, "digests": dict, "config": {"json_size": NUMBER, "keyslots_size": NUMBER}}
+WHOLE = {"keyslots": dict, "tokens": dict, "segments": dict, "digests": dict,
+         "config": {"json_size": NUMBER, "keyslots_size": NUMBER}}
 OBJECTS: Dict[str, Dict[str, Any]] = {
     "keyslots": {"type": str, "key_size": int, "area": {"type": str, "offset": NUMBER, "size": NUMBER}},
     "tokens": {"type": str, "keyslots": STRINGS},

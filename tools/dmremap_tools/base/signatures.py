@@ -8,7 +8,7 @@ import struct
 from typing import Callable, Dict, Iterator, List, NamedTuple, Tuple
 
 from dmremap_tools.base import program
-from dmremap_tools.base.disk_image import BCACHE, BCACHE_AT, BCACHE_SECTOR, Image
+from dmremap_tools.base.disk_image import BCACHE, BCACHE_AT, BCACHE_SECTOR, ZFS_AT, ZFS_MAGIC, Image
 from dmremap_tools.base.numbers import SECTOR
 from dmremap_tools.base.refusal import Refusal
 
@@ -33,6 +33,7 @@ KNOWN = [
     ("drbd", b"\x83\x74\x02\x6d", (60 - 8 * SECTOR,)),
     ("drbdmanage_control_volume", b"$DRBDmgr=q", (0,)),
     ("ubi", b"UBI#", (0,)),
+    ("zfs_member", ZFS_MAGIC, (ZFS_AT, ZFS_AT + (256 << 10))),
     ("VMFS_volume_member", b"\x0d\xd0\x01\xc0", (1 << 20,)),
     ("DM_integrity", b"integrt\0", (0,)),
     ("DM_verity_hash", b"verity\0\0", (0,)),
