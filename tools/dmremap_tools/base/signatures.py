@@ -40,6 +40,7 @@ KNOWN = [
     ("vdo", b"dmvdo001", (0,)),
     ("stratis", b"!Stra0tis\x86\xff\x02^\x41rh", (SECTOR + 4, 9 * SECTOR + 4)),
     ("ceph_bluestore", b"bluestore block device", (0,))]
+LONGEST = max(len(magic) for _, magic, _ in KNOWN)
 # Those of the last sector whose bytes are too short to tell, with the byte at which they are, and the sum that tells.
 Sum = Callable[[bytes], bool]
 SUMMED: List[Tuple[str, bytes, int, Sum]] = [
@@ -60,7 +61,8 @@ def signatures_in(image: Image) -> List[Signature]:
     """The signatures that are looked for here."""
     places = ((kind, magic, at if at >= 0 else image.size // SECTOR * SECTOR + at) for kind, magic, places in KNOWN
               for at in places)
-    found = [Signature(kind, at) for kind, magic, at in places if at >= 0 and image.read(at, len(magic)) == magic]
+    read = functools.lru_cache(None)(lambda at: image.read(at, LONGEST))
+    found = [Signature(kind, at) for kind, magic, at in places if at >= 0 and read(at).startswith(magic)]
     end = image.size // SECTOR * SECTOR - SECTOR
     last = image.read(end, SECTOR) if end > 0 else b""
     found += [Signature(kind, end + at) for kind, magic, at, is_summed in SUMMED

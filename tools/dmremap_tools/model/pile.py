@@ -491,7 +491,7 @@ def table_in(device: Device, known: Optional[str]) -> Optional[Table]:
         for table in found if table]
     for table in tables:
         devices = {each.start: each for each in table.partitions.values()}.values()
-        if table.kind != "MBR" or any(known_in(each) or disk_image.other_table_of(Lenient(each)) or md_superblock.found_in(each)[0]
-                                      for each in devices):
+        if table.kind != "MBR" or any(
+                known_in(each) or disk_image.other_table_of(Lenient(each)) or md_superblock.found_in(each)[0] for each in devices):
             return table
     return tables[0] if tables and known in (None, "lvm2") else None
