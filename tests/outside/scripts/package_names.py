@@ -53,7 +53,7 @@ class Checks:
             print("DIFFERS: %s%s: %s is wanted, not %s" % (name, self.without, wanted, got))
 
     def pile(self, content):
-        """What an image holds, or None where that ends with a fault, which differs."""
+        """What an image holds, in the whole of which labels are looked for."""
         write(self.path, content)
         signatures.named_by_blkid.cache_clear()
         with contextlib.redirect_stderr(io.StringIO()):
@@ -88,10 +88,10 @@ def main():
     for package, compare in (("util-linux", compare_signatures), ("cryptsetup", compare_headers), ("e2fsprogs", compare_file_systems)):
         try:
             sources, checks = fetch(folder, package), Checks(folder, asked.program)
+            compare(checks, sources)
         except (OSError, subprocess.CalledProcessError) as fault:
             print("not tried: %s: %s" % (package, fault))
             continue
-        compare(checks, sources)
         counts = checks.counts
         status |= counts[DIFFER] > 0
         print("%s: %d checks, %d agree, %d refused, %d differ" % (
@@ -175,7 +175,7 @@ def check_below(checks, name, content):
     """Nothing of a group is given that lies below a layer that isn't followed."""
     pile = checks.pile(content)
     whys = [volume.why() for group in pile.groups for volume in group.volumes]
-    checks.count(AGREE if all(whys) else DIFFER, name + " over a group", "a doubt", [(group.name, group.state) for group in pile.groups])
+    checks.count(REFUSED if not whys else AGREE if all(whys) else DIFFER, name + " over a group", "a doubt", [(group.name, group.state) for group in pile.groups])
 
 
 def check_partitions(checks, name, content, expected):
