@@ -90,3 +90,8 @@ ssize_t read(int file, void *bytes, size_t size) {
     reads++;
     return syscall(SYS_read, file, bytes, size);
 }
+
+ssize_t pread(int file, void *bytes, size_t size, off_t from) {
+    reads++;
+    return syscall(SYS_pread64, file, bytes, size, from);
+}

@@ -143,6 +143,16 @@ def check_reads(tally, shim, program):
         most = 10 + os.path.getsize(path) // 1024
         is_few = got.status == 0 and 0 < got.reads <= most
         tally.holds("reads of " + command, is_few, "%d, and %d are allowed" % (got.reads, most))
+    # An area of 128 sectors is 64 KiB, one block; the pair after the list opens the fifth.
+    chunk, areas = 128, 5
+    count = 4096 * (areas - 1)
+    table = "s: 0 %d snapshot base cow P %d\n" % (count * chunk, chunk), "base %d\ncow %d\n" % (count * chunk, 2 * count * chunk)
+    words = words_of(program, "map table", table) + ["--paths"]
+    others = shim.run(words + [program.file("growths/paths", "cow missing\n")]).reads
+    paths = program.file("growths/paths", "cow %s\n" % put(program, "growths/cow.img", chunk, taken(chunk, count)))
+    got = shim.run(words + [paths])
+    is_few = got.status == 0 and got.reads - others <= 1 + areas + 2
+    tally.holds("reads of a store", is_few, "%d, and %d for %d areas" % (got.reads, others, areas))
 
 
 def check_volumes(tally, program):
