@@ -2,7 +2,10 @@ pub mod WorkedRows
 pub mod WorkedSnapshots
 -- what crates above cite: they see no folder of a module that is private
 pub use Rattle.dm_map.proofs.own.ChunkOutcomes
+pub use Rattle.dm_map.proofs.own.CutLemmas
+pub use Rattle.dm_map.proofs.own.HaltedRequests
 pub use Rattle.dm_map.proofs.own.NeverLost
+pub use Rattle.dm_map.proofs.own.OwnRequests
 pub use Rattle.dm_map.proofs.pieces.LegUnits
 pub use Rattle.dm_map.proofs.state.ResolvedLines
 pub use Rattle.dm_map.proofs.state.Numbers

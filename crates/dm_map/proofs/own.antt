@@ -1,11 +1,13 @@
 -- Lemmas of what disks hold: where no claims meet, each top device has what it would have alone, or
 -- errors.
 pub mod ChunkOutcomes
+pub mod CutLemmas
 pub mod DueChunks
 pub mod ErrorReads
 pub mod HaltedRequests
 pub mod HomeLemmas
 pub mod KeptRequests
+pub mod ListLemmas
 pub mod Losses
 pub mod LostSnapshots
 pub mod NeverLost

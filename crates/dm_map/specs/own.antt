@@ -1,10 +1,12 @@
 -- What disks hold after requests, the laws that each top device is like a disk of its own, and those of errors.
 pub mod Ample
 pub mod Contents
+pub mod Cuts
 pub mod Errors
 pub mod Losses
 pub mod Rows
 pub mod Halts
+pub mod Lists
 pub mod Requests
 pub mod Tops
 pub mod Ways

@@ -17,7 +17,9 @@ mod state;
 mod walk;
 
 pub use mapper::{MapFault, Mapper};
+pub use own::cuts::cuts_are_alone;
 pub use own::errors::{errors_have_causes, nothing_is_lost};
+pub use own::lists::lists_are_left;
 pub use own::play::play_goes_on;
 pub use own::requests::requests_are_alone;
 pub use own::tops::tops_are_alone;

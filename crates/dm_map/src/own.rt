@@ -1,7 +1,9 @@
 //! What disks hold after requests, the laws that each top device is like a disk of its own, and those
 //! of errors.
 
+pub(crate) mod cuts;
 pub(crate) mod errors;
+pub(crate) mod lists;
 pub(crate) mod play;
 pub(crate) mod requests;
 pub(crate) mod tops;

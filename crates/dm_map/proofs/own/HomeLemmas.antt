@@ -30,7 +30,7 @@ home_suc : (stack : Description) (levels device sector : ℕ) (step : LiesInStor
 unfolding home_to
 home_suc stack levels device sector step = cc (step.is (λ snapshot sector. IsError))
 
-store_touches : (stack : Description) (state : State) (levels : ℕ) (lower : Lower) (sector : ℕ) → IsSound stack → is_store_to stack levels lower ≡ true → sector < lower_len stack lower
+pub store_touches : (stack : Description) (state : State) (levels : ℕ) (lower : Lower) (sector : ℕ) → IsSound stack → is_store_to stack levels lower ≡ true → sector < lower_len stack lower
     → Touches stack state (node lower sector) (home_node (home_to stack levels lower sector))
 unfolding is_store_to home_to
 store_touches stack state levels (Disk disk) sector sound store inside = touch_self stack state (node (Disk disk) sector)

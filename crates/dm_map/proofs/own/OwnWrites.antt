@@ -12,7 +12,8 @@ use Rattle.dm_map.specs.own.Ways.{Node, node, Touches}
 use Rattle.dm_map.proofs.own.UniqueSteps.{no_step_to_top, top_root, top_unserved}
 use Rattle.dm_map.proofs.walk.ReadSteps.{read_step}
 use Rattle.dm_map.proofs.own.Losses.{stays_as}
-use Rattle.dm_map.proofs.own.TakenInARow.{IsFresh, all_front, all_moves, fresh_stays, grown_same, ran, run, run_stays}
+use Rattle.dm_map.proofs.own.TakenInARow.{IsFresh, all_front, all_moves, fresh_stays, grown_same, ran, run_stays}
+use Rattle.dm_map.specs.own.Cuts.{take_chunks}
 use Rattle.dm_map.proofs.own.WayLemmas.{Here, Before, back, read_touches}
 use Rattle.dm_map.proofs.own.Written.{written}
 
@@ -30,9 +31,9 @@ pub own_write : {V : Type 0} (zeros : V) (value : ℕ → V) (stack : Descriptio
 own_write {V = V} zeros value stack state top sector sound tidy fitting is_top =
     let step = write stack state (Device top) sector in
     let w = written stack (Device top) sector state sound tidy fitting in
-    let r = ran stack state state w.events sound fitting fitting tidy (grown_same state) w.each in
-    let us = (run stack w.events state).units in
-    let state_is : step.state ≡ (run stack w.events state).state = cc in
+    let r = ran stack state state w.dues sound fitting fitting tidy (grown_same state) w.each in
+    let us = (take_chunks stack w.dues state).units in
+    let state_is : step.state ≡ (take_chunks stack w.dues state).state = cc in
     record {
       front = us;
       last = w.last;
@@ -45,7 +46,7 @@ own_write {V = V} zeros value stack state top sector sound tidy fitting is_top =
           (all_front (IsFresh stack state) some rest (rw whole at r.fresh));
       kept = λ values other other_sector other_top.
           stays_as _ _ _ _ refl (cc)
-          (run_stays zeros value sector stack state w.events values (Device other) other_sector sound fitting tidy w.each (top_root stack other sound other_top));
+          (run_stays zeros value sector stack state w.dues values (Device other) other_sector sound fitting tidy w.each (top_root stack other sound other_top));
       reads = λ disk at last_is. w.reads disk at last_is;
       alone = λ disk at other other_sector last_is other_top is.
           let up = w.alone disk at (node (Device other) other_sector) last_is (top_root stack other sound other_top) (top_unserved stack other sound other_top) (read_touches stack step.state (Device other) other_sector disk at sound is) in

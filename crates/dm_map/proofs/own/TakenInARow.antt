@@ -8,6 +8,8 @@ use Rattle.dm_stack.specs.declared.id.Lower.TheVariants.{Disk}
 use Rattle.dm_stack.specs.claims.Claims.{IsTidy}
 use Rattle.dm_stack.specs.Description.{Description, lower_len}
 use Rattle.dm_stack.specs.checks.Soundness.{IsSound}
+use Rattle.dm_map.specs.own.Cuts.{IsOfSnapshot, take_chunks}
+use Rattle.dm_map.specs.own.Losses.{Due}
 use Rattle.dm_map.specs.own.Contents.{Values, Stays, answers, content, played, played_unit, sector_after, value_read}
 use Rattle.dm_map.specs.state.Fitting.{IsFitting}
 use Rattle.dm_map.specs.walk.Homes.{Home}
@@ -36,7 +38,7 @@ copy_moves : (from : BlockUnit) (to : Home) → answers (copy_to from to) ≡ fa
 copy_moves (ReadOf disk sector) to = refl
 copy_moves unit to = refl
 
-copy_only : {V : Type 0} (zeros written : V) (from : BlockUnit) (to : Home) (values : Values V) (disk sector : ℕ) → (to ≡ home_at disk sector → ⊥) → played_unit zeros written (copy_to from to) values disk sector ≡ values disk sector
+pub copy_only : {V : Type 0} (zeros written : V) (from : BlockUnit) (to : Home) (values : Values V) (disk sector : ℕ) → (to ≡ home_at disk sector → ⊥) → played_unit zeros written (copy_to from to) values disk sector ≡ values disk sector
 copy_only zeros written (ReadOf k x) to values disk sector differ = stored_other values to.disk to.sector disk sector (values k x) differ
 copy_only zeros written unit to values disk sector differ = stored_other values to.disk to.sector disk sector zeros differ
 
@@ -54,11 +56,11 @@ pub all_moves : (stack : Description) (state : State) (us : List BlockUnit) → 
 all_moves stack state [] each = tt
 all_moves stack state (u ∷ us) each = (fresh_moves stack state u each.0, all_moves stack state us each.1)
 
-all_row : (P : BlockUnit → Type 0) (f : ℕ → BlockUnit) (s n : ℕ) → ((u : ℕ) → s ≤ u → u < s + n → P (f u)) → AllByRecursion P (row f s n)
+pub all_row : (P : BlockUnit → Type 0) (f : ℕ → BlockUnit) (s n : ℕ) → ((u : ℕ) → s ≤ u → u < s + n → P (f u)) → AllByRecursion P (row f s n)
 all_row P f s zero each = tt
 all_row P f s (suc n) each = (each s (omega arith) (omega arith), all_row P f (suc s) n (λ u low high. each u (omega (arith, low)) (omega (arith, high))))
 
-all_append : (P : BlockUnit → Type 0) (xs ys : List BlockUnit) → AllByRecursion P xs → AllByRecursion P ys → AllByRecursion P (xs ++ ys)
+pub all_append : (P : BlockUnit → Type 0) (xs ys : List BlockUnit) → AllByRecursion P xs → AllByRecursion P ys → AllByRecursion P (xs ++ ys)
 all_append P [] ys p q = q
 all_append P (x ∷ xs) ys p q = (p.0, all_append P xs ys p.1 q)
 
@@ -75,7 +77,7 @@ fresh_keep zeros written at stack state a [] values disk sector root each touche
 fresh_keep {V = V} zeros written at stack state a (u ∷ us) values disk sector root each touches =
     cc (fresh_keep zeros written (sector_after u at) stack state a us (played_unit zeros (written at) u values) disk sector root each.1 touches, copy_only zeros (written at) each.0.from each.0.to values disk sector (λ e. each.0.apart a root (rw e touches)))
 
-value_kept : {V : Type 0} (zeros : V) (values later : Values V) (unit : BlockUnit) → ((disk sector : ℕ) → unit ≡ ReadOf disk sector → later disk sector ≡ values disk sector) → value_read zeros later unit ≡ value_read zeros values unit
+pub value_kept : {V : Type 0} (zeros : V) (values later : Values V) (unit : BlockUnit) → ((disk sector : ℕ) → unit ≡ ReadOf disk sector → later disk sector ≡ values disk sector) → value_read zeros later unit ≡ value_read zeros values unit
 value_kept zeros values later (ReadOf disk sector) same = ap Some (same disk sector refl)
 value_kept zeros values later unit same = refl
 
@@ -86,22 +88,6 @@ fresh_stays zeros written at stack state lower sector us values sound root each 
     (λ disk x is. fresh_keep zeros written at stack state (node lower sector) us values disk x root each (read_touches stack state lower sector disk x sound is))
 
 -- Runs
-
--- a chunk of a snapshot that is to be taken
-pub record Event : Type 0 where
-  pub device : ℕ
-  pub chunk : ℕ
-  pub snapshot : ResolvedSnapshot
-
-abbrev pub IsEvent : Description → Event → Type 0
-IsEvent stack event = snapshot_at stack event.device ≡ Some event.snapshot
-
-abbrev pub take_chunk_by : Description → Event → State → Step
-take_chunk_by stack event state = take_chunk stack event.snapshot event.device event.chunk state
-
-unfoldable pub run : Description → List Event → State → Step
-run stack [] state = keep [] state
-run stack (event ∷ events) state = and_then (take_chunk_by stack event state) (λ after. run stack events after)
 
 -- no list is shorter than it was
 pub record IsGrown (old state : State) : Type 0 where
@@ -156,39 +142,39 @@ outcome_stays zeros written at stack state values device chunk snapshot lower se
     rw is (inl (take_keeps zeros written at stack state values device chunk snapshot lower sector sound fitting tidy take root))
 outcome_stays zeros written at stack state values device chunk snapshot lower sector step sound fitting tidy there root (Losing is) = rw is (lost_stays zeros stack state values device lower sector sound there)
 
-pub event_there : (stack : Description) (state : State) (event : Event) → IsSound stack → IsFitting stack state → IsEvent stack event → event.device < length state
-event_there stack state event sound fitting is = let there = (snapshot_sound stack event.device event.snapshot sound is).there in let count = fitting.count in omega (arith, there, count)
+pub snapshot_there : (stack : Description) (state : State) (one : Due) → IsSound stack → IsFitting stack state → IsOfSnapshot stack one → one.device < length state
+snapshot_there stack state one sound fitting is = let there = (snapshot_sound stack one.device one.snapshot sound is).there in let count = fitting.count in omega (arith, there, count)
 
--- what a run of events does, seen from a state before it
+-- what such a run does, seen from a state before it
 pub record IsRun (stack : Description) (old state : State) (step : Step) : Type 0 where
   pub fits : IsFitting stack step.state
   pub grown : IsGrown old step.state
   pub fresh : AllByRecursion (IsFresh stack old) step.units
 
-pub ran : (stack : Description) (old state : State) (events : List Event) → IsSound stack → IsFitting stack old → IsFitting stack state → IsTidy stack → IsGrown old state → AllByRecursion (IsEvent stack) events → IsRun stack old state (run stack events state)
-unfolding run
+pub ran : (stack : Description) (old state : State) (dues : List Due) → IsSound stack → IsFitting stack old → IsFitting stack state → IsTidy stack → IsGrown old state → AllByRecursion (IsOfSnapshot stack) dues → IsRun stack old state (take_chunks stack dues state)
+unfolding take_chunks
 ran stack old state [] sound fit_old fitting tidy grown each = record { fits = fitting; grown = grown; fresh = tt }
 ran stack old state (e ∷ es) sound fit_old fitting tidy grown each =
-    let there = event_there stack state e sound fitting each.0 in
-    let step = take_chunk_by stack e state in
+    let there = snapshot_there stack state e sound fitting each.0 in
+    let step = take_chunk stack e.snapshot e.device e.chunk state in
     let outcome : FullOutcome stack state e.device e.chunk e.snapshot step = full_outcome stack state e.device e.chunk e.snapshot each.0 there in
     let fits = full_outcome_fits stack state e.device e.chunk e.snapshot step fitting there outcome in
     let more = outcome_grown stack old state e.device e.chunk e.snapshot step there grown outcome in
     let fresh = outcome_fresh stack old state e.device e.chunk e.snapshot step sound fit_old tidy grown outcome in
     let later = ran stack old step.state es sound fit_old fits tidy more each.1 in
-    record { fits = later.fits; grown = later.grown; fresh = all_append (IsFresh stack old) step.units (run stack es step.state).units fresh later.fresh }
+    record { fits = later.fits; grown = later.grown; fresh = all_append (IsFresh stack old) step.units (take_chunks stack es step.state).units fresh later.fresh }
 
 -- what a root has stays, or is an error
-pub run_stays : {V : Type 0} (zeros : V) (written : ℕ → V) (at : ℕ) (stack : Description) (state : State) (events : List Event) (values : Values V) (lower : Lower) (sector : ℕ) → IsSound stack → IsFitting stack state → IsTidy stack → AllByRecursion (IsEvent stack) events → IsRoot stack lower
-    → Stays (content zeros stack state values lower sector) (content zeros stack (run stack events state).state (played zeros written at (run stack events state).units values) lower sector)
-unfolding run played
+pub run_stays : {V : Type 0} (zeros : V) (written : ℕ → V) (at : ℕ) (stack : Description) (state : State) (dues : List Due) (values : Values V) (lower : Lower) (sector : ℕ) → IsSound stack → IsFitting stack state → IsTidy stack → AllByRecursion (IsOfSnapshot stack) dues → IsRoot stack lower
+    → Stays (content zeros stack state values lower sector) (content zeros stack (take_chunks stack dues state).state (played zeros written at (take_chunks stack dues state).units values) lower sector)
+unfolding take_chunks played
 run_stays zeros written at stack state [] values lower sector sound fitting tidy each root = inl refl
 run_stays {V = V} zeros written at stack state (e ∷ es) values lower sector sound fitting tidy each root =
-    let there = event_there stack state e sound fitting each.0 in
-    let step = take_chunk_by stack e state in
+    let there = snapshot_there stack state e sound fitting each.0 in
+    let step = take_chunk stack e.snapshot e.device e.chunk state in
     let outcome : FullOutcome stack state e.device e.chunk e.snapshot step = full_outcome stack state e.device e.chunk e.snapshot each.0 there in
     let fits = full_outcome_fits stack state e.device e.chunk e.snapshot step fitting there outcome in
     let moves = all_moves stack state step.units (outcome_fresh stack state state e.device e.chunk e.snapshot step sound fitting tidy (grown_same state) outcome) in
-    stays_as _ _ _ _ refl (cc (played_on zeros written at step.units (run stack es step.state).units values moves))
+    stays_as _ _ _ _ refl (cc (played_on zeros written at step.units (take_chunks stack es step.state).units values moves))
     (stays_on _ _ _ (outcome_stays zeros written at stack state values e.device e.chunk e.snapshot lower sector step sound fitting tidy there root outcome)
     (run_stays zeros written at stack step.state es (played zeros written at step.units values) lower sector sound fits tidy each.1 root))

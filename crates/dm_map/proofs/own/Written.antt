@@ -1,5 +1,5 @@
 -- The write of a sector: chunks are taken, then one unit follows; what is read then, and by whom.
-use Rattle.std.proofs.Common.{◌≡◌, ◌⊎◌, inl, inr, ℕ, ◌-◌, ◌/◌, ◌<◌, Bool, true, false, cond, List, [], ◌∷◌, ◌++◌, map, Option, Some, None, length, refl, sym, ap, ◌∙◌, arith}
+use Rattle.std.proofs.Common.{◌≡◌, ◌⊎◌, inl, inr, ℕ, ◌-◌, ◌/◌, ◌<◌, Bool, true, false, cond, List, [], ◌∷◌, ◌++◌, Option, Some, None, length, refl, sym, ap, ◌∙◌, arith}
 use Rattle.std.specs.List.{AllByRecursion}
 use Rattle.std.proofs.lemmas.List.{append-nil}
 use Rattle.dm_stack.specs.declared.lines.resolved_line.ResolvedLine.{ResolvedLine}
@@ -16,6 +16,8 @@ use Rattle.dm_stack.specs.Description.{Description, is_ro_at, lower_len}
 use Rattle.dm_stack.specs.checks.Depth.{lower_depth}
 use Rattle.dm_stack.specs.checks.Soundness.{IsSound}
 use Rattle.dm_map.specs.own.Contents.{answers}
+use Rattle.dm_map.specs.own.Cuts.{IsOfSnapshot, take_chunks}
+use Rattle.dm_map.specs.own.Losses.{Due, due_over}
 use Rattle.dm_map.specs.state.Fitting.{IsFitting}
 use Rattle.dm_map.specs.walk.Mapping.{write_line, write_step, write_target}
 use Rattle.dm_map.specs.walk.Reads.{by_below, read_below}
@@ -37,19 +39,19 @@ use Rattle.dm_map.proofs.state.Numbers.{same_sector}
 use Rattle.dm_map.proofs.walk.OneLevel.{by_depth, next_depth, read_disk, read_down, write_down}
 use Rattle.dm_map.proofs.walk.Overs.{overs}
 use Rattle.dm_map.proofs.walk.Rows.{and_then_at, step_assoc}
-use Rattle.dm_map.proofs.own.TakenInARow.{Event, IsEvent, grown_same, ran, run}
+use Rattle.dm_map.proofs.own.TakenInARow.{grown_same, ran}
 use Rattle.dm_map.proofs.walk.Served.{over_there, serve_settled, settled_on}
-use Rattle.dm_map.proofs.own.ServedRuns.{each_event, event_of, events_append, run_append, serve_run}
+use Rattle.dm_map.proofs.own.ServedRuns.{dues_append, each_served, serve_takes, takes_append}
 use Rattle.dm_map.proofs.walk.Settled.{write_keeps_settled}
 use Rattle.dm_map.proofs.walk.Stores.{store_read}
 use Rattle.dm_map.proofs.own.Takes.{snapshot_next}
 use Rattle.dm_map.proofs.own.WayLemmas.{Here, Before, back}
 
 pub record Written (stack : Description) (state : State) (lower : Lower) (sector : ℕ) (step : Step) : Type 0 where
-  pub events : List Event
+  pub dues : List Due
   pub last : BlockUnit
-  pub is : step ≡ and_then (run stack events state) (λ after. keep (last ∷ []) after)
-  pub each : AllByRecursion (IsEvent stack) events
+  pub is : step ≡ and_then (take_chunks stack dues state) (λ after. keep (last ∷ []) after)
+  pub each : AllByRecursion (IsOfSnapshot stack) dues
   pub answered : answers last ≡ true
   -- a written sector is read where it was written
   pub reads : (disk x : ℕ) → last ≡ WriteOf disk x → read stack step.state lower sector ≡ ReadOf disk x
@@ -72,9 +74,9 @@ no_write unit disk x (inr e) f = cc
     differ e = cc
 
 written_none : (stack : Description) (state : State) (lower : Lower) (sector : ℕ) (step : Step) (unit : BlockUnit) → (unit ≡ Fails) ⊎ (unit ≡ Drops) → step ≡ keep (unit ∷ []) state → Written stack state lower sector step
-unfolding run
+unfolding take_chunks
 written_none stack state lower sector step unit which is = record {
-  events = [];
+  dues = [];
   last = unit;
   is = is;
   each = tt;
@@ -96,10 +98,10 @@ line_written : (stack : Description) (state : State) (device sector : ℕ) (to :
 unfolding Writes
 line_written stack state device sector to at step sound fitting tidy has goes lower_writes step_is =
     let w : Written stack state to at step = rw step_is (lower_writes at state fitting) in
-    let first = ran stack state state w.events sound fitting fitting tidy (grown_same state) w.each in
+    let first = ran stack state state w.dues sound fitting fitting tidy (grown_same state) w.each in
     let fits_after : IsFitting stack step.state = rw (step_state step _ w.is) first.fits in
     record {
-      events = w.events;
+      dues = w.dues;
       last = w.last;
       is = w.is;
       each = w.each;
@@ -157,7 +159,7 @@ kept_alone stack state device sector number snapshot a sound fitting tidy over n
 
 snapshot_written : (stack : Description) (state : State) (device sector : ℕ) (line : ResolvedLine) (snapshot : ResolvedSnapshot) (step : Step) → IsSound stack → IsFitting stack state → IsTidy stack → snapshot_at stack device ≡ Some snapshot → found_at stack device sector ≡ Some line
     → step ≡ and_then (take_chunk stack snapshot device (sector / snapshot.chunk) state) (λ after. keep (unit_in_store stack snapshot device after sector ∷ []) after) → Written stack state (Device device) sector step
-unfolding run
+unfolding take_chunks
 snapshot_written stack state device sector line snapshot step sound fitting tidy over is step_is =
     let soundly = (snapshot_sound stack device snapshot sound over).soundly in
     let there : device < length state = let t = (line_sound stack device sector line sound is).there in let count = fitting.count in omega (arith, t, count) in
@@ -167,7 +169,7 @@ snapshot_written stack state device sector line snapshot step sound fitting tidy
     let state_is : step.state ≡ first.state = cc in
     let taken = taken_at first.state device in
     record {
-      events = record { device = device; chunk = sector / snapshot.chunk; snapshot = snapshot } ∷ [];
+      dues = record { device = device; chunk = sector / snapshot.chunk; snapshot = snapshot } ∷ [];
       last = last;
       is = cc (append-nil first.units);
       each = (over, tt);
@@ -199,10 +201,10 @@ origin_written stack state device sector line origin step sound fitting tidy ser
     let len = lower_len stack origin.to in
     let below : sector < len = let inside = (line_sound stack device sector line sound is).inside in let same = soundly.same in omega (arith, inside, same) in
     let members : AllByRecursion (IsOver stack len) origin.over = rw soundly.over (overs stack origin.to len sound (omega arith)) in
-    let es = map (event_of sector) origin.over in
-    let each = each_event stack len sector origin.over members in
+    let es = due_over origin.over sector in
+    let each = each_served stack len sector origin.over members in
     let first = serve stack origin.over sector state in
-    let first_is : first ≡ run stack es state = serve_run stack origin.over sector state in
+    let first_is : first ≡ take_chunks stack es state = serve_takes stack origin.over sector state in
     let fits : IsFitting stack first.state = rw first_is (ran stack state state es sound fitting fitting tidy (grown_same state) each).fits in
     let after = write_step stack MOST_DEPTH origin.to first.state sector in
     let w : Written stack first.state origin.to sector after = lower_writes sector first.state fits in
@@ -210,10 +212,10 @@ origin_written stack state device sector line origin step sound fitting tidy ser
     let settled = settled_on first.state after.state origin.over sector (write_keeps_settled stack MOST_DEPTH origin.to first.state sector) (serve_settled stack origin.over sector state (over_there stack state len origin.over fitting.count (omega (arith, below)) members)) in
     let state_is : step.state ≡ after.state = cc in
     record {
-      events = es ++ w.events;
+      dues = es ++ w.dues;
       last = w.last;
-      is = cc (and_then_at first (λ x. write_step stack MOST_DEPTH origin.to x sector) (λ x. and_then (run stack w.events x) last_step) w.is, step_assoc first (λ x. run stack w.events x) last_step, run_append stack es w.events state);
-      each = events_append stack es w.events each w.each;
+      is = cc (and_then_at first (λ x. write_step stack MOST_DEPTH origin.to x sector) (λ x. and_then (take_chunks stack w.dues x) last_step) w.is, step_assoc first (λ x. take_chunks stack w.dues x) last_step, takes_append stack es w.dues state);
+      each = dues_append stack es w.dues each w.each;
       answered = w.answered;
       reads = λ disk x e. cc (read_next stack step.state device sector origin.to sector sound (goes step.state), w.reads disk x e);
       alone = λ disk x a e root unserved touches.
@@ -273,9 +275,9 @@ unfolding write_step
 write_disk stack disk sector state = refl
 
 writes_step : (stack : Description) → IsSound stack → IsTidy stack → (lower : Lower) → ((other : Lower) → lower_depth stack other < lower_depth stack lower → Writes stack other) → Writes stack lower
-unfolding run Writes
+unfolding take_chunks Writes
 writes_step stack sound tidy (Disk disk) each sector state fitting = record {
-  events = [];
+  dues = [];
   last = WriteOf disk sector;
   is = write_disk stack disk sector state;
   each = tt;

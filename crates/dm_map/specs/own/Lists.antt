@@ -1,0 +1,42 @@
+-- Where stores keep their lists, and that no unit of a request of a top device goes there.
+use Rattle.std.specs.Prelude.{◌≡◌, ℕ, ◌/◌, ◌<◌, true, Some}
+use Rattle.dm_table.specs.declared.requests.request.Op.{Op}
+use Rattle.dm_stack.specs.declared.id.Lower.TheVariants.{Device}
+use Rattle.dm_stack.specs.declared.lines.resolved_line.ResolvedSnapshot.{ResolvedSnapshot}
+use Rattle.dm_stack.specs.claims.Claims.{IsTidy, IsTop}
+use Rattle.dm_stack.specs.Description.{Description, lower_len}
+use Rattle.dm_stack.specs.lines.StoreLayout.{is_metadata}
+use Rattle.dm_map.specs.own.Contents.{Values, played}
+use Rattle.dm_map.specs.own.Halts.{halted_units}
+use Rattle.dm_map.specs.pieces.Units.{ReadOf}
+use Rattle.dm_map.specs.state.Fitting.{IsFitting}
+use Rattle.dm_map.specs.state.State.{State}
+use Rattle.dm_map.specs.state.Tables.{snapshot_at}
+use Rattle.dm_map.specs.walk.Homes.{home}
+use Rattle.dm_map.specs.walk.Mapping.{request_step}
+use Rattle.dm_map.specs.walk.SnapshotWrites.{read}
+
+-- a sector of a disk where the store of a snapshot keeps its list: in its header, or in an area
+pub record IsListSector (stack : Description) (disk sector : ℕ) : Type 0 where
+  pub device : ℕ
+  pub snapshot : ResolvedSnapshot
+  pub over : snapshot_at stack device ≡ Some snapshot
+  pub at : ℕ
+  pub inside : at < lower_len stack snapshot.store
+  pub list : is_metadata snapshot.kind snapshot.chunk (at / snapshot.chunk) ≡ true
+  pub home : home stack snapshot.store at ≡ record { disk = disk; sector = sector }
+
+-- disks that hold the same there
+abbrev pub HaveSameLists : {V : Type 0} → Description → (values others : Values V) → Type 0
+HaveSameLists stack values others = (disk sector : ℕ) → IsListSector stack disk sector → others disk sector ≡ values disk sector
+
+-- whatever is asked of top devices, where no claims meet
+pub record LeaveLists (V : Type 0) (stack : Description) : Type 0 where
+  -- the units of a request write no list
+  pub request : (zeros : V) (written : ℕ → V) (op : Op) (state : State) (top start len : ℕ) (values : Values V) → IsTidy stack → IsTop stack top → IsFitting stack state
+      → HaveSameLists stack values (played zeros written start (request_step stack op top start len state).units values)
+  -- nor do the first ones
+  pub halted : (zeros : V) (written : ℕ → V) (op : Op) (state : State) (top start len count : ℕ) (values : Values V) → IsTidy stack → IsTop stack top → IsFitting stack state
+      → HaveSameLists stack values (played zeros written start (halted_units stack op top start len count state) values)
+  -- and no read comes to one
+  pub reads : (state : State) (top sector disk at : ℕ) → IsTidy stack → IsTop stack top → IsFitting stack state → read stack state (Device top) sector ≡ ReadOf disk at → IsListSector stack disk at → ⊥
