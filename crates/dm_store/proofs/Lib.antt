@@ -2,6 +2,7 @@ pub mod FittingLemmas
 mod ImageLemmas
 pub mod ListLemmas
 pub mod LogLemmas
+pub mod RestartLemmas
 pub mod RowLemmas
 pub mod SpellingLemmas
 pub mod SpeltLemmas

@@ -8,6 +8,7 @@ pub mod ImageList
 pub mod Start
 pub mod Fitting
 pub mod Spelled
+pub mod Restart
 pub mod Message
 pub mod ReadLog
 pub mod Reading

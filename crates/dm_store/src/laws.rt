@@ -1,7 +1,8 @@
-//! Laws of what a store holds, which fits the store and is spelled there, and of the state that the stores of a stack
-//! hold, which fits the stack. They do nothing: their contracts are the laws.
+//! Laws of what a store holds, which fits the store and is spelled there, of the state that the stores of a stack hold,
+//! which fits the stack, and of restarts from it. They do nothing: their contracts are the laws.
 
 ghost use Rattle.dm_store.specs.Fitting.{AlwaysFit, AlwaysHaveRows, AlwaysStart};
+ghost use Rattle.dm_store.specs.Restart.{AreAllFound, AreListsRead, IsAlwaysExact, IsAlwaysFound};
 ghost use Rattle.dm_store.specs.Spelled.{IsSpelled, ReadsBack};
 
 use crate::store::Store;
@@ -31,6 +32,30 @@ pub fn is_spelled(store: &Store)
 pub fn stored_states_fit<V>(stack: &Stack)
     ensures start { AlwaysStart stack.now }
     ensures rows { AlwaysHaveRows V stack.now }
+{
+    // Called because its contract says that the stack is sound.
+    stack.depth();
+}
+
+/// The power was cut in the midst of requests of top devices, on disks where no claims meet and each snapshot has a
+/// store that keeps a list. Data were written whole and in order, whichever chunks were copied ahead of the writes that
+/// take them, and each store lists the chunks that its snapshot took up to there, or says that it is lost. Then the
+/// stores, read again, hold that state, and each top device has its row in it, or errors: what it had at the start, or
+/// what was last written through it. It has exactly its row where the stack can lose nothing and no store says that its
+/// snapshot is lost.
+pub fn restarts(stack: &Stack)
+    ensures back { AreListsRead stack.now }
+    ensures found { IsAlwaysFound stack.now }
+    ensures exact { IsAlwaysExact stack.now }
+{
+    // Called because its contract says that the stack is sound.
+    stack.depth();
+}
+
+/// Any number of such cuts, each followed by a restart from the stores and by further requests: each time the stores
+/// hold the state of the cut, and each top device has its row, or errors.
+pub fn restarts_go_on(stack: &Stack)
+    ensures { AreAllFound stack.now }
 {
     // Called because its contract says that the stack is sound.
     stack.depth();

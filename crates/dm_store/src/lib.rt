@@ -29,7 +29,7 @@ pub use disk_images::DiskImages;
 pub use fault::{ListFault, SectorFault, StoreFault, StoreRefusal};
 pub use image_list::listed_images;
 pub use images::{Images, ReadFault};
-pub use laws::{is_spelled, reads_back, stored_states_fit, stores_fit};
+pub use laws::{is_spelled, reads_back, restarts, restarts_go_on, stored_states_fit, stores_fit};
 pub use memory_images::MemoryImages;
 pub use message::StoreMessage;
 pub use read_log::ReadLog;

@@ -1,0 +1,218 @@
+-- A restart finds the state that the lists of stores keep, and in it each top device has its row, or errors.
+use Rattle.std.proofs.Common.{◌≡◌, ◌≢◌, ◌⊎◌, inl, inr, ℕ, zero, suc, ◌+◌, ◌-◌, ◌/◌, ◌<◌, ◌≤◌, Bool, true, false, cond, List, [], ◌∷◌, ◌++◌, Option, Some, None, Result, Ok, Err, length, refl, sym, ap, subst, ◌∙◌, arith}
+use Rattle.std.specs.List.{AllByRecursion}
+use Rattle.std.specs.Prelude.{◌==◌}
+use Rattle.std.proofs.lemmas.Bool.{cases_Bool, eq-eqb}
+use Rattle.std.proofs.lemmas.List.{get_or_append_left, length-append}
+use Rattle.std.proofs.Math.Nat.{le-suc_iff}
+use Rattle.std.proofs.Math.Seq.{get_or-append_seam}
+use Rattle.dm_table.specs.declared.tables.table.StoreKind.{StoreKind}
+use Rattle.dm_table.specs.declared.tables.table.StoreKind.TheVariants.{Persistent, Transient, Keeping}
+use Rattle.dm_stack.specs.declared.checks.graph.TheConstants.{MOST_DEPTH}
+use Rattle.dm_stack.specs.declared.id.Lower.{Lower}
+use Rattle.dm_stack.specs.declared.id.Lower.TheVariants.{Device, Disk}
+use Rattle.dm_stack.specs.declared.lines.resolved_line.ResolvedLine.{ResolvedLine}
+use Rattle.dm_stack.specs.declared.lines.resolved_line.ResolvedSnapshot.{ResolvedSnapshot}
+use Rattle.dm_stack.specs.declared.lines.resolved_line.ResolvedTarget.{ResolvedTarget}
+use Rattle.dm_stack.specs.declared.lines.resolved_line.ResolvedTarget.TheVariants as found
+use Rattle.dm_stack.specs.checks.Soundness.{IsSound}
+use Rattle.dm_stack.specs.claims.Claims.{IsTidy, IsTop}
+use Rattle.dm_stack.specs.Description.{Description}
+use Rattle.dm_stack.specs.lines.Below.{Below, Lies, IsZero, IsError, below_line, below_target, found_at}
+use Rattle.dm_map.specs.own.Ample.{AreExact, IsAmple}
+use Rattle.dm_map.specs.own.Contents.{Stays, value_read}
+use Rattle.dm_map.specs.own.Rows.{AreOwn, Rows}
+use Rattle.dm_map.specs.pieces.Units.{BlockUnit, Zeros, Fails}
+use Rattle.dm_map.specs.state.Fitting.{IsFitting}
+use Rattle.dm_map.specs.state.Snapshots.{read_over}
+use Rattle.dm_map.specs.state.State.{State, Taken, lost, none_taken, taken_at}
+use Rattle.dm_map.specs.state.Tables.{snapshot_at}
+use Rattle.dm_map.specs.walk.Reads.{by_below, read_below, read_unit}
+use Rattle.dm_map.proofs.CutLemmas.{ahead_own, spare_own}
+use Rattle.dm_map.proofs.HaltedRequests.{halted_own}
+use Rattle.dm_map.proofs.NeverLost.{exact}
+use Rattle.dm_map.proofs.OwnRequests.{request_own}
+use Rattle.dm_map.proofs.ResolvedLines.{line_snapshot, line_there, snapshot_sound}
+use Rattle.dm_store.specs.declared.fault.StoreFault.{StoreFault}
+use Rattle.dm_store.specs.declared.fault.StoreRefusal.{StoreRefusal}
+use Rattle.dm_store.specs.declared.store.Store.{Store}
+use Rattle.dm_store.specs.Fitting.{IsLostInStore}
+use Rattle.dm_store.specs.Images.{DiskContents}
+use Rattle.dm_store.specs.Numbers.{four_at}
+use Rattle.dm_store.specs.Pairs.{Sectors}
+use Rattle.dm_store.specs.Restart.{AllKeepLists, AreListed, AreRestarts, Asked, Done, Held, IsFound, IsOfTops, IsOwnAt, IsRestart, Lists, Moment, Spelled, Unused, Gone, after_cut, after_halt, after_request, after_requests, kept, kept_first, kept_in}
+use Rattle.dm_store.specs.Start.{if_listing, snapshot_store, start_of, state_of_first, store_at, store_if, store_sectors, stored_state, taken_if, taken_in, with_next}
+use Rattle.dm_store.specs.Stored.{Stored, Fresh, Lost, Holds, by_header, listed, stored}
+use Rattle.dm_store.proofs.SpellingLemmas.{reads_back}
+use Rattle.dm_store.proofs.StateLemmas.{stored_fits}
+use Rattle.dm_store.proofs.StoreLemmas.{taken_valid}
+
+-- ---- what lists say is read
+
+valid_kept : (store : Store) (taken : Taken) → taken.valid ≡ true → kept_in (Some store) taken ≡ taken
+valid_kept store taken valid = rw valid refl
+
+gone_kept : (store : Store) (taken : Taken) → taken.valid ≡ false → kept_in (Some store) taken ≡ lost none_taken
+gone_kept store taken gone = rw gone refl
+
+list_back : (sectors : Sectors) (store : Store) (taken : Taken) → Lists sectors store taken → taken_in (stored sectors store) ≡ Ok (kept_in (Some store) taken)
+list_back sectors store taken (Spelled valid spells) =
+    ap taken_in (reads_back store sectors taken.chunks spells) ∙ sym (taken_valid taken valid) ∙ ap (λ (t : Taken). let r : Result Taken StoreFault = Ok t in r) (sym (valid_kept store taken valid))
+list_back sectors store taken (Unused header begins magic none) =
+    let fresh : stored sectors store ≡ Fresh = rw (begins, magic) refl in
+    let same : kept_in (Some store) taken ≡ none_taken = rw none refl in
+    ap taken_in fresh ∙ ap (λ (t : Taken). let r : Result Taken StoreFault = Ok t in r) (sym same)
+list_back sectors store taken (Gone header begins gone lost_is) =
+    let says : stored sectors store ≡ Lost = rw (begins, gone.magic, gone.version, gone.chunk_len, eq-eqb store.chunk store.chunk refl, gone.valid) refl in
+    ap taken_in says ∙ ap (λ (t : Taken). let r : Result Taken StoreFault = Ok t in r) (sym (gone_kept store taken lost_is))
+
+device_back : (stack : Description) (disks : DiskContents) (device : ℕ) (taken : Taken) (store : Option Store) → store_at stack device ≡ store → ((one : Store) → store_at stack device ≡ Some one → Lists (store_sectors stack disks one) one taken)
+    → taken_if stack disks store ≡ Ok (kept_in store taken)
+device_back stack disks device taken None is lists = refl
+device_back stack disks device taken (Some store) is lists = list_back (store_sectors stack disks store) store taken (lists store is)
+
+first_back : (stack : Description) (disks : DiskContents) (state : State) (count : ℕ) → AreListed stack disks state → state_of_first (start_of stack disks) count ≡ Ok (kept_first stack state count)
+unfolding state_of_first kept_first
+first_back stack disks state zero listed = refl
+first_back stack disks state (suc device) listed =
+    rw (first_back stack disks state device listed, device_back stack disks device (taken_at state device) (store_at stack device) refl (listed device)) refl
+
+pub listed_back : (stack : Description) (disks : DiskContents) (state : State) → AreListed stack disks state → stored_state stack disks ≡ Ok (kept stack state)
+listed_back stack disks state listed = first_back stack disks state (length stack.devices) listed
+
+-- ---- what is kept of a device
+
+kept_count : (stack : Description) (state : State) (count : ℕ) → length (kept_first stack state count) ≡ count
+unfolding kept_first
+kept_count stack state zero = refl
+kept_count stack state (suc n) =
+    let e = length-append (kept_first stack state n) (kept_in (store_at stack n) (taken_at state n) ∷ []) in
+    let before = kept_count stack state n in
+    omega (arith, e, before)
+
+kept_at : (stack : Description) (state : State) (count device : ℕ) → device < count → taken_at (kept_first stack state count) device ≡ kept_in (store_at stack device) (taken_at state device)
+unfolding kept_first
+kept_at stack state zero device less = absurd (omega (arith, less))
+kept_at stack state (suc n) device less =
+    let before = kept_first stack state n in
+    let next = kept_in (store_at stack n) (taken_at state n) in
+    let count : length before ≡ n = kept_count stack state n in
+    elim (le-suc_iff.0 less) as (λ _. taken_at (before ++ next ∷ []) device ≡ kept_in (store_at stack device) (taken_at state device)) [
+      | inl inside ↦ get_or_append_left before (next ∷ []) none_taken device (omega (arith, inside, count)) ∙ kept_at stack state n device inside
+      | inr same ↦
+          let is : device ≡ n = omega (arith, same) in
+          rw is (ap (λ (m : ℕ). taken_at (before ++ next ∷ []) m) (sym count) ∙ get_or-append_seam before next [] none_taken)
+    ]
+
+keeps : (kind : StoreKind) (store : Store) → kind ≢ Transient → if_listing kind store ≡ Some store
+keeps Transient store other = absurd (other refl)
+keeps Persistent store other = refl
+keeps Keeping store other = refl
+
+snapshot_keeps : (stack : Description) (device : ℕ) (snapshot : ResolvedSnapshot) → AllKeepLists stack → snapshot_at stack device ≡ Some snapshot → store_at stack device ≡ Some (snapshot_store stack device snapshot)
+snapshot_keeps stack device snapshot keep over =
+    ap (λ (s : Option ResolvedSnapshot). store_if stack device s) over ∙ keeps snapshot.kind (snapshot_store stack device snapshot) (keep device snapshot over)
+
+-- ---- reads
+
+over_kept : (taken : Taken) (store : Store) (snapshot : ResolvedSnapshot) (sector : ℕ) → read_over (kept_in (Some store) taken) snapshot sector ≡ read_over taken snapshot sector
+over_kept taken store snapshot sector = elim (cases_Bool taken.valid) [
+  | inl valid ↦ ap (λ (t : Taken). read_over t snapshot sector) (valid_kept store taken valid)
+  | inr gone ↦
+      let error : read_over taken snapshot sector ≡ IsError = rw gone refl in
+      ap (λ (t : Taken). read_over t snapshot sector) (gone_kept store taken gone) ∙ sym error
+]
+
+target_same : (taken other : Taken) (target : ResolvedTarget) (distance : ℕ) → ((snapshot : ResolvedSnapshot) → target ≡ found.Snapshot snapshot → read_over taken snapshot distance ≡ read_over other snapshot distance)
+    → below_target (read_over taken) target distance ≡ below_target (read_over other) target distance
+target_same taken other (found.Snapshot snapshot) distance same = same snapshot refl
+target_same taken other (found.Origin origin) distance same = refl
+target_same taken other target distance same = refl
+
+line_same : (taken other : Taken) (line : Option ResolvedLine) (sector : ℕ) → ((it : ResolvedLine) (snapshot : ResolvedSnapshot) → line ≡ Some it → it.target ≡ found.Snapshot snapshot → read_over taken snapshot (sector - it.start) ≡ read_over other snapshot (sector - it.start))
+    → below_line (read_over taken) line sector ≡ below_line (read_over other) line sector
+line_same taken other None sector same = refl
+line_same taken other (Some line) sector same = target_same taken other line.target (sector - line.start) (λ snapshot is. same line snapshot refl is)
+
+below_kept : (stack : Description) (state : State) (device sector : ℕ) → IsSound stack → AllKeepLists stack → read_below stack (kept stack state) device sector ≡ read_below stack state device sector
+below_kept stack state device sector sound keep =
+    line_same (taken_at (kept stack state) device) (taken_at state device) (found_at stack device sector) sector (λ line snapshot is target.
+    let there = line_there stack device sector line is in
+    let over = line_snapshot stack device sector line snapshot sound is target in
+    ap (λ (t : Taken). read_over t snapshot (sector - line.start)) (kept_at stack state (length stack.devices) device there ∙ ap (λ (s : Option Store). kept_in s (taken_at state device)) (snapshot_keeps stack device snapshot keep over.1))
+    ∙ over_kept (taken_at state device) (snapshot_store stack device snapshot) snapshot (sector - line.start))
+
+below_same : (b : Below) (f g : Lower → ℕ → BlockUnit) → ((to : Lower) (at : ℕ) → f to at ≡ g to at) → by_below b Zeros Fails f ≡ by_below b Zeros Fails g
+below_same (Lies to at) f g same = same to at
+below_same IsZero f g same = refl
+below_same IsError f g same = refl
+
+reads_same : (stack : Description) (a b : State) (levels : ℕ) (lower : Lower) (sector : ℕ) → ((device at : ℕ) → read_below stack a device at ≡ read_below stack b device at) → read_unit stack a levels lower sector ≡ read_unit stack b levels lower sector
+unfolding read_unit
+reads_same stack a b levels (Disk disk) sector same = refl
+reads_same stack a b zero (Device device) sector same = refl
+reads_same stack a b (suc levels) (Device device) sector same =
+    ap (λ (x : Below). by_below x Zeros Fails (λ to at. read_unit stack a levels to at)) (same device sector)
+    ∙ below_same (read_below stack b device sector) (λ to at. read_unit stack a levels to at) (λ to at. read_unit stack b levels to at) (λ to at. reads_same stack a b levels to at same)
+
+-- ---- what devices have
+
+kept_fits : (stack : Description) (state : State) → IsSound stack → AllKeepLists stack → IsFitting stack state → IsFitting stack (kept stack state)
+kept_fits stack state sound keep fits = record {
+  count = kept_count stack state (length stack.devices);
+  places = λ device number snapshot over less. elim (cases_Bool (taken_at state device).valid) [
+    | inl valid ↦ fits.places device number snapshot over (subst (λ (t : Taken). number < length t.chunks) (is device snapshot over ∙ valid_kept (snapshot_store stack device snapshot) (taken_at state device) valid) less)
+    | inr gone ↦ absurd (let none = subst (λ (t : Taken). number < length t.chunks) (is device snapshot over ∙ gone_kept (snapshot_store stack device snapshot) (taken_at state device) gone) less in omega (arith, none))
+  ];
+}
+  where
+    is : (device : ℕ) (snapshot : ResolvedSnapshot) → snapshot_at stack device ≡ Some snapshot → taken_at (kept stack state) device ≡ kept_in (Some (snapshot_store stack device snapshot)) (taken_at state device)
+    is device snapshot over =
+        kept_at stack state (length stack.devices) device (snapshot_sound stack device snapshot sound over).there ∙ ap (λ (s : Option Store). kept_in s (taken_at state device)) (snapshot_keeps stack device snapshot keep over)
+
+kept_own : (zeros : Held) (stack : Description) (state : State) (disks : DiskContents) (rows : Rows Held) → IsSound stack → AllKeepLists stack → AreOwn zeros stack state disks rows → AreOwn zeros stack (kept stack state) disks rows
+kept_own zeros stack state disks rows sound keep own = record {
+  fits = kept_fits stack state sound keep own.fits;
+  tops = λ top sector is_top. subst (λ (u : BlockUnit). Stays (rows top sector) (value_read zeros disks u))
+      (sym (reads_same stack (kept stack state) state MOST_DEPTH (Device top) sector (λ device at. below_kept stack state device at sound keep)))
+      (own.tops top sector is_top);
+}
+
+-- ---- the moment of a cut
+
+all_own : (zeros : Held) (stack : Description) (moment : Moment) (requests : List Asked) → IsSound stack → IsTidy stack → AllByRecursion (λ asked. IsTop stack asked.device) requests → IsOwnAt zeros stack moment → IsOwnAt zeros stack (after_requests zeros stack moment requests)
+unfolding after_requests
+all_own zeros stack moment [] sound tidy tops own = own
+all_own zeros stack moment (asked ∷ later) sound tidy tops own =
+    all_own zeros stack (after_request zeros stack moment asked) later sound tidy tops.1
+    (request_own zeros asked.written stack asked.op moment.state asked.device asked.start asked.len moment.disks moment.rows sound tidy tops.0 own)
+
+cut_own : (zeros : Held) (stack : Description) (moment : Moment) (done : Done) → IsSound stack → IsTidy stack → IsOfTops stack done → IsOwnAt zeros stack moment → IsOwnAt zeros stack (after_cut zeros stack moment done)
+cut_own zeros stack moment done sound tidy of own =
+    let whole = after_requests zeros stack moment done.whole in
+    let halted = after_halt zeros stack whole done.last done.units in
+    let last = done.last in
+    ahead_own zeros (λ sector. zeros) stack halted.state 0 done.ahead halted.disks halted.rows sound tidy of.ahead
+    (halted_own zeros last.written stack last.op whole.state last.device last.start last.len done.units whole.disks whole.rows sound tidy of.last (all_own zeros stack moment done.whole sound tidy of.whole own))
+
+-- ---- restarts
+
+pub restart_found : (zeros : Held) (stack : Description) (old new : Moment) → IsSound stack → IsTidy stack → AllKeepLists stack → IsOwnAt zeros stack old → IsRestart zeros stack old new → IsFound zeros stack new
+restart_found zeros stack old new sound tidy keep own restart =
+    let left = after_cut zeros stack old restart.done in
+    let data_own = spare_own zeros stack left.state left.disks new.disks left.rows sound tidy (cut_own zeros stack old restart.done sound tidy restart.of own) restart.data_kept in
+    record {
+      found = rw restart.state (listed_back stack new.disks left.state restart.lists);
+      own = rw (restart.state, restart.rows) (kept_own zeros stack left.state new.disks left.rows sound keep data_own);
+    }
+
+pub found_exact : (zeros : Held) (stack : Description) (moment : Moment) → IsSound stack → IsAmple stack → IsFound zeros stack moment → ((device : ℕ) → IsLostInStore stack moment.disks device → ⊥) → AreExact zeros stack moment.state moment.disks moment.rows
+found_exact zeros stack moment sound ample found none =
+    exact zeros stack moment.state moment.disks moment.rows sound ample found.own ((stored_fits stack moment.disks moment.state sound found.found).intact none)
+
+pub restarts_found : (zeros : Held) (stack : Description) (old : Moment) (later : List Moment) → IsSound stack → IsTidy stack → AllKeepLists stack → IsOwnAt zeros stack old → AreRestarts zeros stack old later → AllByRecursion (IsFound zeros stack) later
+unfolding AreRestarts
+restarts_found zeros stack old [] sound tidy keep own each = tt
+restarts_found zeros stack old (new ∷ later) sound tidy keep own each =
+    let found = restart_found zeros stack old new sound tidy keep own each.0 in
+    (found, restarts_found zeros stack new later sound tidy keep found.own each.1)

@@ -1,0 +1,173 @@
+-- A restart: the power was cut in the midst of requests of top devices, and the stores are read again.
+use Rattle.std.specs.Prelude.{◌≡◌, ◌≢◌, ℕ, zero, suc, true, false, List, [], ◌∷◌, ◌++◌, Option, Some, None, Result, Ok, length, if◌then◌else◌}
+use Rattle.std.specs.List.{AllByRecursion}
+use Rattle.dm_table.specs.declared.requests.request.Op.{Op}
+use Rattle.dm_table.specs.declared.tables.table.StoreKind.TheVariants.{Transient}
+use Rattle.dm_stack.specs.declared.lines.resolved_line.ResolvedSnapshot.{ResolvedSnapshot}
+use Rattle.dm_stack.specs.claims.Claims.{IsTidy, IsTop}
+use Rattle.dm_stack.specs.Description.{Description}
+use Rattle.dm_map.specs.own.Ample.{AreExact, IsAmple}
+use Rattle.dm_map.specs.own.Contents.{played}
+use Rattle.dm_map.specs.own.Cuts.{HaveSameData, IsOfSnapshot, take_chunks}
+use Rattle.dm_map.specs.own.Halts.{halted_state, halted_units}
+use Rattle.dm_map.specs.own.Losses.{Due}
+use Rattle.dm_map.specs.own.Rows.{AreOwn, Rows, rows_played}
+use Rattle.dm_map.specs.pieces.Units.{BlockUnit}
+use Rattle.dm_map.specs.state.State.{State, Taken, lost, none_taken, taken_at}
+use Rattle.dm_map.specs.state.Tables.{snapshot_at}
+use Rattle.dm_map.specs.walk.Mapping.{request_step}
+use Rattle.dm_store.specs.declared.fault.SectorFault.{SectorFault}
+use Rattle.dm_store.specs.declared.store.Store.{Store}
+use Rattle.dm_store.specs.Fitting.{IsLostInStore}
+use Rattle.dm_store.specs.Images.{DiskContents}
+use Rattle.dm_store.specs.Numbers.{four_at}
+use Rattle.dm_store.specs.Pairs.{Sectors}
+use Rattle.dm_store.specs.Spelled.{Spells}
+use Rattle.dm_store.specs.Start.{store_at, store_sectors, stored_state}
+
+-- ---- what stores keep of a state
+
+-- the header of a store whose snapshot is lost
+pub record IsGone (chunk : ℕ) (header : List ℕ) : Type 0 where
+  pub magic : four_at header 0 ≡ 0x70416e53
+  pub valid : four_at header 4 ≡ 0
+  pub version : four_at header 8 ≡ 1
+  pub chunk_len : four_at header 12 ≡ chunk
+
+-- the sectors of a store say what its snapshot took: they spell its chunks, or nothing was written there yet, or they say that it is lost
+pub data Lists (sectors : Sectors) (store : Store) (taken : Taken) : Type 0 where
+  Spelled : taken.valid ≡ true → Spells sectors store taken.chunks → Lists sectors store taken
+  Unused : (header : List ℕ) → sectors 0 ≡ Ok header → four_at header 0 ≡ 0 → taken ≡ none_taken → Lists sectors store taken
+  Gone : (header : List ℕ) → sectors 0 ≡ Ok header → IsGone store.chunk header → taken.valid ≡ false → Lists sectors store taken
+
+-- so does each store that keeps a list
+abbrev pub AreListed : Description → DiskContents → State → Type 0
+AreListed stack disks state = (device : ℕ) (store : Store) → store_at stack device ≡ Some store → Lists (store_sectors stack disks store) store (taken_at state device)
+
+-- what is read of what a snapshot took: of a lost one only that it is lost, and nothing where no list is kept
+abbrev pub kept_in : Option Store → Taken → Taken
+kept_in None taken = none_taken
+kept_in (Some store) taken = if taken.valid then taken else lost none_taken
+
+-- of the first devices
+unfoldable pub kept_first : Description → State → (count : ℕ) → State
+kept_first stack state zero = []
+kept_first stack state (suc device) = kept_first stack state device ++ kept_in (store_at stack device) (taken_at state device) ∷ []
+
+-- and of all
+abbrev pub kept : Description → State → State
+kept stack state = kept_first stack state (length stack.devices)
+
+-- each snapshot has a store that keeps a list
+abbrev pub AllKeepLists : Description → Type 0
+AllKeepLists stack = (device : ℕ) (snapshot : ResolvedSnapshot) → snapshot_at stack device ≡ Some snapshot → snapshot.kind ≢ Transient
+
+-- ---- what a power cut leaves
+
+-- what a sector of a disk holds, or why it can't be read
+abbrev pub Held : Type 0
+Held = Result (List ℕ) SectorFault
+
+-- what there is at a time: on the disks, of the snapshots, and of each device if it were alone
+pub record Moment : Type 0 where
+  pub disks : DiskContents
+  pub state : State
+  pub rows : Rows Held
+
+-- each top device has its row, or errors
+abbrev pub IsOwnAt : (zeros : Held) → Description → Moment → Type 0
+IsOwnAt zeros stack moment = AreOwn zeros stack moment.state moment.disks moment.rows
+
+-- a request of a device, and what it writes to each sector
+pub record Asked : Type 0 where
+  pub op : Op
+  pub device : ℕ
+  pub start : ℕ
+  pub len : ℕ
+  pub written : ℕ → Held
+
+-- after units of a request, which leave this state
+abbrev pub after_units : (zeros : Held) → Asked → List BlockUnit → State → Moment → Moment
+after_units zeros asked units state moment = record {
+  disks = played zeros asked.written asked.start units moment.disks;
+  state = state;
+  rows = rows_played asked.written asked.device asked.start units moment.rows;
+}
+
+-- after all of them
+abbrev pub after_request : (zeros : Held) → Description → Moment → Asked → Moment
+after_request zeros stack moment asked =
+    after_units zeros asked (request_step stack asked.op asked.device asked.start asked.len moment.state).units (request_step stack asked.op asked.device asked.start asked.len moment.state).state moment
+
+-- after requests, one after the other
+unfoldable pub after_requests : (zeros : Held) → Description → Moment → List Asked → Moment
+after_requests zeros stack moment [] = moment
+after_requests zeros stack moment (asked ∷ later) = after_requests zeros stack (after_request zeros stack moment asked) later
+
+-- after the first units of a request
+abbrev pub after_halt : (zeros : Held) → Description → Moment → Asked → (units : ℕ) → Moment
+after_halt zeros stack moment asked units =
+    after_units zeros asked (halted_units stack asked.op asked.device asked.start asked.len units moment.state) (halted_state stack asked.op asked.device asked.start asked.len units moment.state) moment
+
+-- after chunks were taken, ahead of the writes that take them
+abbrev pub after_chunks : (zeros : Held) → Description → Moment → List Due → Moment
+after_chunks zeros stack moment chunks = record {
+  disks = played zeros (λ sector. zeros) 0 (take_chunks stack chunks moment.state).units moment.disks;
+  state = (take_chunks stack chunks moment.state).state;
+  rows = moment.rows;
+}
+
+-- what was done when the power was cut: whole requests, the first units of another one, and chunks that were taken ahead of the writes that take them
+pub record Done : Type 0 where
+  pub whole : List Asked
+  pub last : Asked
+  pub units : ℕ
+  pub ahead : List Due
+
+-- all requests were of top devices, and all chunks of snapshots
+pub record IsOfTops (stack : Description) (done : Done) : Type 0 where
+  pub whole : AllByRecursion (λ asked. IsTop stack asked.device) done.whole
+  pub last : IsTop stack done.last.device
+  pub ahead : AllByRecursion (IsOfSnapshot stack) done.ahead
+
+-- the moment of the cut
+abbrev pub after_cut : (zeros : Held) → Description → Moment → Done → Moment
+after_cut zeros stack moment done =
+    after_chunks zeros stack (after_halt zeros stack (after_requests zeros stack moment done.whole) done.last done.units) done.ahead
+
+-- ---- restarts
+
+-- a restart after a cut: the disks hold the data of the cut, and lists that say its state; what is left of this in lists is the state from there on
+pub record IsRestart (zeros : Held) (stack : Description) (old new : Moment) : Type 0 where
+  pub done : Done
+  pub of : IsOfTops stack done
+  pub data_kept : HaveSameData stack (after_cut zeros stack old done).state (after_cut zeros stack old done).disks new.disks
+  pub lists : AreListed stack new.disks (after_cut zeros stack old done).state
+  pub state : new.state ≡ kept stack (after_cut zeros stack old done).state
+  pub rows : new.rows ≡ (after_cut zeros stack old done).rows
+
+-- the stores, read again, hold this state, and in it each top device has its row, or errors
+pub record IsFound (zeros : Held) (stack : Description) (moment : Moment) : Type 0 where
+  pub found : stored_state stack moment.disks ≡ Ok moment.state
+  pub own : IsOwnAt zeros stack moment
+
+-- lists that say a state are read as what they keep of it
+abbrev pub AreListsRead : Description → Type 0
+AreListsRead stack = (disks : DiskContents) (state : State) → AreListed stack disks state → stored_state stack disks ≡ Ok (kept stack state)
+
+-- where no claims meet, a restart finds its state, and in it each top device has its row, or errors
+abbrev pub IsAlwaysFound : Description → Type 0
+IsAlwaysFound stack = (zeros : Held) (old new : Moment) → IsTidy stack → AllKeepLists stack → IsOwnAt zeros stack old → IsRestart zeros stack old new → IsFound zeros stack new
+
+-- what was found is exact where the stack can lose nothing, and no store says that its snapshot is lost: each top device has its row, without errors
+abbrev pub IsAlwaysExact : Description → Type 0
+IsAlwaysExact stack = (zeros : Held) (moment : Moment) → IsAmple stack → IsFound zeros stack moment → ((device : ℕ) → IsLostInStore stack moment.disks device → ⊥) → AreExact zeros stack moment.state moment.disks moment.rows
+
+-- restarts one after the other
+unfoldable pub AreRestarts : (zeros : Held) → Description → Moment → List Moment → Type 0
+AreRestarts zeros stack old [] = Unit {0}
+AreRestarts zeros stack old (new ∷ later) = IsRestart zeros stack old new × AreRestarts zeros stack new later
+
+-- each of any number of restarts finds its state, and in it each top device has its row, or errors
+abbrev pub AreAllFound : Description → Type 0
+AreAllFound stack = (zeros : Held) (first : Moment) (later : List Moment) → IsTidy stack → AllKeepLists stack → IsOwnAt zeros stack first → AreRestarts zeros stack first later → AllByRecursion (IsFound zeros stack) later
