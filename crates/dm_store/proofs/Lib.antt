@@ -10,3 +10,4 @@ pub mod StartLemmas
 pub mod StateLemmas
 pub mod StoreLemmas
 pub mod WalkLemmas
+pub mod WorkedStore

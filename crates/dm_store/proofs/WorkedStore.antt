@@ -1,0 +1,63 @@
+-- A store worked by hand, against which the definitions are checked.
+use Rattle.std.proofs.Common.{◌≡◌, ◌≤◌, ◌<◌, inr, ℕ, zero, suc, ◌+◌, List, [], ◌∷◌, ◌++◌, Result, Ok, Err, Option, Some, None, length, replicate, refl, arith}
+use Rattle.dm_stack.specs.declared.id.Lower.TheVariants.{Disk}
+use Rattle.dm_store.specs.declared.fault.SectorFault.{SectorFault}
+use Rattle.dm_store.specs.declared.fault.SectorFault.TheVariants.{Missing}
+use Rattle.dm_store.specs.declared.fault.StoreFault.TheVariants.{Unread, Listed}
+use Rattle.dm_store.specs.declared.fault.ListFault.TheVariants.{Order}
+use Rattle.dm_store.specs.declared.store.Store.{Store}
+use Rattle.dm_store.specs.Layout.{area_count, pair_count, row_sector}
+use Rattle.dm_store.specs.Pairs.{Sectors, count_of, each, old_chunks}
+use Rattle.dm_store.specs.Stored.{Fresh, Lost, Holds, Refused, is_any_again, stored}
+
+-- chunks of one sector, and room for two areas: the header, area 0, 32 places, area 1, and 29 places
+abbrev store : Store
+store = record { lower = Disk 0; chunk = 1; len = 64; places = 61; last = 99 }
+
+areas : area_count 1 64 ≡ 2
+areas = refl
+
+second_area : row_sector 1 1 ≡ 34
+second_area = refl
+
+-- its header: SnAp, valid, version 1, chunks of 1 sector
+abbrev header : (valid : ℕ) → List ℕ
+header valid = 83 ∷ 110 ∷ 65 ∷ 112 ∷ valid ∷ 0 ∷ 0 ∷ 0 ∷ 1 ∷ 0 ∷ 0 ∷ 0 ∷ 1 ∷ 0 ∷ 0 ∷ 0 ∷ []
+
+-- an entry of numbers below 256
+abbrev entry : (old new : ℕ) → List ℕ
+entry old new = old ∷ 0 ∷ 0 ∷ 0 ∷ 0 ∷ 0 ∷ 0 ∷ 0 ∷ new ∷ 0 ∷ 0 ∷ 0 ∷ 0 ∷ 0 ∷ 0 ∷ 0 ∷ []
+
+-- three entries, and a free one
+abbrev rows : List ℕ
+rows = entry 7 2 ++ entry 0 3 ++ entry 99 4 ++ entry 0 0
+
+-- all other sectors are missing: the list ends before area 1
+abbrev of_sectors : (header : List ℕ) → (area : Result (List ℕ) SectorFault) → Sectors
+of_sectors header area zero = Ok header
+of_sectors header area (suc zero) = area
+of_sectors header area sector = Err Missing
+
+holds : stored (of_sectors (header 1) (Ok rows)) store ≡ Holds (7 ∷ 0 ∷ 99 ∷ [])
+unfolding count_of each is_any_again old_chunks
+holds = refl
+
+-- the snapshot is lost, whatever the list has
+lost : stored (of_sectors (header 0) (Ok rows)) store ≡ Lost
+unfolding count_of each is_any_again old_chunks
+lost = refl
+
+-- nothing was written yet
+fresh : stored (of_sectors (0 ∷ 0 ∷ 0 ∷ 0 ∷ []) (Err Missing)) store ≡ Fresh
+unfolding count_of each is_any_again old_chunks
+fresh = refl
+
+-- the sector of the first entry is missing
+unread : stored (of_sectors (header 1) (Err Missing)) store ≡ Refused (Unread Missing)
+unfolding count_of each is_any_again old_chunks
+unread = refl
+
+-- an entry that isn't in its place
+misplaced : stored (of_sectors (header 1) (Ok (entry 7 2 ++ entry 0 4 ++ entry 0 0))) store ≡ Refused (Listed Order)
+unfolding count_of each is_any_again old_chunks
+misplaced = refl
