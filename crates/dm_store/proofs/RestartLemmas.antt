@@ -40,7 +40,7 @@ use Rattle.dm_store.specs.Fitting.{IsLostInStore}
 use Rattle.dm_store.specs.Images.{DiskContents}
 use Rattle.dm_store.specs.Numbers.{four_at}
 use Rattle.dm_store.specs.Pairs.{Sectors}
-use Rattle.dm_store.specs.Restart.{AllKeepLists, AreListed, AreRestarts, Asked, Done, Held, IsFound, IsOfTops, IsOwnAt, IsRestart, Lists, Moment, Spelled, Unused, Gone, after_cut, after_halt, after_request, after_requests, kept, kept_first, kept_in}
+use Rattle.dm_store.specs.Restart.{Ahead, AllKeepLists, AreListed, AreRestarts, Event, Gone, Halted, Held, IsFound, IsOfTop, IsOwnAt, IsRestart, Lists, Moment, Spelled, Unused, Whole, after_event, after_events, kept, kept_first, kept_in}
 use Rattle.dm_store.specs.Start.{if_listing, snapshot_store, start_of, state_of_first, store_at, store_if, store_sectors, stored_state, taken_if, taken_in, with_next}
 use Rattle.dm_store.specs.Stored.{Stored, Fresh, Lost, Holds, by_header, listed, stored}
 use Rattle.dm_store.proofs.SpellingLemmas.{reads_back}
@@ -180,27 +180,25 @@ kept_own zeros stack state disks rows sound keep own = record {
 
 -- ---- the moment of a cut
 
-all_own : (zeros : Held) (stack : Description) (moment : Moment) (requests : List Asked) → IsSound stack → IsTidy stack → AllByRecursion (λ asked. IsTop stack asked.device) requests → IsOwnAt zeros stack moment → IsOwnAt zeros stack (after_requests zeros stack moment requests)
-unfolding after_requests
-all_own zeros stack moment [] sound tidy tops own = own
-all_own zeros stack moment (asked ∷ later) sound tidy tops own =
-    all_own zeros stack (after_request zeros stack moment asked) later sound tidy tops.1
-    (request_own zeros asked.written stack asked.op moment.state asked.device asked.start asked.len moment.disks moment.rows sound tidy tops.0 own)
+event_own : (zeros : Held) (stack : Description) (moment : Moment) (event : Event) → IsSound stack → IsTidy stack → IsOfTop stack event → IsOwnAt zeros stack moment → IsOwnAt zeros stack (after_event zeros stack moment event)
+event_own zeros stack moment (Whole asked) sound tidy top own =
+    request_own zeros asked.written stack asked.op moment.state asked.device asked.start asked.len moment.disks moment.rows sound tidy top own
+event_own zeros stack moment (Halted asked units) sound tidy top own =
+    halted_own zeros asked.written stack asked.op moment.state asked.device asked.start asked.len units moment.disks moment.rows sound tidy top own
+event_own zeros stack moment (Ahead chunks) sound tidy each own = ahead_own zeros (λ sector. zeros) stack moment.state 0 chunks moment.disks moment.rows sound tidy each own
 
-cut_own : (zeros : Held) (stack : Description) (moment : Moment) (done : Done) → IsSound stack → IsTidy stack → IsOfTops stack done → IsOwnAt zeros stack moment → IsOwnAt zeros stack (after_cut zeros stack moment done)
-cut_own zeros stack moment done sound tidy of own =
-    let whole = after_requests zeros stack moment done.whole in
-    let halted = after_halt zeros stack whole done.last done.units in
-    let last = done.last in
-    ahead_own zeros (λ sector. zeros) stack halted.state 0 done.ahead halted.disks halted.rows sound tidy of.ahead
-    (halted_own zeros last.written stack last.op whole.state last.device last.start last.len done.units whole.disks whole.rows sound tidy of.last (all_own zeros stack moment done.whole sound tidy of.whole own))
+events_own : (zeros : Held) (stack : Description) (moment : Moment) (events : List Event) → IsSound stack → IsTidy stack → AllByRecursion (IsOfTop stack) events → IsOwnAt zeros stack moment → IsOwnAt zeros stack (after_events zeros stack moment events)
+unfolding after_events
+events_own zeros stack moment [] sound tidy tops own = own
+events_own zeros stack moment (event ∷ later) sound tidy tops own =
+    events_own zeros stack (after_event zeros stack moment event) later sound tidy tops.1 (event_own zeros stack moment event sound tidy tops.0 own)
 
 -- ---- restarts
 
 pub restart_found : (zeros : Held) (stack : Description) (old new : Moment) → IsSound stack → IsTidy stack → AllKeepLists stack → IsOwnAt zeros stack old → IsRestart zeros stack old new → IsFound zeros stack new
 restart_found zeros stack old new sound tidy keep own restart =
-    let left = after_cut zeros stack old restart.done in
-    let data_own = spare_own zeros stack left.state left.disks new.disks left.rows sound tidy (cut_own zeros stack old restart.done sound tidy restart.of own) restart.data_kept in
+    let left = after_events zeros stack old restart.events in
+    let data_own = spare_own zeros stack left.state left.disks new.disks left.rows sound tidy (events_own zeros stack old restart.events sound tidy restart.tops own) restart.data_kept in
     record {
       found = rw restart.state (listed_back stack new.disks left.state restart.lists);
       own = rw (restart.state, restart.rows) (kept_own zeros stack left.state new.disks left.rows sound keep data_own);

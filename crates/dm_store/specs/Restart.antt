@@ -94,57 +94,45 @@ after_units zeros asked units state moment = record {
   rows = rows_played asked.written asked.device asked.start units moment.rows;
 }
 
--- after all of them
-abbrev pub after_request : (zeros : Held) → Description → Moment → Asked → Moment
-after_request zeros stack moment asked =
+-- what comes before a cut: a request that is played to its end, the first units of one that isn't, and chunks that are taken ahead of the writes that take them
+pub data Event : Type 0 where
+  Whole : Asked → Event
+  Halted : Asked → (units : ℕ) → Event
+  Ahead : (chunks : List Due) → Event
+
+-- after one
+abbrev pub after_event : (zeros : Held) → Description → Moment → Event → Moment
+after_event zeros stack moment (Whole asked) =
     after_units zeros asked (request_step stack asked.op asked.device asked.start asked.len moment.state).units (request_step stack asked.op asked.device asked.start asked.len moment.state).state moment
-
--- after requests, one after the other
-unfoldable pub after_requests : (zeros : Held) → Description → Moment → List Asked → Moment
-after_requests zeros stack moment [] = moment
-after_requests zeros stack moment (asked ∷ later) = after_requests zeros stack (after_request zeros stack moment asked) later
-
--- after the first units of a request
-abbrev pub after_halt : (zeros : Held) → Description → Moment → Asked → (units : ℕ) → Moment
-after_halt zeros stack moment asked units =
+after_event zeros stack moment (Halted asked units) =
     after_units zeros asked (halted_units stack asked.op asked.device asked.start asked.len units moment.state) (halted_state stack asked.op asked.device asked.start asked.len units moment.state) moment
-
--- after chunks were taken, ahead of the writes that take them
-abbrev pub after_chunks : (zeros : Held) → Description → Moment → List Due → Moment
-after_chunks zeros stack moment chunks = record {
+after_event zeros stack moment (Ahead chunks) = record {
   disks = played zeros (λ sector. zeros) 0 (take_chunks stack chunks moment.state).units moment.disks;
   state = (take_chunks stack chunks moment.state).state;
   rows = moment.rows;
 }
 
--- what was done when the power was cut: whole requests, the first units of another one, and chunks that were taken ahead of the writes that take them
-pub record Done : Type 0 where
-  pub whole : List Asked
-  pub last : Asked
-  pub units : ℕ
-  pub ahead : List Due
+-- after some, in their order
+unfoldable pub after_events : (zeros : Held) → Description → Moment → List Event → Moment
+after_events zeros stack moment [] = moment
+after_events zeros stack moment (event ∷ later) = after_events zeros stack (after_event zeros stack moment event) later
 
--- all requests were of top devices, and all chunks of snapshots
-pub record IsOfTops (stack : Description) (done : Done) : Type 0 where
-  pub whole : AllByRecursion (λ asked. IsTop stack asked.device) done.whole
-  pub last : IsTop stack done.last.device
-  pub ahead : AllByRecursion (IsOfSnapshot stack) done.ahead
-
--- the moment of the cut
-abbrev pub after_cut : (zeros : Held) → Description → Moment → Done → Moment
-after_cut zeros stack moment done =
-    after_chunks zeros stack (after_halt zeros stack (after_requests zeros stack moment done.whole) done.last done.units) done.ahead
+-- a request is of a top device, and a chunk of a snapshot
+abbrev pub IsOfTop : Description → Event → Type 0
+IsOfTop stack (Whole asked) = IsTop stack asked.device
+IsOfTop stack (Halted asked units) = IsTop stack asked.device
+IsOfTop stack (Ahead chunks) = AllByRecursion (IsOfSnapshot stack) chunks
 
 -- ---- restarts
 
--- a restart after a cut: the disks hold the data of the cut, and lists that say its state; what is left of this in lists is the state from there on
+-- a restart after such events and a cut: the disks hold the data of the cut, and lists that say its state; what is left of this in lists is the state from there on
 pub record IsRestart (zeros : Held) (stack : Description) (old new : Moment) : Type 0 where
-  pub done : Done
-  pub of : IsOfTops stack done
-  pub data_kept : HaveSameData stack (after_cut zeros stack old done).state (after_cut zeros stack old done).disks new.disks
-  pub lists : AreListed stack new.disks (after_cut zeros stack old done).state
-  pub state : new.state ≡ kept stack (after_cut zeros stack old done).state
-  pub rows : new.rows ≡ (after_cut zeros stack old done).rows
+  pub events : List Event
+  pub tops : AllByRecursion (IsOfTop stack) events
+  pub data_kept : HaveSameData stack (after_events zeros stack old events).state (after_events zeros stack old events).disks new.disks
+  pub lists : AreListed stack new.disks (after_events zeros stack old events).state
+  pub state : new.state ≡ kept stack (after_events zeros stack old events).state
+  pub rows : new.rows ≡ (after_events zeros stack old events).rows
 
 -- the stores, read again, hold this state, and in it each top device has its row, or errors
 pub record IsFound (zeros : Held) (stack : Description) (moment : Moment) : Type 0 where

@@ -38,8 +38,8 @@ pub fn stored_states_fit<V>(stack: &Stack)
 }
 
 /// The power was cut in the midst of requests of top devices, on disks where no claims meet and each snapshot has a
-/// store that keeps a list. Data were written whole and in order, whichever chunks were copied ahead of the writes that
-/// take them, and each store lists the chunks that its snapshot took up to there, or says that it is lost. Then the
+/// store that keeps a list. Units reached the disks whole and in order, chunks were copied ahead of the writes that take
+/// them or not, and each store lists the chunks that its snapshot took up to there, or says that it is lost. Then the
 /// stores, read again, hold that state, and each top device has its row in it, or errors: what it had at the start, or
 /// what was last written through it. It has exactly its row where the stack can lose nothing and no store says that its
 /// snapshot is lost.
