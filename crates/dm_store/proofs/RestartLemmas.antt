@@ -1,7 +1,6 @@
 -- A restart finds the state that the lists of stores keep, and in it each top device has its row, or errors.
-use Rattle.std.proofs.Common.{◌≡◌, ◌≢◌, ◌⊎◌, inl, inr, ℕ, zero, suc, ◌+◌, ◌-◌, ◌/◌, ◌<◌, ◌≤◌, Bool, true, false, cond, List, [], ◌∷◌, ◌++◌, Option, Some, None, Result, Ok, Err, length, refl, sym, ap, subst, ◌∙◌, arith}
+use Rattle.std.proofs.Common.{◌≡◌, ◌≢◌, inl, inr, ℕ, zero, suc, ◌+◌, ◌-◌, ◌<◌, true, false, List, [], ◌∷◌, ◌++◌, Option, Some, None, Result, Ok, length, refl, sym, ap, subst, ◌∙◌, arith}
 use Rattle.std.specs.List.{AllByRecursion}
-use Rattle.std.specs.Prelude.{◌==◌}
 use Rattle.std.proofs.lemmas.Bool.{cases_Bool, eq-eqb}
 use Rattle.std.proofs.lemmas.List.{get_or_append_left, length-append}
 use Rattle.std.proofs.Math.Nat.{le-suc_iff}
@@ -16,7 +15,7 @@ use Rattle.dm_stack.specs.declared.lines.resolved_line.ResolvedSnapshot.{Resolve
 use Rattle.dm_stack.specs.declared.lines.resolved_line.ResolvedTarget.{ResolvedTarget}
 use Rattle.dm_stack.specs.declared.lines.resolved_line.ResolvedTarget.TheVariants as found
 use Rattle.dm_stack.specs.checks.Soundness.{IsSound}
-use Rattle.dm_stack.specs.claims.Claims.{IsTidy, IsTop}
+use Rattle.dm_stack.specs.claims.Claims.{IsTidy}
 use Rattle.dm_stack.specs.Description.{Description}
 use Rattle.dm_stack.specs.lines.Below.{Below, Lies, IsZero, IsError, below_line, below_target, found_at}
 use Rattle.dm_map.specs.own.Ample.{AreExact, IsAmple}
@@ -34,15 +33,13 @@ use Rattle.dm_map.proofs.NeverLost.{exact}
 use Rattle.dm_map.proofs.OwnRequests.{request_own}
 use Rattle.dm_map.proofs.ResolvedLines.{line_snapshot, line_there, snapshot_sound}
 use Rattle.dm_store.specs.declared.fault.StoreFault.{StoreFault}
-use Rattle.dm_store.specs.declared.fault.StoreRefusal.{StoreRefusal}
 use Rattle.dm_store.specs.declared.store.Store.{Store}
 use Rattle.dm_store.specs.Fitting.{IsLostInStore}
 use Rattle.dm_store.specs.Images.{DiskContents}
-use Rattle.dm_store.specs.Numbers.{four_at}
 use Rattle.dm_store.specs.Pairs.{Sectors}
 use Rattle.dm_store.specs.Restart.{Ahead, AllKeepLists, AreListed, AreRestarts, Event, Gone, Halted, Held, IsFound, IsOfTop, IsOwnAt, IsRestart, Lists, Moment, Spelled, Unused, Whole, after_event, after_events, kept, kept_first, kept_in}
-use Rattle.dm_store.specs.Start.{if_listing, snapshot_store, start_of, state_of_first, store_at, store_if, store_sectors, stored_state, taken_if, taken_in, with_next}
-use Rattle.dm_store.specs.Stored.{Stored, Fresh, Lost, Holds, by_header, listed, stored}
+use Rattle.dm_store.specs.Start.{if_listing, snapshot_store, start_of, state_of_first, store_at, store_if, store_sectors, stored_state, taken_if, taken_in}
+use Rattle.dm_store.specs.Stored.{Fresh, Lost, listed, stored}
 use Rattle.dm_store.proofs.SpellingLemmas.{reads_back}
 use Rattle.dm_store.proofs.StateLemmas.{stored_fits}
 use Rattle.dm_store.proofs.StoreLemmas.{taken_valid}

@@ -1,12 +1,12 @@
 -- A store worked by hand, against which the definitions are checked.
-use Rattle.std.proofs.Common.{◌≡◌, ◌≤◌, ◌<◌, inr, ℕ, zero, suc, ◌+◌, List, [], ◌∷◌, ◌++◌, Result, Ok, Err, Option, Some, None, length, replicate, refl, arith}
+use Rattle.std.proofs.Common.{◌≡◌, ℕ, zero, suc, ◌+◌, List, [], ◌∷◌, ◌++◌, Result, Ok, Err, refl}
 use Rattle.dm_stack.specs.declared.id.Lower.TheVariants.{Disk}
 use Rattle.dm_store.specs.declared.fault.SectorFault.{SectorFault}
 use Rattle.dm_store.specs.declared.fault.SectorFault.TheVariants.{Missing}
 use Rattle.dm_store.specs.declared.fault.StoreFault.TheVariants.{Unread, Listed}
 use Rattle.dm_store.specs.declared.fault.ListFault.TheVariants.{Order}
 use Rattle.dm_store.specs.declared.store.Store.{Store}
-use Rattle.dm_store.specs.Layout.{area_count, pair_count, row_sector}
+use Rattle.dm_store.specs.Layout.{area_count, row_sector}
 use Rattle.dm_store.specs.Pairs.{Sectors, count_of, each, old_chunks}
 use Rattle.dm_store.specs.Stored.{Fresh, Lost, Holds, Refused, is_any_again, stored}
 

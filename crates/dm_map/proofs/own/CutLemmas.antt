@@ -1,23 +1,22 @@
 -- What a power cut may leave: no read from a root comes to a sector without data, and chunks that are taken ahead change nothing that roots have, but to errors.
-use Rattle.std.proofs.Common.{◌≡◌, ℕ, ◌+◌, ◌*◌, ◌/◌, ◌%◌, ◌<◌, true, false, List, Option, Some, refl, sym, ap, subst, ◌∙◌, arith}
+use Rattle.std.proofs.Common.{◌≡◌, ℕ, ◌+◌, ◌*◌, ◌/◌, ◌%◌, ◌<◌, true, false, List, Option, sym, ap, subst, ◌∙◌, arith}
 use Rattle.std.specs.List.{AllByRecursion}
 use Rattle.std.proofs.lemmas.Nat.{div-add-mod'}
-use Rattle.dm_stack.specs.declared.checks.graph.TheConstants.{MOST_DEPTH}
 use Rattle.dm_stack.specs.declared.id.Lower.{Lower}
 use Rattle.dm_stack.specs.declared.id.Lower.TheVariants.{Device}
 use Rattle.dm_stack.specs.declared.lines.resolved_line.ResolvedSnapshot.{ResolvedSnapshot}
 use Rattle.dm_stack.specs.checks.Soundness.{IsSound}
-use Rattle.dm_stack.specs.claims.Claims.{IsTidy, IsTop}
+use Rattle.dm_stack.specs.claims.Claims.{IsTidy}
 use Rattle.dm_stack.specs.Description.{Description}
 use Rattle.dm_stack.specs.lines.StoreLayout.{is_metadata, place}
 use Rattle.dm_stack.proofs.StoreLayoutLemmas.{place_data}
-use Rattle.dm_map.specs.own.Contents.{Stays, Values, content, played, value_read}
+use Rattle.dm_map.specs.own.Contents.{Stays, Values, played, value_read}
 use Rattle.dm_map.specs.own.Cuts.{HaveSameData, IsOfSnapshot, IsSpareSector, take_chunks}
 use Rattle.dm_map.specs.own.Lists.{IsListSector}
 use Rattle.dm_map.specs.own.Losses.{Due}
 use Rattle.dm_map.specs.own.Rows.{AreOwn, Rows}
 use Rattle.dm_map.specs.own.Ways.{node}
-use Rattle.dm_map.specs.pieces.Units.{BlockUnit, ReadOf}
+use Rattle.dm_map.specs.pieces.Units.{ReadOf}
 use Rattle.dm_map.specs.state.Fitting.{IsFitting}
 use Rattle.dm_map.specs.state.Snapshots.{store_sector}
 use Rattle.dm_map.specs.state.State.{State, taken_at}

@@ -1,5 +1,5 @@
 -- Lists of stores: no unit of a request of a top device writes there.
-use Rattle.std.proofs.Common.{◌≡◌, inl, inr, ℕ, zero, suc, ◌+◌, ◌*◌, ◌/◌, ◌%◌, ◌<◌, ◌≤◌, Bool, true, false, cond, List, [], ◌∷◌, ◌++◌, Some, length, take, drop, nat_lt, replicate, refl, sym, ap, ◌∙◌, arith}
+use Rattle.std.proofs.Common.{◌≡◌, ℕ, zero, suc, ◌+◌, ◌/◌, ◌<◌, Bool, true, false, cond, List, [], ◌∷◌, ◌++◌, Some, take, drop, nat_lt, replicate, refl, sym, ap, ◌∙◌}
 use Rattle.std.specs.List.{AllByRecursion}
 use Rattle.std.proofs.lemmas.List.{take-append-drop}
 use Rattle.dm_table.specs.declared.requests.request.Op.{Op}
@@ -14,7 +14,7 @@ use Rattle.dm_stack.specs.claims.Claims.{IsTidy, IsTop}
 use Rattle.dm_table.specs.declared.tables.table.Use.TheVariants.{Own}
 use Rattle.dm_stack.specs.Description.{Description, device_len, lower_len}
 use Rattle.dm_stack.specs.lines.Below.{Lies, found_at, has_state}
-use Rattle.dm_stack.specs.lines.StoreLayout.{is_metadata, place}
+use Rattle.dm_stack.specs.lines.StoreLayout.{is_metadata}
 use Rattle.dm_stack.proofs.Apart.{IsVia, one_via}
 use Rattle.dm_map.specs.own.Contents.{Values, answers, played, played_unit, sector_after}
 use Rattle.dm_map.specs.own.Cuts.{IsOfSnapshot, take_chunks}
@@ -23,7 +23,7 @@ use Rattle.dm_map.specs.own.Lists.{IsListSector}
 use Rattle.dm_map.specs.own.Losses.{Due}
 use Rattle.dm_map.specs.own.Tops.{write}
 use Rattle.dm_map.specs.own.Ways.{IsWay, Leads, Node, node}
-use Rattle.dm_map.specs.pieces.Units.{BlockUnit, ReadOf, WriteOf, Zeros, Drops, Fails, CopyOf, FillOf}
+use Rattle.dm_map.specs.pieces.Units.{BlockUnit, WriteOf, Fails, CopyOf, FillOf}
 use Rattle.dm_map.specs.state.Fitting.{IsFitting}
 use Rattle.dm_map.specs.state.Snapshots.{read_over, store_sector}
 use Rattle.dm_map.specs.state.State.{State, taken_at}
@@ -35,16 +35,16 @@ use Rattle.dm_map.specs.walk.SnapshotWrites.{copy_to, count_of, first_of, home_i
 use Rattle.dm_map.specs.walk.Steps.{Step, keep, steps}
 use Rattle.dm_map.proofs.own.ChunkOutcomes.{FullOutcome, Done, Taking, Losing, IsRead, Sector, Nothing, Fault, full_outcome, full_outcome_fits, is_read}
 use Rattle.dm_map.proofs.own.CutLemmas.{in_place, list_no_place, list_spare, spare_unread}
-use Rattle.dm_map.proofs.own.HomeLemmas.{home_node, home_touched, store_touches}
+use Rattle.dm_map.proofs.own.HomeLemmas.{home_touched, store_touches}
 use Rattle.dm_map.proofs.own.OwnWrites.{own_write}
 use Rattle.dm_map.proofs.own.Plays.{home_at, stored_other}
 use Rattle.dm_map.proofs.own.StepClaims.{via_snapshot}
 use Rattle.dm_map.proofs.own.TakenInARow.{all_append, all_front, all_row, copy_only, snapshot_there}
-use Rattle.dm_map.proofs.own.Takes.{IsTake, chunk_copies, new_number}
-use Rattle.dm_map.proofs.own.UniqueSteps.{IsRoot, goes_on_inside, only_by_store, store_no_lines, top_root}
-use Rattle.dm_map.proofs.own.WayLemmas.{Here, Before, back, read_touches}
+use Rattle.dm_map.proofs.own.Takes.{new_number}
+use Rattle.dm_map.proofs.own.UniqueSteps.{goes_on_inside, only_by_store, store_no_lines, top_root}
+use Rattle.dm_map.proofs.own.WayLemmas.{Here, Before, back}
 use Rattle.dm_map.proofs.own.Written.{written}
-use Rattle.dm_map.proofs.state.Numbers.{same_parts, store_sector_inside}
+use Rattle.dm_map.proofs.state.Numbers.{store_sector_inside}
 use Rattle.dm_map.proofs.state.ResolvedLines.{first_line, snapshot_sound}
 use Rattle.dm_map.proofs.walk.ReadSteps.{read_step}
 use Rattle.dm_map.proofs.walk.Stores.{below_store, store_line}

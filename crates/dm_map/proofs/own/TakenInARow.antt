@@ -16,8 +16,7 @@ use Rattle.dm_map.specs.walk.Homes.{Home}
 use Rattle.dm_map.specs.state.Snapshots.{store_sector}
 use Rattle.dm_map.specs.walk.SnapshotWrites.{copy_to, count_of, first_of, home_in_store, read, take_chunk, row}
 use Rattle.dm_map.specs.state.State.{lost, put, with_chunk, State, Taken, taken_at}
-use Rattle.dm_map.specs.walk.Steps.{Step, keep, and_then}
-use Rattle.dm_map.specs.state.Tables.{snapshot_at}
+use Rattle.dm_map.specs.walk.Steps.{Step}
 use Rattle.dm_map.specs.pieces.Units.{BlockUnit, ReadOf}
 use Rattle.dm_map.specs.own.Ways.{Node, node, Touches}
 use Rattle.dm_map.proofs.own.UniqueSteps.{IsRoot}
