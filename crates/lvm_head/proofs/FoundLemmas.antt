@@ -1,0 +1,22 @@
+-- What is found first.
+use Rattle.std.proofs.Common.{◌≡◌, inl, inr, ℕ, zero, suc, ◌+◌, ◌<◌, Option, Some, None, refl, arith}
+use Rattle.std.proofs.Math.Nat.{le-suc_iff}
+use Rattle.lvm_head.specs.FirstFound.{earlier, first_found}
+
+pub found_none : {X : Type 0} (has : ℕ → Option X) → first_found has 0 ≡ None
+unfolding first_found
+found_none has = refl
+
+-- nothing among one more
+pub none_more : {X : Type 0} (has : ℕ → Option X) (n : ℕ) → first_found has n ≡ None → has n ≡ None → first_found has (n + 1) ≡ None
+unfolding first_found
+none_more has n before here = let k : n + 1 ≡ suc n = omega arith in rw (k, before, here) refl
+
+-- something after nothing is the first
+pub found_at : {X : Type 0} (has : ℕ → Option X) (n m : ℕ) (x : X) → first_found has n ≡ None → has n ≡ Some x → n < m → first_found has m ≡ Some x
+unfolding first_found
+found_at has n zero x before here below = absurd (omega (arith, below))
+found_at has n (suc m) x before here below = elim (le-suc_iff.0 below) as (λ _. earlier (first_found has m) (has m) ≡ Some x) [
+  | inl less ↦ rw (found_at has n m x before here less) refl
+  | inr same ↦ let k : m ≡ n = omega (arith, same) in rw (k, before, here) refl
+]

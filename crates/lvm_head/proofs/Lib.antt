@@ -1,0 +1,4 @@
+pub mod FoundLemmas
+pub mod LabelLemmas
+pub mod TextLemmas
+pub mod HeadLemmas

@@ -1,0 +1,34 @@
+use Rattle.std.proofs.Common.{◌∙◌, ℕ, Ok, Err, sym, ap}
+use Rattle.lvm_head.specs.declared.fault.HeadFault.TheVariants.{Unread}
+use Rattle.lvm_head.specs.Labels.{label_in, or_no_label}
+use Rattle.lvm_head.proofs.FoundLemmas.{found_at, found_none, none_more}
+use Rattle.lvm_head.proofs.LabelLemmas.{label_found, label_none, label_unread}
+use Rattle.lvm_head.proofs.label.Label.read.Goals as goal
+
+pub loop-place-init : goal.loop-place-init
+loop-place-init g c = record {
+  still = λ held seen. seen;
+  none = λ held seen. found_none (λ place. label_in place (held c.args.disk place));
+}
+
+pub returns-in-Err-clause-is : goal.returns-in-Err-clause-is
+returns-in-Err-clause-is g c = λ held seen some.
+    let n : ℕ = c.loop-place.place in
+    ap or_no_label (found_at (λ place. label_in place (held c.args.disk place)) n 4 (Err Unread) (c.loop-place.invariant.none held (c.read.ensures.still held seen))
+    (label_unread n (held c.args.disk n) c.in-Err.field-0 (c.in-Err.ensures.is held seen)) c.loop-place-test.true)
+
+pub returns-then-is_label-clause-is : goal.returns-then-is_label-clause-is
+returns-then-is_label-clause-is g c = λ held seen.
+    let n : ℕ = c.loop-place.place in
+    ap or_no_label (found_at (λ place. label_in place (held c.args.disk place)) n 4 (Ok c.read.new.into) (c.loop-place.invariant.none held (c.read.ensures.still held seen))
+    (label_found n (held c.args.disk n) c.read.new.into (c.in-Ok.ensures.is held seen) (sym c.is_label.ensures.is ∙ c.if-is_label.true)) c.loop-place-test.true)
+
+pub loop-place-preserved : goal.loop-place-preserved
+loop-place-preserved g c =
+    let n : ℕ = c.loop-place.place in
+    record {
+      still = λ held seen. c.loop-place.invariant.still held (c.read.ensures.still held seen);
+      none = λ held seen.
+          none_more (λ place. label_in place (held c.args.disk place)) n (c.loop-place.invariant.none held (c.read.ensures.still held seen))
+          (label_none n (held c.args.disk n) c.read.new.into (c.in-Ok.ensures.is held seen) (sym c.is_label.ensures.is ∙ c.if-is_label.false));
+    }

@@ -1,0 +1,11 @@
+use Rattle.std.proofs.Common.{◌≡◌, None}
+use Rattle.lvm_head.specs.Disks.{Contents}
+use Rattle.lvm_head.specs.FirstFound.{first_found}
+use Rattle.lvm_head.specs.Labels.{label_in}
+use Rattle.lvm_head.proofs.label.Label.read.Given as goal
+
+abbrev pub invariant-loop-place : goal.invariant-loop-place
+invariant-loop-place g l = record {
+  still : (held : Contents) → g.D.Disks.IsSeen l.disks held → g.D.Disks.IsSeen l.fn.disks held;
+  none : (held : Contents) → g.D.Disks.IsSeen l.disks held → first_found (λ place. label_in place (held l.disk place)) l.place ≡ None;
+}

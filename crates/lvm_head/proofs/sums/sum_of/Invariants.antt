@@ -1,0 +1,6 @@
+use Rattle.std.proofs.Common.{◌≡◌, take, fold}
+use Rattle.lvm_head.specs.Sums.{sum_byte}
+use Rattle.lvm_head.proofs.sums.sum_of.Given as goal
+
+abbrev pub invariant-loop-byte : goal.invariant-loop-byte
+invariant-loop-byte l = l.sum ≡ fold sum_byte 0xF597A6CF (take l.byte-index l.bytes)

@@ -1,0 +1,10 @@
+pub mod Numbers
+pub mod Sums
+pub mod Disks
+pub mod FirstFound
+pub mod Labels
+pub mod Areas
+pub mod Texts
+pub mod Heads
+pub mod Laws
+pub mod Spelled

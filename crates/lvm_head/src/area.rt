@@ -1,0 +1,118 @@
+//! Metadata areas, and where their texts lie.
+
+ghost use Rattle.std.specs.Prelude.{◌≡◌, ◌+◌, ◌<◌, ◌≤◌, ◌/◌, ◌^◌, true, false, length};
+ghost use Rattle.lvm_head.specs.Areas.{is_header, is_near, is_none, is_within, location_in, ring_place};
+ghost use Rattle.lvm_head.specs.Numbers.{eight_at};
+ghost use Rattle.lvm_head.specs.declared.disks.TheConstants.{SECTOR};
+
+use crate::disks::SECTOR;
+use crate::numbers::{eight_at, four_at};
+use crate::sums::sum_of;
+
+/// ` LVM2 x[` and `5A%r0N*>`.
+const MAGIC: u64 = 0x5B78_2032_4D56_4C20;
+
+const MORE_MAGIC: u64 = 0x3E2A_4E30_7225_4135;
+
+/// The version that is read.
+const VERSION: u32 = 1;
+
+/// The last byte at which an area may begin, and the most bytes of one, and of a device.
+pub(crate) const MOST_BYTES: u64 = 0x200_0000_0000_0000;
+
+/// An area: its first byte, and how many it has.
+#[derive(Clone, Copy, Debug, PartialEq, Eq, Drop)]
+pub(crate) struct Area {
+    pub start: u64,
+    pub size: u64,
+}
+
+/// Which pairs of the lists in a header are metadata areas.
+#[derive(Clone, Copy, Debug, PartialEq, Eq, Drop)]
+pub(crate) struct AreaRange {
+    pub from: usize,
+    pub count: usize,
+}
+
+/// Where the header of an area says that its text is: so many bytes, from a byte of the area on, in a ring that ends
+/// with this byte of it.
+#[derive(Clone, Copy, Debug, PartialEq, Eq, Drop)]
+pub(crate) struct Location {
+    pub ring: u64,
+    pub offset: u64,
+    pub size: u64,
+    pub sum: u32,
+    pub flags: u32,
+}
+
+/// Whether an area begins with a sector, and lies where disks may have sectors.
+pub(crate) fn is_near(area: Area) -> bool
+    ensures is { result ≡ is_near area }
+    ensures start { result ≡ true → area.start ≤ 2 ^ 57 }
+    ensures size { result ≡ true → area.size ≤ 2 ^ 57 }
+{
+    area.start % 512 == 0 && area.start <= MOST_BYTES && area.size <= MOST_BYTES
+}
+
+/// Whether a sector is the sound header of an area.
+pub(crate) fn is_header(sector: &[u8], area: Area) -> bool
+    requires { length sector.now ≡ SECTOR }
+    ensures is { result ≡ is_header area sector.now }
+    ensures ring { result ≡ true → eight_at sector.now 32 ≤ area.size }
+{
+    four_at(sector, 0) == sum_of(&sector[4..512])
+        && eight_at(sector, 4) == MAGIC
+        && eight_at(sector, 12) == MORE_MAGIC
+        && four_at(sector, 20) == VERSION
+        && eight_at(sector, 24) == area.start
+        && eight_at(sector, 32) <= area.size
+}
+
+/// Where the text is that is in force.
+pub(crate) fn location_in(sector: &[u8]) -> Location
+    requires { length sector.now ≡ SECTOR }
+    ensures { result ≡ location_in sector.now }
+{
+    Location {
+        ring: eight_at(sector, 32),
+        offset: eight_at(sector, 40),
+        size: eight_at(sector, 48),
+        sum: four_at(sector, 56),
+        flags: four_at(sector, 60),
+    }
+}
+
+/// Whether there is no text: the area is to be ignored, or has none yet.
+pub(crate) fn is_none(location: Location) -> bool
+    ensures is { result ≡ is_none location }
+    ensures some { result ≡ false → 1 ≤ location.size }
+{
+    location.flags % 2 == 1 || location.offset == 0 || location.size == 0
+}
+
+/// Whether a text lies in its ring, after the header.
+pub(crate) fn is_within(location: Location) -> bool
+    requires { location.ring ≤ 2 ^ 58 }
+    ensures { result ≡ is_within location }
+{
+    512 <= location.offset
+        && location.offset < location.ring
+        && location.size <= location.ring
+        && location.size + 512 <= location.ring
+}
+
+/// Where the byte of a number of a text lies on its disk.
+pub(crate) fn ring_place(start: u64, location: Location, number: u64) -> u64
+    requires start { start ≤ 2 ^ 58 }
+    requires ring { location.ring ≤ 2 ^ 58 }
+    requires within { is_within location ≡ true }
+    requires number { number < location.size }
+    ensures is { result ≡ ring_place start location number }
+    ensures near { result / 512 ≤ 2 ^ 50 }
+{
+    if location.offset + number < location.ring {
+        start + (location.offset + number)
+    } else {
+        start + (location.offset + number - location.ring + 512)
+    }
+}

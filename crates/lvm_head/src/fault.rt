@@ -1,0 +1,62 @@
+//! Why a head is refused.
+
+ghost use Rattle.std.specs.Prelude.{◌≡◌};
+ghost use Rattle.lvm_head.specs.declared.fault.HeadFault.TheVariants.{Memory};
+
+use std::alloc::{AllocError, AllocFailed};
+use thiserror::Error;
+
+/// Why the head of a disk is refused.
+#[derive(Clone, Copy, Debug, PartialEq, Eq, Error)]
+pub enum HeadFault {
+    /// A sector of it can't be read.
+    #[error("a sector that can't be read")]
+    Unread,
+    /// None of the first four sectors is a sound label.
+    #[error("no label")]
+    Label,
+    /// The lists in its header don't end, the header of an area isn't sound, or a text lies past its ring.
+    #[error("a header that isn't sound")]
+    Header,
+    /// A text has more than 1,048,576 bytes.
+    #[error("a text of more than 1,048,576 bytes")]
+    Long,
+    /// A text has another sum, or another end.
+    #[error("a text with another sum or end")]
+    Text,
+    /// The device ends before its header says.
+    #[error("a device that ends before")]
+    Ends,
+    /// Another area or an earlier disk has another text.
+    #[error("another text than before")]
+    Differ,
+    /// An earlier disk has the same id.
+    #[error("the id of an earlier disk")]
+    Twice,
+    /// An allocation was refused.
+    #[error("out of memory")]
+    Memory,
+}
+
+impl From<AllocError> for HeadFault {
+    ghost from_gives = { λ _ e. e ≡ Memory };
+
+    fn from(_: AllocError) -> HeadFault {
+        HeadFault::Memory
+    }
+}
+
+impl<T: Drop> From<AllocFailed<T>> for HeadFault {
+    ghost from_gives = { λ _ e. e ≡ Memory };
+
+    fn from(_failed: AllocFailed<T>) -> HeadFault {
+        HeadFault::Memory
+    }
+}
+
+/// The first disk whose head is refused, and why.
+#[derive(Clone, Copy, Debug, PartialEq, Eq, Drop)]
+pub struct HeadRefusal {
+    pub disk: usize,
+    pub fault: HeadFault,
+}

@@ -1,0 +1,104 @@
+//! The heads of the disks of a group.
+
+ghost use Rattle.std.specs.Prelude.{◌≡◌, ◌≢◌, ◌<◌, Err, IfErr, IfOk, Ok};
+ghost use Rattle.std.specs.List.{list_any};
+ghost use Rattle.std.specs.Str.{bytes_eq};
+ghost use Rattle.lvm_head.specs.Disks.{Contents};
+ghost use Rattle.lvm_head.specs.Heads.{heads_of, with_head};
+ghost use Rattle.lvm_head.specs.declared.fault.HeadFault.TheVariants.{Memory};
+
+use crate::disks::Disks;
+use crate::fault::{HeadFault, HeadRefusal};
+use crate::head::{Head, read_head, same_text};
+use std::alloc::Global;
+use std::marker::Model;
+
+/// What the heads of disks say: the id of the physical volume of each, and the text of their group, or an empty one.
+#[derive(Debug, Drop)]
+pub struct Heads {
+    pub ids: Vec<[u8; 32]>,
+    pub text: Vec<u8>,
+}
+
+impl Model for Heads {
+    ghost use Rattle.lvm_head.specs.Heads.{AllSaid};
+
+    ghost Value = { AllSaid };
+
+    ghost view = { λ heads. record { ids = heads.ids.items; text = heads.text.items } };
+}
+
+/// Whether an id is one of these.
+fn has_id(ids: &[[u8; 32]], id: [u8; 32]) -> bool
+    ensures { result ≡ list_any (bytes_eq id) ids.now }
+{
+    ids.contains(&id)
+}
+
+/// One head more.
+fn with_head(heads: Heads, disk: usize, head: Head) -> Result<Heads, HeadRefusal>
+    ensures given { IfOk result (λ after. with_head (Ok heads) disk (Ok head) ≡ Ok after) }
+    ensures refused { IfErr result (λ refusal. refusal.fault ≢ Memory
+        → with_head (Ok heads) disk (Ok head) ≡ Err refusal) }
+{
+    let Heads { mut ids, text } = heads;
+    let Head { id, text: next } = head;
+    let text = match same_text(text, next) {
+        Ok(text) => text,
+        Err(fault) => return Err(HeadRefusal { disk, fault }),
+    };
+    if has_id(&ids, id) {
+        return Err(HeadRefusal {
+            disk,
+            fault: HeadFault::Twice,
+        });
+    }
+    let Ok(()) = ids.push(id) else {
+        return Err(HeadRefusal {
+            disk,
+            fault: HeadFault::Memory,
+        });
+    };
+    Ok(Heads { ids, text })
+}
+
+/// Reads the heads of the first disks, which are the physical volumes of one group.
+///
+/// Label, header and areas of each are read, with all their sums, each text that is in force, and the device's last
+/// sector. All texts have to be the same.
+///
+/// Cost: linear in the sectors of labels and texts, with a comparison of ids for each two disks. At most two texts
+/// are held at once, of at most 1 MiB each.
+///
+/// # Errors
+///
+/// The first disk whose head is refused, with the first of its faults in the order of `HeadFault`. `Memory` where an
+/// allocation was refused.
+pub fn read_heads<D: Disks>(
+    alloc: Global,
+    disks: &mut D,
+    count: usize,
+) -> Result<Heads, HeadRefusal>
+    ensures still { (held : Contents) → D.IsSeen disks.new held → D.IsSeen disks.old held }
+    ensures given { (held : Contents) → D.IsSeen disks.new held
+        → IfOk result (λ heads. heads_of held count ≡ Ok heads) }
+    ensures refused { (held : Contents) → D.IsSeen disks.new held
+        → IfErr result (λ refusal. refusal.fault ≢ Memory → heads_of held count ≡ Err refusal) }
+    ensures disk { IfErr result (λ refusal. refusal.disk < count) }
+{
+    let mut heads = Heads {
+        ids: Vec::new(alloc),
+        text: Vec::new(alloc),
+    };
+    for disk in 0..count {
+        let head = match read_head(alloc, disks, disk) {
+            Ok(head) => head,
+            Err(fault) => return Err(HeadRefusal { disk, fault }),
+        };
+        heads = match with_head(heads, disk, head) {
+            Ok(heads) => heads,
+            Err(refusal) => return Err(refusal),
+        };
+    }
+    Ok(heads)
+}

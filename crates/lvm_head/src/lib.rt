@@ -1,0 +1,25 @@
+//! The head of an LVM2 physical volume: its label, its header, and the metadata text of its group, read from disks
+//! by sectors.
+//!
+//! `specs/Heads.antt` defines what the head of a disk says by its sectors, and what the heads of a group do.
+//! `read_heads` reads them.
+#![tactic(auto)]
+
+mod area;
+mod disks;
+mod fault;
+mod head;
+mod heads;
+mod label;
+mod laws;
+mod memory_disks;
+mod numbers;
+mod sums;
+mod text;
+
+pub use disks::{Disks, ReadFault, SECTOR};
+pub use fault::{HeadFault, HeadRefusal};
+pub use heads::{Heads, read_heads};
+pub use laws::{first_label_is_taken, ring_bytes_are_read, spelled_heads_are_read};
+pub use memory_disks::MemoryDisks;
+pub use sums::sum_of;
