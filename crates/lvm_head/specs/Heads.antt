@@ -58,18 +58,22 @@ pub record AllSaid : Type 0 where
   pub ids : List (List ℕ)
   pub text : List ℕ
 
-abbrev pub refused : {X : Type 0} → (disk : ℕ) → HeadFault → Result X HeadRefusal
-refused disk fault = Err (record { disk = disk; fault = fault })
-
-abbrev pub with_id : AllSaid → (disk : ℕ) → (id : List ℕ) → Result (List ℕ) HeadFault → Result AllSaid HeadRefusal
-with_id all disk id (Ok text) = if list_any (bytes_eq id) all.ids then refused disk Twice else Ok (record { ids = all.ids ++ id ∷ []; text = text })
-with_id all disk id (Err fault) = refused disk fault
+abbrev pub with_id : AllSaid → (id : List ℕ) → Result (List ℕ) HeadFault → Result AllSaid HeadFault
+with_id all id (Ok text) = if list_any (bytes_eq id) all.ids then Err Twice else Ok (record { ids = all.ids ++ id ∷ []; text = text })
+with_id all id (Err fault) = Err fault
 
 -- one head more: another text than before is refused, and so is an id for the second time
+abbrev pub joined : AllSaid → Result Said HeadFault → Result AllSaid HeadFault
+joined all (Ok said) = with_id all said.id (same_text all.text said.text)
+joined all (Err fault) = Err fault
+
+abbrev pub at_disk : (disk : ℕ) → Result AllSaid HeadFault → Result AllSaid HeadRefusal
+at_disk disk (Ok all) = Ok all
+at_disk disk (Err fault) = Err (record { disk = disk; fault = fault })
+
 abbrev pub with_head : Result AllSaid HeadRefusal → (disk : ℕ) → Result Said HeadFault → Result AllSaid HeadRefusal
-with_head (Ok all) disk (Ok said) = with_id all disk said.id (same_text all.text said.text)
-with_head (Ok all) disk (Err fault) = refused disk fault
-with_head (Err refusal) disk next = Err refusal
+with_head (Ok all) disk head = at_disk disk (joined all head)
+with_head (Err refusal) disk head = Err refusal
 
 -- the heads of the first disks, or the first that is refused
 unfoldable pub heads_of : Contents → (count : ℕ) → Result AllSaid HeadRefusal

@@ -4,7 +4,7 @@ ghost use Rattle.std.specs.Prelude.{◌≡◌, ◌≢◌, ◌<◌, Err, IfErr, I
 ghost use Rattle.std.specs.List.{list_any};
 ghost use Rattle.std.specs.Str.{bytes_eq};
 ghost use Rattle.lvm_head.specs.Disks.{Contents};
-ghost use Rattle.lvm_head.specs.Heads.{heads_of, with_head};
+ghost use Rattle.lvm_head.specs.Heads.{Returns, heads_of, joined};
 ghost use Rattle.lvm_head.specs.declared.fault.HeadFault.TheVariants.{Memory};
 
 use crate::disks::Disks;
@@ -35,30 +35,20 @@ fn has_id(ids: &[[u8; 32]], id: [u8; 32]) -> bool
     ids.contains(&id)
 }
 
-/// One head more.
-fn with_head(heads: Heads, disk: usize, head: Head) -> Result<Heads, HeadRefusal>
-    ensures given { IfOk result (λ after. with_head (Ok heads) disk (Ok head) ≡ Ok after) }
-    ensures refused { IfErr result (λ refusal. refusal.fault ≢ Memory
-        → with_head (Ok heads) disk (Ok head) ≡ Err refusal) }
+/// What heads say with one more.
+fn joined(heads: Heads, head: Head) -> Result<Heads, HeadFault>
+    ensures { Returns (λ heads. heads) result (joined heads (Ok head)) }
 {
     let Heads { mut ids, text } = heads;
     let Head { id, text: next } = head;
     let text = match same_text(text, next) {
         Ok(text) => text,
-        Err(fault) => return Err(HeadRefusal { disk, fault }),
+        Err(fault) => return Err(fault),
     };
     if has_id(&ids, id) {
-        return Err(HeadRefusal {
-            disk,
-            fault: HeadFault::Twice,
-        });
+        return Err(HeadFault::Twice);
     }
-    let Ok(()) = ids.push(id) else {
-        return Err(HeadRefusal {
-            disk,
-            fault: HeadFault::Memory,
-        });
-    };
+    ids.push(id)?;
     Ok(Heads { ids, text })
 }
 
@@ -95,9 +85,9 @@ pub fn read_heads<D: Disks>(
             Ok(head) => head,
             Err(fault) => return Err(HeadRefusal { disk, fault }),
         };
-        heads = match with_head(heads, disk, head) {
+        heads = match joined(heads, head) {
             Ok(heads) => heads,
-            Err(refusal) => return Err(refusal),
+            Err(fault) => return Err(HeadRefusal { disk, fault }),
         };
     }
     Ok(heads)
