@@ -5,3 +5,4 @@ pub mod HeadLemmas
 pub mod HeadsLemmas
 pub mod LawLemmas
 pub mod SpelledLemmas
+pub mod MessageLemmas

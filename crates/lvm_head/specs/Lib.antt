@@ -8,3 +8,4 @@ pub mod Texts
 pub mod Heads
 pub mod Laws
 pub mod Spelled
+pub mod Message

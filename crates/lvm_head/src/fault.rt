@@ -33,6 +33,9 @@ pub enum HeadFault {
     /// An earlier disk has the same id.
     #[error("the id of an earlier disk")]
     Twice,
+    /// The text has no physical volume of its id. This is found where the text is read.
+    #[error("an id that its text doesn't have")]
+    Foreign,
     /// An allocation was refused.
     #[error("out of memory")]
     Memory,

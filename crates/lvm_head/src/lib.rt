@@ -12,14 +12,16 @@ mod head;
 mod heads;
 mod label;
 mod laws;
-mod memory_disks;
+mod message;
 mod numbers;
 mod sums;
+#[cfg(test)]
+mod tests;
 mod text;
 
 pub use disks::{Disks, ReadFault, SECTOR};
 pub use fault::{HeadFault, HeadRefusal};
 pub use heads::{Heads, read_heads};
 pub use laws::{first_label_is_taken, ring_bytes_are_read, spelled_heads_are_read};
-pub use memory_disks::MemoryDisks;
+pub use message::HeadMessage;
 pub use sums::sum_of;

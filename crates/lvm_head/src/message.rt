@@ -1,0 +1,54 @@
+//! The message of a refused head: one line.
+//!
+//! The words are fixed by `specs/Message.antt`, since users match on them.
+
+ghost use Rattle.std.specs.Prelude.{◌≡◌, ◌≤◌, length};
+ghost use Rattle.lvm_head.specs.Message.{fault_word, head_message};
+
+use crate::fault::HeadFault;
+use arrayvec::ArrayVec;
+use dm_table::{DiskName, append, memory_message};
+
+/// The message of a refused head, which has at most 279 bytes with its newline.
+pub type HeadMessage = ArrayVec<u8, 279>;
+
+impl HeadFault {
+    /// The word that messages have for it.
+    fn word(self) -> &'static str
+        ensures word { result.now ≡ fault_word self }
+        ensures short { length result.now ≤ 7 }
+    {
+        match self {
+            HeadFault::Unread => "read",
+            HeadFault::Label => "label",
+            HeadFault::Header => "header",
+            HeadFault::Long => "long",
+            HeadFault::Text => "text",
+            HeadFault::Ends => "ends",
+            HeadFault::Differ => "differ",
+            HeadFault::Twice => "twice",
+            HeadFault::Foreign => "foreign",
+            HeadFault::Memory => "memory",
+        }
+    }
+
+    /// The line that says it of a disk: the disk's name, and the word. `Memory` has that of a run that is out of
+    /// memory. Takes no memory.
+    #[tactic(auto, using(crate::proofs::MessageLemmas::name_short))]
+    pub fn message(self, disk: &DiskName) -> HeadMessage
+        ensures { result.items ≡ head_message disk.now self }
+    {
+        let mut text = HeadMessage::new();
+        if self == HeadFault::Memory {
+            append(&mut text, memory_message());
+            return text;
+        }
+        let name = disk.as_str();
+        append(&mut text, b"dmremap: disk ");
+        append(&mut text, name.as_bytes());
+        append(&mut text, b": ");
+        append(&mut text, self.word().as_bytes());
+        append(&mut text, b"\n");
+        text
+    }
+}
