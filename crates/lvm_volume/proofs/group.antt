@@ -1,4 +1,5 @@
 -- Lemmas of what a group's sections say, in their order.
+pub mod OwnersLemmas
 pub mod PhysicalLemmas
 pub mod PositionLemmas
 pub mod RoleLemmas

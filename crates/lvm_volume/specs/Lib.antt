@@ -2,6 +2,7 @@ pub mod Cuts
 pub mod Metadata
 pub mod NameMessage
 pub mod Names
+pub mod OwnedMetadata
 pub mod checks
 pub mod fields
 pub mod group

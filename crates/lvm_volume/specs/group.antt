@@ -2,6 +2,8 @@
 pub mod Group
 pub mod GroupCode
 pub mod GroupFields
+pub mod Owners
+pub mod OwnersCode
 pub mod PhysicalFields
 pub mod RoleCode
 pub mod Roles

@@ -3,6 +3,7 @@
 
 pub(crate) mod group_fields;
 pub(crate) mod key;
+pub(crate) mod owners;
 pub(crate) mod physical;
 pub(crate) mod positions;
 pub(crate) mod roles;

@@ -15,6 +15,7 @@ mod group;
 mod group_tests;
 mod metadata;
 mod names;
+mod owned_metadata;
 mod refused_text;
 mod tables;
 #[cfg(test)]
@@ -22,7 +23,9 @@ mod tests;
 mod volume_group;
 
 pub use fault::NameFault;
+pub use group::owners::Owners;
 pub use metadata::parse_metadata;
 pub use names::{Parts, build_name, spaced_parts, split_name, undouble};
+pub use owned_metadata::{OwnedFault, parse_owned};
 pub use refused_text::text_fault;
 pub use volume_group::VolumeGroup;

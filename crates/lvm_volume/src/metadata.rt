@@ -45,7 +45,7 @@ pub fn parse_metadata(
 }
 
 /// The bytes as a text, where they are UTF-8.
-fn utf8_text(source: &[u8]) -> Result<&str, LoadFault>
+pub(crate) fn utf8_text(source: &[u8]) -> Result<&str, LoadFault>
     ensures text { IfOk result (λ text. (text.now ≡ source.now) × IsUtf8 source.now) }
     ensures fault { IfErr result (λ fault. ¬ (IsUtf8 source.now)
         × (fault ≡ fault_at Source NotText (bad_byte_line source.now))) }

@@ -3,7 +3,7 @@
 ghost use Rattle.std.specs.Prelude.{◌≡◌, map, unwrap_or, IfOk};
 ghost use Rattle.lvm_text.specs.Tree as spec;
 ghost use Rattle.lvm_text.specs.Iterate.{item_view};
-ghost use Rattle.lvm_volume.specs.fields.Fields.{items_at, items_view, number_at};
+ghost use Rattle.lvm_volume.specs.fields.Fields.{inner_sections, items_at, items_view, number_at, sections_at, text_at};
 
 use lvm_text::{Scalar, Section, Value};
 use std::alloc::{AllocError, Global};
@@ -31,6 +31,35 @@ pub(crate) fn items_if_given<'s, 'a>(
     match section.get(key) {
         Some(node) => match &node.value {
             Value::List(items) => Some(items.as_slice()),
+            _ => None,
+        },
+        None => None,
+    }
+}
+
+/// The string of a key, or an empty one.
+pub(crate) fn text_or_empty<'a>(section: &Section<'a>, key: &str) -> &'a str
+    ensures { result.now ≡ text_at key.now section.now }
+{
+    match section.get(key) {
+        Some(node) => match &node.value {
+            Value::Text(text) => *text,
+            _ => "",
+        },
+        None => "",
+    }
+}
+
+/// The section of a key, if it holds one.
+pub(crate) fn section_if_there<'s, 'a>(
+    section: &'s Section<'a>,
+    key: &str,
+) -> Option<&'s Section<'a>>
+    ensures { sections_at key.now section.now ≡ inner_sections result }
+{
+    match section.get(key) {
+        Some(node) => match &node.value {
+            Value::Section(inner) => Some(inner),
             _ => None,
         },
         None => None,

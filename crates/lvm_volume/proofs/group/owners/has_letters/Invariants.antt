@@ -1,0 +1,6 @@
+use Rattle.std.proofs.Common.{◌≡◌, bytes_eq, drop}
+use Rattle.lvm_volume.specs.group.Owners.{letters_of}
+use Rattle.lvm_volume.proofs.group.owners.has_letters.Given as goal
+
+abbrev pub invariant-loop-letter : goal.invariant-loop-letter
+invariant-loop-letter l = bytes_eq l.fn.id (letters_of l.fn.text) ≡ bytes_eq l.rest (letters_of (drop l.letter-index l.letter-items))

@@ -1,0 +1,7 @@
+use Rattle.std.proofs.Common.{◌≡◌, bytes_eq, drop}
+use Rattle.std.specs.List.{position_from}
+use Rattle.lvm_volume.specs.group.Owners.{letters_of, owner_of}
+use Rattle.lvm_volume.proofs.group.owners.owner_of.Given as goal
+
+abbrev pub invariant-loop-disk : goal.invariant-loop-disk
+invariant-loop-disk l = owner_of l.owners (letters_of l.id) ≡ position_from (λ owner. bytes_eq owner (letters_of l.id)) l.disk (drop l.disk l.owners)
