@@ -17,7 +17,7 @@ use Rattle.lvm_volume.specs.Metadata.{SaysTree, IsRefusedText, OfText, OfGroup, 
 use Rattle.lvm_volume.specs.tables.Tables.{group_checks, tables_of, text_fault, unnamed}
 
 -- a check after others of which none finds anything, and after one that does
-last_check : (checks : List (List LoadFault)) (last : List LoadFault) → first_fault checks ≡ None → first_fault (checks ++ last ∷ []) ≡ first_or last None
+pub last_check : (checks : List (List LoadFault)) (last : List LoadFault) → first_fault checks ≡ None → first_fault (checks ++ last ∷ []) ≡ first_or last None
 last_check [] last none = refl
 last_check ([] ∷ checks) last none = last_check checks last none
 last_check ((fault ∷ faults) ∷ checks) last none = absurd cc
@@ -28,7 +28,7 @@ earlier_check ([] ∷ checks) last fault is = earlier_check checks last fault is
 earlier_check ((found ∷ faults) ∷ checks) last fault is = is
 
 -- a reading that gave a value found no fault, and one that gave a fault found that
-no_fault : {X : Type 0} (found : Option LoadFault) (x y : X) → unless found x ≡ Ok y → (found ≡ None) × (x ≡ y)
+pub no_fault : {X : Type 0} (found : Option LoadFault) (x y : X) → unless found x ≡ Ok y → (found ≡ None) × (x ≡ y)
 no_fault None x y is = (refl, cc)
 no_fault (Some fault) x y is = absurd cc
 

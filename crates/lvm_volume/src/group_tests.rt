@@ -2,8 +2,10 @@
 //!
 //! Why a text is refused is tested on the built program (`tests/outside`).
 
-use crate::{VolumeGroup, text_fault};
-use dm_table::{DeviceSpec, Disk, LoadKind, ShortOut, write_concise};
+use crate::{OwnedFault, Owners, VolumeGroup, parse_owned, text_fault};
+use dm_table::{
+    DeviceSpec, Disk, LoadFault, LoadKind, Part, Place, ShortOut, parse_paths, write_concise,
+};
 use lvm_text::{TextFault, parse};
 use std::alloc::{AllocError, Global};
 use std::process::Abort;
@@ -270,6 +272,52 @@ fn several_devices(rt: HostRuntime) {
     for &(more, concise, lines) in &OF_SEVERAL {
         let text = with_line(rt.alloc(), ONE, 24, more).expect(&rt, "a text");
         check_tables(&rt, rt.alloc(), text.as_str(), concise, lines, ON_DEVICE);
+    }
+}
+
+/// Line 7 of `ONE` with the id of an image, as a text has it.
+const OWNED: &str =
+    "device = \"/dev/sda1\" id = \"abcdef-ghij-klmn-opqr-stuv-wxyz-012345\" type = \"raid1\"";
+
+/// A line of `ONE` and what stands in its place; its device in the concise form, or why there is none, where an image
+/// with an id has the disk `sdb`.
+static OF_OWNED: [(usize, &str, Result<&str, OwnedFault>); 3] = [
+    (
+        7,
+        OWNED,
+        Ok("vg0-lv0,,,rw,0 204800 linear sdb 2048\n"),
+    ),
+    (20, "type = \"raid1\"", Err(OwnedFault::Foreign(0))),
+    (
+        11,
+        "id = \"abcdefghijklmnopqrstuvwxyz012345\" } pv1 {",
+        Err(OwnedFault::Load(LoadFault {
+            kind: LoadKind::Field,
+            at: Place {
+                part: Part::Source,
+                number: 11,
+            },
+        })),
+    ),
+];
+
+#[test]
+fn owned_disks(rt: HostRuntime) {
+    let alloc = rt.alloc();
+    let disks = parse_paths(alloc, b"sdb image\n").expect(&rt, "paths");
+    let owners = Owners {
+        ids: &[*b"abcdefghijklmnopqrstuvwxyz012345"],
+        disks: &disks,
+    };
+    for &(number, line, want) in &OF_OWNED {
+        let text = with_line(alloc, ONE, number, line).expect(&rt, "a text");
+        match parse_owned(alloc, text.as_bytes(), &owners) {
+            Ok((devices, _)) => {
+                let concise = want.ok().expect(&rt, "a refusal");
+                check_devices(&rt, alloc, &devices, concise, &[(14, 17)]);
+            }
+            Err(fault) => assert!(&rt; want == Err(fault), "{line}"),
+        }
     }
 }
 

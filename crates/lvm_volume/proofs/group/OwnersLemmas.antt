@@ -2,6 +2,7 @@
 use Rattle.std.proofs.Common.{◌≡◌, ◌⊎◌, inl, inr, ℕ, zero, suc, ◌+◌, ◌*◌, ◌^◌, ◌<◌, ◌≤◌, ◌==◌, Bool, true, false, not, List, [], ◌∷◌, length, cond, get_or, drop, map, Option, Some, None, refl, sym, ap, subst, ◌∙◌, arith}
 use Rattle.std.specs.Prelude.{bytes_eq}
 use Rattle.std.specs.List.{AllByRecursion, list_any, position_from, zip}
+use Rattle.std.proofs.lemmas.Bool.{ne_eqb}
 use Rattle.std.proofs.lemmas.List.{drop_more}
 use Rattle.lvm_volume.specs.declared.group.physical.Physical.{Physical}
 use Rattle.lvm_volume.specs.declared.group.segment.Segment.{Segment}
@@ -28,10 +29,14 @@ past_end (x ∷ text) (suc i) past = past_end text i (omega (arith, past))
 is_none_left : (id : List ℕ) → (length id == 0) ≡ bytes_eq id (letters_of [])
 unfolding letters_of
 is_none_left [] = refl
-is_none_left (x ∷ id) = refl
+is_none_left (x ∷ id) = ne_eqb (length (x ∷ id)) 0 (λ none. omega (arith, none))
 
 pub letters_end : (id text : List ℕ) (i : ℕ) → length text ≤ i → (length id == 0) ≡ bytes_eq id (letters_of (drop i text))
 letters_end id text i past = is_none_left id ∙ ap (λ (xs : List ℕ). bytes_eq id (letters_of xs)) (sym (past_end text i past))
+
+pub ids_length : (ids : List (Bor (List ℕ))) → length (ids_view ids) ≡ length ids
+ids_length [] = refl
+ids_length (id ∷ ids) = ap (λ (n : ℕ). suc n) (ids_length ids)
 
 pub none_left : (ids : List (Bor (List ℕ))) (physicals : List Physical) → (ids ≡ []) ⊎ (physicals ≡ []) → zip (ids_view ids) physicals ≡ []
 none_left ids physicals (inl none) = rw none refl

@@ -4,6 +4,7 @@
 ghost use Rattle.std.specs.Prelude.{◌≡◌, ◌∷◌, List, ℕ, IfOk, false, bytes_eq, codes, length, map, option_map, unwrap_or};
 ghost use Rattle.std.specs.List.{list_any};
 ghost use Rattle.lvm_text.specs.Iterate.{item_view};
+ghost use Rattle.lvm_text.specs.Tree.{sections_of};
 ghost use Rattle.lvm_volume.specs.fields.Fields.{inner_sections, sections_at};
 ghost use Rattle.lvm_volume.specs.group.Group.{first_section};
 ghost use Rattle.lvm_volume.specs.group.Owners.{all_owned, foreign, id_in, ids_of, letters_of, name_by, owned_group, owner_of};
@@ -28,7 +29,10 @@ pub(crate) fn ids_of<'a>(alloc: Global, top: &Section<'a>) -> Result<Vec<&'a str
     ensures { IfOk result (λ ids. ids_view ids.items ≡ ids_of top.now) }
 {
     let groups = sections_of(alloc, top)?;
-    ids_in(alloc, physicals_in(&groups))
+    match physicals_in(&groups) {
+        Some(physicals) => ids_in(alloc, physicals),
+        None => Ok(Vec::new(alloc)),
+    }
 }
 
 /// The section of the physical volumes of the first group.
@@ -42,18 +46,12 @@ fn physicals_in<'s, 'a>(groups: &[(&'a str, &'s Section<'a>)]) -> Option<&'s Sec
     }
 }
 
-/// The ids of the sections inside one, which may be missing.
-fn ids_in<'a>(
-    alloc: Global,
-    physicals: Option<&Section<'a>>,
-) -> Result<Vec<&'a str>, AllocError>
-    ensures { IfOk result (λ ids. ids_view ids.items ≡ map id_in (inner_sections physicals.entry)) }
+/// The ids of the sections inside one.
+fn ids_in<'a>(alloc: Global, physicals: &Section<'a>) -> Result<Vec<&'a str>, AllocError>
+    ensures { IfOk result (λ ids. ids_view ids.items ≡ map id_in (sections_of physicals.now.values)) }
 {
     let mut ids = Vec::new(alloc);
-    let Some(section) = physicals else {
-        return Ok(ids);
-    };
-    for item in section.sections() {
+    for item in physicals.sections() {
         ids.push(text_or_empty(item.1, "id"))?;
     }
     Ok(ids)

@@ -6,4 +6,4 @@ use Rattle.lvm_volume.specs.group.OwnersCode.{ids_view}
 use Rattle.lvm_volume.proofs.group.owners.ids_in.Given as goal
 
 abbrev pub invariant-loop-item : goal.invariant-loop-item
-invariant-loop-item l = ids_view l.ids.items ++ map id_in (sections_left l.item-iterator) ≡ map id_in (sections_of l.section.values)
+invariant-loop-item l = ids_view l.ids.items ++ map id_in (sections_left l.item-iterator) ≡ map id_in (sections_of l.physicals.values)

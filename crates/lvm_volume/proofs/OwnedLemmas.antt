@@ -1,0 +1,95 @@
+-- What a text gives where images have some of its physical volumes.
+use Rattle.std.proofs.Common.{◌≡◌, ◌⊎◌, ◌++◌, inl, inr, ℕ, suc, Bool, true, false, List, [], ◌∷◌, length, map, Option, Some, None, Result, Ok, Err, refl, sym, ap, ◌∙◌}
+use Rattle.std.specs.Prelude.{codes}
+use Rattle.std.specs.Str.{IsUtf8, is_utf8}
+use Rattle.std.proofs.lemmas.Str.{IsUtf8-from_is_utf8, is_utf8-from_IsUtf8}
+use Rattle.lvm_text.specs.Tree.{Tree, sections_of}
+use Rattle.lvm_text.specs.Reading.{Describes, HasFault}
+use Rattle.lvm_text.specs.declared.fault.TextFault.{TextFault}
+use Rattle.lvm_text.proofs.Whole.{every_text}
+use Rattle.lvm_text.proofs.Unique.{one_tree, no_fault as no_text_fault, one_fault as one_text_fault}
+use Rattle.dm_table.specs.declared.load.place.Part.TheVariants.{Source}
+use Rattle.dm_table.specs.declared.load.load_fault.LoadKind.TheVariants.{NotText}
+use Rattle.dm_table.specs.declared.load.load_fault.LoadFault.{LoadFault}
+use Rattle.dm_table.specs.load.LoadFault.{fault_at, first_fault, first_or, unless}
+use Rattle.lvm_volume.specs.declared.owned_metadata.OwnedFault.{OwnedFault}
+use Rattle.lvm_volume.specs.declared.owned_metadata.OwnedFault.TheVariants.{Foreign, Load}
+use Rattle.lvm_volume.specs.fields.Fields.{sections_at}
+use Rattle.lvm_volume.specs.group.Group.{Group, Keyed, device_of, first_section, group_of, physical_of}
+use Rattle.lvm_volume.specs.group.Owners.{Owners, foreign, id_in, ids_of, owned_group}
+use Rattle.lvm_volume.specs.Metadata.{SaysTree, bad_byte_line, metadata_checks}
+use Rattle.lvm_volume.specs.OwnedMetadata.{Gives, GivesOneThing, NotUtf8, OfText, OfTree, Tables, of_load, owned_tables, unless_foreign}
+use Rattle.lvm_volume.specs.tables.Tables.{group_checks, tables_of, text_fault, unnamed}
+use Rattle.lvm_volume.proofs.MetadataLemmas.{last_check, no_fault}
+
+-- ---- the group of a tree
+
+count_both : {X Y : Type 0} (f : Keyed → X) (g : Keyed → Y) (xs : List Keyed) → length (map f xs) ≡ length (map g xs)
+count_both f g [] = refl
+count_both f g (x ∷ xs) = ap (λ (n : ℕ). suc n) (count_both f g xs)
+
+-- each physical volume has an id
+pub ids_counted : (top : Tree) (ids : List (List ℕ)) (group : Group) → ids ≡ ids_of top → unless (first_fault (group_checks top)) (group_of top) ≡ Ok group → length ids ≡ length group.physicals
+ids_counted top ids group are is =
+    let sections : List Keyed = sections_at (codes "physical_volumes") (first_section (sections_of top.values)).1 in
+    ap (λ (xs : List (List ℕ)). length xs) are
+    ∙ count_both id_in (physical_of (map device_of sections)) sections
+    ∙ ap (λ (g : Group). length g.physicals) (no_fault (first_fault (group_checks top)) (group_of top) group is).1
+
+pub said_foreign : (owners : Owners) (top : Tree) (ids : List (List ℕ)) (disk : ℕ) → ids ≡ ids_of top → foreign owners.ids ids ≡ Some disk → Err (Foreign disk) ≡ owned_tables owners top
+said_foreign owners top ids disk are is =
+    let said : Result Tables OwnedFault = of_load (unless (first_fault (metadata_checks top)) (tables_of (owned_group owners (ids_of top) (group_of top)))) in
+    sym (ap (λ (xs : List (List ℕ)). unless_foreign (foreign owners.ids xs) said) (sym are) ∙ ap (λ (f : Option ℕ). unless_foreign f said) is)
+
+said_known : (owners : Owners) (top : Tree) (ids : List (List ℕ)) (said : Result Tables LoadFault) → ids ≡ ids_of top → foreign owners.ids ids ≡ None
+    → unless (first_fault (metadata_checks top)) (tables_of (owned_group owners (ids_of top) (group_of top))) ≡ said → of_load said ≡ owned_tables owners top
+said_known owners top ids said are none is =
+    let all : Result Tables OwnedFault = of_load (unless (first_fault (metadata_checks top)) (tables_of (owned_group owners (ids_of top) (group_of top)))) in
+    sym (ap (λ (xs : List (List ℕ)). unless_foreign (foreign owners.ids xs) all) (sym are) ∙ ap (λ (f : Option ℕ). unless_foreign f all) none ∙ ap of_load is)
+
+earlier_found : {X : Type 0} (checks : List (List LoadFault)) (last : List LoadFault) (group : Group) (x : X) (fault : LoadFault) → unless (first_fault checks) group ≡ Err fault → unless (first_fault (checks ++ last ∷ [])) x ≡ Err fault
+earlier_found [] last group x fault is = absurd cc
+earlier_found ([] ∷ checks) last group x fault is = earlier_found checks last group x fault is
+earlier_found ((found ∷ faults) ∷ checks) last group x fault is = let same : found ≡ fault = cc in rw same refl
+
+-- a check of the group finds a fault
+pub said_refused : (owners : Owners) (top : Tree) (ids : List (List ℕ)) (fault : LoadFault) → ids ≡ ids_of top → foreign owners.ids ids ≡ None → unless (first_fault (group_checks top)) (group_of top) ≡ Err fault
+    → Err (Load fault) ≡ owned_tables owners top
+said_refused owners top ids fault are none is =
+    said_known owners top ids (Err fault) are none
+    (earlier_found (group_checks top) (unnamed (group_of top)) (group_of top) (tables_of (owned_group owners (ids_of top) (group_of top))) fault is)
+
+-- no check of the group does: what its tables are is what is said
+pub said_tables : (owners : Owners) (top : Tree) (ids : List (List ℕ)) (group owned : Group) (said : Result Tables LoadFault) → ids ≡ ids_of top → foreign owners.ids ids ≡ None → unless (first_fault (group_checks top)) (group_of top) ≡ Ok group
+    → owned ≡ owned_group owners ids group → unless (first_or (unnamed owned) None) (tables_of owned) ≡ said → of_load said ≡ owned_tables owners top
+said_tables owners top ids group owned said are none is same tables =
+    let p = no_fault (first_fault (group_checks top)) (group_of top) group is in
+    let e : owned ≡ owned_group owners (ids_of top) (group_of top) = same ∙ ap (λ (xs : List (List ℕ)). owned_group owners xs group) are ∙ ap (owned_group owners (ids_of top)) (sym p.1) in
+    said_known owners top ids said are none
+    (ap (λ (found : Option LoadFault). unless found (tables_of (owned_group owners (ids_of top) (group_of top)))) (last_check (group_checks top) (unnamed (group_of top)) p.0)
+    ∙ ap (λ (g : Group). unless (first_or (unnamed g) None) (tables_of g)) (sym e)
+    ∙ tables)
+
+-- ---- every text gives one thing
+
+pub gives_one : (owners : Owners) (source : List ℕ) (a b : Result Tables OwnedFault) → Gives owners source a → Gives owners source b → a ≡ b
+gives_one owners source a b (NotUtf8 x same_a) (NotUtf8 y same_b) = same_a ∙ sym same_b
+gives_one owners source a b (NotUtf8 x same_a) (OfText utf8 found has same_b) = absurd (x utf8)
+gives_one owners source a b (NotUtf8 x same_a) (OfTree tree says same_b) = absurd (x says.utf8)
+gives_one owners source a b (OfText utf8 found has same_a) (NotUtf8 y same_b) = absurd (y utf8)
+gives_one owners source a b (OfText utf8 found has same_a) (OfText also other has_other same_b) = same_a ∙ ap (λ (f : TextFault). let r : Result Tables OwnedFault = Err (Load (text_fault f)) in r) (one_text_fault source found other has has_other) ∙ sym same_b
+gives_one owners source a b (OfText utf8 found has same_a) (OfTree tree says same_b) = absurd (no_text_fault source tree found says.says has)
+gives_one owners source a b (OfTree tree says same_a) (NotUtf8 y same_b) = absurd (y says.utf8)
+gives_one owners source a b (OfTree tree says same_a) (OfText utf8 found has same_b) = absurd (no_text_fault source tree found says.says has)
+gives_one owners source a b (OfTree tree says same_a) (OfTree other says_other same_b) = same_a ∙ ap (owned_tables owners) (one_tree source tree other says.says says_other.says) ∙ sym same_b
+
+by_text : (owners : Owners) (source : List ℕ) → IsUtf8 source → ((t : Tree) × Describes source t) ⊎ ((f : TextFault) × HasFault source f) → (said : Result Tables OwnedFault) × Gives owners source said
+by_text owners source utf8 (inl text) = (owned_tables owners text.0, OfTree text.0 (record { utf8 = utf8; says = text.1 }) refl)
+by_text owners source utf8 (inr text) = (Err (Load (text_fault text.0)), OfText utf8 text.0 text.1 refl)
+
+by_bytes : (owners : Owners) (source : List ℕ) (utf8 : Bool) → is_utf8 source ≡ utf8 → (said : Result Tables OwnedFault) × Gives owners source said
+by_bytes owners source true e = by_text owners source (IsUtf8-from_is_utf8 source e) (every_text source)
+by_bytes owners source false e = (Err (Load (fault_at Source NotText (bad_byte_line source))), NotUtf8 (λ utf8. let is = is_utf8-from_IsUtf8 source utf8 in cc) refl)
+
+pub gives_one_thing : (owners : Owners) (source : List ℕ) → GivesOneThing owners source
+gives_one_thing owners source = record { some = by_bytes owners source (is_utf8 source) refl; unique = gives_one owners source }

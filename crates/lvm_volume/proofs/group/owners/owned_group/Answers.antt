@@ -1,0 +1,16 @@
+use Rattle.std.proofs.Common.{◌≡◌, List, length, sym, ap, subst, ◌∙◌}
+use Rattle.lvm_volume.specs.declared.group.physical.Physical.{Physical}
+use Rattle.lvm_volume.specs.group.Group.{Group, group_with}
+use Rattle.lvm_volume.specs.group.Owners.{all_owned}
+use Rattle.lvm_volume.specs.group.OwnersCode.{ids_view, owners_view}
+use Rattle.lvm_volume.specs.tables.Tables.{IsSoundGroup}
+use Rattle.lvm_volume.proofs.group.OwnersLemmas.{ids_length, sound_owned}
+use Rattle.lvm_volume.proofs.group.owners.owned_group.Goals as goal
+
+pub invariant_of-result : goal.invariant_of-result
+invariant_of-result c =
+    let group : Group = group_with c.group.inside.name c.group.inside.extent_size c.group.inside.physicals.items c.group.inside.volumes.items in
+    let count = ids_length c.args.ids.now ∙ c.requires ∙ sym (ap (λ (g : Group). length g.physicals) c.group.view_is) in
+    let are = c.in_ok-physicals.ensures ∙ ap (all_owned (owners_view c.args.owners.now) (ids_view c.args.ids.now)) c.deref.ensures.value in
+    subst (λ (physicals : List Physical). IsSoundGroup (group_with group.name group.extent_size physicals group.volumes)) (sym are)
+    (sound_owned (owners_view c.args.owners.now) (ids_view c.args.ids.now) group count c.group.invariant)
