@@ -1,5 +1,5 @@
 -- The heads of some disks, one more at a time.
-use Rattle.std.proofs.Common.{◌≡◌, inl, inr, ℕ, zero, suc, ◌+◌, ◌<◌, List, [], Result, Ok, Err, refl, subst, ap, ◌∙◌, arith}
+use Rattle.std.proofs.Common.{◌≡◌, inl, inr, ℕ, zero, suc, ◌+◌, ◌<◌, [], Result, Ok, Err, refl, subst, ap, ◌∙◌, arith}
 use Rattle.std.proofs.Math.Nat.{le-suc_iff}
 use Rattle.lvm_head.specs.declared.fault.HeadFault.{HeadFault}
 use Rattle.lvm_head.specs.declared.fault.HeadRefusal.{HeadRefusal}

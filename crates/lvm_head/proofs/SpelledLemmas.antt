@@ -9,9 +9,9 @@ use Rattle.lvm_head.specs.declared.area.Area.{Area}
 use Rattle.lvm_head.specs.declared.area.Location.{Location}
 use Rattle.lvm_head.specs.declared.fault.HeadFault.{HeadFault}
 use Rattle.lvm_head.specs.declared.fault.HeadFault.TheVariants.{Header, Long, Text, Differ}
-use Rattle.lvm_head.specs.Heads.{Said, agreed, common_text, same_text, with_text}
+use Rattle.lvm_head.specs.Heads.{Said, agreed, common_text, same_text}
 use Rattle.lvm_head.specs.Disks.{Sectors}
-use Rattle.lvm_head.specs.Labels.{area_at, device_bytes}
+use Rattle.lvm_head.specs.Labels.{area_at}
 use Rattle.lvm_head.specs.Areas.{is_none, is_within, location_in}
 use Rattle.lvm_head.specs.Texts.{area_text, ended, ring_bytes, summed, text_at}
 use Rattle.lvm_head.specs.Spelled.{ReadsBack, SpellsText}

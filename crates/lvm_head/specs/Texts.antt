@@ -1,5 +1,5 @@
 -- The text of a metadata area.
-use Rattle.std.specs.Prelude.{ℕ, zero, suc, ◌+◌, ◌-◌, ◌/◌, ◌%◌, ◌==◌, not, List, [], ◌∷◌, ◌++◌, Result, Ok, Err, length, take, nat_lt, slice_index, if◌then◌else◌}
+use Rattle.std.specs.Prelude.{ℕ, zero, suc, ◌-◌, ◌/◌, ◌%◌, ◌==◌, not, List, [], ◌∷◌, ◌++◌, Result, Ok, Err, length, take, nat_lt, slice_index, if◌then◌else◌}
 use Rattle.lvm_head.specs.declared.area.Area.{Area}
 use Rattle.lvm_head.specs.declared.area.Location.{Location}
 use Rattle.lvm_head.specs.declared.disks.ReadFault.{ReadFault}
