@@ -1,24 +1,25 @@
 -- What a text gives where images have some of its physical volumes.
-use Rattle.std.proofs.Common.{◌≡◌, ◌⊎◌, ◌++◌, inl, inr, ℕ, suc, Bool, true, false, List, [], ◌∷◌, length, map, Option, Some, None, Result, Ok, Err, refl, sym, ap, ◌∙◌}
+use Rattle.std.proofs.Common.{◌≡◌, ◌≢◌, ◌⊎◌, ◌++◌, inl, inr, ℕ, suc, Bool, true, false, List, [], ◌∷◌, length, map, Option, Some, None, Result, Ok, Err, refl, sym, ap, subst, ◌∙◌}
 use Rattle.std.specs.Prelude.{codes}
 use Rattle.std.specs.Str.{IsUtf8, is_utf8}
 use Rattle.std.proofs.lemmas.Str.{IsUtf8-from_is_utf8, is_utf8-from_IsUtf8}
 use Rattle.lvm_text.specs.Tree.{Tree, sections_of}
 use Rattle.lvm_text.specs.Reading.{Describes, HasFault}
 use Rattle.lvm_text.specs.declared.fault.TextFault.{TextFault}
+use Rattle.lvm_text.specs.declared.fault.TextFault.TheVariants as texts
 use Rattle.lvm_text.proofs.Whole.{every_text}
 use Rattle.lvm_text.proofs.Unique.{one_tree, no_fault as no_text_fault, one_fault as one_text_fault}
 use Rattle.dm_table.specs.declared.load.place.Part.TheVariants.{Source}
-use Rattle.dm_table.specs.declared.load.load_fault.LoadKind.TheVariants.{NotText}
+use Rattle.dm_table.specs.declared.load.load_fault.LoadKind.TheVariants.{Memory, NotText}
 use Rattle.dm_table.specs.declared.load.load_fault.LoadFault.{LoadFault}
-use Rattle.dm_table.specs.load.LoadFault.{fault_at, first_fault, first_or, unless}
+use Rattle.dm_table.specs.load.LoadFault.{IsMemoryFault, fault_at, first_fault, first_or, unless}
 use Rattle.lvm_volume.specs.declared.owned_metadata.OwnedFault.{OwnedFault}
 use Rattle.lvm_volume.specs.declared.owned_metadata.OwnedFault.TheVariants.{Foreign, Load}
 use Rattle.lvm_volume.specs.fields.Fields.{sections_at}
 use Rattle.lvm_volume.specs.group.Group.{Group, Keyed, device_of, first_section, group_of, physical_of}
 use Rattle.lvm_volume.specs.group.Owners.{Owners, foreign, id_in, ids_of, owned_group}
 use Rattle.lvm_volume.specs.Metadata.{SaysTree, bad_byte_line, metadata_checks}
-use Rattle.lvm_volume.specs.OwnedMetadata.{Gives, GivesOneThing, NotUtf8, OfText, OfTree, Tables, of_load, owned_tables, unless_foreign}
+use Rattle.lvm_volume.specs.OwnedMetadata.{Gives, GivesOneThing, NotUtf8, OfText, OfTree, OwnedAnswers, Tables, of_load, owned_tables, unless_foreign}
 use Rattle.lvm_volume.specs.tables.Tables.{group_checks, tables_of, text_fault, unnamed}
 use Rattle.lvm_volume.proofs.MetadataLemmas.{last_check, no_fault}
 
@@ -69,6 +70,28 @@ said_tables owners top ids group owned said are none is same tables =
     (ap (λ (found : Option LoadFault). unless found (tables_of (owned_group owners (ids_of top) (group_of top)))) (last_check (group_checks top) (unnamed (group_of top)) p.0)
     ∙ ap (λ (g : Group). unless (first_or (unnamed g) None) (tables_of g)) (sym e)
     ∙ tables)
+
+-- ---- what is returned
+
+pub answers_by : {X : Type 0} (view : X → Tables) (P Q : Result Tables OwnedFault → Type 0) → ((said : Result Tables OwnedFault) → P said → Q said) → (result : Result X OwnedFault) → OwnedAnswers view P result → OwnedAnswers view Q result
+answers_by view P Q f (Ok x) is = f (Ok (view x)) is
+answers_by view P Q f (Err (Foreign disk)) is = f (Err (Foreign disk)) is
+answers_by view P Q f (Err (Load fault)) is = (is.0, λ other. f (Err (Load fault)) (is.1 other))
+
+text_memory : (found : TextFault) → (text_fault found).kind ≡ Memory → IsMemoryFault Source (text_fault found)
+text_memory (texts.Token line) is = absurd cc
+text_memory (texts.Syntax line) is = absurd cc
+text_memory (texts.KeyTwice line) is = absurd cc
+text_memory (texts.Deep line) is = absurd cc
+text_memory (texts.Number line) is = absurd cc
+text_memory texts.Memory is = refl
+
+pub said_text : (owners : Owners) (source : List ℕ) (found : TextFault) (fault : LoadFault) → IsUtf8 source → fault ≡ text_fault found → (found ≢ texts.Memory → HasFault source found)
+    → (fault.kind ≡ Memory → IsMemoryFault Source fault) × (fault.kind ≢ Memory → Gives owners source (Err (Load fault)))
+said_text owners source found fault utf8 is has = (
+  λ memory. subst (λ (f : LoadFault). IsMemoryFault Source f) (sym is) (text_memory found (ap (λ (f : LoadFault). f.kind) (sym is) ∙ memory)),
+  λ other. OfText utf8 found (has (λ same. other (ap (λ (f : LoadFault). f.kind) is ∙ ap (λ (f : TextFault). (text_fault f).kind) same))) (ap (λ (f : LoadFault). let r : Result Tables OwnedFault = Err (Load f) in r) is),
+)
 
 -- ---- every text gives one thing
 
