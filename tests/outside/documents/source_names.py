@@ -9,9 +9,9 @@ from documents import text_of
 from harness import Case
 
 # What these documents have at most, so that each is read at one sitting.
-BYTES = {"ARCHITECTURE.md": 15000, "DECISIONS.md": 12100, "DEVELOPING.md": 10000, "PROMISES.md": 21100, "READING.md": 3900}
+BYTES = {"ARCHITECTURE.md": 15500, "DECISIONS.md": 12100, "DEVELOPING.md": 10000, "PROMISES.md": 22000, "READING.md": 4100}
 # And all pages together.
-ALL_BYTES = 215000
+ALL_BYTES = 221500
 SOURCES = ("crates/*/*/**/*.rt", "crates/*/*/**/*.antt", "crates/*/must-fail/*", "crates.txt", "HANDLES", "tools/*/*",
            "tests/benches/*", "tools/**/*.py", "tests/**/*.py", "[a-z]*")
 # Wrong changes that the gate has to refuse, and how many of them a document says that there are.
