@@ -1,7 +1,7 @@
 -- Checks in a row, what is named among devices that are there, and the first ring.
-use Rattle.std.proofs.Common.{◌≡◌, ◌≢◌, ◌⊎◌, ℕ, zero, suc, ◌+◌, ◌<◌, false, inl, inr, List, [], ◌∷◌, Option, Some, None, Result, Ok, Vec, Global, arith, refl, sym, ap, ◌∙◌, drop, get_or, length, map, take}
-use Rattle.std.specs.Prelude.{IfErr, IfOk, IfSome, IfNone}
-use Rattle.std.specs.Result.{IsErrAnd}
+use Rattle.std.proofs.Common.{◌≡◌, ◌≢◌, ◌⊎◌, ℕ, zero, suc, ◌+◌, ◌<◌, false, inl, inr, List, [], ◌∷◌, Option, Some, None, Result, Ok, Err, Vec, Global, arith, refl, sym, ap, ◌∙◌, drop, get_or, length, map, take}
+use Rattle.std.specs.Prelude.{IfErr, IfOk, IfSome, IfNone, OnOk}
+use Rattle.std.specs.Result.{IsErrAnd, result_err}
 use Rattle.std.specs.List.{AllByRecursion, flat_map, list_any}
 use Rattle.std.proofs.lemmas.Bool.{leb-false, or_parts}
 use Rattle.std.proofs.lemmas.List.{drop_more, length-map, length-take-le, take-append-drop}
@@ -18,7 +18,7 @@ use Rattle.dm_table.specs.load.LoadFault.{IsMemoryFault, fault, first_or, first_
 use Rattle.dm_stack.specs.Description.{Description, device_links, is_same, line_links, links, ref_link}
 use Rattle.dm_stack.specs.checks.Graph.{IsClosed, IsFirstRing, Reaches, depths_to, greatest, links_in, links_of}
 use Rattle.dm_stack.specs.checks.Depth.{stack_depth}
-use Rattle.dm_stack.specs.checks.Soundness.{Early, HasNoCycle, IsFirstCycle, IsRefusedBy, Late, all_lines, checks_after, checks_before, is_unknown, is_unknown_ref, unknown}
+use Rattle.dm_stack.specs.checks.Soundness.{Early, HasNoCycle, IsFirstCycle, IsRefusedBy, IsSound, Late, all_lines, checks_after, checks_before, crowded, is_unknown, is_unknown_ref, unknown}
 use Rattle.dm_table.specs.tables.Span.{Span, spans}
 use Rattle.dm_stack.proofs.checks.HandedOn.{all_append, each_in, refused_not_memory}
 use Rattle.dm_table.proofs.FaultLemmas.{first_or-found, first_or-none, first_or-passed}
@@ -34,6 +34,10 @@ pub nothing_found : (checks : List (List LoadFault)) → FindNothing checks → 
 nothing_found [] none = refl
 nothing_found (faults ∷ checks) none = first_or-passed faults _ none.0 ∙ nothing_found checks none.1
 
+pub none_found : (checks : List (List LoadFault)) → first_fault checks ≡ None → FindNothing checks
+none_found [] e = tt
+none_found (faults ∷ checks) e = let parts = first_or-none faults (first_fault checks) e in (ap (λ (found : List LoadFault). first_or found None) parts.0, none_found checks parts.1)
+
 -- the check of an index finds the first fault where those before it find nothing
 first_at : (checks : List (List LoadFault)) (index : ℕ) (at : LoadFault) → FindNothing (take index checks) → first_or (get_or checks index []) None ≡ Some at → first_fault checks ≡ Some at
 first_at [] index at none e = absurd cc
@@ -46,6 +50,19 @@ refused_early stack index at none e = Early (first_at (checks_before stack) inde
 
 pub refused_late : (stack : Description) (index : ℕ) (at : LoadFault) → first_fault (checks_before stack) ≡ None → HasNoCycle stack → FindNothing (take index (checks_after stack)) → first_or (get_or (checks_after stack) index []) None ≡ Some at → IsRefusedBy stack at
 refused_late stack index at before acyclic none e = Late before acyclic (first_at (checks_after stack) index at none e)
+
+-- after the last check, where the others found nothing
+pub sound_last : (stack : Description) (result : Result (Unit {0}) LoadFault) → first_fault (checks_before stack) ≡ None → HasNoCycle stack → FindNothing (take 5 (checks_after stack)) → result_err result ≡ first_or (crowded stack) None → OnOk result (IsSound stack)
+sound_last stack (Ok done) before acyclic none e = record {
+  before = before;
+  acyclic = acyclic;
+  after = nothing_found (checks_after stack) (none.0, (none.1.0, (none.1.1.0, (none.1.1.1.0, (none.1.1.1.1.0, (sym e, tt))))));
+}
+sound_last stack (Err at) before acyclic none e = tt
+
+pub refused_last : (stack : Description) (result : Result (Unit {0}) LoadFault) → first_fault (checks_before stack) ≡ None → HasNoCycle stack → FindNothing (take 5 (checks_after stack)) → result_err result ≡ first_or (crowded stack) None → IfErr result (IsRefusedBy stack)
+refused_last stack (Ok done) before acyclic none e = tt
+refused_last stack (Err at) before acyclic none e = refused_late stack 5 at before acyclic none (sym e)
 
 -- what the exit of a `?` returns is the fault that it was given
 pub handed : {T : Type 0} (P : LoadFault → Type 0) (result : Result T LoadFault) (at : LoadFault) → IsErrAnd result (λ fault. fault ≡ at) → P at → IfErr result P

@@ -3,14 +3,16 @@
 //! Each check fails with its first fault, and none runs after one that fails, so later checks may
 //! rely on what earlier ones passed. A new check takes its place here and in `specs/checks/Soundness.antt`.
 
-ghost use Rattle.std.specs.Prelude.{◌≡◌, ◌⊎◌, IfErr, IfOk, OnOk};
-ghost use Rattle.dm_table.specs.load.LoadFault.{IsMemoryFault};
+ghost use Rattle.std.specs.Prelude.{◌≡◌, ◌⊎◌, IfErr, IfOk, None, OnOk, map, take};
+ghost use Rattle.dm_table.specs.load.LoadFault.{IsMemoryFault, first_fault};
 ghost use Rattle.dm_table.specs.declared.load.place.Part.TheVariants.{Source};
 ghost use Rattle.dm_stack.specs.declared.checks.graph.TheConstants.{FOLLOWED_LEVELS};
 ghost use Rattle.dm_stack.specs.Description.{described, links};
 ghost use Rattle.dm_stack.specs.checks.Graph.{IsClosed, IsFirstRing, depths_to};
 ghost use Rattle.dm_stack.specs.Stack.{IsLoaded};
-ghost use Rattle.dm_stack.specs.checks.Soundness.{HasNoCycle, IsFirstCycle, IsRefusedBy};
+ghost use Rattle.dm_stack.specs.checks.Depth.{stack_depth};
+ghost use Rattle.dm_stack.specs.checks.Soundness.{HasNoCycle, IsFirstCycle, IsRefusedBy, IsSound};
+ghost use Rattle.dm_stack.specs.checks.Soundness.{checks_before};
 ghost use Rattle.dm_stack.specs.checks.Store.{store_links};
 
 use crate::checks::depth::{check_depths, deepest};
@@ -52,6 +54,8 @@ struct Graph {
 
 /// Runs the checks of a load, up to the first that finds a fault.
 ///
+/// Those that fail late run in functions that own nothing that a failure would drop.
+///
 /// Cost: near-linear in lines, columns, devices and disks, and a search of what is reached for each
 /// device that is too deep. `Memory` if memory was refused.
 pub(crate) fn check(
@@ -65,30 +69,65 @@ pub(crate) fn check(
     ensures fault { IfErr result (λ fault.
         IsRefusedBy (described devices.now disks.now) fault ⊎ IsMemoryFault Source fault) }
 {
+    let names = check_texts(alloc, devices, disks)?;
+    let indexed = Indexed::new(devices, disks, &names.devices, &names.disks);
+    let found = or_out_of_memory(resolved_devices(alloc, &indexed))?;
+    let stack = Resolved::new(devices, disks, &found);
+    let depth = check_ids(alloc, &stack)?;
+    let snapshots = or_out_of_memory(snapshots(alloc, devices))?;
+    Ok(Checked {
+        names,
+        found,
+        depth,
+        snapshots,
+    })
+}
+
+/// The five checks before lines have ids, and the names that they index.
+fn check_texts(alloc: Global, devices: &[DeviceSpec], disks: &[Disk]) -> Result<Names, LoadFault>
+    ensures devices { IfOk result (λ names. names.devices ≡ map (λ device. device.name) devices.now) }
+    ensures disks { IfOk result (λ names. names.disks ≡ map (λ disk. disk.name) disks.now) }
+    ensures passed { OnOk result (first_fault (take 5 (checks_before (described devices.now disks.now))) ≡ None) }
+    ensures fault { IfErr result (λ fault.
+        IsRefusedBy (described devices.now disks.now) fault ⊎ IsMemoryFault Source fault) }
+{
     check_counts(devices, disks)?;
     check_numbers(devices, disks)?;
     let names = check_names(alloc, devices, disks)?;
     check_lengths(devices, disks)?;
     check_starts(devices)?;
-    let indexed = Indexed::new(devices, disks, &names.devices, &names.disks);
-    let found = or_out_of_memory(resolved_devices(alloc, &indexed))?;
-    let stack = Resolved::new(devices, disks, &found);
-    check_references(&stack)?;
-    let graph = or_out_of_memory(follow(alloc, &stack))?;
-    check_cycles(&stack, graph.cycle)?;
-    check_depths(devices, &graph.depths)?;
-    check_stripes(&stack)?;
-    check_ranges(&stack)?;
-    check_snapshots(&stack)?;
-    check_stores(&stack, &graph.store_depths)?;
-    check_places(&stack)?;
-    let snapshots = or_out_of_memory(snapshots(alloc, devices))?;
-    Ok(Checked {
-        names,
-        found,
-        depth: deepest(&graph.depths),
-        snapshots,
-    })
+    Ok(names)
+}
+
+/// The checks by ids, and the depth of the stack.
+fn check_ids(alloc: Global, stack: &Resolved) -> Result<u32, LoadFault>
+    requires { first_fault (take 5 (checks_before stack.now)) ≡ None }
+    ensures sound { OnOk result (IsSound stack.now) }
+    ensures depth { IfOk result (λ depth. depth ≡ stack_depth stack.now) }
+    ensures fault { IfErr result (λ fault. IsRefusedBy stack.now fault ⊎ IsMemoryFault Source fault) }
+{
+    check_references(stack)?;
+    let graph = or_out_of_memory(follow(alloc, stack))?;
+    check_graph(stack, &graph)?;
+    Ok(deepest(&graph.depths))
+}
+
+/// The checks by what devices name, with what was followed of that.
+fn check_graph(stack: &Resolved, graph: &Graph) -> Result<(), LoadFault>
+    requires before { first_fault (checks_before stack.now) ≡ None }
+    requires depths { graph.now.depths.items ≡ depths_to (links stack.now) FOLLOWED_LEVELS }
+    requires stores { graph.now.store_depths.items ≡ depths_to (store_links stack.now) FOLLOWED_LEVELS }
+    requires cycle { IsFirstRing (links stack.now) graph.now.cycle }
+    ensures sound { OnOk result (IsSound stack.now) }
+    ensures fault { IfErr result (IsRefusedBy stack.now) }
+{
+    check_cycles(stack, graph.cycle)?;
+    check_depths(stack.devices(), &graph.depths)?;
+    check_stripes(stack)?;
+    check_ranges(stack)?;
+    check_snapshots(stack)?;
+    check_stores(stack, &graph.store_depths)?;
+    check_places(stack)
 }
 
 /// Which device reaches itself first, and how deep each is.
