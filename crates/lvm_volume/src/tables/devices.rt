@@ -10,7 +10,7 @@ ghost use Rattle.lvm_volume.specs.declared.tables.device_names.Layer.TheVariants
 ghost use Rattle.lvm_volume.specs.tables.GroupRef.{group_view};
 ghost use Rattle.lvm_volume.specs.group.Roles.{extents_of, name_at, segments_at};
 ghost use Rattle.lvm_volume.specs.tables.Tables.{AreSegmentsIn, IsMadeIn, IsNamed, device_name, devices_in};
-ghost use Rattle.lvm_volume.specs.tables.Tables.{length_of, named_device, origin_line, over_device, snapshot_line};
+ghost use Rattle.lvm_volume.specs.tables.Tables.{length_of, origin_line, over_device, own_device, snapshot_line};
 
 use crate::fields::source_line::source_line;
 use crate::group::physical::Physical;
@@ -63,21 +63,14 @@ fn add_devices(
         (devices.new.items ≡ devices.old.items ++ devices_in (group_view group.now) (role, volume.now)) }
 {
     match role {
-        Role::Plain => {
-            let name = volume_name(alloc, group, volume, None)?;
-            devices.push(own_device(alloc, group, volume, volume.ro, name)?)?;
-        }
+        Role::Plain => devices.push(own_device(alloc, group, volume, volume.ro, None)?)?,
         Role::Origin => {
-            let real = volume_name(alloc, group, volume, Some(Layer::Real))?;
-            let line = origin_line(group, volume, real.copy(alloc)?);
-            devices.push(own_device(alloc, group, volume, false, real)?)?;
-            devices.push(over_device(alloc, group, volume, line)?)?;
+            devices.push(own_device(alloc, group, volume, false, Some(Layer::Real))?)?;
+            devices.push(origin_device(alloc, group, volume)?)?;
         }
         Role::Store(snapshot) => {
-            let cow = volume_name(alloc, group, volume, Some(Layer::Cow))?;
-            let line = snapshot_line(alloc, group, volume, cow.copy(alloc)?, snapshot)?;
-            devices.push(own_device(alloc, group, volume, false, cow)?)?;
-            devices.push(over_device(alloc, group, volume, line)?)?;
+            devices.push(own_device(alloc, group, volume, false, Some(Layer::Cow))?)?;
+            devices.push(snapshot_device(alloc, group, volume, snapshot)?)?;
         }
         Role::Record | Role::Clashing => {}
     }
@@ -97,17 +90,19 @@ fn volume_name(
     name_of(alloc, group.name, volume.name.as_str(), layer)
 }
 
-/// The device of a volume's own segments, by this name: the volume itself, or a layer of it.
+/// The device of a volume's own segments: the volume itself, or a layer of it.
 fn own_device(
     alloc: Global,
     group: &GroupRef<'_>,
     volume: &Volume,
     ro: bool,
-    name: Name,
+    layer: Option<Layer>,
 ) -> Result<DeviceSpec, AllocError>
-    requires { AreSegmentsIn (group_view group.now) volume.now.segments }
-    ensures { IfOk result (λ device. device ≡ named_device (group_view group.now) volume.now ro name) }
+    requires name { IsNamed group.now.name.now volume.now.name layer }
+    requires segments { AreSegmentsIn (group_view group.now) volume.now.segments }
+    ensures { IfOk result (λ device. device ≡ own_device (group_view group.now) volume.now ro layer) }
 {
+    let name = volume_name(alloc, group, volume, layer)?;
     Ok(DeviceSpec {
         name,
         ro,
@@ -119,6 +114,42 @@ fn own_device(
         )?,
         at: source_line(volume.line),
     })
+}
+
+/// The device of an origin over its layer.
+fn origin_device(
+    alloc: Global,
+    group: &GroupRef<'_>,
+    volume: &Volume,
+) -> Result<DeviceSpec, AllocError>
+    requires layer { IsNamed group.now.name.now volume.now.name (Some Real) }
+    requires name { IsNamed group.now.name.now volume.now.name None }
+    requires len { length_of (group_view group.now) volume.now.segments < 2 ^ 64 }
+    ensures { IfOk result (λ device.
+        device ≡ over_device (group_view group.now) volume.now (origin_line (group_view group.now) volume.now)) }
+{
+    let real = volume_name(alloc, group, volume, Some(Layer::Real))?;
+    over_device(alloc, group, volume, origin_line(group, volume, real))
+}
+
+/// The device of a snapshot whose store is this volume.
+fn snapshot_device(
+    alloc: Global,
+    group: &GroupRef<'_>,
+    volume: &Volume,
+    snapshot: Record,
+) -> Result<DeviceSpec, AllocError>
+    requires layer { IsNamed group.now.name.now volume.now.name (Some Cow) }
+    requires name { IsNamed group.now.name.now volume.now.name None }
+    requires len { length_of (group_view group.now) (segments_at group.now.volumes.now snapshot.origin)
+        < 2 ^ 64 }
+    requires origin { IsNamed group.now.name.now (name_at group.now.volumes.now snapshot.origin) (Some Real) }
+    ensures { IfOk result (λ device. device
+        ≡ over_device (group_view group.now) volume.now (snapshot_line (group_view group.now) volume.now snapshot)) }
+{
+    let cow = volume_name(alloc, group, volume, Some(Layer::Cow))?;
+    let line = snapshot_line(alloc, group, volume, cow, snapshot)?;
+    over_device(alloc, group, volume, line)
 }
 
 /// The device of a volume over its layer, of one line.
