@@ -1,53 +1,62 @@
 #!/usr/bin/env python3
-"""Prints what took longest in a check of a crate: proofs.py FOLDER [SECONDS]
+"""Prints the ten heaviest functions of what a build or a check kept: proofs.py [FOLDER..]
 
-`rt check --jobs 1` writes each file of `out/incremental` when it has checked it, so what lies between
-two files is the time of the second. FOLDER is a crate's; with SECONDS, only files of that many seconds
-before the newest one count, as after a check of some functions. What was checked in copies side by
-side cannot be told apart: use one job. `Lts` is a function's code with all that it drops, `Proof` its goals.
+FOLDER is a crate's; with none, all crates of this repository count. `rt` keeps a file of each stage of a function in the
+crate's `out/incremental`. For each function come the megabytes of its control flow, the stage `Lts`, with all that the
+function drops at each of its exits; the seconds for which nothing else of its crate was written, while one of its stages
+was made; and the stage that took most of them. The megabytes say the same on any machine, and the functions are in their
+order. The seconds are all that a function took after `rt check --jobs 1`, and the least that it can have taken after a
+build, which works on several at a time; a build that stood still between two files counts that as well.
 """
 
 import collections
 import os
+import pathlib
 import re
 import sys
 
-STEPS = re.compile(r"\.(Lts|Proof|Answers|Code|Layout|Met|Given|Key|Named|Tie|Reads|Goals|Kinds|Statement|Symbol|TheLink|Carried|View|Mir)\b.*$")
+MOST = 10
+STAGES = "Lts|Proof|Answers|Code|Layout|Met|Given|Key|Named|Tie|Reads|Goals|Kinds|Statement|Symbol|TheLink|Carried|View|Mir"
+# A function, its stage, and which function of a group that call each other it is.
+STAGE = re.compile(rf"^Rattle[-.]\w+[-.](?:proofs|specs)?\.?(.*?)\.({STAGES})(?:-(.*))?\.oantt$")
 
 
-def files_of(folder):
-    """Returns the time and the name of each file that a check wrote, in the order of their times."""
+def stages_of(folder):
+    """Returns the times, function, stage and size of each stage that is kept of a crate, in the order of their times."""
     found = []
-    for at, folders, names in os.walk(f"{folder}/out/incremental"):
+    for at, folders, names in os.walk(folder / "out" / "incremental"):
         if "records" in folders:
             folders.remove("records")
         for name in names:
-            if name.endswith(".oantt"):
-                plain = re.sub(r"^Rattle[-.]\w+[-.](proofs|specs)?\.?", "", name.removesuffix(".oantt"))
-                found.append((os.stat(f"{at}/{name}").st_mtime, plain))
+            if match := STAGE.match(name):
+                function = ".".join(it for it in (match[1], match[3]) if it)
+                kept = os.stat(os.path.join(at, name))
+                found.append((kept.st_mtime, function, match[2], kept.st_size))
     return sorted(found)
 
 
-def main(folder, seconds=None):
-    files = files_of(folder)
-    if not files:
-        sys.exit(f"{folder}: no check wrote files")
-    since = files[-1][0] - float(seconds) if seconds else files[0][0]
-    times, steps, before = collections.Counter(), {}, since
-    for at, name in files:
-        if at < since:
-            continue
-        function = STEPS.sub("", name)
-        times[function] += at - before
-        steps.setdefault(function, collections.Counter())[name[len(function) + 1 :]] += at - before
+def weighed(folder):
+    """Returns the size of its control flow, the name, and the seconds of each stage, for each function of a crate."""
+    sizes, times, before = collections.Counter(), collections.defaultdict(collections.Counter), None
+    for at, function, stage, size in stages_of(folder):
+        times[function][stage] += at - (before or at)
+        sizes[function] += size if stage == "Lts" else 0
         before = at
-    print(f"{sum(times.values()):.0f} seconds")
-    for function, time in times.most_common(15):
-        step, most = steps[function].most_common(1)[0]
-        print(f"{time:6.1f}  {function}  ({step or 'itself'} {most:.1f})")
+    return [(sizes[it], f"{folder.name}: {it}", times[it]) for it in times]
+
+
+def main(folders):
+    rows = [row for folder in folders for row in weighed(folder)]
+    if not rows:
+        sys.exit(f"{', '.join(map(str, folders))}: nothing is kept")
+    print("   MB seconds  function")
+    for size, function, times in sorted(rows, key=lambda row: row[0], reverse=True)[:MOST]:
+        stage, most = times.most_common(1)[0]
+        print(f"{size / 1e6:5.1f} {sum(times.values()):7.0f}  {function}  ({stage} {most:.0f})")
 
 
 if __name__ == "__main__":
-    if len(sys.argv) not in (2, 3):
+    if any(it.startswith("-") for it in sys.argv[1:]):
         sys.exit(__doc__)
-    main(*sys.argv[1:])
+    crates = pathlib.Path(__file__).resolve().parents[2] / "crates"
+    main([pathlib.Path(it).resolve() for it in sys.argv[1:]] or sorted(crates.iterdir()))
