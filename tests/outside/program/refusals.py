@@ -55,9 +55,7 @@ PLACES = {
     ("dm_table/load/reading", "read_rows", "read_each::<T>(alloc, part, text), at Err(_)"): OURS,
     ("dm_table/load/text_checks", "check_pieces", "cut(alloc, at, text)"): OURS,
     ("dmremap/main", "begin", "!has_stack_room(rt)"): "the limit of the stack is lower than what the program may take",
-    ("dmremap/map_after", "map_after", "prepare(alloc, &stack), at Err(_)"): OURS,
-    ("dmremap/map_stored", "map_stored", "prepare(alloc, &stack), at Err(_)"): OURS,
-    ("dmremap/map_whole", "map_whole", "prepare(alloc, &stack), at Err(_)"): OURS,
+    ("dmremap/prepared", "begin", "prepare(alloc, stack), at Err(_)"): OURS,
     ("dmremap/printing", "print_parts", "spaced_parts(alloc, name), at Err(_)"): OURS,
     ("dmremap/printing", "print_report", "check_report(alloc, stack), at Err(_)"): OURS,
     ("dmremap/replay_run", "replay_stack", "Replay::<TrieTaken>::new(alloc, stack), at Err(_)"):
