@@ -7,17 +7,20 @@ Each line tells a command and its input of MOST lines (1000000 if not said), the
 runs, how much longer they are than those of a tenth, and the greatest memory in MiB of a tenth and of all. Time that is linear
 grows by a factor of up to 10. `physicals` has a physical volume, and `chain` two volumes, for as many lines as the generator says.
 The lines after these are of single inputs, where no COMMAND is named: 3,000 devices of which each stands on the one before, half a
-MiB of what looks like the beginning of a text, and a volume of 128 MiB, on two images in turn, that is saved.
+MiB of what looks like the beginning of a text, 100,000 places on 16 images of a group, and what is saved: a volume of 512 MiB in
+stripes of 4 KiB, and a snapshot of 256 MiB with 50,000 chunks of its own, in any order, each beside dd of as many bytes.
 """
 
 import argparse
 import os
 import random
+import struct
 import subprocess
 import sys
 import tempfile
 
-TOOL = [sys.executable, os.path.join(os.path.dirname(os.path.realpath(__file__)), "..", "..", "dmremap-tools")]
+TOP = os.path.join(os.path.dirname(os.path.realpath(__file__)), "..", "..")
+TOOL = [sys.executable, os.path.join(TOP, "dmremap-tools")]
 RUNS = 5
 EXTENTS = ("Filesystem type is: ef53\nFile size of /f is %d (%d blocks of 512 bytes)\n"
            " ext:     logical_offset:        physical_offset: length:   expected: flags:\n")
@@ -133,8 +136,14 @@ SINGLE = [
     ("braces", ["metadata", "--list", "head"], {
         "head": 'a {\nid = "x"\nseqno = 1\n}\n' + 'aaaa {\nid = "' * (1 << 15)}),
 ]
-# A volume that is saved: so many chunks of 64 KiB, on two images in turn.
-CHUNKS, CHUNK = 2048, 1 << 16
+# What is saved: its name, its table, its disks, and its MiB. A disk has so many MiB, and a chunk so many bytes.
+DISK, CHUNK, TAKEN = 256, 4096, 50000
+SAVED = [
+    ("striped", "v: 0 %d striped 2 8 left 0 right 0\n" % (DISK << 12), "left %d\nright %d\n" % (DISK << 11, DISK << 11), 2 * DISK),
+    ("snapshot", "o: 0 %d linear left 0\nv: 0 %d snapshot /dev/mapper/o store P 8\n" % (DISK << 11, DISK << 11),
+     "left %d\nstore %d\n" % (DISK << 11, DISK << 11), DISK),
+]
+IMAGES = "abcdefghijklmnop"
 
 
 def main():
@@ -167,23 +176,54 @@ def show_single(folder):
             write(os.path.join(folder, file), [text])
         ran = [measured(TOOL + words, os.devnull, folder) for _ in range(RUNS)]
         print("%-38s %-16s %6.2f s       %5d MiB" % (" ".join(words[:2]), name, min(it[0] for it in ran), max(it[1] for it in ran)), flush=True)
-    seconds, memory = least_of_saves(folder)
-    print("%-38s %-16s %6.2f s       %5d MiB" % ("save", "%d pieces" % CHUNKS, seconds, memory))
+    show_least("owner", "%d images" % len(IMAGES), TOOL + ["owner", *make_images(folder)], folder, "asked")
+    make_disks(folder)
+    for name, table, disks, size in SAVED:
+        write(os.path.join(folder, "volume"), [table])
+        write(os.path.join(folder, "disks"), [disks])
+        show_least("save", name, TOOL + ["save", "v", "saved", "table", "volume", "disks"], folder)
+        show_least("dd", name, ["dd", "bs=1M", "count=%d" % size, "if=both", "of=saved"], folder)
 
 
-def least_of_saves(folder):
-    """The least seconds of some runs that save a volume, and the greatest memory."""
-    sectors = CHUNKS * CHUNK // 512
-    for name in ("left", "right"):
-        with open(os.path.join(folder, name), "wb") as it:
-            it.write(os.urandom(CHUNKS * CHUNK // 2))
-    write(os.path.join(folder, "volume"), ["v: 0 %d striped 2 %d left 0 right 0\n" % (sectors, CHUNK // 512)])
-    write(os.path.join(folder, "disks"), ["left %d\nright %d\n" % (sectors // 2, sectors // 2)])
+def show_least(command, name, words, folder, given=os.devnull):
+    """Prints the line of a command that may write a file."""
     ran = []
     for _ in range(RUNS):
-        ran.append(measured(TOOL + ["save", "v", "saved", "table", "volume", "disks"], os.devnull, folder))
-        os.remove(os.path.join(folder, "saved"))
-    return min(it[0] for it in ran), max(it[1] for it in ran)
+        ran.append(measured(words, os.path.join(folder, given), folder))
+        if os.path.exists(os.path.join(folder, "saved")):
+            os.remove(os.path.join(folder, "saved"))
+    print("%-38s %-16s %6.2f s       %5d MiB" % (command, name, min(it[0] for it in ran), max(it[1] for it in ran)), flush=True)
+
+
+def make_images(folder):
+    """Images of a group with a volume in stripes on each two, and what is asked of them; the names of the images."""
+    sys.path += [os.path.join(TOP, "tests", "outside"), os.path.join(TOP, "tests", "outside", "tools"), os.path.join(TOP, "tools")]
+    import models
+    volumes = [models.volume("v%d" % it, letter, models.linear(0, 128, ("pv%d" % it, 0), ("pv%d" % (it + 1), 0)))
+               for it, letter in enumerate(IMAGES) if it % 2 == 0]
+    text = models.text("g", "z", 1, IMAGES, *volumes)
+    for letter in IMAGES:
+        with open(os.path.join(folder, letter), "wb") as it:
+            it.write(models.disk(letter, models.content_of(letter, 64 * models.EXTENT), text))
+    dice = random.Random(1)
+    write(os.path.join(folder, "asked"), ("%s %d 8\n" % (dice.choice(IMAGES), dice.randrange(2500)) for _ in range(100000)))
+    return list(IMAGES)
+
+
+def make_disks(folder):
+    """Two disks, both in one file, and the store of a snapshot: a header, and areas of the list, each before its chunks."""
+    for name in ("left", "right", "both"):
+        with open(os.path.join(folder, name), "wb") as it:
+            for _ in range(DISK * (2 if name == "both" else 1)):
+                it.write(os.urandom(1 << 20))
+    chunks, most = random.Random(1).sample(range((DISK << 20) // CHUNK), TAKEN), CHUNK // 16
+    with open(os.path.join(folder, "store"), "wb") as it:
+        it.write(struct.pack("<4sLLL", b"SnAp", 1, 1, CHUNK // 512).ljust(CHUNK, b"\0"))
+        for at in range(0, TAKEN, most):
+            first, part = at // most * (most + 1) + 2, chunks[at:at + most]
+            it.write(b"".join(struct.pack("<QQ", old, first + place) for place, old in enumerate(part)).ljust(CHUNK, b"\0"))
+            it.write(os.urandom(CHUNK * len(part)))
+        it.truncate(DISK << 20)
 
 
 def least(words, lines, count, folder):

@@ -13,7 +13,7 @@ OWN_PROMISE = {"PartsGive": "load", "IsSound": "stack", "AreLevelsEnough": "mapp
 # its functions and for the traits that it implements.
 PROMISES = [
     ("map", ["map_whole"], "what `map` reads, writes and tells"),
-    ("before", ["map_after", "play_earlier"], "the same after earlier requests"),
+    ("before", ["map_stored", "play_earlier"], "the same after earlier requests"),
     ("paths", ["map_stored", "listed_images", "check_paths"], "the same from what stores hold"),
     ("other", ["other_whole"], "the same of the other commands"),
     ("load", ["load"], "what a source and a disk list give"),

@@ -4,6 +4,7 @@ pub mod WorkedSnapshots
 pub use Rattle.dm_map.proofs.own.ChunkOutcomes
 pub use Rattle.dm_map.proofs.own.CutLemmas
 pub use Rattle.dm_map.proofs.own.HaltedRequests
+pub use Rattle.dm_map.proofs.own.Losses
 pub use Rattle.dm_map.proofs.own.NeverLost
 pub use Rattle.dm_map.proofs.own.OwnRequests
 pub use Rattle.dm_map.proofs.pieces.LegUnits

@@ -28,7 +28,9 @@ use Rattle.dm_map.specs.state.State.{State, Taken, lost, none_taken, taken_at}
 use Rattle.dm_map.specs.state.Tables.{snapshot_at}
 use Rattle.dm_map.specs.walk.Reads.{by_below, read_below, read_unit}
 use Rattle.dm_map.proofs.CutLemmas.{ahead_own, spare_own}
+use Rattle.dm_map.proofs.ChunkOutcomes.{fits_put}
 use Rattle.dm_map.proofs.HaltedRequests.{halted_own}
+use Rattle.dm_map.proofs.Losses.{lost_stays, stays_on}
 use Rattle.dm_map.proofs.NeverLost.{exact}
 use Rattle.dm_map.proofs.OwnRequests.{request_own}
 use Rattle.dm_map.proofs.ResolvedLines.{line_snapshot, line_there, snapshot_sound}
@@ -37,7 +39,7 @@ use Rattle.dm_store.specs.declared.store.Store.{Store}
 use Rattle.dm_store.specs.Fitting.{IsLostInStore}
 use Rattle.dm_store.specs.Images.{DiskContents}
 use Rattle.dm_store.specs.Pairs.{Sectors}
-use Rattle.dm_store.specs.Restart.{Ahead, AllKeepLists, AreListed, AreRestarts, Event, Gone, Halted, Held, IsFound, IsOfTop, IsOwnAt, IsRestart, Lists, Moment, Spelled, Unused, Whole, after_event, after_events, kept, kept_first, kept_in}
+use Rattle.dm_store.specs.Restart.{Ahead, AllKeepLists, AreListed, AreRestarts, Event, Gone, Halted, Held, IsFound, IsOfTop, IsOwnAt, IsRestart, Lists, Loses, Moment, Spelled, Unused, Whole, after_event, after_events, kept, kept_first, kept_in}
 use Rattle.dm_store.specs.Start.{if_listing, snapshot_store, start_of, state_of_first, store_at, store_if, store_sectors, stored_state, taken_if, taken_in}
 use Rattle.dm_store.specs.Stored.{Fresh, Lost, listed, stored}
 use Rattle.dm_store.proofs.SpellingLemmas.{reads_back}
@@ -183,6 +185,12 @@ event_own zeros stack moment (Whole asked) sound tidy top own =
 event_own zeros stack moment (Halted asked units) sound tidy top own =
     halted_own zeros asked.written stack asked.op moment.state asked.device asked.start asked.len units moment.disks moment.rows sound tidy top own
 event_own zeros stack moment (Ahead chunks) sound tidy each own = ahead_own zeros (λ sector. zeros) stack moment.state 0 chunks moment.disks moment.rows sound tidy each own
+event_own zeros stack moment (Loses device) sound tidy there own =
+    let inside : device < length moment.state = (let count = own.fits.count in omega (arith, there, count)) in
+    record {
+      fits = fits_put stack moment.state device (lost (taken_at moment.state device)) own.fits inside (λ number other over below. own.fits.places device number other over below);
+      tops = λ top at is_top. stays_on _ _ _ (own.tops top at is_top) (lost_stays zeros stack moment.state moment.disks device (Device top) at sound inside);
+    }
 
 events_own : (zeros : Held) (stack : Description) (moment : Moment) (events : List Event) → IsSound stack → IsTidy stack → AllByRecursion (IsOfTop stack) events → IsOwnAt zeros stack moment → IsOwnAt zeros stack (after_events zeros stack moment events)
 unfolding after_events
@@ -195,10 +203,10 @@ events_own zeros stack moment (event ∷ later) sound tidy tops own =
 pub restart_found : (zeros : Held) (stack : Description) (old new : Moment) → IsSound stack → IsTidy stack → AllKeepLists stack → IsOwnAt zeros stack old → IsRestart zeros stack old new → IsFound zeros stack new
 restart_found zeros stack old new sound tidy keep own restart =
     let left = after_events zeros stack old restart.events in
-    let data_own = spare_own zeros stack left.state left.disks new.disks left.rows sound tidy (events_own zeros stack old restart.events sound tidy restart.tops own) restart.data_kept in
+    let kept_there : AreOwn zeros stack new.state left.disks left.rows = rw restart.state (kept_own zeros stack left.state left.disks left.rows sound keep (events_own zeros stack old restart.events sound tidy restart.tops own)) in
     record {
       found = rw restart.state (listed_back stack new.disks left.state restart.lists);
-      own = rw (restart.state, restart.rows) (kept_own zeros stack left.state new.disks left.rows sound keep data_own);
+      own = rw restart.rows (spare_own zeros stack new.state left.disks new.disks left.rows sound tidy kept_there restart.data_kept);
     }
 
 pub found_exact : (zeros : Held) (stack : Description) (moment : Moment) → IsSound stack → IsAmple stack → IsFound zeros stack moment → ((device : ℕ) → IsLostInStore stack moment.disks device → ⊥) → AreExact zeros stack moment.state moment.disks moment.rows

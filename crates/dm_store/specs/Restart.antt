@@ -1,5 +1,5 @@
 -- A restart: the power was cut in the midst of requests of top devices, and the stores are read again.
-use Rattle.std.specs.Prelude.{◌≡◌, ◌≢◌, ℕ, zero, suc, true, false, List, [], ◌∷◌, ◌++◌, Option, Some, None, Result, Ok, length, if◌then◌else◌}
+use Rattle.std.specs.Prelude.{◌≡◌, ◌≢◌, ◌<◌, ℕ, zero, suc, true, false, List, [], ◌∷◌, ◌++◌, Option, Some, None, Result, Ok, length, if◌then◌else◌}
 use Rattle.std.specs.List.{AllByRecursion}
 use Rattle.dm_table.specs.declared.requests.request.Op.{Op}
 use Rattle.dm_table.specs.declared.tables.table.StoreKind.TheVariants.{Transient}
@@ -13,7 +13,7 @@ use Rattle.dm_map.specs.own.Halts.{halted_state, halted_units}
 use Rattle.dm_map.specs.own.Losses.{Due}
 use Rattle.dm_map.specs.own.Rows.{AreOwn, Rows, rows_played}
 use Rattle.dm_map.specs.pieces.Units.{BlockUnit}
-use Rattle.dm_map.specs.state.State.{State, Taken, lost, none_taken, taken_at}
+use Rattle.dm_map.specs.state.State.{State, Taken, lost, none_taken, put, taken_at}
 use Rattle.dm_map.specs.state.Tables.{snapshot_at}
 use Rattle.dm_map.specs.walk.Mapping.{request_step}
 use Rattle.dm_store.specs.declared.fault.SectorFault.{SectorFault}
@@ -94,11 +94,12 @@ after_units zeros asked units state moment = record {
   rows = rows_played asked.written asked.device asked.start units moment.rows;
 }
 
--- what comes before a cut: a request that is played to its end, the first units of one that isn't, and chunks that are taken ahead of the writes that take them
+-- what comes before a cut: a request that is played to its end, the first units of one that isn't, chunks that are taken ahead of the writes that take them, and a snapshot that is lost for whatever reason a kernel has: no place, an error, no memory, no room for the next area
 pub data Event : Type 0 where
   Whole : Asked → Event
   Halted : Asked → (units : ℕ) → Event
   Ahead : (chunks : List Due) → Event
+  Loses : (device : ℕ) → Event
 
 -- after one
 abbrev pub after_event : (zeros : Held) → Description → Moment → Event → Moment
@@ -111,25 +112,27 @@ after_event zeros stack moment (Ahead chunks) = record {
   state = (take_chunks stack chunks moment.state).state;
   rows = moment.rows;
 }
+after_event zeros stack moment (Loses device) = record { disks = moment.disks; state = put moment.state device (lost (taken_at moment.state device)); rows = moment.rows }
 
 -- after some, in their order
 unfoldable pub after_events : (zeros : Held) → Description → Moment → List Event → Moment
 after_events zeros stack moment [] = moment
 after_events zeros stack moment (event ∷ later) = after_events zeros stack (after_event zeros stack moment event) later
 
--- a request is of a top device, and a chunk of a snapshot
+-- a request is for a top device, and a chunk and a loss for a device of the stack
 abbrev pub IsOfTop : Description → Event → Type 0
 IsOfTop stack (Whole asked) = IsTop stack asked.device
 IsOfTop stack (Halted asked units) = IsTop stack asked.device
 IsOfTop stack (Ahead chunks) = AllByRecursion (IsOfSnapshot stack) chunks
+IsOfTop stack (Loses device) = device < length stack.devices
 
 -- ---- restarts
 
--- a restart after such events and a cut: the disks hold the data of the cut, and lists that say its state; what is left of this in lists is the state from there on
+-- a restart after such events, which took place, and a cut: lists say the state of the cut, what they keep of it is the state from there on, and the disks hold the data of that
 pub record IsRestart (zeros : Held) (stack : Description) (old new : Moment) : Type 0 where
   pub events : List Event
   pub tops : AllByRecursion (IsOfTop stack) events
-  pub data_kept : HaveSameData stack (after_events zeros stack old events).state (after_events zeros stack old events).disks new.disks
+  pub data_kept : HaveSameData stack new.state (after_events zeros stack old events).disks new.disks
   pub lists : AreListed stack new.disks (after_events zeros stack old events).state
   pub state : new.state ≡ kept stack (after_events zeros stack old events).state
   pub rows : new.rows ≡ (after_events zeros stack old events).rows

@@ -37,12 +37,12 @@ pub fn stored_states_fit<V>(stack: &Stack)
     stack.depth();
 }
 
-/// The power was cut in the midst of requests of top devices, on disks where no claims meet and each snapshot has a
+/// The power was cut in the midst of requests of top devices, where no claims of the stack meet and each snapshot has a
 /// store that keeps a list. Units reached the disks whole and in order, chunks were copied ahead of the writes that take
-/// them or not, and each store lists the chunks that its snapshot took up to there, or says that it is lost. Then the
-/// stores, read again, hold that state, and each top device has its row in it, or errors: what it had at the start, or
-/// what was last written through it. It has exactly its row where the stack can lose nothing and no store says that its
-/// snapshot is lost.
+/// them or not, and each store lists the chunks that its snapshot took up to there, or says that it is lost, for whatever
+/// reason. Then the stores, read again, give what lists keep of that state, and each top device has its row there, or
+/// errors: what it had at the start, or what was last written through it. It has exactly its row where the stack can lose
+/// nothing and no store says that its snapshot is lost.
 pub fn restarts(stack: &Stack)
     ensures back { AreListsRead stack.now }
     ensures found { IsAlwaysFound stack.now }
@@ -53,7 +53,7 @@ pub fn restarts(stack: &Stack)
 }
 
 /// Any number of such cuts, each followed by a restart from the stores and by further requests: each time the stores
-/// hold the state of the cut, and each top device has its row, or errors.
+/// give what lists keep of the state of the cut, and each top device has its row, or errors.
 pub fn restarts_go_on(stack: &Stack)
     ensures { AreAllFound stack.now }
 {

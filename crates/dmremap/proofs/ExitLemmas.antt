@@ -46,7 +46,7 @@ of_two : (status other : ℕ) → IsOfTwo status → status ≡ other → (STATU
 of_two status other (inl refused) is a b = a (sym refused ∙ is)
 of_two status other (inr memory) is a b = b (sym memory ∙ is)
 
-no_write_fault : (refusal : Refusal) → refusal_status refusal ≡ STATUS_WRITE_FAULT → ⊥
+pub no_write_fault : (refusal : Refusal) → refusal_status refusal ≡ STATUS_WRITE_FAULT → ⊥
 no_write_fault refusal is = of_two _ STATUS_WRITE_FAULT (of_refusal refusal) is (λ e. omega (arith, e)) (λ e. omega (arith, e))
 
 -- the status of a failed output has one exit

@@ -1,4 +1,4 @@
-pub mod AskedLemmas
+pub mod BegunLemmas
 mod CommandLine
 pub mod ExitLemmas
 pub mod LoadLemmas

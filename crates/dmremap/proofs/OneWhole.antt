@@ -21,7 +21,7 @@ use Rattle.dm_stack.specs.checks.Soundness.{IsSound}
 use Rattle.dm_stack.proofs.OneFault.{never_both, one_fault as one_refusal}
 use Rattle.lvm_volume.proofs.OneGroup.{never_refused, one_group, one_refusal as one_text_refusal}
 use Rattle.dmremap.specs.Load.{Load, RefusedBy, SoundAs, Describes, DescribesDevices, DescribesGroupAs, device_checks, GivesFault, MetadataGives, MetadataPartGives, TextsGive, TextPartsGive, PartsGive}
-use Rattle.dmremap.specs.Whole.{GiveAfter, GiveFrom, Start, Whole, fresh_start}
+use Rattle.dmremap.specs.Whole.{GiveFrom, Start, Whole}
 
 -- What two texts describe
 
@@ -125,7 +125,3 @@ one_from starts format flag source disks before requests a b is_a is_b =
     let same = one_load format source disks is_a.load is_b.load is_a.loaded is_b.loaded in
     let some : Some a ≡ Some b = cc in
     cc
-
-pub one_after : (format : Format) (flag : Bool) (source disks : Delivery) (before : Option Delivery) (requests : Delivery) (a b : Whole) → GiveAfter format flag source disks before requests a
-    → GiveAfter format flag source disks before requests b → a ≡ b
-one_after = one_from fresh_start

@@ -1,14 +1,18 @@
 -- From which state a run begins whose stores are read: what PATHS delivered says where disks lie, and what is held there which state that is.
-use Rattle.std.specs.Prelude.{◌≡◌, ◌⊎◌, List, Option, None, Some, Result, Ok, Err}
+use Rattle.std.specs.Prelude.{◌≡◌, ◌≢◌, ◌⊎◌, ℕ, List, Option, None, Some, Result, Ok, Err}
 use Rattle.dm_table.specs.declared.load.load_fault.LoadFault.{LoadFault}
+use Rattle.dm_table.specs.declared.load.load_fault.LoadKind.TheVariants.{Memory}
 use Rattle.dm_table.specs.declared.load.place.Part.TheVariants.{Paths}
 use Rattle.dm_table.specs.declared.tables.disk_path.DiskPath.{DiskPath}
-use Rattle.dm_table.specs.io.DeviceIo.{Delivery, InputPast}
+use Rattle.dm_table.specs.io.DeviceIo.{Delivery}
 use Rattle.dm_table.specs.load.LoadMessage.{load_message}
 use Rattle.dm_table.specs.load.PartInput.{PartRead, TextOf, Refuses, Unread, part_read}
 use Rattle.dm_table.specs.tables.PathList.{read_paths}
 use Rattle.dm_stack.specs.Description.{Description, name_at}
 use Rattle.dm_map.specs.state.State.{State}
+use Rattle.dm_stream.specs.declared.runs.ending.Ending.TheVariants as endings
+use Rattle.dm_stream.specs.runs.Earlier.{refused_ending}
+use Rattle.dm_stream.specs.runs.Messages.{earlier_message}
 use Rattle.dm_store.specs.declared.fault.StoreRefusal.{StoreRefusal}
 use Rattle.dm_store.specs.Places.{Place}
 use Rattle.dm_store.specs.Images.{Contents, disk_contents}
@@ -16,9 +20,14 @@ use Rattle.dm_store.specs.ImageList.{images_of}
 use Rattle.dm_store.specs.Message.{store_message}
 use Rattle.dm_store.specs.Start.{stored_state}
 use Rattle.dmremap.specs.declared.job.Format.{Format}
+use Rattle.dmremap.specs.declared.prepared.Prepared.{Prepared}
+use Rattle.dmremap.specs.declared.prepared.Unbegun.{Unbegun}
+use Rattle.dmremap.specs.declared.prepared.Unbegun.TheVariants as unbegun
+use Rattle.dmremap.specs.declared.status.TheConstants.{STATUS_REFUSED}
+use Rattle.dmremap.specs.Exit.{load_status}
 use Rattle.dmremap.specs.Load.{PartsGive, SoundAs}
 use Rattle.dmremap.specs.Whole as start
-use Rattle.dmremap.specs.Whole.{ArePlayedFrom, EarlierReadFrom, Start}
+use Rattle.dmremap.specs.Whole.{Start}
 
 -- ---- PATHS
 
@@ -46,31 +55,49 @@ start_over held stack (Some (Ok images)) = start_at stack (stored_state stack (d
 start_over held stack (Some (Err fault)) = start.Refuses (load_message fault)
 start_over held stack None = start.Unsettled
 
--- by what PATHS delivered
-abbrev pub stored_start : (paths : Delivery) → Contents → Description → Start
-stored_start paths held stack = start_over held stack (images_in stack (part_read Paths paths))
+-- by what PATHS delivered: without it nobody looks into stores
+abbrev pub stored_start : (paths : Option Delivery) → Contents → Description → Start
+stored_start (Some paths) held stack = start_over held stack (images_in stack (part_read Paths paths))
+stored_start None held stack = start.fresh_start stack
 
 -- ---- what is asked for when
 
--- earlier requests that may be missing were played over a stack in this state
-abbrev pub ArePlayedIf : {X : Type 0} → (past : X → InputPast) → State → Description → (old new : Option X) → Type 0
-ArePlayedIf past state stack (Some old) (Some new) = ArePlayedFrom state stack (past old) (past new)
-ArePlayedIf past state stack (Some old) None = ⊥
-ArePlayedIf past state stack None (Some new) = ⊥
-ArePlayedIf past state stack None None = Unit {0}
-
--- they are not asked for unless the load gave a stack, and that a state
-unfoldable pub EarlierReadIf : {X : Type 0} → (past : X → InputPast) → (starts : Description → Start) → Format → (source disks : Delivery) → (old new : Option X) → Type 0
-EarlierReadIf past starts format source disks (Some old) (Some new) = EarlierReadFrom starts format source disks (past old) (past new)
-EarlierReadIf past starts format source disks (Some old) None = ⊥
-EarlierReadIf past starts format source disks None (Some new) = ⊥
-EarlierReadIf past starts format source disks None None = Unit {0}
-
 -- PATHS is not asked for unless the load gave a stack
-abbrev pub PathsRead : Format → (source disks : Delivery) → (old new : InputPast) → Type 0
+abbrev pub PathsRead : {X : Type 0} → Format → (source disks : Delivery) → (old new : X) → Type 0
 PathsRead format source disks old new = (new ≡ old) ⊎ ((stack : Description) × PartsGive format source disks (SoundAs stack))
 
--- images are not, unless PATHS says besides where the disks of that stack lie
-abbrev pub AreImagesRead : {X : Type 0} → Format → (source disks paths : Delivery) → (old new : X) → Type 0
+-- images are not, unless PATHS says where the disks of the stack lie
+abbrev pub AreImagesAsked : {X : Type 0} → Description → (paths : Option Delivery) → (old new : X) → Type 0
+AreImagesAsked stack (Some paths) old new = (new ≡ old) ⊎ ((images : List (Option Place)) × images_in stack (part_read Paths paths) ≡ Some (Ok images))
+AreImagesAsked stack None old new = new ≡ old
+
+abbrev pub AreImagesRead : {X : Type 0} → Format → (source disks : Delivery) → (paths : Option Delivery) → (old new : X) → Type 0
 AreImagesRead format source disks paths old new =
-    (new ≡ old) ⊎ ((stack : Description) × PartsGive format source disks (SoundAs stack) × ((images : List (Option Place)) × images_in stack (part_read Paths paths) ≡ Some (Ok images)))
+    (new ≡ old) ⊎ ((stack : Description) × PartsGive format source disks (SoundAs stack) × AreImagesAsked stack paths old new)
+
+-- ---- how a run begins
+
+-- it begins from the state that earlier requests left, or is refused, as they and this start have it; out of memory says nothing of that
+abbrev pub IsBegunAt : Description → (before : Option Delivery) → Start → Result Prepared Unbegun → Type 0
+IsBegunAt stack before at (Ok prepared) =
+    (state : State) × (at ≡ start.Begins state) × ((start.earlier_from state stack before).ending ≡ Some endings.Done) × (prepared.mapper.state ≡ (start.earlier_from state stack before).state)
+IsBegunAt stack before at (Err (unbegun.Load fault)) = fault.kind ≢ Memory → at ≡ start.Refuses (load_message fault)
+IsBegunAt stack before at (Err (unbegun.Store message)) = at ≡ start.Refuses message.items
+IsBegunAt stack before at (Err (unbegun.Earlier fault)) = (state : State) × (at ≡ start.Begins state) × ((start.earlier_from state stack before).ending ≡ Some (refused_ending fault))
+
+-- memory ran out
+abbrev pub IsOutOfMemory : Unbegun → Type 0
+IsOutOfMemory (unbegun.Load fault) = fault.kind ≡ Memory
+IsOutOfMemory (unbegun.Store message) = ⊥
+IsOutOfMemory (unbegun.Earlier fault) = ⊥
+
+-- the status and the message of a run that doesn't begin
+abbrev pub unbegun_status : Unbegun → ℕ
+unbegun_status (unbegun.Load fault) = load_status fault.kind
+unbegun_status (unbegun.Store message) = STATUS_REFUSED
+unbegun_status (unbegun.Earlier fault) = STATUS_REFUSED
+
+abbrev pub unbegun_message : Unbegun → List ℕ
+unbegun_message (unbegun.Load fault) = load_message fault
+unbegun_message (unbegun.Store message) = message.items
+unbegun_message (unbegun.Earlier fault) = earlier_message fault

@@ -1,10 +1,11 @@
 -- What became of the streams of a command until it exited.
 use Rattle.std.specs.Prelude.{◌≡◌, ◌≢◌, ◌⊎◌, ◌+◌, ℕ, ◌<◌, ◌≤◌, true, false, List}
 use Rattle.dm_table.specs.io.DeviceIo.{InputPast, OutputPast, written_since}
+use Rattle.dm_table.specs.load.LoadMessage.{memory_message}
 use Rattle.dm_table.specs.io.Progress.{FailedWhere, HasWritten, IsFinished, IsFlushed, IsReadOn, MetNothing}
 use Rattle.dm_stream.specs.declared.runs.ending.Ending.TheVariants.{WriteFault}
 use Rattle.dm_stream.specs.requests.Requests.{HasMet}
-use Rattle.dm_stream.specs.runs.Messages.{HasTold, write_message}
+use Rattle.dm_stream.specs.runs.Messages.{HasTold, IsTold, write_message}
 use Rattle.dmremap.specs.declared.exit.Exit.{Exit}
 use Rattle.dmremap.specs.declared.exit.Exit.TheVariants as exits
 use Rattle.dmremap.specs.declared.status.TheConstants.{STATUS_BAD_REQUEST, STATUS_DONE, STATUS_MEMORY, STATUS_READ_FAULT, STATUS_REFUSED, STATUS_WRITE_FAULT}
@@ -39,6 +40,14 @@ pub record MessagesTold (status : ℕ) (old new : OutputPast) : Type 0 where
   pub told : HasTold message old new
   -- a failed output is told
   pub write_message : status ≡ STATUS_WRITE_FAULT → message ≡ write_message
+
+-- all of it, where a run exits with this status
+pub record StreamsLeft (status : ℕ) (requests_old requests_new : InputPast) (output_old output_new messages_old messages_new : OutputPast) : Type 0 where
+  pub requests : RequestsRead status requests_old requests_new
+  pub output : OutputWritten status output_old output_new
+  pub messages : MessagesTold status messages_old messages_new
+  -- where memory ran out, nothing was asked of the output or of the requests
+  pub memory : status ≡ STATUS_MEMORY → (output_new ≡ output_old) × (requests_new ≡ requests_old) × IsTold memory_message messages_old messages_new
 
 -- ---- by the exit
 

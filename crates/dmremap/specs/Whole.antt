@@ -1,6 +1,6 @@
 -- The whole run: what it writes, its message and its exit status, by what was delivered.
 -- It may come after earlier requests, which are played and not answered, and begin from the state that stores hold.
-use Rattle.std.specs.Prelude.{◌≡◌, ◌⊎◌, ℕ, Bool, List, [], Option, None, Some}
+use Rattle.std.specs.Prelude.{◌≡◌, ◌≢◌, ◌⊎◌, ℕ, Bool, List, [], Option, None, Some}
 use Rattle.dm_table.specs.io.DeviceIo.{Delivery, InputPast, OutputPast, delivery, written_since}
 use Rattle.dm_table.specs.io.Progress.{FailedOutput}
 use Rattle.dm_stream.specs.declared.runs.earlier.EarlierFault.{EarlierFault}
@@ -16,7 +16,7 @@ use Rattle.dmremap.specs.declared.exit.Exit.{Exit}
 use Rattle.dmremap.specs.declared.exit.Exit.TheVariants.{Ended, Refused}
 use Rattle.dmremap.specs.declared.exit.Refusal.TheVariants as refusals
 use Rattle.dmremap.specs.declared.job.Format.{Format}
-use Rattle.dmremap.specs.declared.status.TheConstants.{STATUS_REFUSED}
+use Rattle.dmremap.specs.declared.status.TheConstants.{STATUS_MEMORY, STATUS_REFUSED, STATUS_WRITE_FAULT}
 use Rattle.dmremap.specs.Exit.{exit_message, exit_status}
 use Rattle.dmremap.specs.Load.{Load, RefusedBy, SoundAs, PartsGive}
 
@@ -25,17 +25,9 @@ abbrev pub earlier_from : State → Description → (before : Option Delivery) �
 earlier_from start description None = record { output = []; state = start; ending = Some endings.Done }
 earlier_from start description (Some before) = requests_outcome description start before
 
--- the same over one in its state at the start
-abbrev pub earlier_outcome : Description → (before : Option Delivery) → Outcome
-earlier_outcome description before = earlier_from (start_state description) description before
-
 -- the outcome of what the requests delivered, from the state that earlier ones left; the flag asks for status lines
 abbrev pub outcome_from : State → Description → (flag : Bool) → (before : Option Delivery) → Delivery → Outcome
 outcome_from start description flag before requests = run_outcome description flag (earlier_from start description before).state requests
-
--- the same over a stack in its state at the start
-abbrev pub outcome_after : Description → (flag : Bool) → (before : Option Delivery) → Delivery → Outcome
-outcome_after description flag before requests = outcome_from (start_state description) description flag before requests
 
 -- from which state a run over a stack begins; or the message by which it is refused before that; or that isn't settled
 pub data Start : Type 0 where
@@ -94,6 +86,12 @@ pub record GiveFrom (starts : Description → Start) (format : Format) (flag : B
 
 -- ---- by what became of the streams
 
+-- a run over a stack that begins so: it wrote its output, told its message, and exits with this status
+pub record IsRunOver (start : Start) (description : Description) (flag : Bool) (before : Option Delivery) (requests : Delivery) (status : ℕ) (output_old output_new messages_old messages_new : OutputPast) : Type 0 where
+  pub message : List ℕ
+  pub is : whole_over start description flag before requests ≡ Some (record { output = written_since output_old output_new; message = message; status = status })
+  pub told : IsTold message messages_old messages_new
+
 -- the deliveries gave this run: it wrote its output, told its message, and exits with this status
 pub record IsRunFrom (starts : Description → Start) (format : Format) (flag : Bool) (source disks : Delivery) (before : Option Delivery) (requests : Delivery) (status : ℕ) (output_old output_new messages_old messages_new : OutputPast) : Type 0 where
   pub message : List ℕ
@@ -106,16 +104,23 @@ pub record ArePlayedFrom (start : State) (description : Description) (old new : 
   pub ends : (earlier_from start description (Some (delivery old new))).ending ≡ Some end
   pub met : HasMet end old new
 
+-- the same of earlier requests that may be missing
+abbrev pub ArePlayedIf : {X : Type 0} → (past : X → InputPast) → State → Description → (old new : Option X) → Type 0
+ArePlayedIf past start description (Some old) (Some new) = ArePlayedFrom start description (past old) (past new)
+ArePlayedIf past start description (Some old) None = ⊥
+ArePlayedIf past start description None (Some new) = ⊥
+ArePlayedIf past start description None None = Unit {0}
+
 -- so they were where the stack has a state to begin from
-abbrev pub ArePlayedOver : Start → Description → (old new : InputPast) → Type 0
-ArePlayedOver (Begins state) description old new = ArePlayedFrom state description old new
-ArePlayedOver (Refuses message) description old new = ⊥
-ArePlayedOver Unsettled description old new = ⊥
+abbrev pub ArePlayedOver : {X : Type 0} → (past : X → InputPast) → Start → Description → (old new : Option X) → Type 0
+ArePlayedOver past (Begins state) description old new = ArePlayedIf past state description old new
+ArePlayedOver past (Refuses message) description old new = ⊥
+ArePlayedOver past Unsettled description old new = ⊥
 
 -- they are not asked for unless the load gave a stack, and that a state
-abbrev pub EarlierReadFrom : (starts : Description → Start) → Format → (source disks : Delivery) → (old new : InputPast) → Type 0
-EarlierReadFrom starts format source disks old new =
-    (new ≡ old) ⊎ ((description : Description) × PartsGive format source disks (SoundAs description) × ArePlayedOver (starts description) description old new)
+abbrev pub EarlierReadFrom : {X : Type 0} → (past : X → InputPast) → (starts : Description → Start) → Format → (source disks : Delivery) → (old new : Option X) → Type 0
+EarlierReadFrom past starts format source disks old new =
+    (new ≡ old) ⊎ ((description : Description) × PartsGive format source disks (SoundAs description) × ArePlayedOver past (starts description) description old new)
 
 -- all earlier requests were played over a stack in this state, and a beginning was written of what the requests give that were delivered. Something was
 -- left to write where no flush was asked for, and nothing where the flush failed.
@@ -135,6 +140,18 @@ pub record IsFailedFrom (starts : Description → Start) (format : Format) (flag
   pub loaded : PartsGive format source disks (SoundAs description)
   pub fails : FailsOver (starts description) description flag before requests old new
 
+-- ---- all that is promised of a run that begins so
+
+-- over a stack that is loaded: what it wrote and told, unless the output failed or memory ran out, and what a beginning was written of where the output failed
+pub record RunsOver (start : Start) (description : Description) (flag : Bool) (before : Option Delivery) (requests : Delivery) (status : ℕ) (output_old output_new messages_old messages_new : OutputPast) : Type 0 where
+  pub whole : status ≢ STATUS_WRITE_FAULT → status ≢ STATUS_MEMORY → IsRunOver start description flag before requests status output_old output_new messages_old messages_new
+  pub beginning : status ≡ STATUS_WRITE_FAULT → FailsOver start description flag before requests output_old output_new
+
+-- from the parts of a load on
+pub record RunsFrom (starts : Description → Start) (format : Format) (flag : Bool) (source disks : Delivery) (before : Option Delivery) (requests : Delivery) (status : ℕ) (output_old output_new messages_old messages_new : OutputPast) : Type 0 where
+  pub whole : status ≢ STATUS_WRITE_FAULT → status ≢ STATUS_MEMORY → IsRunFrom starts format flag source disks before requests status output_old output_new messages_old messages_new
+  pub beginning : status ≡ STATUS_WRITE_FAULT → IsFailedFrom starts format flag source disks before requests output_old output_new
+
 -- ---- the same of a run that begins from the start
 
 abbrev pub GiveAfter : (format : Format) (flag : Bool) (source disks : Delivery) (before : Option Delivery) (requests : Delivery) (whole : Whole) → Type 0
@@ -142,9 +159,6 @@ GiveAfter = GiveFrom fresh_start
 
 abbrev pub IsRunAfter : (format : Format) (flag : Bool) (source disks : Delivery) (before : Option Delivery) (requests : Delivery) (status : ℕ) (output_old output_new messages_old messages_new : OutputPast) → Type 0
 IsRunAfter = IsRunFrom fresh_start
-
-abbrev pub EarlierRead : Format → (source disks : Delivery) → (old new : InputPast) → Type 0
-EarlierRead = EarlierReadFrom fresh_start
 
 abbrev pub IsFailedAfter : (format : Format) (flag : Bool) (source disks : Delivery) (before : Option Delivery) (requests : Delivery) (old new : OutputPast) → Type 0
 IsFailedAfter = IsFailedFrom fresh_start

@@ -1,7 +1,7 @@
 //! dmremap maps block requests through device-mapper tables to the disks below.
 //!
-//! This file is the table of contents: `words` reads the command line, `map_whole`, `map_after`,
-//! `map_stored` and `other_whole` do the work, and `main` joins them to the real files and streams and does nothing else.
+//! This file is the table of contents: `words` reads the command line, `map_whole`, `map_stored` and
+//! `other_whole` do the work, and `main` joins them to the real files and streams and does nothing else.
 #![tactic(auto)]
 
 ghost use Rattle.std.specs.Prelude.{◌≡◌, true};
@@ -15,7 +15,7 @@ mod file_images;
 mod help;
 mod job;
 mod load;
-mod map_after;
+mod map_from;
 mod map_stored;
 mod map_whole;
 mod messages;
@@ -33,7 +33,6 @@ use dm_table::{Counted, Gathered};
 use exit::Exit;
 use file_images::FileImages;
 use job::{Job, Source};
-use map_after::map_after;
 use map_stored::map_stored;
 use map_whole::map_whole;
 use other_whole::other_whole;
@@ -88,10 +87,7 @@ fn answer(rt: &HostRuntime) -> Result<u8, WordsFault> {
             paths,
             earlier,
             status,
-        } => match paths {
-            Some(paths) => map_images(rt, source, paths, earlier, status),
-            None => Ok(map_files(rt, source, earlier, status)),
-        },
+        } => map_files(rt, source, paths, earlier, status),
         job => Ok(do_other(rt, &job)),
     }
 }
@@ -105,18 +101,20 @@ fn arguments_of(rt: &HostRuntime) -> Result<Vec<String>, WordsFault> {
     }
 }
 
-/// Maps the requests of the standard input through the tables of a source, after those of a file, if there is one.
-fn map_files(rt: &HostRuntime, source: Source<'_>, earlier: Option<&str>, status: bool) -> u8 {
-    let mut file = source_at(rt, source);
+/// Maps the requests of the standard input through the tables of a source: from what the stores hold that lie in the
+/// images of a list, and after the requests of a file, if there are these.
+fn map_files(
+    rt: &HostRuntime,
+    source: Source<'_>,
+    paths: Option<&str>,
+    earlier: Option<&str>,
+    status: bool,
+) -> Result<u8, WordsFault> {
     let mut disks = disks_at(rt, source);
-    let mut requests = Counted::new(rt.stdin());
-    let mut output = Gathered::new(Counted::new(rt.stdout()));
-    let mut messages = Counted::new(rt.stderr());
-    match earlier {
-        Some(path) => map_after::<
+    if paths.is_none() && earlier.is_none() {
+        return Ok(map_whole::<
             File<'_, SourcePart>,
             File<'_, DisksPart>,
-            File<'_, EarlierPart>,
             Requests,
             Answers,
             Messages,
@@ -124,38 +122,16 @@ fn map_files(rt: &HostRuntime, source: Source<'_>, earlier: Option<&str>, status
             rt.alloc(),
             source.format(),
             status,
-            &mut file,
+            &mut source_at(rt, source),
             &mut disks,
-            &mut Counted::new(PartFile::new(rt, path)),
-            &mut requests,
-            &mut output,
-            &mut messages,
-        ),
-        None => map_whole::<File<'_, SourcePart>, File<'_, DisksPart>, Requests, Answers, Messages>(
-            rt.alloc(),
-            source.format(),
-            status,
-            &mut file,
-            &mut disks,
-            &mut requests,
-            &mut output,
-            &mut messages,
-        ),
+            &mut Counted::new(rt.stdin()),
+            &mut Gathered::new(Counted::new(rt.stdout())),
+            &mut Counted::new(rt.stderr()),
+        ));
     }
-}
-
-/// Maps the requests of the standard input through the tables of a source, from what the stores hold that lie in the
-/// images of a list, and after the requests of a file, if there is one.
-fn map_images(
-    rt: &HostRuntime,
-    source: Source<'_>,
-    paths: &str,
-    earlier: Option<&str>,
-    status: bool,
-) -> Result<u8, WordsFault> {
     let mut images = FileImages::new(rt.alloc(), rt)?;
-    let mut disks = disks_at(rt, source);
-    let mut earlier = earlier_at(rt, earlier);
+    let mut paths: Option<File<'_, PathsPart>> = file_if(rt, paths);
+    let mut earlier: Option<File<'_, EarlierPart>> = file_if(rt, earlier);
     Ok(map_stored::<
         File<'_, SourcePart>,
         File<'_, DisksPart>,
@@ -171,7 +147,7 @@ fn map_images(
         status,
         &mut source_at(rt, source),
         &mut disks,
-        &mut Counted::new(PartFile::new(rt, paths)),
+        &mut paths,
         &mut images,
         &mut earlier,
         &mut Counted::new(rt.stdin()),
@@ -206,15 +182,12 @@ fn source_at<'r>(rt: &'r HostRuntime, source: Source<'r>) -> File<'r, SourcePart
 
 /// The disk list of a source, where its format has one.
 fn disks_at<'r>(rt: &'r HostRuntime, source: Source<'r>) -> Option<File<'r, DisksPart>> {
-    match source.disks() {
-        Some(path) => Some(Counted::new(PartFile::new(rt, path))),
-        None => None,
-    }
+    file_if(rt, source.disks())
 }
 
-/// The file of earlier requests, if there is one.
-fn earlier_at<'r>(rt: &'r HostRuntime, earlier: Option<&'r str>) -> Option<File<'r, EarlierPart>> {
-    match earlier {
+/// A file of the command, if there is one.
+fn file_if<'r, P>(rt: &'r HostRuntime, path: Option<&'r str>) -> Option<File<'r, P>> {
+    match path {
         Some(path) => Some(Counted::new(PartFile::new(rt, path))),
         None => None,
     }

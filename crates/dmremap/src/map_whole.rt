@@ -27,9 +27,10 @@ mod tests;
 use crate::exit::Exit;
 use crate::job::Format;
 use crate::load::load;
-use crate::prepared::{Prepared, prepare};
-use dm_stream::{Exchange, run};
-use dm_table::{Input, LoadFault, Output, Part};
+use crate::map_from::map_from;
+use crate::prepared::begin;
+use dm_stream::Exchange;
+use dm_table::{Input, Output};
 use std::alloc::Global;
 use std::mem::forget;
 
@@ -95,28 +96,14 @@ pub fn map_whole<S: Input, D: Input, Q: Exchange<W>, W: Output, M: Output>(
     ensures output { OutputWritten result (W.past output.old) (W.past output.new) }
     ensures messages { MessagesTold result (M.past messages.old) (M.past messages.new) }
 {
-    let stack = match load(alloc, format, source, disks) {
-        Ok(stack) => stack,
-        Err(fault) => return Exit::unloaded(fault).tell(messages),
-    };
-    match prepare(alloc, &stack) {
-        Ok(prepared) => {
-            let Prepared { mut mapper, texts } = prepared;
-            let ending = run(
-                &stack,
-                &mut mapper,
-                &texts,
-                requests,
-                output,
-                messages,
-                status,
-            );
+    match load(alloc, format, source, disks) {
+        Ok(stack) => {
+            let begun = begin(alloc, &stack);
+            let status = map_from(&stack, begun, requests, output, messages, status);
             // The program ends with this call, and the system takes memory back at once, all together.
-            forget(texts);
-            forget(mapper);
             forget(stack);
-            Exit::Ended(ending).status()
+            status
         }
-        Err(_) => Exit::unloaded(LoadFault::memory(Part::Source)).tell(messages),
+        Err(fault) => Exit::unloaded(fault).tell(messages),
     }
 }

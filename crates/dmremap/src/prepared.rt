@@ -1,15 +1,29 @@
-//! What a run of `map` goes by beside its stack: a mapper, and the texts of the disks' names.
+//! How a run of `map` begins over its stack: with a mapper in some state, and the texts of the disks' names.
 //!
-//! All memory of a run is taken here, after the load and before a request is read.
+//! All memory of a run is taken here, after the load and before a request is read. The state is that at the start
+//! of the stack or that of its stores, or what earlier requests left of it.
 
-ghost use Rattle.std.specs.Prelude.{◌≡◌, IfOk};
+ghost use Rattle.std.specs.Prelude.{◌≡◌, ◌⊎◌, IfErr, IfOk, None};
 ghost use Rattle.dm_map.specs.state.State.{start_state};
+ghost use Rattle.dm_stream.specs.runs.Earlier.{HasPlayed};
+ghost use Rattle.dm_stream.specs.runs.Messages.{HasTold};
 ghost use Rattle.dm_stream.specs.runs.Run.{CanMap};
+ghost use Rattle.dm_store.specs.Images.{Contents, disk_contents};
+ghost use Rattle.dm_store.specs.Start.{stored_state};
+ghost use Rattle.dmremap.specs.Inputs.{IsReadOnIf, IsUnasked, delivered_if};
+ghost use Rattle.dmremap.specs.StoredStart.{AreImagesAsked, IsBegunAt, IsOutOfMemory, start_at, stored_start};
+ghost use Rattle.dmremap.specs.StoredStart.{unbegun_message, unbegun_status};
+ghost use Rattle.dmremap.specs.Whole.{ArePlayedIf, ArePlayedOver, earlier_from, fresh_start};
 
+use crate::disk_paths::load_images;
+use crate::exit::{Exit, Refusal, refuse};
 use dm_map::{Mapper, TrieTaken};
 use dm_stack::Stack;
-use dm_stream::DiskTexts;
+use dm_store::{DiskImages, Images, StoreMessage, read_stores};
+use dm_stream::{DiskTexts, EarlierFault, play_earlier};
+use dm_table::{Input, LoadFault, Output, Part};
 use std::alloc::{AllocError, Global};
+use std::mem::forget;
 
 /// A mapper of a stack, and the texts of the names of its disks.
 #[derive(Drop)]
@@ -18,8 +32,148 @@ pub(crate) struct Prepared<'s> {
     pub texts: DiskTexts<'s>,
 }
 
+/// Why no run begins over a stack.
+#[derive(Drop)]
+pub(crate) enum Unbegun {
+    /// Memory ran out, or the list of paths was refused.
+    Load(LoadFault),
+    /// A store was refused, with this message.
+    Store(StoreMessage),
+    /// The requests before those of the run were refused.
+    Earlier(EarlierFault),
+}
+
+impl Unbegun {
+    /// Tells why, and returns the exit status.
+    pub(crate) fn tell<M: Output>(self, messages: &mut M) -> u8
+        ensures status { result ≡ unbegun_status self }
+        ensures told { HasTold (unbegun_message self) (M.past messages.old) (M.past messages.new) }
+    {
+        match self {
+            Unbegun::Load(fault) => Exit::unloaded(fault).tell(messages),
+            Unbegun::Store(message) => refuse(message.as_slice(), messages),
+            Unbegun::Earlier(fault) => Exit::Refused(Refusal::Earlier(fault)).tell(messages),
+        }
+    }
+}
+
+/// Begins from the start of a stack. It fails only when out of memory.
+pub(crate) fn begin(alloc: Global, stack: &Stack) -> Result<Prepared<'_>, Unbegun>
+    ensures going { IfOk result (λ prepared. CanMap stack.now prepared.mapper) }
+    ensures texts { IfOk result (λ prepared. prepared.texts ≡ stack.now) }
+    ensures begun { IsBegunAt stack.now None (fresh_start stack.now) result }
+    ensures state { IfOk result (λ prepared. prepared.mapper.state ≡ start_state stack.now) }
+    ensures memory { IfErr result IsOutOfMemory }
+{
+    match prepare(alloc, stack) {
+        Ok(prepared) => Ok(prepared),
+        Err(_) => Err(Unbegun::Load(LoadFault::memory(Part::Source))),
+    }
+}
+
+/// Begins from what the stores of a stack hold in the images of a list of paths, if there is one, and plays earlier
+/// requests from there on, if there are any.
+pub(crate) fn begin_after<'s, P: Input, I: Images, B: Input>(
+    alloc: Global,
+    stack: &'s Stack,
+    paths: &mut Option<P>,
+    images: &mut I,
+    earlier: &mut Option<B>,
+) -> Result<Prepared<'s>, Unbegun>
+    ensures going { IfOk result (λ prepared. CanMap stack.now prepared.mapper) }
+    ensures texts { IfOk result (λ prepared. prepared.texts ≡ stack.now) }
+    ensures begun { (held : Contents) → I.IsSeen images.new held
+        → IsBegunAt stack.now (delivered_if B.past earlier.old earlier.new)
+        (stored_start (delivered_if P.past paths.old paths.new) held stack.now) result }
+    ensures memory { IfErr result (λ why. IsOutOfMemory why
+        → (images.new ≡ images.old) × IsUnasked B.past earlier.old earlier.new) }
+    ensures images { (held : Contents) → I.IsSeen images.new held → I.IsSeen images.old held }
+    ensures images_asked { AreImagesAsked stack.now (delivered_if P.past paths.old paths.new) images.old images.new }
+    ensures paths { IsReadOnIf P.past paths.old paths.new }
+    ensures earlier_asked { (held : Contents) → I.IsSeen images.new held → (earlier.new ≡ earlier.old)
+        ⊎ ArePlayedOver B.past (stored_start (delivered_if P.past paths.old paths.new) held stack.now) stack.now
+        earlier.old earlier.new }
+    ensures earlier { IsReadOnIf B.past earlier.old earlier.new }
+{
+    let mut prepared = begin_by(alloc, stack, paths, images)?;
+    match play_if(stack, &mut prepared.mapper, earlier) {
+        Ok(()) => Ok(prepared),
+        Err(fault) => Err(Unbegun::Earlier(fault)),
+    }
+}
+
+/// Begins from what the stores of a stack hold in the images of a list of paths, if there is one.
+fn begin_by<'s, P: Input, I: Images>(
+    alloc: Global,
+    stack: &'s Stack,
+    paths: &mut Option<P>,
+    images: &mut I,
+) -> Result<Prepared<'s>, Unbegun>
+    ensures going { IfOk result (λ prepared. CanMap stack.now prepared.mapper) }
+    ensures texts { IfOk result (λ prepared. prepared.texts ≡ stack.now) }
+    ensures begun { (held : Contents) → I.IsSeen images.new held → IsBegunAt stack.now None
+        (stored_start (delivered_if P.past paths.old paths.new) held stack.now) result }
+    ensures memory { IfErr result (λ why. IsOutOfMemory why → images.new ≡ images.old) }
+    ensures images { (held : Contents) → I.IsSeen images.new held → I.IsSeen images.old held }
+    ensures asked { AreImagesAsked stack.now (delivered_if P.past paths.old paths.new) images.old images.new }
+    ensures read_on { IsReadOnIf P.past paths.old paths.new }
+{
+    match paths {
+        Some(paths) => match load_images(alloc, stack, paths) {
+            Ok(places) => {
+                let begun = begin_stored(alloc, stack, &places, images);
+                // The program ends soon, and the system takes memory back at once, all together.
+                forget(places);
+                begun
+            }
+            Err(fault) => Err(Unbegun::Load(fault)),
+        },
+        None => begin(alloc, stack),
+    }
+}
+
+/// Begins from what the stores of a stack hold, where its disks lie in these places.
+fn begin_stored<'s, I: Images>(
+    alloc: Global,
+    stack: &'s Stack,
+    places: &DiskImages,
+    images: &mut I,
+) -> Result<Prepared<'s>, Unbegun>
+    ensures going { IfOk result (λ prepared. CanMap stack.now prepared.mapper) }
+    ensures texts { IfOk result (λ prepared. prepared.texts ≡ stack.now) }
+    ensures begun { (held : Contents) → I.IsSeen images.new held → IsBegunAt stack.now None
+        (start_at stack.now (stored_state stack.now (disk_contents places.now held))) result }
+    ensures memory { IfErr result (λ why. IsOutOfMemory why → images.new ≡ images.old) }
+    ensures images { (held : Contents) → I.IsSeen images.new held → I.IsSeen images.old held }
+{
+    let mut prepared = begin(alloc, stack)?;
+    match read_stores(images, places, stack, &mut prepared.mapper) {
+        Ok(()) => Ok(prepared),
+        Err(refusal) => Err(Unbegun::Store(refusal.message(stack))),
+    }
+}
+
+/// Plays earlier requests, if there are any.
+fn play_if<'s, B: Input>(
+    stack: &'s Stack,
+    mapper: &mut Mapper<'s, TrieTaken>,
+    earlier: &mut Option<B>,
+) -> Result<(), EarlierFault>
+    requires { CanMap stack.now mapper.old }
+    ensures going { CanMap stack.now mapper.new }
+    ensures read_on { IsReadOnIf B.past earlier.old earlier.new }
+    ensures asked { ArePlayedIf B.past mapper.old.state stack.now earlier.old earlier.new }
+    ensures played { HasPlayed (earlier_from mapper.old.state stack.now
+        (delivered_if B.past earlier.old earlier.new)) mapper.new.state result }
+{
+    match earlier {
+        Some(earlier) => play_earlier(stack, mapper, earlier),
+        None => Ok(()),
+    }
+}
+
 /// Makes both. It fails only when out of memory.
-pub(crate) fn prepare(alloc: Global, stack: &Stack) -> Result<Prepared<'_>, AllocError>
+fn prepare(alloc: Global, stack: &Stack) -> Result<Prepared<'_>, AllocError>
     ensures going { IfOk result (λ prepared. CanMap stack.now prepared.mapper) }
     ensures state { IfOk result (λ prepared. prepared.mapper.state ≡ start_state stack.now) }
     ensures texts { IfOk result (λ prepared. prepared.texts ≡ stack.now) }

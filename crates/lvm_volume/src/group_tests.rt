@@ -282,15 +282,11 @@ const OWNED: &str =
 /// A line of `ONE` and what stands in its place; its device in the concise form, or why there is none, where an image
 /// with an id has the disk `sdb`.
 static OF_OWNED: [(usize, &str, Result<&str, OwnedFault>); 3] = [
-    (
-        7,
-        OWNED,
-        Ok("vg0-lv0,,,rw,0 204800 linear sdb 2048\n"),
-    ),
+    (7, OWNED, Ok("vg0-lv0,,,rw,0 204800 linear sdb 2048\n")),
     (20, "type = \"raid1\"", Err(OwnedFault::Foreign(0))),
     (
         11,
-        "id = \"abcdefghijklmnopqrstuvwxyz012345\" } pv1 {",
+        "id = \"abcdefghijklmnopqrstuvwxyz012345\" } pv1 {}",
         Err(OwnedFault::Load(LoadFault {
             kind: LoadKind::Field,
             at: Place {
@@ -301,23 +297,35 @@ static OF_OWNED: [(usize, &str, Result<&str, OwnedFault>); 3] = [
     ),
 ];
 
+/// Asserts what a text gives where an image has an id.
+fn check_owned(
+    rt: &impl Abort,
+    alloc: Global,
+    text: &str,
+    owners: &Owners<'_>,
+    want: Result<&str, OwnedFault>,
+) {
+    match parse_owned(alloc, text.as_bytes(), owners) {
+        Ok(tables) => {
+            let concise = want.ok().expect(rt, "a refusal");
+            check_devices(rt, alloc, &tables.0, concise, &[(14, 17)]);
+        }
+        Err(fault) => assert!(rt; want == Err(fault)),
+    }
+}
+
 #[test]
 fn owned_disks(rt: HostRuntime) {
     let alloc = rt.alloc();
+    let ids = [*b"abcdefghijklmnopqrstuvwxyz012345"];
     let disks = parse_paths(alloc, b"sdb image\n").expect(&rt, "paths");
     let owners = Owners {
-        ids: &[*b"abcdefghijklmnopqrstuvwxyz012345"],
+        ids: &ids,
         disks: &disks,
     };
     for &(number, line, want) in &OF_OWNED {
         let text = with_line(alloc, ONE, number, line).expect(&rt, "a text");
-        match parse_owned(alloc, text.as_bytes(), &owners) {
-            Ok((devices, _)) => {
-                let concise = want.ok().expect(&rt, "a refusal");
-                check_devices(&rt, alloc, &devices, concise, &[(14, 17)]);
-            }
-            Err(fault) => assert!(&rt; want == Err(fault), "{line}"),
-        }
+        check_owned(&rt, alloc, text.as_str(), &owners, want);
     }
 }
 

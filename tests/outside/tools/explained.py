@@ -15,6 +15,7 @@ from harness import Case
 from tool_calls import TOOL, call, samples
 
 STACKS = 120
+REQUEST = re.compile("[RWr] ")
 # Where the store lies on the disk of the sample.
 STORE = 206848
 # A program that answers about a level other than about the whole.
@@ -40,8 +41,8 @@ class Explain:
 
     def said(self, words, given=b""):
         """What dmremap itself says of the same words, and requests."""
-        typed = [it for it in words if not re.match("[RWr] ", it)]
-        requests = "".join(it + "\n" for it in words if re.match("[RWr] ", it)) or given
+        typed = [it for it in words if not REQUEST.match(it)]
+        requests = "".join(it + "\n" for it in words if REQUEST.match(it)) or given
         return self._program.run(typed, given=requests, folder=self.folder)
 
 
@@ -54,6 +55,7 @@ def make_folder(program, top):
         shutil.copy(os.path.join(top, "examples", name), folder)
     for name in ("vgm.backup", "lsblk.txt"):
         shutil.copy(os.path.join(samples(top), name), folder)
+    shutil.copy(os.path.join(samples(top), "vg0-head.img"), os.path.join(folder, "image"))
     with open(os.path.join(folder, "vg0.backup"), "rb") as it:
         content = it.read()
     program.file("explained/vg0.backup.gz", gzip.compress(content))

@@ -10,8 +10,8 @@ FILES = {
     "tables": TABLE, "disks": "/dev/sda1 100\n", "one": "0 8 linear /dev/sda1 0\n", "dos": TABLE.replace("\n", "\r\n"),
     "numbers": "vg0-lv0: 0 8 linear 8:1 2048\n", "short": "sda1 100\n", "status": "a: 0 8 linear \n", "report": '{\n  "report": [\n',
     "stripes": "a: 0 8 striped\n",
-    "image": bytes(4096), "empty": "", "none": "No devices found\n", "ls": "vg0-lv0\t(253:0)\n", "lvs": "  LV   VG  Attr       LSize\n  lv0  vg0 -wi-a----- 1g\n",
-    "requests": "R a 0 8\n", "raid.table": "a: 0 8 raid raid1 1 8 1 - -\n", "raid.concise": "a,,0,rw,0 8 raid raid1 1\n", "long": "#" * (1 << 20) + "\n\n",
+    "empty": "", "none": "No devices found\n", "ls": "vg0-lv0\t(253:0)\n", "lvs": "  LV   VG  Attr       LSize\n  lv0  vg0 -wi-a----- 1g\n",
+    "requests": "R a 0 8\n", "lv.requests": "R vg0-lv0 0 8\n", "raid.table": "a: 0 8 raid raid1 1 8 1 - -\n", "raid.concise": "a,,0,rw,0 8 raid raid1 1\n", "long": "#" * (1 << 20) + "\n\n",
     "long.table": TABLE, "tab": "a:\t0 8 zero\n", "letter": "\u00e4: 0 8 zero\n", "comment": "# mine\n" + TABLE, "blank": TABLE + "\n" + TABLE,
     "double": "a: 0 8  zero\n", "unended": "a: 0 8 zero\nb: 0 8 zero", "few": "a: 0 8\n", "alone": TABLE + "b: \n", "unit": "a: 0 8G zero\n", "sign": "a: -1 8 zero\n",
     "zeros": "a: 00 8 zero\n", "typing": "a: 0 8 liner /dev/sda1 0\n", "bad.name": "a!: 0 8 zero\n", "bad.disk": "a: 0 8 linear sd,a 0\n",
@@ -34,6 +34,8 @@ FILES = {
     "errors": "e: 0 8 error\np: 0 32 snapshot base cow1 P 8\nk: 0 32 snapshot base cow2 K 8\nu: 0 32 snapshot /dev/mapper/x cow3 P 8\n"
               "x: 0 28 linear base 0\nx: 28 4 error\no: 0 32 snapshot-origin /dev/mapper/x\n",
     "errors.disks": "base 32\ncow1 32\ncow2 32\ncow3 64\n", "full": "W p 0 16\n", "lost.before": "W p 0 24\n", "full.k": "W k 0 16\n",
+    "lost.paths": "/dev/sda1 disk2.img\n", "disk1.img": bytes(4096), "disks.numbers": "8:1\n",
+    "images": "a: 0 8 linear disk1.img 0\n", "range.kernel": "a: 0 8 linear sda 96\n", "sda.disks": "sda 100\n", "kernel": "a: 0 8 linear sda 0\nb: 0 8 linear 8:1 0\n",
     "read-only": "a,,,rw,0 8 linear /dev/mapper/b 0;b,,,ro,0 8 linear /dev/sda1 0\n",
 }
 # Changes of vg0.backup.
@@ -66,6 +68,16 @@ MISTAKES = [
     ("a folder", ["map", "lvm", "folder"], b"", "folder/file"),
     ("a volume without its group", [*VG0, "R lv0 0 8"], b"", "R vg0-lv0 0 8"),
     ("a path in a request", [*VG0, "R /dev/vg0/lv0 0 8"], b"", "R vg0-lv0 0 8"),
+    ("a volume by group and name", [*VG0, "R vg0/lv0 0 8"], b"", "R vg0-lv0 0 8"),
+    ("requests as a third word", [*VG0, "lv.requests"], b"", "dmremap map lvm vg0.backup < lv.requests"),
+    ("requests as DISKS", ["map", "table", "tables", "requests"], b"", "dmremap map table tables disks < requests"),
+    ("requests as a fourth word", ["map", "table", "tables", "disks", "requests"], b"", "dmremap map table tables disks < requests"),
+    ("an image that isn't there", ["map", "lvm", "vg0-snapshot.backup", "--paths", "lost.paths", "R vg0-snap 8000 16"], b"", "disk1.img"),
+    ("the kernel's numbers without lengths", ["map", "table", "numbers", "disks.numbers"], b"",
+     """{ echo '8:1' "$(blockdev --getsz '/dev/block/8:1')"; } > disks"""),
+    ("the kernel's names without lengths", ["map", "table", "kernel", "disks.numbers"], b"",
+     """{ echo sda "$(blockdev --getsz /dev/sda)"; echo '8:1' "$(blockdev --getsz '/dev/block/8:1')"; } > disks"""),
+    ("images without lengths", ["map", "table", "images", "disks.numbers"], b"", """{ echo disk1.img "$(expr $(stat -Lc %s disk1.img) / 512)"; } > disks"""),
     ("a disk in a request", ["map", "table", "tables", "disks", "R sda1 0 8"], b"", "dmremap-tools owner --help"),
     ("another format", ["map", "table", "vg0.backup", "disks"], b"", "dmremap map lvm vg0.backup"),
     ("table text as metadata", ["map", "lvm", "tables"], b"", "dmremap map table tables DISKS"),
@@ -78,6 +90,12 @@ MISTAKES = [
 ]
 
 TAKE = "map", "table"
+# Others, of which only the remedies are typed.
+OTHERS = [
+    ["map", "table"], ["mpa", "lvm", "vg0.backup"], ["map", "tabel", "tables", "disks"], ["map", "tables", "disks"], ["map", "table", "tables/none", "disks"],
+    ["map", "table", "tables", "disks"], ["name", "/dev/vg0/lv0", "x"], ["name", "/dev/mapper/vg0-lv0", "x"], ["name", "vg0"], ["splitname", "home"],
+    [*TAKE, "kernel", "disks"], [*TAKE, "range.kernel", "sda.disks"], ["map", "lvm", "disks", "x"], ["map", "table", "disks", "disks"], ["map", "table", "hidden.table"],
+]
 # A message of dmremap, its words, requests, and what is said.
 CAUSES = [
     ("source: read", [*TAKE, "nowhere/tables", "disks"], b"", ["ENOENT", "there is no folder nowhere"]),

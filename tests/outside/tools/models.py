@@ -6,8 +6,10 @@ import json
 import os
 import pickle
 import random
+import re
 import shutil
 import signal
+import socket
 import struct
 import subprocess
 import sys
@@ -870,8 +872,17 @@ def check_files(tally, pile):
     tally.holds("a map of no image", got.status == 2, got.err)
 
 
+# What mounts a file system, where one is known that can be mounted.
+MOUNTS = {"ext2": "ro,loop", "ext3": "ro,loop,noload", "ext4": "ro,loop,noload", "xfs": "ro,loop,norecovery", "btrfs": "ro,loop", "luks": None, None: None}
+
+
 def check_served(tally, pile):
-    """`serve` refuses what can't be served, and needs nbdkit."""
+    """`serve` refuses what can't be served, needs nbdkit, replaces a socket only if nobody listens on it, and prints what fits the volume."""
+    serve = importlib.import_module("dmremap_tools.images.serve")
+    for system, options in MOUNTS.items():
+        lines = serve.lines_of("s", system)
+        shown = re.findall("^mount it: +mount -o (\\S+) disk/volume.img /mnt ", lines, re.M)
+        tally.holds(f"how {system} is mounted", shown == [options] * bool(options) and "umount disk" in lines, lines)
     pile.put("one", disk("a", A, text("vg0", "g", 4, "a", volume("home", "h", linear(0, 5, ("pv0", 3))))))
     if not shutil.which("nbdkit"):
         tally.skip("serving a volume", "there is no nbdkit")
@@ -882,15 +893,23 @@ def check_served(tally, pile):
         tally.skip("reading from a server", "there is no nbdcopy, or no plugin of nbdkit for Python")
         return
     words = [os.path.join(pile.top, "dmremap-tools"), "serve", "--program", pile.program.path, "--socket", "out.sock", "vg0/home", "one"]
+    path = os.path.join(pile.folder, "out.sock")
+    with socket.socket(socket.AF_UNIX) as dead:
+        dead.bind(path)
     server = subprocess.Popen(words, stdout=subprocess.PIPE, cwd=pile.folder)
     uri = server.stdout.readline().decode().strip().strip("'")
+    got = pile.call(*words[1:2], *words[4:])
+    tally.holds("a socket on which a server listens", got.status == 1 and b"another server listens there: end it, or give another --socket" in got.err, got.err)
     subprocess.run(["nbdcopy", uri, "out"], cwd=pile.folder, check=False)
     server.terminate()
     status = server.wait(30)
     server.stdout.close()
     with open(os.path.join(pile.folder, "out"), "rb") as copy:
         tally.holds("a copy from a server", copy.read() == extents_of(A, 3, 5), uri)
-    tally.holds("how a server ends", status in (130, 143), status)
+    tally.holds("how a server ends", status in (130, 143) and not os.path.exists(path), status)
+    pile.put("out.sock", b"kept")
+    got = pile.call(*words[1:2], *words[4:])
+    tally.holds("a file in place of a socket", got.status == 1 and b"it is there already, and is no socket" in got.err and os.path.getsize(path) == 4, got.err)
 
 
 def served(pile, volume_name, image, do, more=()):

@@ -11,7 +11,7 @@ import containers
 import models
 import physical_volumes
 import tool_calls
-from dmremap_tools.base import disk_image
+from dmremap_tools.base import disk_image, signatures
 from harness import Case
 from models import (A, B, DATA, EXTENT, MIB, SECTOR, content_of, disk, empty_pile, extents_of, linear, member, named, text,
                     volume, xor)
@@ -20,6 +20,11 @@ HOME = [volume("home", "h", linear(0, 5, ("pv0", 3)))]
 ROOT = [volume("root", "r", linear(0, 5, ("pv0", 3)))]
 OLD, NEW = disk("a", A, text("old", "g", 4, "a", *HOME)), disk("b", B, text("new", "k", 3, "b", *ROOT))
 OLD_BYTES, NEW_BYTES = extents_of(A, 3, 5), extents_of(B, 3, 5)
+
+# What the last sectors of members of three controllers have, whose sums are 0x55 + 0xAA, 1 and 0.
+VIA = b"\x55\xaa".ljust(50, b"\0") + b"\xff"
+JMICRON = b"JM" + struct.pack("<H", (1 - 0x4D4A) & 0xFFFF)
+SILICON = struct.pack("<H", 0x10000 - 0x2F00).ljust(0x60, b"\0") + b"\0\0\0\x2f"
 
 
 def sectors(content):
@@ -203,6 +208,7 @@ def check_nested(tally, pile):
 def check_signatures(tally, pile):
     """Signatures of what nothing follows: what is found there is told, and refused; one in the midst of it says nothing."""
     for label, place, magic in (("DDF", -SECTOR, b"\xde\x11\xde\x11"), ("IMSM", -2 * SECTOR, b"Intel Raid ISM Cfg Sig. 1.1"),
+                                ("Adaptec", -SECTOR, b"\x37\xfc\x4d\x1e"), ("VIA", -SECTOR, VIA),
                                 ("dm-integrity", 0, b"integrt\0"), ("bcache", 0x1008, bytes.fromhex("0800000000000000 0100000000000000 c68573f64e1a45ca8265f57f48ba6d81"))):
         for where, content in (("", OLD + bytes(MIB)), (" below a table", with_mbr(bytes(8192 * SECTOR), (2048, OLD)))):
             if label == "bcache" and not where:
@@ -218,6 +224,33 @@ def check_signatures(tally, pile):
             tally.holds(label + where + ", told", [row["name"] for row in found["groups"]] == ["old"], found)
     inside = bytearray(disk("a", A[:-SECTOR] + b"\xde\x11\xde\x11".ljust(SECTOR, b"\0"), text("old", "g", 4, "a", *HOME)))
     in_any_order(tally, pile, "a signature within a volume", {"sda": bytes(inside)}, "old/home", OLD_BYTES)
+
+
+def check_own_signatures(tally, pile):
+    """Signatures that are found where there is no wipefs, and those whose sums are wrong, which are none."""
+    for kind, place, magic, is_summed in (
+            ("adaptec_raid_member", -SECTOR, b"\x37\xfc\x4d\x1e", False), ("hpt45x_raid_member", -11 * SECTOR, b"\xf3\x16\x78\x5a", False),
+            ("drbd", 60 - 8 * SECTOR, b"\x83\x74\x02\x6b", False), ("drbd", 60 - 8 * SECTOR, b"\x83\x74\x02\x6d", False), ("ubi", 0, b"UBI#", False),
+            ("zfs_member", 0x4014, b"\0\0\0\x07version", False), ("zfs_member", 0x44014, b"\0\0\0\x07version", False),
+            ("drbdmanage_control_volume", 0, b"$DRBDmgr=q", False), ("VMFS_volume_member", MIB, b"\x0d\xd0\x01\xc0", False),
+            ("via_raid_member", -SECTOR, VIA, True), ("jmicron_raid_member", -SECTOR, JMICRON, True),
+            ("silicon_medley_raid_member", -SECTOR, SILICON, True)):
+        image = bytearray(2 * MIB)
+        at = place % len(image)
+        image[at:at + len(magic)] = magic
+        told = kinds_in(pile, image)
+        tally.holds(kind, told == [kind], told)
+        image[at + 2] ^= 4
+        told = kinds_in(pile, image) if is_summed else []
+        tally.holds(kind + " with another sum", told == [], told)
+
+
+def kinds_in(pile, image):
+    """What the signatures are of that are looked for in an image without wipefs."""
+    pile.put("sda", bytes(image))
+    path = os.path.join(pile.folder, "sda")
+    with open(path, "rb") as file:
+        return [each.kind for each in signatures.signatures_in(disk_image.Image(file, path))]
 
 
 def check_lengths(tally, pile):
@@ -243,14 +276,28 @@ def check_headless(tally, pile):
 def check_containers(tally, pile):
     """Headers of LUKS that cryptsetup refuses are told as that, and a sound one is not."""
     def slots(*areas):
-        text = ",".join('"%d":{"area":{"offset":"%d","size":"%d"}}' % (number, *area) for number, area in enumerate(areas))
-        return containers.text_of().replace(b'{"segments"', ('{"keyslots":{%s},"segments"' % text).encode(), 1)
+        return containers.text_of(keys=areas)
+    def changed(old, new):
+        assert old in slots((32768, 16384))
+        return containers.version_2(json=slots((32768, 16384)).replace(old, new))
     room = bytes(containers.DATA + MIB)
     for label, header, why in (
             ("a sound header", containers.version_2(json=slots((32768, 16384), (49152, 16384))), None),
             ("areas that overlap", containers.version_2(json=slots((32768, 16384), (40960, 16384))), "the areas for keys"),
             ("an area within the headers", containers.version_2(json=slots((16384, 16384))), "the areas for keys"),
             ("an area past its room", containers.version_2(json=slots((65536, 16384))), "the areas for keys"),
+            ("a digest of a key that isn't there", changed(b'"keyslots":["0"]', b'"keyslots":["0","7"]'), "breaks a rule of the format (in digests)"),
+            ("a key without a digest", changed(b'"keyslots":["0"]', b'"keyslots":[]'), "breaks a rule of the format (in keyslots)"),
+            ("a token of a key that isn't there", changed(b'"tokens":{}', b'"tokens":{"0":{"type":"any","keyslots":["7"]}}'), "breaks a rule of the format (in tokens)"),
+            ("tokens that are none", changed(b'"tokens":{}', b'"tokens":42'), "breaks a rule of the format (in its parts)"),
+            ("a size that is no string", changed(b'"size":"dynamic"', b'"size":4096'), "breaks a rule of the format (in segments)"),
+            ("flags that are no array", changed(b'"size":"dynamic"', b'"size":"dynamic","flags":"hello"'), "breaks a rule of the format (in segments)"),
+            ("odd sectors", changed(b'"sector_size":512', b'"sector_size":1023'), "breaks a rule of the format (in segments)"),
+            ("no encryption", changed(b'"encryption":"aes-xts-plain64","sector', b'"encryption":"","sector'), "breaks a rule of the format (in segments)"),
+            ("data without a digest", changed(b'"segments":["0"]', b'"segments":[]'), "breaks a rule of the format (in segments)"),
+            ("a key of no form", changed(b'"af":{"type":"luks1"', b'"af":{"type":42'), "breaks a rule of the format (in keyslots)"),
+            ("another length of the text", changed(b'"json_size":"12288"', b'"json_size":"12287"'), "breaks a rule of the format (in config)"),
+            ("more keys than have room", changed(b'"keyslots_size":"32768"', b'"keyslots_size":"102400"'), "breaks a rule of the format (in config)"),
             ("a text with more behind it", containers.version_2(json=containers.text_of() + b"\0x"), "goes on behind its end")):
         pile.put("sda", header + room[len(header):])
         row = (pile.scan("sda")["luks"] or [{"why": "none is found"}])[0]
@@ -271,7 +318,12 @@ def check_kinds(tally, pile):
             ("iso9660", "iso9660", [(0x8001, b"CD001"), (0x8801, b"CD001")]),
             ("UDF", "udf", [(0x8001, b"BEA01"), (0x8801, b"NSR02")]),
             ("a disc that is both", "udf", [(0x8001, b"CD001"), (0x8801, b"CD001"), (0x9001, b"BEA01"), (0x9801, b"NSR03")]),
+            ("ZFS", "zfs", [(0x4014, b"\0\0\0\x07version")]),
             ("squashfs", "squashfs", [(0, b"hsqs"), (28, b"\4\0")]),
+            ("swap", "swap", [(4086, b"SWAPSPACE2")]),
+            ("swap of pages of 32 KiB", "swap", [(32758, b"SWAPSPACE2")]),
+            ("the memory of a machine that sleeps", "swsuspend", [(4086, b"S1SUSPEND")]),
+            ("the same before a swap area", "swsuspend", [(0, bytes.fromhex("edc302e99856e50c")), (4086, b"SWAPSPACE2")]),
             ("squashfs 3", "squashfs3", [(0, b"hsqs"), (28, b"\3\0")])):
         image = bytearray(MIB)
         for at, content in places:
@@ -287,6 +339,18 @@ def check_kinds(tally, pile):
         pile.put("sda", bytes(image))
         whys = [row["why"] for row in pile.scan("sda")["images"][0]["holds"]]
         tally.holds("a table of " + name, "partition table (%s) that isn't followed" % name in whys[0], whys)
+
+
+def check_tables_within(tally, pile):
+    """A table of another kind in a partition of an MBR, while what begins the disk looks like a file system: both are told."""
+    part = bytearray(MIB)
+    part[512:516] = b"WEV\x82"
+    image = bytearray(with_mbr(b"", (2048, bytes(part))))
+    image[0x400:0x480] = struct.pack("<2L48x2s42xL", 16, 64, b"\x53\xef", 0).ljust(0x80, b"\0")
+    pile.put("sda", bytes(image))
+    row = pile.scan("sda")["images"][0]
+    whys = [each["why"] for each in row["holds"] if each["partition"] == 1]
+    tally.holds("BSD in a partition", row["table"] and "partition table (BSD) that isn't followed" in whys[0], row)
 
 
 class ShuffledPile(models.Pile):
@@ -347,8 +411,8 @@ def check_machines(tally, pile):
 
 
 class Owned(Case, checks=[
-    check_resync, check_apart, check_filled, check_last_partition, check_left_over, check_nested, check_signatures, check_lengths,
-    check_headless, check_containers, check_kinds, check_orders, check_machines
+    check_resync, check_apart, check_filled, check_last_partition, check_left_over, check_nested, check_signatures, check_own_signatures, check_lengths,
+    check_headless, check_containers, check_kinds, check_tables_within, check_orders, check_machines
 ]):
     """Piles of images, each in an empty folder."""
 

@@ -174,7 +174,7 @@ def check_tables(tally, pile):
 def check_sources(tally, pile):
     """A map of another volume, or of other images: refused, and nothing changes; the same volume goes on, also by other names."""
     pile.put("one", disk("a", A, GROUP))
-    first, rows = ["out.map", "out"], []
+    first = ["out.map", "out"]
     tally.same("a first volume", pile.call("save", "vg0/home", "out", "one", "--resume", "out.map"), 0)
     kept = [read(pile, name) for name in first]
     for name, image, asked in (("another volume of that length", GROUP, "vg0/next"),

@@ -26,18 +26,25 @@ def read(path):
 @contextlib.contextmanager
 def unreadable(*bad):
     """Lets no read of these sectors of a disk succeed, as where the disk is damaged."""
-    read_at = os.pread
+    read_at, read_into = os.pread, os.preadv
 
-    def fails(descriptor, size, at):
+    def check(at, size):
         if any(at < 512 * it.stop and 512 * it.start < at + size for it in bad):
             raise OSError(errno.EIO, os.strerror(errno.EIO))
+
+    def read_checked(descriptor, size, at):
+        check(at, size)
         return read_at(descriptor, size, at)
 
-    os.pread = fails
+    def read_into_checked(descriptor, views, at):
+        check(at, sum(map(len, views)))
+        return read_into(descriptor, views, at)
+
+    os.pread, os.preadv = read_checked, read_into_checked
     try:
         yield
     finally:
-        os.pread = read_at
+        os.pread, os.preadv = read_at, read_into
 
 
 TABLE = "v: 0 16 striped 2 4 a 8 b 0\nv: 16 8 zero\nv: 24 8 linear b 32\nv: 32 8 error\nv: 40 8 linear c 0\n"

@@ -4,10 +4,11 @@ read as its store says, which is on these disks, too."""
 import contextlib
 import functools
 import hashlib
+import itertools
 import os
 import tempfile
 from argparse import Namespace
-from typing import Dict, Iterable, Iterator, List, Set, Tuple
+from typing import Dict, Iterable, Iterator, List, NoReturn, Tuple
 
 from dmremap_tools.answers.saved import ANY, PARTLY, Absent, SavedMap, Source, head_of, put_together
 from dmremap_tools.base import given, names, pieces, quoting, requests, streams, written
@@ -21,7 +22,9 @@ from dmremap_tools.model.device import Device, Image, Missing, Part
 from dmremap_tools.requests import filefrag
 from dmremap_tools.requests.filefrag import Extent
 
-READ = ("R", "zero", "error")
+READ = {"R", "zero", "error"}
+# Sectors of a file: the first one, what is done, the disk and the first sector there, if any, and how many.
+Placed = Tuple[int, str, str, int, int]
 # Disks that are open at once.
 MOST_OPEN = 64
 
@@ -51,7 +54,7 @@ def run(words: Namespace) -> bool:
         if saved.has_more_maps:
             saved.check_finished([(at * SECTOR, (at + count) * SECTOR) for at, _, count in extents])
         todo = list(left(extents, saved))
-        if words.resume is None and not words.allow_missing:
+        if words.resume is None and not words.allow_missing and not disks.have_all(part):
             check(begun.words, volume, todo, disks)
         return put_together(words.target, saved, extents_of(begun.words, volume, todo, disks))
 
@@ -84,10 +87,16 @@ class Disks:
             os.close(stack.opened(place.path))
             image = Image(place.path, self.unread.get(place.path, ()))
         except Refusal as refusal:
-            return Absent(refusal.why)
+            return Absent(name, refusal.why)
         # They may begin within a sector of the image.
         image.size = image.bytes
         return Part(name, image, place.start, max(0, image.bytes - place.start) // SECTOR * SECTOR)
+
+    def have_all(self, part: stack.Stack) -> bool:
+        """Whether all that tables may name is there, whatever is asked for."""
+        is_there = not any(line.target == "error" for it in part.devices for line in it.lines) and not any(self.unread.values())
+        return is_there and all(isinstance(self.device(name), Part) and size * SECTOR <= self.device(name).size
+                                for name, size in part.sizes.items())
 
     def check(self, volume: str, name: str, end: int) -> None:
         """Refuses a volume that lies on a disk that isn't there, or ends before this sector."""
@@ -114,15 +123,15 @@ def check(command: List[str], volume: str, todo: List[Extent], disks: Disks) -> 
     """Refuses what isn't all there."""
     ends: Dict[str, int] = {}
     with contextlib.closing(placed(command, volume, todo)) as found:
-        for at, piece in found:
-            if piece.what == "error":
+        for at, what, disk, first, count in found:
+            if what == "error":
                 raise Refusal(volume, f"its sectors from {at} on fail to be read, as the tables say; {PARTLY}")
-            if piece.disk and disks.unread:
-                why = disks.device(piece.disk).lack(piece.start * SECTOR, piece.count * SECTOR)
+            if disk and disks.unread:
+                why = disks.device(disk).lack(first * SECTOR, count * SECTOR)
                 if why:
                     raise Refusal(volume, f"{why}; {PARTLY}")
-            if piece.disk:
-                ends[piece.disk] = max(ends.get(piece.disk, 0), piece.start + piece.count)
+            if disk:
+                ends[disk] = max(ends.get(disk, 0), first + count)
     for name, end in ends.items():
         disks.check(volume, name, end)
 
@@ -130,31 +139,41 @@ def check(command: List[str], volume: str, todo: List[Extent], disks: Disks) -> 
 def extents_of(command: List[str], volume: str, todo: List[Extent], disks: Disks
                ) -> Iterator[Tuple[int, device.Extent]]:
     """Where what is left to do lies, each part with its first byte in the file."""
-    absent: Set[str] = set()
     sources = {"zero": device.ZEROS, "error": Missing("reads fail there")}
-    for at, piece in placed(command, volume, todo):
-        source, begin = sources.get(piece.what) or disks.device(piece.disk), at * SECTOR
-        if isinstance(source, Absent) and piece.disk not in absent:
-            absent.add(piece.disk)
-            streams.tell(f"missing: {quoting.shown(piece.disk)}: {source.name}")
-        for extent in source.extents(piece.start * SECTOR, piece.count * SECTOR):
+    for at, what, disk, first, count in placed(command, volume, todo):
+        source, begin = sources.get(what) or disks.device(disk), at * SECTOR
+        for extent in source.extents(first * SECTOR, count * SECTOR):
             yield begin, extent
             begin += extent.size
 
 
-def placed(command: List[str], volume: str, todo: List[Extent]) -> Iterator[Tuple[int, pieces.Piece]]:
+def placed(command: List[str], volume: str, todo: List[Extent]) -> Iterator[Placed]:
     """Each piece of what is left to do, with the sector of the file where it goes."""
     with pieces.Mapped(command, (f"R {volume} {first} {count}\n" for _, first, count in todo)) as mapped:
-        rest = iter(mapped.answers)
-        for number, (at, _, count) in enumerate(todo, 1):
-            end = at + count
-            while at < end:
-                piece = next(rest, None)
-                if not piece or piece.request != number or piece.what not in READ or piece.count > end - at:
-                    mapped.answers.refuse(f"request {number} is not answered as it was asked: give this version's "
-                                          "dmremap as --program")
-                yield at, piece
-                at += piece.count
+        number, at, end = 0, 0, 0
+        for columns in mapped.answers.in_columns():
+            requests, whats, disks, starts, counts = columns
+            after = at + sum(counts)
+            if requests.count(number) == len(requests) and after <= end and READ.issuperset(whats):
+                yield from zip(itertools.accumulate(counts, initial=at), whats, disks, starts, counts)
+                at = after
+                continue
+            # Another request begins here, or an answer is wrong.
+            for (request, what, disk, start, count), _ in zip(zip(*columns), mapped.answers.again()):
+                if at == end and number == len(todo):
+                    return
+                if at == end:
+                    at, end, number = todo[number][0], todo[number][0] + todo[number][2], number + 1
+                if request != number or what not in READ or count > end - at:
+                    refuse(mapped.answers, number)
+                yield at, what, disk, start, count
+                at += count
+        if at < end or number < len(todo):
+            refuse(mapped.answers, number + (at == end))
+
+
+def refuse(answers: pieces.Answers, number: int) -> NoReturn:
+    answers.refuse(f"request {number} is not answered as it was asked: give this version's dmremap as --program")
 
 
 def left(extents: List[Extent], saved: SavedMap) -> Iterator[Extent]:

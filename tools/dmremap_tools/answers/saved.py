@@ -9,7 +9,7 @@ import os
 import re
 import stat
 import time
-from typing import Iterable, Iterator, List, NamedTuple, Optional, Sequence, Tuple
+from typing import Dict, Iterable, Iterator, List, NamedTuple, Optional, Sequence, Set, Tuple
 
 from dmremap_tools.base import quoting, streams, written
 from dmremap_tools.base.numbers import SECTOR
@@ -27,12 +27,19 @@ TAKEN = "another save goes on by it, or began it just now: wait until that has e
 LATER = "it was begun without some map of an image, and what that lacks may be in OUT as zeros"
 PARTLY = "give --resume MAP to save the rest: the map says then what is missing"
 NOTHING = bytes(BLOCK)
+# Into how many places one call reads at most.
+MOST_VIEWS = 1024
+UNREADABLE, END = Missing("it can't be read"), Missing("it ends")
 # How often a map is written, in seconds.
 STEP = 30
 
 
 class Absent(Missing):
     """Bytes of a disk that isn't here, so that they weren't tried."""
+
+    def __init__(self, disk: str, why: str) -> None:
+        super().__init__(why)
+        self.disk = disk
 
 
 class Source(NamedTuple):
@@ -54,6 +61,17 @@ def merged(one: str, other: str) -> Optional[str]:
     if one.endswith(ANY) and other.startswith(one[:-len(ANY)]):
         return other
     return one if one == other or other.endswith(ANY) and one.startswith(other[:-len(ANY)]) else None
+
+
+class Transfer(NamedTuple):
+    """Bytes of a file: the first one, how many, and where they come from; `what` they are if they aren't read, zeros or
+    missing."""
+
+    at: int
+    size: int
+    source: Device
+    start: int
+    what: Optional[Device] = None
 
 
 class SavedMap:
@@ -189,13 +207,17 @@ class Target:
                 raise Refusal(self.place.shown, why + "give that, or another --resume")
             os.ftruncate(self._descriptor, size)
 
-    def write(self, at: int, content: bytes) -> None:
-        """Writes bytes at a place, as far as the file goes. Zeros that are there already stay a hole."""
-        left = memoryview(content)[:max(self._size - at, 0)]
+    def has(self, at: int, content: memoryview) -> bool:
+        """Whether bytes are zeros, at most a BLOCK, that are there already, and stay a hole."""
+        if not NOTHING.startswith(content):
+            return False
         with self.place.failing():
-            there = os.pread(self._descriptor, len(left), at) if self._is_begun else NOTHING
-            if NOTHING.startswith(content) and NOTHING.startswith(there):
-                return
+            return not self._is_begun or NOTHING.startswith(os.pread(self._descriptor, len(content), at))
+
+    def write(self, at: int, content: memoryview) -> None:
+        """Writes bytes at a place, as far as the file goes."""
+        left = content[:max(self._size - at, 0)]
+        with self.place.failing():
             while left:
                 count = os.pwrite(self._descriptor, left, at)
                 left, at = left[count:], at + count
@@ -210,26 +232,27 @@ def put_together(path: str, saved: SavedMap, extents: Iterator[Tuple[int, Extent
     missing, and says whether something is. Without a map the file gets to its place once it is whole."""
     target = Target(path, saved.size, saved.is_begun)
     if saved.place:
-        begin(target, saved)
-    gap, due, were_any = range(0), time.monotonic() + STEP, False
+        put_begun(target, saved)
+    gap, due, absent, buffer = range(0), time.monotonic() + STEP, {""}, memoryview(bytearray(BLOCK))
     try:
         with contextlib.closing(extents):
-            for at, extent in extents:
-                missing = UNTRIED if isinstance(extent.source, Absent) else BAD
-                for size, content, is_there in parts_of(extent):
-                    target.write(at, content)
-                    if not is_there:
-                        first, end, were_any = at // SECTOR, (at + size) // SECTOR, True
+            for parts in windows(parts_of(extents)):
+                for begin, end, lack in results(parts, buffer, target):
+                    if lack:
+                        told = f"missing: {quoting.shown(lack.disk)}: {lack.name}" if isinstance(lack, Absent) else ""
+                        if told not in absent:
+                            streams.tell(told)
+                            absent.add(told)
+                        first = begin // SECTOR
                         if first != gap.stop:
                             tell(gap)
-                        gap = range(gap.start if first == gap.stop else first, end)
-                    saved.mark(at, at + size, FINISHED if is_there else missing)
-                    at += size
-                    streams.show_progress(f"{at >> 20} of {saved.size >> 20} MiB")
-                    if saved.place and time.monotonic() > due:
-                        target.sync()
-                        saved.write()
-                        due = time.monotonic() + STEP
+                        gap = range(gap.start if first == gap.stop else first, end // SECTOR)
+                    saved.mark(begin, end, UNTRIED if isinstance(lack, Absent) else BAD if lack else FINISHED)
+                    streams.show_progress(f"{end >> 20} of {saved.size >> 20} MiB")
+                if saved.place and time.monotonic() > due:
+                    target.sync()
+                    saved.write()
+                    due = time.monotonic() + STEP
         tell(gap)
     finally:
         # Where the file's disk doesn't take what was written, the map doesn't say that it did.
@@ -239,10 +262,10 @@ def put_together(path: str, saved: SavedMap, extents: Iterator[Tuple[int, Extent
     target.place.close()
     if not saved.place:
         target.place.put(is_new=True)
-    return were_any
+    return bool(gap)
 
 
-def begin(target: Target, saved: SavedMap) -> None:
+def put_begun(target: Target, saved: SavedMap) -> None:
     """Puts a file in its place, once its map is there: without that it would look whole. A map of this run alone is removed
     where that fails."""
     try:
@@ -260,16 +283,86 @@ def tell(gap: range) -> None:
         streams.tell(f"{len(gap)} sectors of the file from {gap.start} on can't be read")
 
 
-def parts_of(extent: Extent) -> Iterator[Tuple[int, bytes, bool]]:
-    """The bytes of an extent in blocks: how many, the bytes unless they are zeros, and whether they are there."""
-    source = extent.source
-    if source is ZEROS:
-        yield extent.size, b"", True
-    elif source.lack(extent.start, extent.size) is not None:
-        yield extent.size, b"", False
-    else:
-        begin, end = extent.start, extent.start + extent.size
-        # Holes of an image aren't read.
-        runs = list(source.runs(begin, end)) if isinstance(source, Image) and extent.size >= BLOCK else [(begin, end)]
-        for first, stop, run in cut(runs, begin, end):
-            yield from read_blocks(source.load, first, stop) if run else [(stop - first, b"", True)]
+def parts_of(extents: Iterable[Tuple[int, Extent]]) -> Iterator[Transfer]:
+    """The bytes of extents, each with the place of its first byte, in blocks."""
+    for at, (source, begin, size) in extents:
+        why = None if isinstance(source, Image) or source is ZEROS else source.lack(begin, size)
+        if why is not None:
+            yield Transfer(at, size, source, begin, source if isinstance(source, Missing) else Missing(why))
+        elif size < BLOCK or source is ZEROS:
+            yield Transfer(at, size, source, begin, ZEROS if source is ZEROS else None)
+        else:
+            # Holes of an image aren't read.
+            runs = list(source.runs(begin, begin + size)) if isinstance(source, Image) else [(begin, begin + size)]
+            for first, stop, run in cut(runs, begin, begin + size):
+                for start in range(first, stop, BLOCK if run else stop - first):
+                    count = min(BLOCK, stop - start) if run else stop - start
+                    yield Transfer(at + start - begin, count, source, start, None if run else ZEROS)
+
+
+def windows(parts: Iterable[Transfer]) -> Iterator[List[Transfer]]:
+    """Parts that follow each other, as many as a BLOCK has room for, or a longer one that isn't read: larger windows go
+    through the processor's cache twice."""
+    window: List[Transfer] = []
+    end, refused = 0, None
+    try:
+        for part in parts:
+            if window and not (part.at == end and end + part.size <= window[0].at + BLOCK):
+                yield window
+                window = []
+            window.append(part)
+            end = part.at + part.size
+    except Refusal as refusal:
+        # What came before it is saved, and the map says so.
+        refused = refusal
+    if window:
+        yield window
+    if refused:
+        raise refused
+
+
+def results(parts: List[Transfer], buffer: memoryview, target: Target) -> Iterator[Tuple[int, int, Optional[Missing]]]:
+    """Puts the parts of a window into a file: from where to where, and what lacks there."""
+    first, unread, before = parts[0].at, read(parts, buffer), None  # type: int, Set[Transfer], Optional[Device]
+    begin = end = first
+    for part in [*parts, Transfer(0, 0, ZEROS, 0, END)]:
+        for size, what in loaded(part, buffer[end - first:]) if unread and part in unread else ((part.size, part.what),):
+            if what is None and target.has(end, buffer[end - first:end - first + size]):
+                what = ZEROS
+            if what is not before:
+                if before is None:
+                    target.write(begin, buffer[begin - first:end - first])
+                if begin < end:
+                    yield begin, end, before if isinstance(before, Missing) else None
+                begin, before = end, what
+            end += size
+
+
+def read(parts: List[Transfer], buffer: memoryview) -> Set[Transfer]:
+    """Reads parts of images to their places in a window, by one call where they go on there. Returns those that are
+    to be read one by one."""
+    runs: List[List[Transfer]] = []
+    last: Dict[Optional[Device], List[Transfer]] = {}
+    for part in parts:
+        if part.what is None:
+            run = last.get(part.source)
+            if run and run[-1].start + run[-1].size == part.start and len(run) < MOST_VIEWS:
+                run.append(part)
+            else:
+                last[part.source] = [part]
+                runs.append(last[part.source])
+    first, unread = parts[0].at, set()  # type: int, Set[Transfer]
+    for run in runs:
+        views = [buffer[part.at - first:part.at - first + part.size] for part in run]
+        if not (isinstance(run[0].source, Image) and run[0].source.fill(run[0].start, views)):
+            unread.update(run)
+    return unread
+
+
+def loaded(part: Transfer, view: memoryview) -> Iterator[Tuple[int, Optional[Missing]]]:
+    """The bytes of a part that are read as far as they can be: how many, and what lacks there."""
+    at = 0
+    for size, content, is_there in read_blocks(part.source.load, part.start, part.start + part.size):
+        view[at:at + len(content)] = content
+        yield size, None if is_there else UNREADABLE
+        at += size

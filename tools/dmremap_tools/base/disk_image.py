@@ -16,6 +16,8 @@ FORMS = {b"QFI\xfb": "qcow2", b"KDMV": "VMDK", b"vhdxfile": "VHDX"}
 LONGEST_MAGIC = 8
 # What is read of an image: the last magic of those below ends there.
 READ = 68 << 10
+# The first label of ZFS has a list of names and values, of which the first is its version.
+ZFS, ZFS_AT, ZFS_MAGIC = "zfs", 0x4014, b"\0\0\0\x07version"
 # Bytes at a place by which a file system is known.
 MAGICS = [
     ("luks", 0, b"LUKS\xba\xbe"), ("xfs", 0, b"XFSB"), ("btrfs", 0x10040, b"_BHRfS_M"),
@@ -23,9 +25,11 @@ MAGICS = [
     ("bitlocker", 3, b"-FVE-FS-"), ("squashfs", 0, b"hsqs"), ("reiserfs", 0x10034, b"ReIsEr"), ("jfs", 0x8000, b"JFS1"),
     ("bcachefs", 0x1018, b"\xc6\x85\x73\xf6\x66\xce\x90\xa9\xd9\x6a\x60\xcf\x80\x3d\xf7\xef"),
     ("vfat", 0x52, b"FAT32   "), ("vfat", 0x36, b"FAT1"), ("erofs", 0x400, b"\xe2\xe1\xf5\xe0"),
-    ("nilfs2", 0x406, b"\x34\x34"), ("lvm2", 0x200, b"LABELONE"), ("zfs", 0x4000, b"\x0c\xb1\xba\0\0\0\0\0")]
+    ("nilfs2", 0x406, b"\x34\x34"), ("lvm2", 0x200, b"LABELONE"), (ZFS, ZFS_AT, ZFS_MAGIC)]
 # A swap area says what it is at the end of its first page.
-PAGES, SWAPS = (4096, 8192, 16384, 65536), (b"SWAPSPACE2", b"SWAP-SPACE")
+PAGES, SWAPS = (4096, 8192, 16384, 32768, 65536), (b"SWAPSPACE2", b"SWAP-SPACE")
+# In place of that stands, while the memory of a machine that sleeps is in it, how it was put there; or that begins the area.
+ASLEEP, ASLEEP_FIRST = (b"S1SUSPEND", b"S2SUSPEND", b"ULSUSPEND", b"LINHIB0001"), b"\xed\xc3\x02\xe9\x98\x56\xe5\x0c"
 EXT_AT, EXT_MAGIC = 0x400, b"\x53\xef"
 # The descriptors of a disc, one every 2 KiB, whose names follow a byte, and those that UDF alone has, which may come after
 # those of iso9660.
@@ -42,6 +46,9 @@ OTHER_TABLES = [("Sun", 508, b"\xda\xbe"), ("SGI", 0, b"\x0b\xe5\xa9\x41"), ("Ap
 HAS_JOURNAL = 0x4
 EXT4_INCOMPATIBLE = 0x40 | 0x80 | 0x100 | 0x200 | 0x400 | 0x1000 | 0x4000 | 0x8000 | 0x10000
 EXT4_READ_ONLY = 0x8 | 0x10 | 0x20 | 0x40 | 0x400
+# What isn't mounted itself, and the options of file systems without which a mount replays their journals.
+UNMOUNTED = ("luks", "bitlocker", "swap", "lvm2", "zfs", "bcache")
+WITHOUT_JOURNAL = {"ext3": ",noload", "ext4": ",noload", "xfs": ",norecovery"}
 
 
 class Unreadable(Refusal):
@@ -145,6 +152,8 @@ def file_system_of(image: Image) -> Optional[str]:
         if inodes and blocks and block <= 6:
             is_ext4 = incompatible & EXT4_INCOMPATIBLE or read_only & EXT4_READ_ONLY
             return "ext4" if is_ext4 else "ext3" if compatible & HAS_JOURNAL else "ext2"
+    if head.startswith(ASLEEP_FIRST) or any(head.startswith(ASLEEP, page - 10) for page in PAGES):
+        return "swsuspend"
     if any(head[page - 10:page] in SWAPS for page in PAGES if page <= len(head)):
         return "swap"
     if head.startswith(BCACHE, BCACHE_AT):
@@ -156,6 +165,13 @@ def file_system_of(image: Image) -> Optional[str]:
     if found == "squashfs" and head[SQUASHFS_VERSION_AT] < SQUASHFS:
         return "squashfs3"
     return found
+
+
+def mount_command(system: Optional[str], path: str, folder: str) -> Optional[str]:
+    """What mounts an image and changes nothing in it, by the file system that begins it; None where none does."""
+    if system is None or system in UNMOUNTED:
+        return None
+    return f"mount -o ro,loop{WITHOUT_JOURNAL.get(system, '')} {path} {folder}"
 
 
 def other_table_of(image: Image) -> Optional[str]:

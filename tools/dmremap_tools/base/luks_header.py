@@ -6,7 +6,7 @@ import struct
 from collections import namedtuple
 from typing import List, NamedTuple, Optional
 
-from dmremap_tools.base import numbers, streams
+from dmremap_tools.base import luks_text, numbers, streams
 from dmremap_tools.base.disk_image import Image
 from dmremap_tools.base.numbers import SECTOR
 
@@ -25,6 +25,8 @@ BAD_JSON = ("the text of its header of LUKS goes on behind its end, or has none,
             "copy by `cryptsetup luksHeaderRestore`")
 BAD_AREAS = ("the areas for keys in its header of LUKS overlap or lie outside of their room, which cryptsetup refuses: "
              "restore it in a copy by `cryptsetup luksHeaderRestore`")
+BAD_TEXT = ("the text of its header of LUKS breaks a rule of the format (in {}), so that cryptsetup refuses it: restore it in "
+            "a copy by `cryptsetup luksHeaderRestore`")
 TOO_SHORT = "it ends before the data of its container does: give the whole disk"
 UNSAID = "its header of LUKS doesn't say where the data is: see `cryptsetup luksDump`"
 
@@ -109,6 +111,9 @@ def _container_of(header: Header) -> Container:
     is_apart = all(end <= offset for end, (offset, _) in zip(ends, areas))
     if not is_apart or keys and ends[-1] > 2 * header.size + keys:
         return Container(2, header.uuid, None, None, header_sectors, BAD_AREAS)
+    broken = luks_text.broken_part(said, len(header.text))
+    if broken:
+        return Container(2, header.uuid, None, None, header_sectors, BAD_TEXT.format(broken))
     return Container(2, header.uuid, start // SECTOR, length and length // SECTOR, header_sectors)
 
 

@@ -64,13 +64,22 @@ class Answers(streams.Lines):
     def __iter__(self) -> Iterator[Piece]:
         return map(_piece, filter(None, map(self._fields, super().__iter__())))
 
+    def in_columns(self) -> Iterator[Moves]:
+        """The pieces, many at once, in their order, without what copies and fills write."""
+        for text in self.blocks():
+            if _MOVES.fullmatch(text):
+                yield _columns(text)
+            else:
+                found = map(_piece, filter(None, map(self._fields, self.again())))
+                rows = ((it.request, it.what, it.disk, it.start, it.count) for it in found)
+                yield Moves(*map(list, zip(*rows)))
+
     def by_blocks(self) -> Iterator[Block]:
         """The pieces, many at once. Refuses those that are out of order."""
         last = 0
         for text in self.blocks():
             if _MOVES.fullmatch(text):
-                words = text.split()
-                moves = _moves(*(words[column::5] for column in range(5)))
+                moves = _columns(text)
                 block: Block = moves.requests, moves, _moves(), []
             else:
                 block = self._mixed(text)
@@ -118,6 +127,12 @@ class Answers(streams.Lines):
 def _piece(fields: Fields) -> Piece:
     request, _, what, disk, start, other, count, to, to_start = fields
     return Piece(int(request), what or other, int(count), disk, int(start or 0), to, int(to_start or 0))
+
+
+def _columns(text: str) -> Moves:
+    """Lines that are moves alone."""
+    words = text.split()
+    return _moves(*(words[column::5] for column in range(5)))
 
 
 def _moves(requests: Sequence[str] = (), whats: Sequence[str] = (), disks: Sequence[str] = (),

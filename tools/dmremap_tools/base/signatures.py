@@ -4,10 +4,11 @@ are its own. Those that matter most are looked for here; where `wipefs` and `blk
 import functools
 import json
 import shutil
-from typing import Dict, Iterator, List, NamedTuple
+import struct
+from typing import Callable, Dict, Iterator, List, NamedTuple, Tuple
 
 from dmremap_tools.base import program
-from dmremap_tools.base.disk_image import BCACHE, BCACHE_AT, BCACHE_SECTOR, Image
+from dmremap_tools.base.disk_image import BCACHE, BCACHE_AT, BCACHE_SECTOR, ZFS_AT, ZFS_MAGIC, Image
 from dmremap_tools.base.numbers import SECTOR
 from dmremap_tools.base.refusal import Refusal
 
@@ -24,11 +25,28 @@ KNOWN = [
      tuple(-SECTOR * it for it in (63, 255, 256, 16, 399, 591, 675, 735, 911, 974, 991, 951, 3087))),
     ("hpt37x_raid_member", b"\xf0\x16\x78\x5a", (9 * SECTOR + 32,)),
     ("hpt37x_raid_member", b"\xfd\x16\x78\x5a", (9 * SECTOR + 32,)),
+    ("hpt45x_raid_member", b"\xf3\x16\x78\x5a", (-11 * SECTOR,)),
+    ("hpt45x_raid_member", b"\xfd\x16\x78\x5a", (-11 * SECTOR,)),
+    ("adaptec_raid_member", b"\x37\xfc\x4d\x1e", (-SECTOR,)),
+    ("drbd", b"\x83\x74\x02\x6b", (60 - 8 * SECTOR,)),
+    ("drbd", b"\x83\x74\x02\x6c", (60 - 8 * SECTOR,)),
+    ("drbd", b"\x83\x74\x02\x6d", (60 - 8 * SECTOR,)),
+    ("drbdmanage_control_volume", b"$DRBDmgr=q", (0,)),
+    ("ubi", b"UBI#", (0,)),
+    ("zfs_member", ZFS_MAGIC, (ZFS_AT, ZFS_AT + (256 << 10))),
+    ("VMFS_volume_member", b"\x0d\xd0\x01\xc0", (1 << 20,)),
     ("DM_integrity", b"integrt\0", (0,)),
     ("DM_verity_hash", b"verity\0\0", (0,)),
     ("vdo", b"dmvdo001", (0,)),
     ("stratis", b"!Stra0tis\x86\xff\x02^\x41rh", (SECTOR + 4, 9 * SECTOR + 4)),
     ("ceph_bluestore", b"bluestore block device", (0,))]
+LONGEST = max(len(magic) for _, magic, _ in KNOWN)
+# Those of the last sector whose bytes are too short to tell, with the byte at which they are, and the sum that tells.
+Sum = Callable[[bytes], bool]
+SUMMED: List[Tuple[str, bytes, int, Sum]] = [
+    ("via_raid_member", b"\x55\xaa", 0, lambda sector: sum(sector[:50]) & 0xFF == sector[50]),
+    ("jmicron_raid_member", b"JM", 0, lambda sector: sum(struct.unpack_from("<64H", sector)) & 0xFFFF in (0, 1)),
+    ("silicon_medley_raid_member", b"\0\0\0\x2f", 0x60, lambda sector: not sum(struct.unpack_from("<160H", sector)) & 0xFFFF)]
 # What others find: all members of what isn't md, and these.
 MEMBER, FOLLOWED = "_raid_member", "linux_raid_member"
 OTHERS = ("DM_integrity", "DM_verity_hash", "DM_snapshot_cow", "LVM1_member", "bcache", "ceph_bluestore", "drbd",
@@ -43,7 +61,12 @@ def signatures_in(image: Image) -> List[Signature]:
     """The signatures that are looked for here."""
     places = ((kind, magic, at if at >= 0 else image.size // SECTOR * SECTOR + at) for kind, magic, places in KNOWN
               for at in places)
-    found = [Signature(kind, at) for kind, magic, at in places if at >= 0 and image.read(at, len(magic)) == magic]
+    read = functools.lru_cache(None)(lambda at: image.read(at, LONGEST))
+    found = [Signature(kind, at) for kind, magic, at in places if at >= 0 and read(at).startswith(magic)]
+    end = image.size // SECTOR * SECTOR - SECTOR
+    last = image.read(end, SECTOR) if end > 0 else b""
+    found += [Signature(kind, end + at) for kind, magic, at, is_summed in SUMMED
+              if last.startswith(magic, at) and len(last) == SECTOR and is_summed(last)]
     is_bcache = image.read(BCACHE_AT - 16, 16 + len(BCACHE)).startswith(BCACHE_SECTOR)
     return found + [Signature("bcache", BCACHE_AT)] * (is_bcache and image.read(BCACHE_AT, len(BCACHE)) == BCACHE)
 

@@ -44,6 +44,12 @@ def note_input(file: Union[int, str]) -> None:
                 place.refuse()
 
 
+def forget() -> None:
+    """Takes nothing for read or written any more, where another command begins in this process."""
+    _inputs.clear()
+    _places.clear()
+
+
 def discard() -> None:
     """Removes what was begun and isn't in its place."""
     for place in _places:

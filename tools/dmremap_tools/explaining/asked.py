@@ -4,7 +4,7 @@
 import difflib
 import os
 import re
-from typing import List, NamedTuple
+from typing import List, NamedTuple, Optional
 
 from dmremap_tools.base import names, program, quoting
 from dmremap_tools.base.given import FORMATS, Given
@@ -26,9 +26,9 @@ class Typed(NamedTuple):
     requests: List[str]
 
 
-def line(command: str, form: str, file: str = "FILE", disks: str = "DISKS") -> str:
-    """A command as it is to be typed. Metadata needs no DISKS."""
-    return _line([command, form, file] + [disks] * (form != "lvm"))
+def line(command: str, form: str, file: str = "FILE", disks: str = "DISKS", requests: Optional[str] = None) -> str:
+    """A command as it is to be typed, perhaps with a file of requests. Metadata needs no DISKS."""
+    return _line([command, form, file] + [disks] * (form != "lvm")) + (" < " + shell(requests) if requests else "")
 
 
 def _line(words: List[str]) -> str:
@@ -47,8 +47,10 @@ def typed(words: List[str]) -> "Typed | Finding":
     if not rest or rest[0] not in FORMATS:
         return _no_format(name, rest)
     if len(rest) > 3:
+        are_requests = texts.read(rest[3]).kind == texts.REQUESTS
         return Finding("there are more words than FORMAT, FILE and DISKS: %s" % quoting.shown(rest[3]),
-                       ["give requests on standard input, and a path with spaces in quotes"])
+                       ["give requests on standard input, and a path with spaces in quotes",
+                        *[line(name, *rest[:3], requests=rest[3])] * are_requests])
     if len(rest) < 2:
         return Finding("FILE is missing", ["give the file with the devices after the format:", line(name, rest[0])])
     return Typed(name, Given(rest[0], rest[1], rest[2] if len(rest) > 2 else None), requests)

@@ -3,10 +3,11 @@ request a word is meant, and of the metadata of a group a field, without which s
 
 import difflib
 import os
+import pathlib
 import re
 from typing import Callable, Dict, List, Optional
 
-from dmremap_tools.base import names, program
+from dmremap_tools.base import names, paths, program
 from dmremap_tools.base.config_text import Document, shown
 from dmremap_tools.base.given import Given, put
 from dmremap_tools.base.refusal import Refusal
@@ -20,6 +21,7 @@ from dmremap_tools.metadata.volume_group import TYPES
 
 ABOUT_TEXT = re.compile(r"dmremap: (source|disks): (\w+)(?: at ([0-9]+))?")
 ABOUT_REQUEST = re.compile(r"dmremap: request ([0-9]+): (.+)")
+UNREAD_STORE = re.compile("dmremap: store .+: read")
 ABOUT_EARLIER = re.compile(r"dmremap: before: (.+) at ([0-9]+)")
 # What refused.told knows of a kernel, which says more than the words of a line.
 OF_SNAPSHOTS = ("field", "snapshot", "store", "limit")
@@ -82,10 +84,10 @@ class Told:
     def why(self, message: str, requests: bytes) -> Finding:
         """Why it says that, with the files by their paths in commands."""
         found, given = self._why(message, requests), self.typed.given
-        paths = {"FORMAT FILE": " ".join(map(shell, given.words())), "FILE": shell(given.file),
+        typed = {"FORMAT FILE": " ".join(map(shell, given.words())), "FILE": shell(given.file),
                  "DISKS": "DISKS" if given.disks is None else shell(given.disks)}
-        form = re.compile(r"(?<=[ /])(%s)(?=[ ,]|$)" % "|".join(paths))
-        do = [form.sub(lambda it: paths[it[1]], row) if row.startswith("  ") else row for row in found.do]
+        form = re.compile(r"(?<=[ /])(%s)(?=[ ,]|$)" % "|".join(typed))
+        do = [form.sub(lambda it: typed[it[1]], row) if row.startswith("  ") else row for row in found.do]
         return found._replace(do=do, message=message)
 
     def _why(self, message: str, requests: bytes) -> Finding:
@@ -98,7 +100,18 @@ class Told:
             return self._why_request(request[2], int(request[1]), Text("requests", requests))
         if earlier:
             return self._why_request(earlier[1], int(earlier[2]), self._texts["before"])
-        return self._texts["paths"].fault or self._texts["before"].fault or general(self.asked, message)
+        found = self._texts["paths"].fault or self._texts["before"].fault
+        if UNREAD_STORE.fullmatch(message):
+            found = found or self._why_unread()
+        return found or general(self.asked, message)
+
+    def _why_unread(self) -> Optional[Finding]:
+        """The first disk of PATHS that can't be read where that says. Nobody is waited for who writes to a pipe."""
+        for disk, place in paths.places(self.listed, are_apart=False).items():
+            fault = None if pathlib.Path(place.path).is_fifo() else texts.read(place.path).fault
+            if fault:
+                return fault._replace(why="the disk %s: %s" % (disk, fault.why))
+        return None
 
     def _why_text(self, part: str, word: str, number: int, message: str) -> Finding:
         text = self._texts[part]
@@ -119,7 +132,9 @@ class Told:
             return Finding("FILE and DISKS stand the wrong way round: %s is %s" % (file, texts.DISKS),
                            [line(self.typed.command, form, disks, file)])
         if part == "disks":
-            do = ["a line is DISK LEN; make the list, as root:", table_texts.list_of(self._named(), "DISK ..")]
+            do = ["a line is DISK LEN; make the list, as root:", table_texts.list_of(self._named())]
+            if kind == texts.REQUESTS:
+                do += ["and give the requests on standard input:", line(self.typed.command, wanted, file, "disks", disks)]
             return Finding("%s is %s, and no list of disks" % (text.name, kind), do)
         if kind not in texts.FORM_OF:
             return texts.OF[kind]._replace(why="%s %s" % (text.name, texts.OF[kind].why))
@@ -158,20 +173,27 @@ class Told:
 
     def _why_disks_or_none(self) -> Finding:
         """DISKS is there with metadata, or isn't there."""
-        (wanted, file, disks), kind, named = self.typed.given, self._texts["source"].kind, self._named()
+        (wanted, file, disks), source, named = self.typed.given, self._texts["source"], self._named()
+        kind = source.kind
+        found = source.fault or (None if kind in texts.FORM_OF else self._why_kind("source", source))
+        if found:
+            return found
         form = texts.FORM_OF.get(kind, wanted)
         again = line(self.typed.command, form, file, "disks" if disks is None else disks)
         if form == "lvm" and disks is None:
             return Finding("%s is %s, which needs no DISKS, with another format" % (file, kind), [again])
         if form == "lvm":
-            return Finding("the physical volumes of metadata are the disks, so there is no DISKS with lvm", [again])
+            requests = disks if self._texts["disks"].kind == texts.REQUESTS else None
+            return Finding("the physical volumes of metadata are the disks, so there is no DISKS with lvm",
+                           ["requests are read from standard input:"] * bool(requests)
+                           + [line(self.typed.command, form, file, requests=requests)])
         if disks is not None:
             return Finding("%s is %s, and the format lvm is another" % (file, kind), [again])
         why = "DISKS is missing: the list of the disks with their lengths"
-        if any(re.fullmatch("[0-9]+:[0-9]+", it) for it in named):
+        if any(map(texts.NUMBERED.fullmatch, named)):
             do = ["as root, this makes both for a whole machine:", *texts.GET_MACHINE]
             return Finding(why + "; FILE names the kernel's numbers", do)
-        return Finding(why, ["make it, as root:", table_texts.list_of(named, "DISK .."), "and give it:", again])
+        return Finding(why, ["make it, as root:", table_texts.list_of(named), "and give it:", again])
 
     def _why_request(self, word: str, number: int, requests: Text) -> Finding:
         converted = requests.unpacked("the file with the requests", COPY)
@@ -216,7 +238,7 @@ def _why_request_form(row: str, words: List[str], loaded: stack.Stack) -> Findin
         return Finding("there are %d words, and not four" % len(words), [REQUEST])
     if words[0] not in OPERATIONS:
         return Finding("%s is no operation" % words[0], ["write %s" % words[0][0].upper() if is_clear else REQUEST])
-    name = names.of_path(words[1])
+    name = names.of_path(words[1] if words[1].startswith("/") else "/dev/" + words[1])
     if name != words[1] and any(it.name == name for it in loaded.devices):
         return Finding("a device is given by its name, without a path",
                        ["write %s:" % name, "  " + " ".join([words[0], name, *words[2:]])])

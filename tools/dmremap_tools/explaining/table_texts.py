@@ -2,20 +2,22 @@
 what mends it."""
 
 import difflib
+import os
 import re
 from typing import Dict, Iterator, List, Optional, Tuple
 
 from dmremap_tools.base import names, tables
 from dmremap_tools.base.quoting import for_shell
 from dmremap_tools.explaining.texts import (
-    GET_DISKS, GET_MACHINE, GET_TABLE, HOW_MANY, NUMBER, Finding, Place, Text, shell, why_no_device, why_no_disk,
-    why_no_number)
+    GET_DISKS, GET_MACHINE, GET_TABLE, HOW_MANY, NUMBER, NUMBERED, Finding, Place, Text, shell, why_no_device,
+    why_no_disk, why_no_number)
 
 FORMS = {"linear": "DEV OFFSET", "striped": "COLUMNS CHUNK DEV OFFSET ..", "zero": "", "error": "",
          "snapshot": "ORIGIN STORE KIND CHUNK", "snapshot-origin": "DEV"}
 END = ["list the device in DISKS with its length, and name it without %s: answers end at it then;" % names.MAPPER,
        "as root, this does so for a whole machine:", *GET_MACHINE]
 OTHER_NAME = ["write another name, in all places where it stands"]
+LENGTH = "blockdev --getsz %s"
 # Names that mean nothing else to sed.
 PLAIN = re.compile(r"[\w/-]+", re.A)
 # What commands make of lines that dmremap doesn't read.
@@ -184,9 +186,10 @@ class Tables:
         return next((line.found(at, *self._why_not_known(word)) for at, word in unknown), None)
 
     def _why_not_known(self, word: str) -> Tuple[str, List[str]]:
-        if word.replace(":", "", 1).isdigit() and ":" in word:
+        added = ["add it:", "  %s >> DISKS" % entry_of(word)]
+        if NUMBERED.fullmatch(word):
             return ("%s is the kernel's number of a device, and DISKS has none of this name" % word,
-                    ["as root, this puts names in place of the numbers of a whole machine:", *GET_MACHINE])
+                    [*added, "or put names in place of the numbers of a whole machine, as root:", *GET_MACHINE])
         name = names.of_path(word)
         if name in self._devices:
             why = "is a device of FILE, and no disk" if name == word else "is the device %s of FILE" % name
@@ -201,15 +204,14 @@ class Tables:
             do = ["write the same name in both", *changed * bool(PLAIN.fullmatch(other))]
             return "DISKS calls this disk %s" % other, do
         near = difflib.get_close_matches(word, self._disks, 3)
-        add = '  echo %s "$(blockdev --getsz %s)" >> DISKS' % (shell(word), shell(word))
-        return "DISKS has no disk %s" % word, ["near are: " + ", ".join(near)] * bool(near) + ["add it:", add]
+        return "DISKS has no disk %s" % word, ["near are: " + ", ".join(near)] * bool(near) + added
 
     def _why_range(self, line: Line) -> Optional[Finding]:
         for at, (lower, first, count) in zip(line.places(), line.spans()):
             end, length = first + (count or 0), self.length(lower)
             if end > (length or end):
                 why = "it goes on to sector %d of %s, which ends at %d" % (end, lower, length)
-                do = ["compare the length of %s:" % lower, "  blockdev --getsz %s" % shell(lower)]
+                do = ["compare the length of %s:" % lower, "  " + length_of(lower)]
                 return line.found(at, why, do, 2)
         return None
 
@@ -313,8 +315,8 @@ def why_disks(word: str, number: int, disks: Text, file: Text) -> Optional[Findi
     disk, _, length = place.text.partition(" ")
     of_disk, count = place._replace(end=len(disk)), len(place.text.split())
     anew = ["a line is DISK LEN, with a space between; make the list anew, as root:",
-            list_of(disks_named(file), "DISK")]
-    odd = "the line has %d words, and not two: DISK LEN" % count if count else "the line is empty"
+            list_of(disks_named(file))]
+    odd = "the line has %d word%s, and not two: DISK LEN" % (count, "s" * (count != 1)) if count else "the line is empty"
     first = next((it.number for it in disks.places() if it.text.split(" ")[0] == disk), 0)
     return word == "syntax" and _unended(disks, number) or {
         "syntax": Finding("there are more spaces than one, or some at the end" if count == 2 else odd, anew, place),
@@ -324,13 +326,29 @@ def why_disks(word: str, number: int, disks: Text, file: Text) -> Optional[Findi
                         ["write another name here, and in FILE"], of_disk),
         "twice": Finding("the disk is there before, at line %d" % first, ["delete one of the two"], of_disk),
         "empty": Finding("the disk has no sectors",
-                         ["take its length, as root:", "  blockdev --getsz %s" % shell(disk)], place),
+                         ["take its length, as root:", "  " + length_of(disk)], place),
     }.get(word)
 
 
-def list_of(disks: List[str], without: str) -> str:
+def list_of(disks: List[str]) -> str:
     """The command that lists some disks."""
-    return GET_DISKS % (" ".join(map(shell, disks[:8])) or without)
+    named = disks[:8]
+    if all(length_of(it) == LENGTH % shell(it) for it in named):
+        return GET_DISKS % (" ".join(map(shell, named)) or "DISK")
+    return "  { %s; } > disks" % "; ".join(map(entry_of, named))
+
+
+def entry_of(disk: str) -> str:
+    """The command that prints the line of DISKS for a disk."""
+    return 'echo %s "$(%s)"' % (shell(disk), length_of(disk))
+
+
+def length_of(disk: str) -> str:
+    """The command that prints the sectors of an image, or of a disk, which may be called as the kernel calls it: sda, or 8:0."""
+    if os.path.isfile(disk):
+        return "expr $(stat -Lc %%s %s) / 512" % shell(disk)
+    folder = "" if "/" in disk else "/dev/block/" if NUMBERED.fullmatch(disk) else "/dev/"
+    return LENGTH % shell(folder + disk)
 
 
 def disks_named(file: Text) -> List[str]:

@@ -46,6 +46,7 @@ _GROUP = re.compile(r'^\s*(physical_volumes\s*\{|contents\s*=\s*"Text Format Vol
 GET_TABLE = "  dmsetup table > tables"
 GET_GROUP = ["as root, take the metadata:", "  vgcfgbackup -f GROUP.backup GROUP"]
 GET_DISKS = '  for it in %s; do echo "$it $(blockdev --getsz "$it")"; done > disks'
+NUMBERED = re.compile("[0-9]+:[0-9]+")
 GET_MACHINE = ["  dmsetup ls > ls.txt; dmsetup status > status.txt; dmsetup table --concise > concise.txt",
                "  %s > lsblk.txt" % names.LSBLK_COMMAND,
                "  dmremap-tools machine --disks disks ls.txt status.txt lsblk.txt concise.txt > tables"]

@@ -32,7 +32,7 @@ from dmremap_tools.base.numbers import SECTOR
 from dmremap_tools.base.paths import Place
 from dmremap_tools.layouts import rescue_map
 from dmremap_tools.layouts.file_systems import NoSystem, Run, system_in
-from dmremap_tools.model.device import Image, joined, lacking
+from dmremap_tools.model.device import Image, joined, lacking, read_blocks
 from dmremap_tools.model.pile import Pile, Target
 
 EXAMPLE = "dmremap-tools lost vg0/home sda.img sdb.img --map sda.img=sda.map"
@@ -72,9 +72,9 @@ def place_of(target: Target) -> Optional[Place]:
 def copied(target: Target, path: str) -> Place:
     """A copy of a volume, with holes where it has zeros or lacks bytes."""
     with open(path, "wb") as file:
-        for at, extent in joined(target.device, 0, target.size):
+        for at, size, source, start, what in parts_of(joined(target.device, 0, target.size)):
             streams.show_progress(f"copying {target.name}: {at >> 20} of {target.size >> 20} MiB")
-            for size, content, _ in parts_of(extent):
+            for size, content, _ in () if what else read_blocks(source.load, start, start + size):
                 if content.strip(b"\0"):
                     file.seek(at)
                     file.write(content)

@@ -37,7 +37,7 @@ from dmremap_tools.model.owners import (Ground, Groups, Run, Step, all_of, chunk
 from dmremap_tools.model.pile import Pile
 
 EXAMPLE = "echo 'sda.img 12096 8' | dmremap-tools owner sda.img sdb.img"
-QUERY = re.compile(r"(.+?) ([0-9]+)(?: ([0-9]+))?")
+QUERY = re.compile(r"([^ ]+|.+?) ([0-9]+)(?: ([0-9]+))?")
 # A kernel's block layer counts in 512 bytes, whatever sectors the disk itself has.
 KERNEL_SECTOR = re.compile(r"\bdev ([!-+\--~]{1,255}), sector ([0-9]+)\b.*")
 UNMAPPED = "no map was given: only what the images lack counts as missing"

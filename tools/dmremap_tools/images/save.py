@@ -18,7 +18,7 @@ read at their names, or where --paths says. (If an image is called as a format i
 --fresh takes snapshots as new, with the sectors of their origins alone.
 
 If a disk has errors, read it into an image with ddrescue first, and give its map. To mount a file system in OUT, use
-`mount -o ro,loop,noload`; to take a file from it, `debugfs -R 'dump /FILE OUT' OUT`.
+`mount -o ro,loop`, with `noload` for ext3 and ext4 and `norecovery` for XFS; to take a file, `debugfs -R 'dump /FILE OUT' OUT`.
 """
 
 from argparse import ArgumentParser, Namespace

@@ -1,35 +1,48 @@
 """Serves a volume out of images as a disk, by nbdkit, until it is interrupted.
 
 Takes GROUP/VOLUME and images, as `save` does, with their maps of ddrescue. Prints the URI of the disk, and commands that copy it,
-check it, take a file from it and mount it. Nothing is ever written, neither to an image nor to the disk. A read of sectors that
-are missing or can't be read fails; every other one is answered.
+mount its file system if `scan` knows one, and end all of it; for ext2, ext3 and ext4, also those that check it and take a file
+from it. Nothing is ever written, neither to an image nor to the disk. A read of sectors that are missing or can't be read fails;
+every other one is answered. A SOCKET that an ended server left behind is replaced.
 
 Needs nbdkit with its plugin for Python. The commands need libnbd-bin (nbdcopy, nbdfuse), qemu-utils (qemu-img) and e2fsprogs.
 Mounting the file that nbdfuse shows takes root.
 """
 
+import contextlib
+import errno
 import os
 import shlex
 import shutil
+import socket
+import stat
 import subprocess
 import tempfile
 import time
 from argparse import ArgumentParser, Namespace
-from typing import List
+from typing import List, Optional
 
-from dmremap_tools.base import program, streams
+from dmremap_tools.base import program, quoting, streams
+from dmremap_tools.base.disk_image import mount_command
 from dmremap_tools.base.refusal import Refusal
 from dmremap_tools.layouts import rescue_map
+from dmremap_tools.model.groups import file_system_in
 from dmremap_tools.model.pile import Pile
 
 EXAMPLE = "dmremap-tools serve vg0/home sda.img sdb.img"
 # How long the server may take to begin, in steps of so many seconds.
 STEPS, STEP = 200, 0.05
-LINES = """copy it:    nbdcopy {uri} volume.img    (or: qemu-img convert -f raw -O raw {uri} volume.img)
-as a file:  mkdir disk; nbdfuse disk/volume.img {uri} &    (fusermount3 -u disk, or as root umount disk, ends it)
-check it:   e2fsck -fn disk/volume.img
-a file:     debugfs -R 'dump /PATH OUT' disk/volume.img
-mount it:   mount -o ro,loop,noload disk/volume.img /mnt    (as root; of XFS norecovery in place of noload)
+FILE = "disk/volume.img"
+COPY = f"""copy it:    nbdcopy {{uri}} volume.img    (or: qemu-img convert -f raw -O raw {{uri}} volume.img)
+as a file:  mkdir disk; nbdfuse {FILE} {{uri}} &
+"""
+CHECK = f"""check it:   e2fsck -fn {FILE}
+a file:     debugfs -R 'dump /PATH OUT' {FILE}
+"""
+MOUNT = """mount it:   {}    (as root)
+unmount it: umount /mnt    (as root)
+"""
+END = """end it:     fusermount3 -u disk    (as root: umount disk); kill {}    (or interrupt this command)
 """
 
 
@@ -56,22 +69,50 @@ def run(words: Namespace) -> None:
     maps = [f"map={os.path.abspath(image)}={os.path.abspath(path)}" for image, path in rescue_map.pairs(words.map, words.images)]
     given += [*maps, "map_of_other_length=1"] if words.map_of_other_length else maps
     with tempfile.TemporaryDirectory(prefix="dmremap-tools-") as folder:
-        socket = os.path.abspath(words.socket or os.path.join(folder, "socket"))
-        serve([nbdkit, "-f", "-r", "-U", socket, "python", plugin, *given], socket)
+        path = os.path.abspath(words.socket or os.path.join(folder, "socket"))
+        make_way(path)
+        command = [nbdkit, "-f", "-r", "--exit-with-parent", "-U", path, "python", plugin, *given]
+        serve(command, path, lines_of(path, file_system_in(target.device)))
 
 
-def serve(command: List[str], socket: str) -> None:
-    """Runs the server, whose Python finds these modules, until it ends, and says how to read once it listens."""
+def lines_of(path: str, system: Optional[str]) -> str:
+    """What may be typed while the server listens at a path, by the file system of the volume."""
+    uri, mount = shlex.quote(f"nbd+unix:///?socket={path}"), mount_command(system, FILE, "/mnt")
+    checked = CHECK if system in ("ext2", "ext3", "ext4") else ""
+    return f"{uri}\n{COPY.format(uri=uri)}{checked}{MOUNT.format(mount) if mount else ''}{END.format(os.getpid())}"
+
+
+def make_way(path: str) -> None:
+    """Removes a socket on which nobody listens any more. What else is there is refused."""
+    if not os.path.lexists(path):
+        return
+    if not stat.S_ISSOCK(os.lstat(path).st_mode):
+        raise Refusal(quoting.shown(path), "it is there already, and is no socket: give another --socket")
+    # By another type than that of servers, so that one which listens isn't disturbed.
+    with socket.socket(socket.AF_UNIX, socket.SOCK_DGRAM) as client:
+        try:
+            client.connect(path)
+        except ConnectionRefusedError:
+            os.unlink(path)
+            return
+        except OSError as fault:
+            if fault.errno != errno.EPROTOTYPE:
+                raise Refusal(quoting.shown(path), f"{streams.why(fault)}: give another --socket")
+    raise Refusal(quoting.shown(path), "another server listens there: end it, or give another --socket")
+
+
+def serve(command: List[str], path: str, lines: str) -> None:
+    """Runs the server, whose Python finds these modules, until it ends, and writes lines once it listens at a path."""
     package = os.path.dirname(os.path.dirname(os.path.dirname(os.path.abspath(__file__))))
-    child = subprocess.Popen(command, stdin=subprocess.DEVNULL, env={**os.environ, "PYTHONPATH": package})
+    child, is_listening = subprocess.Popen(command, stdin=subprocess.DEVNULL, env={**os.environ, "PYTHONPATH": package}), False
     try:
         for _ in range(STEPS):
-            if os.path.exists(socket) or child.poll() is not None:
+            if os.path.exists(path) or child.poll() is not None:
                 break
             time.sleep(STEP)
         if child.poll() is None:
-            uri = shlex.quote(f"nbd+unix:///?socket={socket}")
-            streams.out.write(f"{uri}\n" + LINES.format(uri=uri))
+            is_listening = os.path.exists(path)
+            streams.out.write(lines)
             streams.flush()
         if child.wait():
             raise Refusal("nbdkit", f"it ended with status {child.returncode}: see what it said above")
@@ -79,3 +120,6 @@ def serve(command: List[str], socket: str) -> None:
         if child.poll() is None:
             child.terminate()
             child.wait()
+        if is_listening:
+            with contextlib.suppress(FileNotFoundError):
+                os.unlink(path)

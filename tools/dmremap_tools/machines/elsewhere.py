@@ -7,8 +7,8 @@ disk, and nothing else, because that needs no device-mapper. FILE may be table t
 image of the disk after `#`.
 
 `losetup -r` makes a disk of an image that nothing writes to, and with -P also its partitions. A kernel reads from a snapshot's
-store which chunks it has, so such a snapshot shows its copies. Mount with `-o ro,noload`, so that ext4 doesn't replay its
-journal; for XFS it is `norecovery`.
+store which chunks it has, so such a snapshot shows its copies. Mount with `-o ro`, and `noload` for ext3 and ext4 or
+`norecovery` for XFS, so that no journal is replayed.
 
 Refuses a disk that has no path here, unless --missing is given, and a disk with a store if it would read as zeros.
 """

@@ -48,11 +48,11 @@ class Device:
 
     def extents(self, start: int, size: int) -> Iterator[Extent]:
         """Where these bytes lie, in their order. What is past its end is missing."""
-        inside = max(0, min(size, self.size - start))
-        if inside:
-            yield from self._extents(start, inside)
-        if inside < size:
-            yield Extent(Missing(self.ended()), 0, size - inside)
+        if 0 < size <= self.size - start:
+            return self._extents(start, size)
+        inside = max(0, self.size - start)
+        rest = [Extent(Missing(self.ended()), 0, size - inside)] if size else []
+        return itertools.chain(self._extents(start, inside) if inside and size else (), rest)
 
     def lack(self, start: int, size: int) -> Optional[str]:
         """Why some of these bytes aren't there, or None if all are."""
@@ -98,7 +98,7 @@ class Unread(Missing):
         self.image = image
 
 
-def ground(source: Device) -> Device:
+def holder(source: Device) -> Device:
     """Where the bytes of a source have their places: the image, if they weren't read from its disk."""
     return source.image if isinstance(source, Unread) else source
 
@@ -125,6 +125,9 @@ class Part(Device):
         return self.ended() if start + size > self.size else self.lower.lack(self.start + start, size)
 
     def _extents(self, start: int, size: int) -> Iterator[Extent]:
+        return self._around(start, size) if self.holes else self.lower.extents(self.start + start, size)
+
+    def _around(self, start: int, size: int) -> Iterator[Extent]:
         for begin, end, hole in cut(self.holes, start, start + size):
             if hole:
                 yield Extent(Missing(self._why), 0, end - begin)
@@ -269,8 +272,17 @@ class Image(Device):
         return f"{self.name} ends at byte {self.bytes}: give an image of the whole disk"
 
     def _extents(self, start: int, size: int) -> Iterator[Extent]:
-        for begin, end, run in cut(self._unread, start, start + size):
-            yield Extent(run[2] if run else self, begin, end - begin)
+        if not self._unread:
+            return iter([Extent(self, start, size)])
+        parts = cut(self._unread, start, start + size)
+        return (Extent(run[2] if run else self, begin, end - begin) for begin, end, run in parts)
+
+    def fill(self, start: int, views: Sequence[memoryview]) -> bool:
+        """Reads the bytes from one on into places, and says whether all of them could be read."""
+        try:
+            return os.preadv(self._file.file.fileno(), views, start) == sum(map(len, views))
+        except OSError:
+            return False
 
     def load(self, start: int, size: int) -> bytes:
         try:

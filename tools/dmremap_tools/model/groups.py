@@ -85,15 +85,20 @@ class Volume:
 
     @functools.cached_property
     def _file_system(self) -> Optional[str]:
-        try:
-            return file_system_of(Lenient(self._made))
-        except NoProgram:
-            raise
-        except Refusal:
-            return None
+        return file_system_in(self._made)
 
     def chunks_used(self) -> Optional[int]:
         return getattr(self._made, "chunks_used", None)
+
+
+def file_system_in(device: Device) -> Optional[str]:
+    """What begins a device, or None where nothing known does or its first bytes can't be given."""
+    try:
+        return file_system_of(Lenient(device))
+    except NoProgram:
+        raise
+    except Refusal:
+        return None
 
 
 class Group:

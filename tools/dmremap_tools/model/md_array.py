@@ -16,6 +16,7 @@ from dmremap_tools.model.md_superblock import Member, level_name
 MOST_CHUNK, MOST_MEMBERS = 1 << 21, 384
 START = "assemble it with mdadm --readonly"
 NO_CHUNK = "its members have no whole chunk: " + START
+NO_RULE = "no rule is known for parity of the layout {}: give the missing member"
 NONE_IN_SYNC = "of its members only {} is here, which is a spare, or was being filled: give the other members"
 APART = ("its members were written to apart from each other, as the superblocks of each side say that the other one "
          "failed: give the images of one side alone ({})")
@@ -163,7 +164,9 @@ class Array(md_chunks.Members):
         is_whole = self.is_tabled and not self.missing and not any(
             member.lack(0, length) for member in self._data if self.level not in ("linear", "raid0"))
         if self.level in md_chunks.PARITY and not is_whole:
-            return md_chunks.Rows(self.label, self, self._data, self.sectors * SECTOR, self._dirty)
+            # Of md's own layouts of raid6 only the usual one has a document of its parity; LVM's have one.
+            unknown = NO_RULE.format(self.layout) if self.level == "raid6" and self.layout != "left-symmetric" else None
+            return md_chunks.Rows(self.label, self, self._data, self.sectors * SECTOR, self._dirty, unknown)
         if self.level == "raid10" and not is_whole:
             return CopiedChunks(self, self._data, self._dirty)
         self.tables.add("array", list(self.lines()) or self.refuse(NO_CHUNK))

@@ -171,11 +171,14 @@ class Members(Shape):
 
 
 class Rows(Device):
-    """The data of an array with parity, of members that may be missing; in their `doubtful` runs parity may be old."""
+    """The data of an array with parity, of members that may be missing; in their `doubtful` runs parity may be old.
+    `unknown` says why nothing is computed from it at all."""
 
-    def __init__(self, name: str, shape: Shape, members: Sequence[Device], size: int, doubtful: Sequence[Run]) -> None:
+    def __init__(self, name: str, shape: Shape, members: Sequence[Device], size: int, doubtful: Sequence[Run],
+                 unknown: Optional[str] = None) -> None:
         super().__init__(name, size)
         self.shape, self.members, self.doubtful, self._chunk = shape, members, doubtful, shape.chunk * SECTOR
+        self.unknown = unknown
         # The data of each member, or what is computed in their place.
         pairs = ([member, Computed(self, role)] for role, member in enumerate(members))
         self._columns = [device.Copies(name, pair, ALL) for pair in pairs]
@@ -252,6 +255,8 @@ class Computed(Device):
         lacks = {role: why for role, why in whys if why is not None}
         if len(lacks) > self._shape.count - self._shape.data:
             raise Gap(self.name, quoting.some(list(lacks.values()), "; "))
+        if self._rows.unknown:
+            raise Gap(self.name, f"{lacks[self._role]}: {self._rows.unknown}")
         return list(lacks)
 
     def _solved(self, row: int, at: int, count: int) -> bytes:

@@ -3,6 +3,7 @@ or not."""
 
 import functools
 import itertools
+import operator
 from array import array
 from bisect import bisect_right
 from collections import namedtuple
@@ -12,7 +13,7 @@ from dmremap_tools.base.config_text import shown
 from dmremap_tools.base.numbers import SECTOR
 from dmremap_tools.base.refusal import Refusal
 from dmremap_tools.metadata.volume_group import Segment
-from dmremap_tools.model.device import ALL, ZEROS, Device, Gap, blocks_of, ground, joined
+from dmremap_tools.model.device import ALL, ZEROS, Device, Gap, blocks_of, holder, joined
 from dmremap_tools.model.groups import REMOVED, Group
 from dmremap_tools.model.layout import LOWER, Layout
 from dmremap_tools.model.mapping import INVALID_SNAPSHOT, NoProgram
@@ -38,6 +39,7 @@ Above = NamedTuple("Above", [("volume", bytes), ("segment", Segment), ("field", 
 # Sectors up to an end, the name of what has them, which of its own they begin with, where it counts them, and who has
 # these. Without a name nothing is said of them, as of an origin's that its snapshots read.
 Run = namedtuple("Run", "first end name sector above", defaults=("", None, None))
+FIRST = operator.itemgetter(0)
 # Who has sectors of a device, from the first one up to an end. What no run has goes no further up.
 Ground = Callable[[int, int], Iterable[Run]]
 # Sectors that go one way up: the first, how many, and each thing that has them, with which of its own they begin.
@@ -70,7 +72,9 @@ def ways_at_once(ground: Ground, first: int, end: int, depth: int = 0) -> Iterat
     """The same of so few sectors that their runs can be listed."""
     found = ground(first, end) if depth < DEEPEST else [Run(first, end, unknown("it lies on itself"))]
     runs = list(dict.fromkeys(found))
-    for run in sorted(runs + [Run(*gap) for gap in gaps(runs, first, end)], key=lambda run: run.first):
+    if len(runs) != 1 or runs[0][:2] != (first, end):
+        runs = sorted(runs + [Run(*gap) for gap in gaps(runs, first, end)], key=FIRST)
+    for run in runs:
         start, count = run.sector or 0, run.end - run.first
         above = run.above and ways_at_once(run.above, start, start + count, depth + bool(run.name))
         for way in above or [Way(start, count, ())]:
@@ -80,10 +84,11 @@ def ways_at_once(ground: Ground, first: int, end: int, depth: int = 0) -> Iterat
 
 def gaps(runs: Iterable[Run], first: int, end: int) -> Iterator[Tuple[int, int]]:
     """Those of some sectors that no run has."""
-    for run in sorted(runs, key=lambda run: run.first):
-        if first < min(run.first, end):
-            yield first, min(run.first, end)
-        first = max(first, run.end)
+    for begin, stop, *_ in sorted(runs, key=FIRST):
+        if first < begin and first < end:
+            yield first, min(begin, end)
+        if stop > first:
+            first = stop
     if first < end:
         yield first, end
 
@@ -102,7 +107,7 @@ def within(claims: Iterable[Run], first: int, end: int) -> Iterator[Run]:
         begin, stop = max(first, run.first), min(end, run.end)
         if begin < stop:
             sector = None if run.sector is None else run.sector + begin - run.first
-            yield run._replace(first=begin, end=stop, sector=sector)
+            yield Run(begin, stop, run.name, sector, run.above)
 
 
 def claimed(claims: Iterable[Run], rest: Ground) -> Ground:
@@ -159,6 +164,7 @@ class Stack:
         self._visible = set(side.visible())
         self._stores = {record.store for record in side.group.records}
         self._reading = functools.lru_cache(None)(lambda name: reading_of(side.volume(name)))
+        self._grounds = functools.lru_cache(None)(lambda name: [self._through(name, it) for it in self._above.get(name, ())])
         # Who has sectors of a volume, or of a physical volume.
         self.on: Callable[[bytes], Ground] = functools.lru_cache(None)(lambda name: functools.partial(self._runs, name))
         doubts = [doubt, None if self.extent > 0 else "the text says no size of extents"]
@@ -194,15 +200,15 @@ class Stack:
     def _runs(self, name: bytes, first: int, end: int) -> Iterator[Run]:
         if name in self._visible and name not in self._stores:
             yield Run(first, end)
-        for above in self._above.get(name, ()):
-            yield from self._through(name, above, first, end)
+        for ground in self._grounds(name):
+            yield from ground(first, end)
         for record in self.group.records:
             if name == record.store or name == record.origin and not record.is_merging:
                 upper = record.origin if record.is_merging else record.store
                 yield from self._read(upper or b"", name, first, end)
 
-    def _through(self, lower: bytes, above: Above, first: int, end: int) -> Iterator[Run]:
-        """Who has sectors of a volume by way of one that lies on it."""
+    def _through(self, lower: bytes, above: Above) -> Ground:
+        """Who has sectors of a volume by way of one that lies on it. What the text says of that is looked up once."""
         upper, segment, field, place, begin = above
         kind, columns, chunk = segment.kind or b"", len(segment.stripes), segment.stripe_size or 0
         leg, legs, is_leg = place // 2, len(segment.node.values(b"raids")) // 2, field == b"raids" and place % 2 == 1
@@ -213,28 +219,32 @@ class Stack:
         chunks = functools.partial(chunks_of, name=self.path(upper), above=self.on(upper), begin=begin, to=to,
                                    length=length)
         if field == b"stripes" and columns > 1 and not chunk:
-            yield Run(first, end, unknown(f"the text says no stripes of {self.path(upper)}"))
-        elif field in (b"stripes", b"mirrors") or is_leg and kind == b"raid1" or (field, kind) == INTEGRITY:
+            return all_of(unknown(f"the text says no stripes of {self.path(upper)}"))
+        if field in (b"stripes", b"mirrors") or is_leg and kind == b"raid1" or (field, kind) == INTEGRITY:
             if field != b"stripes" or columns == 1:
                 columns, chunk, place = 1, ALL, 0
-            first, end = max(first, begin), min(end, begin - -length // columns)
-            yield from chunks(first, end, chunk, lambda row: [row * columns + place])
-        elif numbers:
+            stop = begin - -length // columns
+            return lambda first, end: chunks(max(first, begin), min(end, stop), chunk, lambda row: [row * columns + place])
+        if numbers:
             parity = self._part("parity", upper)
-            yield from chunks(first, end, chunk, lambda row: [numbers(leg, row)], parity=parity)
-        elif field in (b"raids", b"raid0_lvs"):
-            yield Run(first, end, self._part("part" if is_leg else "superblock", upper))
-        elif field not in SNAPSHOT or kind.startswith(b"cache"):
-            # What a snapshot reads of its origin and of its store is found otherwise; a thin one reads its pool. Which
-            # thin or cached volumes may read this one: those of the pool whose data it is, or that it is the cache of.
-            pool = upper if field in POOL_DATA else lower if field in CACHE else b""
-            users = [other.volume for other in self._above.get(pool, ()) if other.field in (b"thin_pool", *CACHE)]
-            readers = dict.fromkeys([upper] if field == b"origin" else users)
+            return lambda first, end: chunks(first, end, chunk, lambda row: [numbers(leg, row)], parity=parity)
+        if field in (b"raids", b"raid0_lvs"):
+            return all_of(self._part("part" if is_leg else "superblock", upper))
+        if field in SNAPSHOT and not kind.startswith(b"cache"):
+            # What a snapshot reads of its origin and of its store is found otherwise; a thin one reads its pool.
+            return lambda first, end: ()
+        # Which thin or cached volumes may read this one: those of the pool whose data it is, or that it is the cache of.
+        pool = upper if field in POOL_DATA else lower if field in CACHE else b""
+        users = [other.volume for other in self._above.get(pool, ()) if other.field in (b"thin_pool", *CACHE)]
+        readers = dict.fromkeys([upper] if field == b"origin" else users)
+
+        def ground(first: int, end: int) -> Iterator[Run]:
             runs = [run for reader in readers for run in self._read(reader, lower, first, end)]
             yield from runs
             # Where nobody can be sure of a volume, it is told as well what is sure.
             for gap in gaps([run for run in runs if run.above], first, end):
                 yield Run(*gap, self._part(ROLES.get(field, "part"), upper))
+        return ground
 
     def _part(self, role: str, name: bytes) -> str:
         """What is a part of a volume, and which volumes that a user sees are above that."""
@@ -253,7 +263,7 @@ class Stack:
             why, sources = self._reading(upper)
             for at, extent in joined(self.side.plain(lower), first * SECTOR, (end - first) * SECTOR):
                 stop, moved = extent.start + extent.size, at - extent.start
-                starts, sizes, places = sources.get(ground(extent.source), ((), (), ()))
+                starts, sizes, places = sources.get(holder(extent.source), ((), (), ()))
                 for row in range(max(0, bisect_right(starts, extent.start) - 1), bisect_right(starts, stop - 1)):
                     begin, until = max(extent.start, starts[row]), min(stop, starts[row] + sizes[row])
                     if begin < until:
@@ -271,7 +281,7 @@ def reading_of(device: Device) -> Tuple[Optional[str], Dict[Device, List["array[
     """What a volume lacks, and where its bytes are read: the starts, the sizes and the places in it, by the sources."""
     lacks, rows = None, {}  # type: Optional[str], Dict[Device, List[Tuple[int, int, int]]]
     for at, extent in joined(device, 0, device.size):
-        source = ground(extent.source)
+        source = holder(extent.source)
         why = None if source is not extent.source else source.lack(extent.start, extent.size)
         lacks = lacks or why
         if why is None and source is not ZEROS:

@@ -478,7 +478,7 @@ def covers(device: Device, owners: Sequence[Superblock], table: Optional[Table],
 def table_in(device: Device, known: Optional[str]) -> Optional[Table]:
     """The partition table of a device, with these by their numbers. The backup of a GPT alone, without anything at the
     beginning that speaks of it, is one if nothing is known of the device itself, and an MBR, which has no sum, if then
-    or if something is in its partitions, with sectors of 512 or of 4096 bytes."""
+    or if something is in its partitions, even a table of another kind, with sectors of 512 or of 4096 bytes."""
     image = Lenient(device)
     try:
         found = [table_of(image) or (backup_of(image) if known is None else None)]
@@ -491,6 +491,7 @@ def table_in(device: Device, known: Optional[str]) -> Optional[Table]:
         for table in found if table]
     for table in tables:
         devices = {each.start: each for each in table.partitions.values()}.values()
-        if table.kind != "MBR" or any(known_in(each) or md_superblock.found_in(each)[0] for each in devices):
+        if table.kind != "MBR" or any(
+                known_in(each) or disk_image.other_table_of(Lenient(each)) or md_superblock.found_in(each)[0] for each in devices):
             return table
     return tables[0] if tables and known in (None, "lvm2") else None

@@ -94,7 +94,7 @@ length_push xs x i below = elim (cases_lt i (length xs)) [
   | inr more ↦ inr (let e : length (xs ++ x ∷ []) ≡ length xs + 1 = length-append xs (x ∷ []) in omega (arith, below, more, e))
 ]
 
-fits_put : (stack : Description) (state : State) (device : ℕ) (taken : Taken) → IsFitting stack state → device < length state
+pub fits_put : (stack : Description) (state : State) (device : ℕ) (taken : Taken) → IsFitting stack state → device < length state
     → ((number : ℕ) (snapshot : ResolvedSnapshot) → snapshot_at stack device ≡ Some snapshot → number < length taken.chunks → has_place stack snapshot number ≡ true) → IsFitting stack (put state device taken)
 fits_put stack state device taken fitting there each = record {
   count = length-set state device taken ∙ fitting.count;

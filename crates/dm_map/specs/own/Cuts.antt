@@ -17,7 +17,7 @@ use Rattle.dm_map.specs.walk.Steps.{Step, keep, and_then}
 
 -- Sectors without data
 
--- a sector of a disk that the store of a snapshot has, but for none of the chunks that the snapshot took: its list lies there, or nothing
+-- a sector of a disk that the store of a snapshot has, but for none of the chunks that the snapshot took: its list lies there, or nothing that is read
 pub record IsSpareSector (stack : Description) (state : State) (disk sector : ℕ) : Type 0 where
   pub device : ℕ
   pub snapshot : ResolvedSnapshot
@@ -33,7 +33,7 @@ HaveSameData stack state values others = (disk sector : ℕ) → (IsSpareSector 
 
 -- Chunks that are taken ahead
 
--- a chunk of a snapshot of the stack
+-- a chunk, with the snapshot that a device of the stack is; nothing says that it lies within it
 abbrev pub IsOfSnapshot : Description → Due → Type 0
 IsOfSnapshot stack one = snapshot_at stack one.device ≡ Some one.snapshot
 

@@ -1,4 +1,4 @@
--- Where stores keep their lists, and that no unit of a request of a top device goes there.
+-- Where stores keep their lists, and that no request of a top device writes or reads there.
 use Rattle.std.specs.Prelude.{◌≡◌, ℕ, ◌/◌, ◌<◌, true, Some}
 use Rattle.dm_table.specs.declared.requests.request.Op.{Op}
 use Rattle.dm_stack.specs.declared.id.Lower.TheVariants.{Device}

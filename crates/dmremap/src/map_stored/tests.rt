@@ -6,6 +6,7 @@ ghost use Rattle.std.specs.Prelude.{◌<◌};
 
 use super::*;
 use crate::job::TableForm;
+use dm_store::MemoryImages;
 use dm_table::{ShortIn, ShortOut};
 use std::process::Abort;
 
@@ -85,15 +86,19 @@ fn input(bytes: &[u8], step: usize, fails_after: Option<usize>) -> ShortIn<'_>
 fn check(rt: &impl Abort, alloc: Global, case: &Case<'_>, step: usize)
     requires { 0 < step }
 {
-    let mut earlier = input(case.earlier, step, case.fails_after);
+    let mut earlier = Some(input(case.earlier, step, case.fails_after));
     let mut written = ShortOut::new(alloc, step, 4096).expect(rt, "an output");
     let mut messages = ShortOut::new(alloc, step, 4096).expect(rt, "an output");
-    let status = map_after(
+    let mut paths: Option<ShortIn<'_>> = None;
+    let mut images = MemoryImages::new(&[], 0);
+    let status = map_stored(
         alloc,
         Format::Tables(TableForm::Table),
         false,
         &mut input(SOURCE, step, None),
         &mut Some(input(DISKS, step, None)),
+        &mut paths,
+        &mut images,
         &mut earlier,
         &mut input(b"R s 8 1\n", step, None),
         &mut written,
