@@ -499,8 +499,8 @@ def answer_of(read):
         return None, "%s: %s" % (type(fault).__name__, fault)
 
 
-# What the tools may refuse besides, which they say that they don't follow.
-NOT_FOLLOWED = re.compile("isn't followed")
+# What the tools may refuse besides: what they say that they don't follow, and what a disk whose text can't be read may have otherwise.
+NOT_FOLLOWED = re.compile("isn't followed|its current text can't be read")
 
 
 def differences(program, folder, number, only=None):
