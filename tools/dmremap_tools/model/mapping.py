@@ -25,7 +25,9 @@ from dmremap_tools.model.device import ZEROS, Device, Extent, Gap, Lenient, Miss
 WINDOW, MOST_WINDOWS = 1 << 15, 20
 # Devices that are loaded together, of which the program takes 1,024 with what they lie on, and programs that run.
 MOST_DEVICES, MOST_CHILDREN = 400, 16
-ANSWER = re.compile(r"([0-9]+) (?:R ([^ ]+) ([0-9]+)|(zero|error)) ([0-9]+)\n")
+ANSWER = re.compile(r"^([0-9]+) (?:R ([^ \n]+) ([0-9]+)|(zero|error)) ([0-9]+)$", re.M)
+# Bytes of an answer that are taken at a time.
+MOST_READ = 1 << 20
 READ, ZERO = "R", "zero"
 FILES = ("FILE", "DISKS", "PATHS")
 FAILS = "reads fail there, as the tables say"
@@ -166,13 +168,17 @@ class Child:
             self._fail()
         self._number += 1
         found: List[Piece] = []
+        text = b""
         while count > 0:
-            match = ANSWER.fullmatch(self._child.stdout.readline().decode())
-            if not match or int(match[1]) != self._number:
+            more = self._child.stdout.read1(MOST_READ)
+            whole, newline, text = (text + more).rpartition(b"\n")
+            rows = ANSWER.findall(whole.decode())
+            if not more or {row[0] for row in rows} - {str(self._number)} or len(rows) != whole.count(b"\n") + len(newline):
                 self._fail()
-            found.append(Piece(match[4] or READ, match[2], int(match[3] or 0), int(match[5])))
-            count -= found[-1].count
-        if count:
+            pieces = [Piece(what or READ, disk, int(start or 0), int(length)) for _, disk, start, what, length in rows]
+            found += pieces
+            count -= sum(piece.count for piece in pieces)
+        if count or text:
             self._fail()
         return found
 
