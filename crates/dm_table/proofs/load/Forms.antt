@@ -1,5 +1,5 @@
 -- A form of texts: a text passes all checks of its form exactly if it describes values, and it describes those that its rows say.
-use Rattle.std.proofs.Common.{◌≡◌, ℕ, suc, ◌<◌, Bool, true, false, not, List, [], ◌∷◌, ◌++◌, length, map, Option, Some, None, Result, refl, sym, ap, ◌∙◌, append_assoc, arith}
+use Rattle.std.proofs.Common.{◌≡◌, ℕ, suc, Bool, true, false, not, List, [], ◌∷◌, ◌++◌, map, Option, Some, None, Result, refl, sym, ap, ◌∙◌, append_assoc}
 use Rattle.std.specs.Global.{Vec}
 use Rattle.std.specs.List.{cons_option, AllByRecursion}
 use Rattle.std.specs.Option.{option_to_list}
@@ -8,11 +8,11 @@ use Rattle.std.proofs.lemmas.List.{append-nil}
 use Rattle.dm_table.specs.declared.load.place.Part.{Part}
 use Rattle.dm_table.specs.declared.load.load_fault.LoadKind.TheVariants.{NotText, Syntax, Field, Name}
 use Rattle.dm_table.specs.declared.load.load_fault.LoadFault.{LoadFault}
-use Rattle.dm_table.specs.words.Fields.{parts_at, all_but_last, last_or, lines_of, rest_of}
+use Rattle.dm_table.specs.words.Fields.{parts_at, lines_of, rest_of}
 use Rattle.dm_table.specs.load.LoadFault.{Answers, first_fault, untexts, unended, row_checks, unless}
 use Rattle.dm_table.specs.load.Parsed.{IsParsed}
 use Rattle.dm_table.specs.load.Reading.{SayEach, LinesSay, values_from, with_rows}
-use Rattle.dm_table.proofs.words.FieldLemmas.{some_parts}
+use Rattle.dm_table.proofs.words.FieldLemmas.{last_split, some_parts}
 use Rattle.dm_table.proofs.load.FaultLemmas.{first_fault-none, first_fault-all, faults_from-nil, faults_from-good, unended-nil}
 use Rattle.dm_table.proofs.load.Parsing.{parsed}
 use Rattle.dm_table.proofs.Lists.{all_append, all_front, append-nil_both}
@@ -134,14 +134,8 @@ says_none form law texts more values clear say =
 -- Texts of lines
 
 -- the parts of a text at newlines are its lines and its rest
-
-parts_ended : (parts : List (List ℕ)) → 0 < length parts → parts ≡ all_but_last parts ++ last_or [] parts ∷ []
-parts_ended [] some = absurd (omega (arith, some))
-parts_ended (part ∷ []) some = refl
-parts_ended (part ∷ next ∷ parts) some = ap (λ (ps : List (List ℕ)). part ∷ ps) (parts_ended (next ∷ parts) (omega arith))
-
 lines_and_rest : (text : List ℕ) → parts_at 10 text ≡ lines_of text ++ rest_of text ∷ []
-lines_and_rest text = parts_ended (parts_at 10 text) (some_parts 10 text)
+lines_and_rest text = last_split [] (parts_at 10 text) (some_parts 10 text)
 
 abbrev pub text_checks : {R X : Type 0} → Form R X → List ℕ → List (List LoadFault)
 text_checks form text = checks_of form (parts_at 10 text) (lines_of text) (rest_of text)

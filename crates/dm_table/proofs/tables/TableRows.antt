@@ -12,7 +12,7 @@ use Rattle.dm_table.specs.tables.LineReading.{line_in}
 use Rattle.dm_table.specs.tables.TableReading.{named_in}
 use Rattle.dm_table.proofs.words.ByteLemmas.{is_shown, list_all-weaker, list_all-both}
 use Rattle.dm_table.proofs.tables.TableFields.{place, with_label}
-use Rattle.dm_table.proofs.words.FieldLemmas.{parts_at-first, parts_at-clear, join-parts_at, all_but_last-push, last_or-push}
+use Rattle.dm_table.proofs.words.FieldLemmas.{parts_at-first, parts_at-clear, join-parts_at, all_but_last-push, last_or-push, last_split}
 use Rattle.dm_table.proofs.tables.BodyRows.{body_fields, body_joined, mapped, body_there, body_again, body_said, body_placed, is_ink, IsInked, ink_clear, ink_text, name_inked, body_inked, body_row_passes, body_passes, body_names_pass}
 use Rattle.dm_table.proofs.tables.BodyRows as body
 
@@ -49,16 +49,11 @@ space_joined f (g ∷ fs) = rw (space_joined g fs) (sym (append_assoc f (32 ∷ 
 
 -- From a row that the tests pass to its line
 
-last_split : (xs : List ℕ) → 0 < length xs → xs ≡ all_but_last xs ++ last_or 0 xs ∷ []
-last_split [] h = absurd (omega arith)
-last_split (x ∷ []) h = refl
-last_split (x ∷ y ∷ xs) h = rw (last_split (y ∷ xs) (omega arith))
-
 label_spelled : (label : List ℕ) → is_label label ≡ true → name_in label ++ 58 ∷ [] ≡ label
 label_spelled label h =
     let a = and_parts (nat_lt 1 (length label)) (eqb (last_or 0 label) 58) h in
     let long : 1 < length label = ltb-true 1 (length label) a.0 in
-    cc (eqb-true (last_or 0 label) 58 a.1, last_split label (omega arith))
+    cc (eqb-true (last_or 0 label) 58 a.1, last_split 0 label (omega arith))
 
 -- the line that a row says, where its values are valid
 pub row_there : (n : ℕ) (row : List (List ℕ)) → has_values row ≡ true → (named : NamedLine) × (named_in n row ≡ Some named)

@@ -9,7 +9,6 @@ use Rattle.dm_table.specs.words.Number.{number_of}
 use Rattle.dm_table.specs.words.Fields.{fields}
 use Rattle.dm_table.specs.declared.load.row_faults.RowFault.{RowFault}
 use Rattle.dm_table.specs.declared.load.row_faults.RowFault.TheVariants.{Syntax}
-use Rattle.dm_table.specs.load.RowFaults.{row_fault}
 use Rattle.dm_table.specs.load.LoadFault.{is_printable}
 use Rattle.dm_table.specs.load.Reading.{LinesSay, line_checks}
 use Rattle.dm_table.specs.tables.LineReading.{reading_of}
@@ -66,10 +65,6 @@ abbrev pub disk_checks : List ℕ → List (List LoadFault)
 disk_checks text = line_checks is_printable Disks fields is_pair has_sectors has_name text
 
 -- How rows are read, for the functions that the public call stands on
-
--- what is wrong with a row
-abbrev pub disk_fault : List (List ℕ) → Option RowFault
-disk_fault row = row_fault is_pair has_sectors has_name row
 
 -- what is read of a row, as line n
 abbrev pub disk_reading : ℕ → List (List ℕ) → Result Disk RowFault

@@ -11,7 +11,6 @@ use Rattle.dm_table.specs.declared.load.row_faults.RowFault.TheVariants.{Syntax}
 use Rattle.dm_table.specs.declared.tables.disk_path.DiskPath.{DiskPath}
 use Rattle.dm_table.specs.load.LoadFault.{first_fault, unless}
 use Rattle.dm_table.specs.load.Reading.{LinesSay, line_checks, values_from}
-use Rattle.dm_table.specs.load.RowFaults.{row_fault}
 use Rattle.dm_table.specs.tables.ConciseText.{lacks}
 use Rattle.dm_table.specs.tables.DiskList.{has_name, is_pair, pair_in}
 use Rattle.dm_table.specs.tables.LineReading.{reading_of}
@@ -90,10 +89,6 @@ unfoldable pub read_paths : List ℕ → Result (List DiskPath) LoadFault
 read_paths text = unless (first_fault (path_checks text)) (values_from path_in 1 (map name_and_path (lines_of text)))
 
 -- How rows are read, for the functions that the public call stands on
-
--- what is wrong with a row
-abbrev pub path_fault : List (List ℕ) → Option RowFault
-path_fault row = row_fault is_pair has_place has_name row
 
 -- what is read of a row, as line n
 abbrev pub path_reading : ℕ → List (List ℕ) → Result DiskPath RowFault
