@@ -74,9 +74,9 @@ with_label label line = record { name = name_in label; line = line }
 
 -- what is wrong with a row is what its tests say
 label_found : (n : ℕ) (label : List ℕ) (o : Option Body) → fault_in (reading_of has_line_names (option_map (with_label label) (option_map (line_at (place n)) o)))
-    ≡ first_failed true (is_some o) (is_device_name (name_in label) && unwrap_or (option_map (λ body. has_target_names body.len body.target) o) true)
+    ≡ first_failed true (is_some o) (is_device_name (name_in label) && unwrap_or (option_map (λ body. has_target_names body.target) o) true)
 label_found n label None = refl
-label_found n label (Some body) = elim (cases_Bool (is_device_name (name_in label) && has_target_names body.len body.target)) [
+label_found n label (Some body) = elim (cases_Bool (is_device_name (name_in label) && has_target_names body.target)) [
   | inl e ↦ rw e
   | inr e ↦ rw e
 ]
@@ -125,24 +125,24 @@ row_made n (f ∷ fs) d h l b =
 -- a fault of the body is that of the line
 pub named_fault : (name : List ℕ) (at : Place) (body : List (List ℕ)) (fault : RowFault) → body_reading at body ≡ Err fault → named_reading name at body ≡ Err fault
 named_fault name at body fault h =
-    made_fault (λ (line : Line). has_target_names line.len line.target) has_line_names (λ line. record { name = name; line = line }) (λ line unnamed. rw unnamed (and_false (is_device_name name))) (line_in at body) fault h
+    made_fault (λ (line : Line). has_target_names line.target) has_line_names (λ line. record { name = name; line = line }) (λ line unnamed. rw unnamed (and_false (is_device_name name))) (line_in at body) fault h
 
 -- a line is read where its body is and its name is valid
 pub named_line : (name : List ℕ) (at : Place) (body : List (List ℕ)) (line : Line) → is_device_name name ≡ true → body_reading at body ≡ Ok line → named_reading name at body ≡ Ok (record { name = name; line = line })
 named_line name at body line valid h =
-    let a = read_parts (λ (line : Line). has_target_names line.len line.target) (line_in at body) line h in
+    let a = read_parts (λ (line : Line). has_target_names line.target) (line_in at body) line h in
     rw (a.0, valid, a.1)
 
 pub named_unnamed : (name : List ℕ) (at : Place) (body : List (List ℕ)) (line : Line) → is_device_name name ≡ false → body_reading at body ≡ Ok line → named_reading name at body ≡ Err Name
 named_unnamed name at body line other h =
-    let a = read_parts (λ (line : Line). has_target_names line.len line.target) (line_in at body) line h in
+    let a = read_parts (λ (line : Line). has_target_names line.target) (line_in at body) line h in
     rw (a.0, other)
 
 -- a line that was read has the name under which it stands, and its place
-placed : (at : Place) (o : Option Body) (line : Line) → reading_of (λ (line : Line). has_target_names line.len line.target) (option_map (line_at at) o) ≡ Ok line → line.at ≡ at
+placed : (at : Place) (o : Option Body) (line : Line) → reading_of (λ (line : Line). has_target_names line.target) (option_map (line_at at) o) ≡ Ok line → line.at ≡ at
 placed at None line h = absurd cc
 placed at (Some body) line h =
-    let a = read_parts (λ (line : Line). has_target_names line.len line.target) (Some (line_at at body)) line h in
+    let a = read_parts (λ (line : Line). has_target_names line.target) (Some (line_at at body)) line h in
     let is : line_at at body ≡ line = cc in
     rw (← is)
 

@@ -13,7 +13,7 @@ use Rattle.dm_table.specs.tables.TableReading.{named_in}
 use Rattle.dm_table.proofs.words.ByteLemmas.{is_shown, list_all-weaker, list_all-both}
 use Rattle.dm_table.proofs.tables.TableFields.{place, with_label}
 use Rattle.dm_table.proofs.words.FieldLemmas.{parts_at-first, parts_at-clear, join-parts_at, all_but_last-push, last_or-push}
-use Rattle.dm_table.proofs.tables.BodyRows.{body_fields, body_joined, mapped, body_there, body_again, body_said, body_placed, is_ink, IsInked, ink_clear, ink_text, name_inked, body_inked, body_row_passes, body_passes, body_names_pass}
+use Rattle.dm_table.proofs.tables.BodyRows.{body_fields, mapped, body_there, body_again, body_said, body_placed, is_ink, IsInked, ink_clear, ink_text, name_inked, body_inked, body_row_passes, body_passes, body_names_pass}
 use Rattle.dm_table.proofs.tables.BodyRows as body
 
 -- The fields that a line is written with
@@ -25,7 +25,7 @@ abbrev pub row_for : NamedLine → List (List ℕ)
 row_for named = label_for named ∷ body_fields named.line
 
 pub line_joined : (named : NamedLine) → join_with_byte 32 (row_for named) ≡ line_text named
-line_joined named = body_joined (label_for named) named.line ∙ simp append_assoc
+line_joined named = simp append_assoc
 
 -- The last field, where a space ends the line
 

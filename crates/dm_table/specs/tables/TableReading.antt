@@ -68,7 +68,7 @@ table_row_fault row = row_fault is_row has_values has_names row
 
 -- the name of a line, and each in its target, is valid
 abbrev pub has_line_names : NamedLine → Bool
-has_line_names named = is_device_name named.name && has_target_names named.line.len named.line.target
+has_line_names named = is_device_name named.name && has_target_names named.line.target
 
 -- what is read of a body under this name
 abbrev pub named_reading : List ℕ → Place → List (List ℕ) → Result NamedLine RowFault

@@ -1,23 +1,14 @@
-use Rattle.std.proofs.Common.{ap, sym, ◌∙◌}
-use Rattle.dm_table.specs.tables.LineReading.{with_target}
-use Rattle.dm_table.proofs.tables.TargetRows.{target_origin, target_over}
+use Rattle.std.proofs.Common.{ℕ, true, refl, sym, ◌∙◌, rules}
+use Rattle.std.specs.Prelude.{◌&&◌}
+use Rattle.dm_table.specs.declared.tables.table.DevRef.{DevRef}
+use Rattle.dm_table.specs.declared.tables.table.Target.TheVariants.{Linear}
+use Rattle.dm_table.specs.tables.LineBody.{is_dev_ref, then_in, nothing_in, lower_in, has_target_names}
+use Rattle.dm_table.specs.words.Number.{number_of}
+use Rattle.dm_table.specs.words.Fields.{texts}
+use Rattle.dm_table.proofs.tables.TargetRows.{made_reading}
 use Rattle.dm_table.proofs.tables.line_body.read_target.Goals as goal
 
-pub returns-then-not-is_empty : goal.returns-then-not-is_empty
-returns-then-not-is_empty c = λ other.
-    ap (with_target _ _) (target_over _ c.args.target.now _ c.in-len1-up.len_at_least
-    (rw c.as_slice.ensures at (sym c.eq.ensures ∙ c.if-eq.false))
-    (rw c.as_slice-else-eq.ensures at (sym c.eq-else-eq.ensures ∙ c.if-eq-2.false))
-    (rw c.as_slice-else-eq-2.ensures at (sym c.eq-else-eq-2.ensures ∙ c.if-eq-3.false))
-    (rw c.as_slice-else-eq-3.ensures at (sym c.eq-else-eq-3.ensures ∙ c.if-eq-4.false))
-    (sym c.is_empty.ensures ∙ c.if-not-is_empty.true))
-
-pub returns-then-eq-4 : goal.returns-then-eq-4
-returns-then-eq-4 c =
-    rw
-    (target_origin _ c.args.target.now _ c.in-len1-up.len_at_least
-    (rw c.as_slice.ensures at (sym c.eq.ensures ∙ c.if-eq.false))
-    (rw c.as_slice-else-eq.ensures at (sym c.eq-else-eq.ensures ∙ c.if-eq-2.false))
-    (rw c.as_slice-else-eq-2.ensures at (sym c.eq-else-eq-2.ensures ∙ c.if-eq-3.false))
-    (rw c.as_slice-else-eq-3.ensures at (sym c.eq-else-eq-3.ensures ∙ c.if-eq-4.true)))
-    c.read_origin.ensures
+pub returns-then-eq : goal.returns-then-eq
+returns-then-eq c =
+    rw (rw c.as_slice.ensures at (sym c.eq.ensures ∙ c.if-eq.true), made_reading {X = DevRef × (ℕ × Unit {0})} (λ read. is_dev_ref read.0 && true) has_target_names (λ read. Linear read.0 read.1.0) (λ read. refl) (then_in lower_in (then_in number_of nothing_in) (texts c.args.arguments.now)))
+    (search rules)
