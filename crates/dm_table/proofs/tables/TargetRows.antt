@@ -13,7 +13,6 @@ use Rattle.dm_table.specs.declared.tables.table.Line.{Line}
 use Rattle.dm_table.specs.declared.load.place.Place.{Place}
 use Rattle.dm_table.specs.declared.load.row_faults.RowFault.{RowFault}
 use Rattle.dm_table.specs.declared.load.row_faults.RowFault.TheVariants.{Field, Name, Memory}
-use Rattle.dm_table.specs.load.RowFaults.{Reads}
 use Rattle.dm_table.specs.words.Number.{number_of}
 use Rattle.dm_table.specs.words.Fields.{texts}
 use Rattle.dm_table.specs.tables.LineBody.{is_dev_ref, dev_in, if_both, then_in, columns_in, is_count, striped_in, arguments_in, Body, has_target_names}
@@ -139,11 +138,6 @@ made_reading has_x has_y make same (Some x) = rw (same x) (elim (cases_Bool (has
   | inl e ↦ rw e
   | inr e ↦ rw e
 ])
-
-pub reads_target : {X : Type 0} (has_x : X → Bool) (make : X → Target) → ((x : X) → has_target_names (make x) ≡ has_x x) → (o : Option X) (r : Result X RowFault) → Reads (λ x. x) r (reading_of has_x o)
-    → Reads (λ target. target) (made_of make r) (reading_of has_target_names (option_map make o))
-reads_target has_x make same o (Ok x) h = rw (made_reading has_x has_target_names make same o, h)
-reads_target has_x make same o (Err fault) h = λ other. rw (made_reading has_x has_target_names make same o, h other)
 
 -- the columns and their chunk, after their number
 pub striped_said : (fs : List (Bor (List ℕ))) (d : Bor (List ℕ)) → 1 ≤ length fs → is_count (slice_index_or fs 0 d).now (length (take (length fs - 1) (drop 1 fs))) ≡ true

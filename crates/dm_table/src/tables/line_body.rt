@@ -10,7 +10,6 @@ ghost use Rattle.std.specs.List.{list_all};
 ghost use Rattle.dm_table.specs.words.Fields.{texts};
 ghost use Rattle.dm_table.specs.words.Name.{names_device, mapper};
 ghost use Rattle.dm_table.specs.words.Number.{number_of};
-ghost use Rattle.dm_table.specs.declared.tables.table.Target.TheVariants.{Striped};
 ghost use Rattle.dm_table.specs.tables.LineBody.{is_body_row, is_dev_ref, columns_in, is_count, then_in, nothing_in, lower_in, striped_in, has_target_names, kind_in};
 ghost use Rattle.dm_table.specs.tables.LineReading.{dev_reading, reading_of, both_read, has_column_names, columns_reading, fault_before, target_reading, body_reading, with_line};
 ghost use Rattle.dm_table.specs.load.RowFaults.{Reads};
@@ -114,18 +113,8 @@ fn read_striped(alloc: Global, arguments: &[&[u8]]) -> Result<Target, RowFault>
     if !is_count(*count, others.len()) {
         return Err(RowFault::Field);
     }
-    match Arguments::read_all(alloc, others) {
-        Ok(read) => Ok(striped_of(read)),
-        Err(fault) => Err(fault),
-    }
-}
-
-/// The target of a chunk and columns.
-fn striped_of(read: (u64, Columns)) -> Target
-    ensures { result ≡ Striped read.0 read.1 }
-{
-    let (chunk, columns) = read;
-    Target::Striped { chunk, columns }
+    Arguments::read_all(alloc, others)
+        .map(|(chunk, columns)| Target::Striped { chunk, columns })
 }
 
 /// What a field is read into.
