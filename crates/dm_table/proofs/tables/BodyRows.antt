@@ -189,11 +189,11 @@ no_word type fs target h = absurd cc
 target_says : (type : List ℕ) (fs : List (List ℕ)) (target : Target) → arguments_in type fs ≡ Some target → SaysTarget type fs target
 target_says type fs target h =
     by_word type (codes "linear") fs target _ _ (row_says (λ said. Linear said.0 said.1.0) (then_says lower_says (then_says number_says nothing_says)) (λ said. refl) fs target)
+    (by_word type (codes "zero") fs target _ _ (row_says (λ said. Zero) nothing_says (λ said. refl) fs target)
+    (by_word type (codes "error") fs target _ _ (row_says (λ said. Error) nothing_says (λ said. refl) fs target)
     (by_word type (codes "striped") fs target _ _ (striped_says fs target)
     (by_word type (codes "snapshot") fs target _ _ (row_says (λ said. Snapshot said.0 said.1.0 said.1.1.0 said.1.1.1.0) (then_says lower_says (then_says lower_says (then_says kind_says (then_says number_says nothing_says)))) (λ said. refl) fs target)
     (by_word type (codes "snapshot-origin") fs target _ _ (row_says (λ said. Origin said.0) (then_says lower_says nothing_says) (λ said. refl) fs target)
-    (by_word type (codes "zero") fs target _ _ (row_says (λ said. Zero) nothing_says (λ said. refl) fs target)
-    (by_word type (codes "error") fs target _ _ (row_says (λ said. Error) nothing_says (λ said. refl) fs target)
     (no_word type fs target)))))) h
 
 -- the line that fields say, where they are in order

@@ -1,5 +1,5 @@
 -- What is read of the slices that the code has in hand, field by field.
-use Rattle.std.proofs.Common.{◌≡◌, inl, inr, ℕ, ◌-◌, ◌<◌, ◌≤◌, Bool, true, false, eqb, ◌&&◌, List, [], ◌∷◌, ◌++◌, length, take, drop, slice_index_or, Option, Some, None, Result, Ok, Err, refl, sym, ap, ◌∙◌, append_assoc, arith}
+use Rattle.std.proofs.Common.{◌≡◌, ◌≢◌, inl, inr, ℕ, ◌-◌, ◌<◌, ◌≤◌, Bool, true, false, eqb, ◌&&◌, List, [], ◌∷◌, ◌++◌, length, take, drop, slice_index_or, Option, Some, None, Result, Ok, Err, refl, sym, ap, ◌∙◌, append_assoc, arith}
 use Rattle.std.specs.Prelude.{is_some, if◌then◌else◌}
 use Rattle.std.specs.Option.{option_map}
 use Rattle.std.proofs.lemmas.Bool.{cases_Bool}
@@ -8,15 +8,16 @@ use denote.Ref.{Bor}
 use Rattle.dm_table.specs.declared.tables.table.Column.{Column}
 use Rattle.dm_table.specs.declared.tables.table.DevRef.{DevRef}
 use Rattle.dm_table.specs.declared.tables.table.Target.{Target}
-use Rattle.dm_table.specs.declared.tables.table.Target.TheVariants.{Striped}
+use Rattle.dm_table.specs.declared.tables.table.Target.TheVariants.{Linear, Striped}
 use Rattle.dm_table.specs.declared.tables.table.Line.{Line}
+use Rattle.dm_table.specs.declared.tables.line_body.BodyHead.{BodyHead}
 use Rattle.dm_table.specs.declared.load.place.Place.{Place}
 use Rattle.dm_table.specs.declared.load.row_faults.RowFault.{RowFault}
 use Rattle.dm_table.specs.declared.load.row_faults.RowFault.TheVariants.{Field, Name, Memory}
 use Rattle.dm_table.specs.words.Number.{number_of}
 use Rattle.dm_table.specs.words.Fields.{texts}
-use Rattle.dm_table.specs.tables.LineBody.{is_dev_ref, dev_in, if_both, then_in, columns_in, is_count, striped_in, arguments_in, Body, has_target_names}
-use Rattle.dm_table.specs.tables.LineReading.{line_at, has_column_names, dev_reading, reading_of, columns_reading, fault_before, target_reading, body_reading, made_of}
+use Rattle.dm_table.specs.tables.LineBody.{is_dev_ref, dev_in, if_both, then_in, columns_in, is_count, linear_in, striped_in, arguments_in, Body, has_target_names}
+use Rattle.dm_table.specs.tables.LineReading.{line_at, has_column_names, dev_reading, reading_of, columns_reading, fault_before, target_reading, body_reading, made_of, line_of, with_line, with_target}
 
 -- What is read of a value
 
@@ -139,6 +140,26 @@ made_reading has_x has_y make same (Some x) = rw (same x) (elim (cases_Bool (has
   | inr e ↦ rw e
 ])
 
+-- the arguments of a linear line
+pub linear_none : (fs : List (Bor (List ℕ))) → length fs ≢ 2 → reading_of has_target_names (linear_in (texts fs)) ≡ Err Field
+linear_none [] h = refl
+linear_none (f ∷ []) h = refl
+linear_none (f ∷ g ∷ []) h = absurd (h refl)
+linear_none (f ∷ g ∷ k ∷ fs) h = long (number_of g.now) where
+  long : (o : Option ℕ) → reading_of has_target_names (option_map (λ (said : DevRef × (ℕ × Unit {0})). Linear said.0 said.1.0) (if_both (λ x y. (x, y)) (Some (dev_in f.now)) (if_both (λ x y. (x, y)) o None))) ≡ Err Field
+  long None = refl
+  long (Some n) = refl
+
+pub linear_made : (fs : List (Bor (List ℕ))) (d : Bor (List ℕ)) (offset : ℕ) → length fs ≡ 2 → number_of (slice_index_or fs 1 d).now ≡ Some offset
+    → reading_of has_target_names (linear_in (texts fs)) ≡ made_of (λ to. Linear to offset) (dev_reading (slice_index_or fs 0 d).now)
+linear_made [] d offset h n = absurd (omega arith)
+linear_made (f ∷ []) d offset h n = absurd (omega arith)
+linear_made (f ∷ g ∷ []) d offset h n = rw n (elim (cases_Bool (is_dev_ref (dev_in f.now))) [
+  | inl k ↦ rw k
+  | inr k ↦ rw k
+])
+linear_made (f ∷ g ∷ k ∷ fs) d offset h n = absurd (omega arith)
+
 -- the columns and their chunk, after their number
 pub striped_said : (fs : List (Bor (List ℕ))) (d : Bor (List ℕ)) → 1 ≤ length fs → is_count (slice_index_or fs 0 d).now (length (take (length fs - 1) (drop 1 fs))) ≡ true
     → striped_in (texts fs) ≡ option_map (λ said. Striped said.0 said.1) (then_in number_of columns_in (texts (take (length fs - 1) (drop 1 fs))))
@@ -171,10 +192,10 @@ read_parts {X} has_names (Some other) x h = elim (cases_Bool (has_names other)) 
 ]
 
 -- the line of a target that was read, or its fault
-target_made : (head : ℕ × ℕ) (at : Place) (o : Option Target) → reading_of (λ (line : Line). has_target_names line.target) (option_map (λ target. record { start = head.0; len = head.1; target = target; at = at }) o)
-    ≡ made_of (λ target. record { start = head.0; len = head.1; target = target; at = at }) (reading_of has_target_names o)
-target_made head at None = refl
-target_made head at (Some target) = elim (cases_Bool (has_target_names target)) [
+line_made : (lines : List Line) (head : BodyHead) (o : Option Target)
+    → with_line lines (reading_of (λ (line : Line). has_target_names line.target) (option_map (line_of head) o)) ≡ with_target lines head (reading_of has_target_names o)
+line_made lines head None = refl
+line_made lines head (Some target) = elim (cases_Bool (has_target_names target)) [
   | inl e ↦ rw e
   | inr e ↦ rw e
 ]
@@ -184,13 +205,13 @@ headed : (at : Place) (start len : ℕ) (o : Option Target) → option_map (line
 headed at start len None = refl
 headed at start len (Some target) = refl
 
-pub body_made : (at : Place) (fs : List (Bor (List ℕ))) (d e k : Bor (List ℕ)) (start len : ℕ) → 3 ≤ length fs → number_of (slice_index_or fs 0 d).now ≡ Some start → number_of (slice_index_or fs 1 e).now ≡ Some len
-    → body_reading at (texts fs) ≡ made_of (λ target. record { start = start; len = len; target = target; at = at }) (target_reading (slice_index_or fs 2 k).now (texts (take (length fs - 3) (drop 3 fs))))
-body_made at [] d e k start len h n m = absurd (omega arith)
-body_made at (f ∷ []) d e k start len h n m = absurd (omega arith)
-body_made at (f ∷ g ∷ []) d e k start len h n m = absurd (omega arith)
-body_made at (f ∷ g ∷ i ∷ fs) d e k start len h n m =
-    rw (n, m, take_rest) (ap (reading_of (λ (line : Line). has_target_names line.target)) (headed at start len (arguments_in i.now (texts fs))) ∙ target_made (start, len) at (arguments_in i.now (texts fs)))
+pub body_made : (lines : List Line) (at : Place) (fs : List (Bor (List ℕ))) (d : Bor (List ℕ)) (start len : ℕ) → 3 ≤ length fs → number_of (slice_index_or fs 0 d).now ≡ Some start → number_of (slice_index_or fs 1 d).now ≡ Some len
+    → with_line lines (body_reading at (texts fs)) ≡ with_target lines (record { start = start; len = len; at = at }) (target_reading (slice_index_or fs 2 d).now (texts (take (length fs - 3) (drop 3 fs))))
+body_made lines at [] d start len h n m = absurd (omega arith)
+body_made lines at (f ∷ []) d start len h n m = absurd (omega arith)
+body_made lines at (f ∷ g ∷ []) d start len h n m = absurd (omega arith)
+body_made lines at (f ∷ g ∷ i ∷ fs) d start len h n m =
+    rw (n, m, take_rest) (ap (λ said. with_line lines (reading_of (λ (line : Line). has_target_names line.target) said)) (headed at start len (arguments_in i.now (texts fs))) ∙ line_made lines (record { start = start; len = len; at = at }) (arguments_in i.now (texts fs)))
 
 no_line : (at : Place) (o p : Option ℕ) → reading_of (λ (line : Line). has_target_names line.target) (option_map (line_at at) (option_map (λ (said : ℕ × (ℕ × Target)). let body : Body = record { start = said.0; len = said.1.0; target = said.1.1 } in body) (if_both (λ x y. (x, y)) o (if_both (λ x y. (x, y)) p None)))) ≡ Err Field
 no_line at None p = refl

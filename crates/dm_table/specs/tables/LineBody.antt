@@ -149,17 +149,26 @@ kind_in flag =
     else (if pointwise nat_eq flag (codes "N") then Some Transient
     else (if pointwise nat_eq flag (codes "K") then Some Keeping else None))
 
--- a target of this type, by its arguments
-abbrev pub arguments_in : (type : List ℕ) → List (List ℕ) → Option Target
-arguments_in type fields =
-    if pointwise nat_eq type (codes "linear") then option_map (λ said. Linear said.0 said.1.0) (then_in lower_in (then_in number_of nothing_in) fields)
-    else (if pointwise nat_eq type (codes "striped") then striped_in fields
+-- a device and a number
+abbrev pub linear_in : List (List ℕ) → Option Target
+linear_in fields = option_map (λ said. Linear said.0 said.1.0) (then_in lower_in (then_in number_of nothing_in) fields)
+
+-- a target of a type that few lines have, by its arguments
+abbrev pub other_in : (type : List ℕ) → List (List ℕ) → Option Target
+other_in type fields =
+    if pointwise nat_eq type (codes "striped") then striped_in fields
     else (if pointwise nat_eq type (codes "snapshot")
     then option_map (λ said. Snapshot said.0 said.1.0 said.1.1.0 said.1.1.1.0) (then_in lower_in (then_in lower_in (then_in kind_in (then_in number_of nothing_in))) fields)
     else (if pointwise nat_eq type (codes "snapshot-origin") then option_map (λ said. Origin said.0) (then_in lower_in nothing_in fields)
+    else None))
+
+-- a target of this type, by its arguments
+abbrev pub arguments_in : (type : List ℕ) → List (List ℕ) → Option Target
+arguments_in type fields =
+    if pointwise nat_eq type (codes "linear") then linear_in fields
     else (if pointwise nat_eq type (codes "zero") then option_map (λ said. Zero) (nothing_in fields)
     else (if pointwise nat_eq type (codes "error") then option_map (λ said. Error) (nothing_in fields)
-    else None)))))
+    else other_in type fields))
 
 -- a target type and its arguments
 abbrev pub target_in : List (List ℕ) → Option Target

@@ -6,6 +6,7 @@ use Rattle.dm_table.specs.declared.tables.table.DevRef.{DevRef}
 use Rattle.dm_table.specs.declared.tables.table.Column.{Column}
 use Rattle.dm_table.specs.declared.tables.table.Target.{Target}
 use Rattle.dm_table.specs.declared.tables.table.Line.{Line}
+use Rattle.dm_table.specs.declared.tables.line_body.BodyHead.{BodyHead}
 use Rattle.dm_table.specs.declared.load.place.Place.{Place}
 use Rattle.dm_table.specs.declared.load.row_faults.RowFault.{RowFault}
 use Rattle.dm_table.specs.declared.load.row_faults.RowFault.TheVariants.{Syntax, Field, Name, Memory}
@@ -71,3 +72,11 @@ made_of make (Err fault) = Err fault
 -- these lines and the one that is read
 abbrev pub with_line : List Line → Result Line RowFault → Result (List Line) RowFault
 with_line lines = made_of (λ line. lines ++ line ∷ [])
+
+-- the line of a target
+abbrev pub line_of : BodyHead → Target → Line
+line_of head target = record { start = head.start; len = head.len; target = target; at = head.at }
+
+-- these lines and that of the target that is read
+abbrev pub with_target : List Line → BodyHead → Result Target RowFault → Result (List Line) RowFault
+with_target lines head = made_of (λ target. lines ++ line_of head target ∷ [])

@@ -2,16 +2,16 @@
 //!
 //! Each form of a table labels such bodies in its own way, and hands their fields over. They are read
 //! once into a line: what isn't one is refused as it is met. A new target type is an arm in
-//! `read_target`. In `specs/tables/LineBody.antt` it is an arm in `target_row` and one in `arguments_in`.
+//! `read_target`. In `specs/tables/LineBody.antt` it is an arm in `target_row` and one in `other_in`.
 //! What it names is an arm of `target_spans`, in `specs/tables/Span.antt`.
 
-ghost use Rattle.std.specs.Prelude.{◌≡◌, ◌&&◌, ℕ, Bool, List, Option, true, false, length, drop, is_some, nat_lt, MatchOption};
+ghost use Rattle.std.specs.Prelude.{◌≡◌, ◌++◌, ◌∷◌, ◌&&◌, [], ℕ, Bool, List, Option, Ok, true, false, length, drop, is_some, nat_lt, MatchOption};
 ghost use Rattle.std.specs.List.{list_all};
 ghost use Rattle.dm_table.specs.words.Fields.{texts};
 ghost use Rattle.dm_table.specs.words.Name.{names_device, mapper};
 ghost use Rattle.dm_table.specs.words.Number.{number_of};
-ghost use Rattle.dm_table.specs.tables.LineBody.{is_body_row, is_dev_ref, columns_in, is_count, then_in, nothing_in, lower_in, striped_in, has_target_names, kind_in};
-ghost use Rattle.dm_table.specs.tables.LineReading.{dev_reading, reading_of, both_read, has_column_names, columns_reading, fault_before, target_reading, body_reading, with_line};
+ghost use Rattle.dm_table.specs.tables.LineBody.{is_body_row, is_dev_ref, columns_in, is_count, then_in, nothing_in, lower_in, linear_in, striped_in, other_in, has_target_names, kind_in};
+ghost use Rattle.dm_table.specs.tables.LineReading.{dev_reading, reading_of, both_read, has_column_names, columns_reading, fault_before, target_reading, body_reading, line_of, with_line, with_target};
 ghost use Rattle.dm_table.specs.load.RowFaults.{Reads};
 
 use crate::load::place::Place;
@@ -42,6 +42,33 @@ fn are_filled(fields: &[&[u8]]) -> bool
     true
 }
 
+/// What stands before the target of a line, and the place of the line.
+#[derive(Clone, Copy)]
+pub(crate) struct BodyHead {
+    pub start: u64,
+    pub len: u64,
+    pub at: Place,
+}
+
+impl BodyHead {
+    /// Adds the line of a target to the lines. It is made where it stays.
+    #[inline(always)]
+    fn push(&self, alloc: Global, lines: &mut Table, target: Target) -> Result<(), RowFault>
+        ensures { Reads (λ done. lines.new) result (Ok (lines.old ++ line_of self.now target ∷ [])) }
+    {
+        lines.push(
+            alloc,
+            Line {
+                start: self.start,
+                len: self.len,
+                target,
+                at: self.at,
+            },
+        )?;
+        Ok(())
+    }
+}
+
 /// Adds the line of a body, at its place, to the lines. Of its faults, `Field` takes precedence over `Name`.
 pub(crate) fn read_body(
     alloc: Global,
@@ -60,28 +87,66 @@ pub(crate) fn read_body(
     let Some(len) = number(*len) else {
         return Err(RowFault::Field);
     };
-    let target = read_target(alloc, *kind, arguments)?;
-    let line = Line {
-        start,
-        len,
-        target,
-        at,
-    };
-    lines.push(alloc, line)?;
-    Ok(())
+    read_typed(alloc, lines, &BodyHead { start, len, at }, *kind, arguments)
 }
 
-/// The target of a type and its arguments.
-#[inline(always)]
-fn read_target(alloc: Global, kind: &[u8], arguments: &[&[u8]]) -> Result<Target, RowFault>
-    ensures { Reads (λ target. target) result (target_reading kind.now (texts arguments.now)) }
+/// Adds the line of a type and its arguments. The targets that most lines have are made where they stay.
+fn read_typed(
+    alloc: Global,
+    lines: &mut Table,
+    head: &BodyHead,
+    kind: &[u8],
+    arguments: &[&[u8]],
+) -> Result<(), RowFault>
+    ensures { Reads (λ done. lines.new) result
+        (with_target lines.old head.now (target_reading kind.now (texts arguments.now))) }
 {
     if kind == b"linear".as_slice() {
-        Arguments::read_all(alloc, arguments).map(|(to, (offset, ()))| Target::Linear {
-            to,
-            offset,
-        })
-    } else if kind == b"striped".as_slice() {
+        read_linear(alloc, lines, head, arguments)
+    } else if kind == b"zero".as_slice() {
+        if !arguments.is_empty() {
+            return Err(RowFault::Field);
+        }
+        head.push(alloc, lines, Target::Zero)
+    } else if kind == b"error".as_slice() {
+        if !arguments.is_empty() {
+            return Err(RowFault::Field);
+        }
+        head.push(alloc, lines, Target::Error)
+    } else {
+        match read_target(alloc, kind, arguments) {
+            Ok(target) => head.push(alloc, lines, target),
+            Err(fault) => Err(fault),
+        }
+    }
+}
+
+/// Adds the line whose target the arguments of a linear line say.
+fn read_linear(
+    alloc: Global,
+    lines: &mut Table,
+    head: &BodyHead,
+    arguments: &[&[u8]],
+) -> Result<(), RowFault>
+    ensures { Reads (λ done. lines.new) result
+        (with_target lines.old head.now (reading_of has_target_names (linear_in (texts arguments.now)))) }
+{
+    let [to, offset] = arguments else {
+        return Err(RowFault::Field);
+    };
+    let Some(offset) = number(*offset) else {
+        return Err(RowFault::Field);
+    };
+    let to = read_dev(alloc, *to)?;
+    head.push(alloc, lines, Target::Linear { to, offset })
+}
+
+/// The target of a type with more arguments than a linear line, or fewer, and its arguments.
+fn read_target(alloc: Global, kind: &[u8], arguments: &[&[u8]]) -> Result<Target, RowFault>
+    ensures { Reads (λ target. target) result
+        (reading_of has_target_names (other_in kind.now (texts arguments.now))) }
+{
+    if kind == b"striped".as_slice() {
         read_striped(alloc, arguments)
     } else if kind == b"snapshot".as_slice() {
         Arguments::read_all(alloc, arguments).map(|(origin, (store, (kind, (chunk, ()))))| {
@@ -94,10 +159,6 @@ fn read_target(alloc: Global, kind: &[u8], arguments: &[&[u8]]) -> Result<Target
         })
     } else if kind == b"snapshot-origin".as_slice() {
         Arguments::read_all(alloc, arguments).map(|(origin, ())| Target::Origin { origin })
-    } else if kind == b"zero".as_slice() {
-        Arguments::read_all(alloc, arguments).map(|()| Target::Zero)
-    } else if kind == b"error".as_slice() {
-        Arguments::read_all(alloc, arguments).map(|()| Target::Error)
     } else {
         Err(RowFault::Field)
     }
@@ -113,8 +174,7 @@ fn read_striped(alloc: Global, arguments: &[&[u8]]) -> Result<Target, RowFault>
     if !is_count(*count, others.len()) {
         return Err(RowFault::Field);
     }
-    Arguments::read_all(alloc, others)
-        .map(|(chunk, columns)| Target::Striped { chunk, columns })
+    Arguments::read_all(alloc, others).map(|(chunk, columns)| Target::Striped { chunk, columns })
 }
 
 /// What a field is read into.
