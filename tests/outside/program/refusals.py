@@ -22,7 +22,7 @@ OURS = "a function whose only error is that of a growth"
 # was a refused growth.
 PLACES = {
     ("dm_map/pieces/piece_list", "piece", "self.pieces.push(piece), at Err(_)"): STD,
-    ("dm_map/state/trie_taken", "with_places", "count > 1 << 23"):
+    ("dm_map/state/trie_taken", "for_chunks", "count > 1 << 23"):
         "none: so many places are refused as too much memory (docs/DECISIONS.md); a load allows 4,194,304",
     ("dm_replay/playback", "play_front", "mapper.request(request, device, &mut halting), at Err(_)"):
         "where the sink did not stop at the last unit asked for, its error is that of a growth",

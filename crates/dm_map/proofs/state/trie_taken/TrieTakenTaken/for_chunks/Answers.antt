@@ -5,7 +5,7 @@ use Rattle.std.proofs.lemmas.List.{length-replicate}
 use Rattle.std.proofs.lemmas.Nat.{pow_pos}
 use Rattle.dm_map.specs.declared.state.trie_taken.link.Node.TheVariants.{Empty}
 use Rattle.dm_map.proofs.state.TrieLemmas.{no_trie, none_own}
-use Rattle.dm_map.proofs.state.trie_taken.TrieTakenTaken.with_places.Goals as goal
+use Rattle.dm_map.proofs.state.trie_taken.TrieTakenTaken.for_chunks.Goals as goal
 
 pub invariant_of-result : goal.invariant_of-result
 unfolding IsDistinct
