@@ -161,7 +161,8 @@ def check_touched_memory(tally, program):
             tally.same("ten writes to a store of %d places" % places, got, 0, answers)
             touched.append(size)
         ratio = touched[1] / touched[0]
-        tally.holds("the memory that they touch", ratio < MOST_TOUCHED, "it is %.2f times that for %d places" % (ratio, chunks))
+        tally.holds("the memory that they touch", ratio < MOST_TOUCHED,
+                    "it is %.2f times that for %d places" % (ratio, chunks))
 
 
 def check_loaded_memory(tally, program):
