@@ -33,7 +33,7 @@ COMMANDS: List[Command] = [
     Command("cut", "requests", "from requests that are longer than dmremap takes, or count in bytes", True),
     Command("machine", "machines", "of a machine with device-mapper devices", True),
     Command("elsewhere", "machines", "for dmsetup, where disks have other paths, with all devices read-only", True),
-    Command("thin", "machines", "thin or cached devices, from what thin_dump or cache_dump prints", True),
+    Command("thin", "machines", "thin or cached devices, from the metadata of their pool or cache", True),
     Command("btrfs", "machines", "the addresses of a btrfs file system as a device", True),
     Command("metadata", "metadata", "the text of a group, from the head of a physical volume"),
     Command("lvm2-text", "metadata", "a copy of lvm2's metadata that dmremap reads"),

@@ -639,10 +639,11 @@ def node(number, pairs, is_leaf=True):
     return block(number, 121107, head + keys + struct.pack("<%dQ" % len(pairs), *(value for _, value in pairs)))
 
 
-def pool_superblock(chunk):
-    """The superblock of a thin pool, whose tree of devices is in block 1, and that of their details in block 2."""
-    fields = 0, 0, b"", 27022010, 2, 0, 1, 0, b"", b"", 1, 2, chunk, 8, 8, 0, 0, 0
-    return block(0, 160774, struct.pack("<LQ16sQLLQQ128s128sQQLLQLLL", *fields)[:4092])
+def pool_superblock(chunk, blocks=0, held=0, number=0, root=1):
+    """The superblock of a thin pool with so many blocks of data, whose tree of devices is in block 1, and that of their details in
+    block 2; or a copy of it in another block, which is held."""
+    fields = 0, 0, b"", 27022010, 2, 0, 1, held, struct.pack("<Q", blocks), b"", root, 2, chunk, 8, 8, 0, 0, 0
+    return block(number, 160774, struct.pack("<LQ16sQLLQQ128s128sQQLLQLLL", *fields)[:4092])
 
 
 def cache_metadata(chunk, entries):

@@ -32,7 +32,7 @@ CALLS = {
     "extents": ["--program", "./dmremap", "vol", "table", "image.table", "image.disks"],
     "store": ["--program", "./dmremap", "--fresh", "--requests", "writes", "table", "snap.table", "snap.disks"],
     "md": ["--name", "md0", "raid1.txt"],
-    "thin": ["--data", "tdata", "--device", "1", "vg0-thin1", "4000", "thin.xml"],
+    "thin": ["--data", "tdata", "--device", "1", "vg0-thin1", "4000", "thin.meta"],
     "btrfs": ["--name", "fs", "--device", "1", "/dev/sda", "--device", "2", "/dev/sdb", "chunks.txt"],
     "picture": ["spans"],
 }
@@ -48,7 +48,7 @@ WAYS = [
     ("spans", ["--align", "--to", "4096", "stack.disks", "stack.table"]),
     ("tree", ["--dot", "stack.table"]),
     ("store", ["--size", "writes"]),
-    ("thin", ["--cache", "cdata", "--origin", "corig", "--name", "home", "--sectors", "1000", "cache.xml"]),
+    ("thin", ["--cache", "cdata", "--origin", "corig", "--name", "home", "--sectors", "1000", "cache.meta"]),
 ]
 # What is made beside the samples.
 MADE = {
@@ -170,8 +170,8 @@ def check_cuts(tally, top, folder, command, words):
 
 
 def check_standard_input(tally, top, folder, command, called):
-    """Each input from standard input gives the same, and what is said of it calls it that."""
-    for place, name in inputs_of(called, folder):
+    """Each input from standard input gives the same, and what is said of it calls it that. Images of metadata have places."""
+    for place, name in (it for it in inputs_of(called, folder) if not it[1].endswith(".meta")):
         words = list(called)
         plain = call(top, [command.name, *words], folder=folder)
         words[place] = "-"
