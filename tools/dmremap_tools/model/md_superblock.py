@@ -10,7 +10,7 @@ from dmremap_tools.base import partition_table, streams
 from dmremap_tools.base.disk_image import Image, Unreadable
 from dmremap_tools.base.numbers import SECTOR
 from dmremap_tools.base.refusal import Refusal
-from dmremap_tools.model.device import Device, Lenient
+from dmremap_tools.model.device import Device, Lenient, Run, joint
 
 MAGIC = 0xA92B4EFC
 LINEAR, STRIPED, MIRRORED = -1, 0, 1
@@ -89,26 +89,30 @@ def outermost(found: Sequence[Superblock], size: int) -> List[Superblock]:
             if last is None or each is last or each.version in AT_END or (each.start + each.length) * SECTOR > last.at]
 
 
-def unsynced(member: Member, resync: int) -> List[Tuple[int, int]]:
-    """The runs of sectors of an array whose copies or parity may be older than its data, by how far the last resync
-    came: what the member's bitmap says was being written, or all from there on. In raid10 they are the array's sectors,
-    in other levels those of each member's data."""
-    superblock = member.superblock
+def unsynced(member: Member, resync: int) -> List[Run]:
+    """The runs of bytes of an array whose copies or parity may be older than its data, by the sector up to which the
+    last resync came: what the member's bitmap marks, or all from there on. In raid10 they are the array's bytes, in
+    other levels those of each member's data."""
+    superblock, first, marked = member.superblock, resync * SECTOR, None
     if resync == CLEAN:
         return []
     if superblock.features & BITMAP:
-        at = superblock.at + superblock.bitmap * SECTOR
-        content = Lenient(member.device).read(at, BITMAP_FORM.size).ljust(BITMAP_FORM.size, b"\0")
-        magic, array, events, sectors, state, chunk = BITMAP_FORM.unpack(content)
-        is_sound = (magic, array) == (BITMAP_MAGIC, superblock.array) and not state & BITMAP_STALE
-        each = chunk // SECTOR if is_sound and events >= superblock.events else 0
-        count = -(-sectors // each) if each else 0
-        bits = Lenient(member.device).read(at + BITS_AT, -(-count // 8)) if 0 < count <= MOST_BITS else b""
-        if count and len(bits) >= -(-count // 8):
-            dirty = (place for place in range(count) if bits[place // 8] >> place % 8 & 1)
-            runs = ((max(place * each, resync), (place + 1) * each) for place in dirty)
-            return [run for run in runs if run[0] < run[1]]
-    return [(resync, CLEAN)]
+        marked = marked_in(member.device, superblock.at + superblock.bitmap * SECTOR, superblock)
+    runs = [(0, CLEAN * SECTOR)] if marked is None else marked
+    return [(max(begin, first), end) for begin, end in runs if end > first]
+
+
+def marked_in(device: Device, at: int, superblock: Optional[Superblock] = None) -> Optional[List[Run]]:
+    """The runs of bytes that the bitmap at a byte marks as being written, or None where no bitmap is whole, or it is
+    older than a superblock, or another array's."""
+    content = Lenient(device).read(at, BITMAP_FORM.size).ljust(BITMAP_FORM.size, b"\0")
+    magic, array, events, sectors, state, chunk = BITMAP_FORM.unpack(content)
+    is_its = not superblock or array == superblock.array and events >= superblock.events and not state & BITMAP_STALE
+    count = -(-sectors * SECTOR // chunk) if magic == BITMAP_MAGIC and is_its and chunk else 0
+    bits = Lenient(device).read(at + BITS_AT, -(-count // 8)) if count <= MOST_BITS else b""
+    if not count or len(bits) < -(-count // 8):
+        return None
+    return joint((bit * chunk, (bit + 1) * chunk) for bit in range(count) if bits[bit // 8] >> bit % 8 & 1)
 
 
 def bad_blocks(member: Member) -> List[Tuple[int, int]]:

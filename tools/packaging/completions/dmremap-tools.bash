@@ -30,7 +30,7 @@ _dmremap_tools() {
             extents) offered="--help --ls --program --paths --fresh" ;;
             store) offered="--help --requests --size --chunk --kind --program --paths --fresh" ;;
             picture) offered="--help --scale" ;;
-            md) offered="--help --name --follow --copy --path --size" ;;
+            md) offered="--help --name --follow --member --copy --path --size" ;;
             explain) offered="--help --program --paths --json --before --status" ;;
         esac
     fi
