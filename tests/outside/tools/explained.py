@@ -45,6 +45,10 @@ class Explain:
         requests = "".join(it + "\n" for it in words if REQUEST.match(it)) or given
         return self._program.run(typed, given=requests, folder=self.folder)
 
+    def help(self, message):
+        """What its help says of a message."""
+        return self._program.run(["help", "dmremap: " + message]).out.decode()
+
 
 def make_folder(program, top):
     """A folder with the files of the rows."""
@@ -91,20 +95,54 @@ def check_mistakes(tally, explain, top):
 
 
 def check_words(tally, explain):
-    """Causes of each word of a message: what is said of them, and where."""
+    """Causes of each word of a message: what is said of them, what is marked, and the remedy."""
     found = {}
-    for message, words, given, wanted in explained_rows.CAUSES:
+    for message, words, given, marked, remedy in explained_rows.CAUSES:
         got, said = explain.run(words, given), explain.said(words, given)
-        out, first = got.out.decode(), said.err.decode().rstrip("\n")
-        lost = [it for it in wanted if it not in out]
-        is_so = got.status == 0 and first == "dmremap: " + message and out.startswith(first + "\n") and not lost
-        tally.holds("%s by %s" % (message, words), is_so, "dmremap says %r; without %r, status %s: %s%s" % (first, lost, got.status, out, got.err.decode()))
+        first, *rows = got.out.decode().splitlines()
+        shown = why_of(rows), "".join(remedy_of(rows).splitlines()[-1:]), marked_by(rows)
+        named = help_rows(explain, message)
+        is_so = got.status == 0 and said.err.decode() == first + "\n" == "dmremap: %s\n" % message
+        is_so = is_so and shown[1:] == (remedy, marked) and (shown[0] == named or not marked and len(shown[0]) == 1)
+        tally.holds("%s by %s" % (message, words), is_so, "dmremap says %r; status %s, %r: %s" % (said.err, got.status, shown, got.err.decode()))
         word = re.sub(r"^request \d+: |^before: | at \d+$|^(source|disks|name): ", "", message)
         found.setdefault(("request" if "request" in message else "name" if message.startswith("name") else "text", word), set()).add(tuple(words))
     single = sorted(str(it) for it, causes in found.items() if len(causes) < 2 and it not in explained_rows.ONE_CAUSE)
     tally.holds("words with two causes", not single, "with one: %s" % ", ".join(single))
     lost = explained_rows.WORDS - set(found)
     tally.holds("words with causes", not lost, "without: %s" % sorted(lost))
+    for words, why in explained_rows.SEEN:
+        got = explain.run(words)
+        tally.holds("what is seen of %s" % words, got.status == 0 and "\n".join(why_of(got.out.decode().splitlines())) == why, got.out.decode())
+
+
+def why_of(rows):
+    """The lines of an explanation that say why."""
+    return [it[5:] for it in part_of(rows, "why: ")]
+
+
+def remedy_of(rows):
+    """Its commands."""
+    return "\n".join(it[7:] for it in part_of(rows, "do:  "))
+
+
+def part_of(rows, lead):
+    """The lines from the one that begins with a lead on, as far as they are indented as it is."""
+    first = next((at for at, it in enumerate(rows) if it.startswith(lead)), len(rows))
+    return [rows[at] for at in range(first, len(rows)) if all(it.startswith("     ") for it in rows[first + 1:at + 1])]
+
+
+def marked_by(rows):
+    """What is underlined of a line, or None."""
+    mark = rows[2] if len(rows) > 2 and re.fullmatch(r" +\^+", rows[2]) else ""
+    return rows[1][mark.index("^"):len(mark)] if mark else None
+
+
+def help_rows(explain, message):
+    """What dmremap's help has below the form of a message."""
+    form = re.sub(r" at \d+$", " at (NUMBER|N|LINE)", re.sub(r"^request \d+", "request N", message))
+    entries = explain.help(message).split("\n\n")
+    return [row.strip() for it in entries if re.search("(?m)^dmremap: %s$" % form, it) for row in it.splitlines() if row.startswith(" ")]
 
 
 def check_ways(tally, explain):

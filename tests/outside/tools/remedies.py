@@ -1,11 +1,8 @@
 """Every command that dmremap-tools explain prints as a remedy is typed, with what it needs of a machine put in its place: it ends with
-status 0. A request that it prints is asked, and a file that it names is there."""
+status 0. A request that it prints is asked."""
 
 import ast
-import contextlib
-import errno
 import glob
-import importlib
 import os
 import re
 import shutil
@@ -23,34 +20,12 @@ MACHINE = {
     "dmsetup": 'case $* in ls|status) cat "$SAMPLES/$1.txt";; "table --concise") cat "$SAMPLES/concise.txt";; "ls --tree"|table|"table "*) cat tables;; *) exit 1;; esac',
     "lsblk": '[ "$*" = "-brno MAJ:MIN,SIZE,KNAME,PKNAME" ] && cat "$SAMPLES/lsblk.txt"',
     "vgcfgbackup": '[ "$1 $2 $3" = "-f GROUP.backup GROUP" ] && echo > "$2"',
-    "sudo": 'exec "$@"',
 }
 # What stands in a command for what only the user knows.
-NAMED = {"REQUESTS": "R a 0 8\n", "DISKS": "/dev/sda1 100\n", "FILE": "a: 0 8 linear /dev/sda1 0\n", "hidden.table": "a: 0 8 zero\n"}
+NAMED = {"REQUESTS": "R a 0 8\n", "DISKS": "/dev/sda1 100\n", "FILE": "a: 0 8 linear /dev/sda1 0\n"}
 REQUEST = re.compile("[RW] .*")
-# What of a group can't be mapped, and why.
-REASON = re.compile(r"\S+: .*|\.\.")
 # A command as it stands in the sources, and what is put into it.
-COMMAND, PUT = re.compile("  [a-z].*"), re.compile(r"%[sd]|FORMAT FILE|FILE|DISKS|NUMBER")
-# This one says what is wrong with a file that can't be read, and so fails.
-FAILS = "cat tables/none > /dev/null"
-
-
-@contextlib.contextmanager
-def hidden():
-    """Lets nobody read a file of this name, not even root."""
-    texts = importlib.import_module("dmremap_tools.explaining.texts")
-
-    def opened(path, *words):
-        if path == "hidden.table":
-            raise PermissionError(errno.EACCES, os.strerror(errno.EACCES))
-        return open(path, *words)
-
-    texts.open = opened
-    try:
-        yield
-    finally:
-        del texts.open
+COMMAND, PUT = re.compile("  [a-z].*"), re.compile(r"%[sd]|NUMBER")
 
 
 def put_machine(program, top):
@@ -73,36 +48,26 @@ def put_files(program, top):
     return folder
 
 
-def remedies_in(out):
-    """The lines of what is to be done that are no sentences."""
-    rows = out.split("\n")
-    first = next((at for at, row in enumerate(rows) if row.startswith("do:  ")), len(rows))
-    return [row[7:] for row in rows[first:] if row[5:7] == "  "]
-
-
 def check_typed(tally, program, top):
     """Those of all rows, in a folder that is as new for each."""
     machine, typed = put_machine(program, top), set()
     environment = dict(os.environ, PATH=machine + os.pathsep + os.environ["PATH"])
-    rows = [(words, given) for _, words, given, _ in explained_rows.MISTAKES]
-    rows += [(words, given) for _, words, given, _ in explained_rows.CAUSES] + [(words, b"") for words in explained_rows.OTHERS]
+    rows = [row[1:3] for row in explained_rows.MISTAKES + explained_rows.CAUSES] + [(words, b"") for words in explained_rows.OTHERS]
     one = explained.Explain(program, top, put_files(program, top))
     for words, given in rows:
-        with hidden():
-            found = remedies_in(one.run(words, given).out.decode())
         commands = []
-        for remedy in found:
+        for remedy in filter(None, explained.remedy_of(one.run(words, given).out.decode().splitlines()).split("\n")):
             if REQUEST.fullmatch(remedy):
                 got = program.run([it for it in words if not explained.REQUEST.match(it)], given=remedy + "\n", folder=one.folder)
                 tally.holds("the request %s" % remedy, got.status == 0, got.err)
-            elif not os.path.exists(os.path.join(one.folder, remedy)) and not REASON.fullmatch(remedy):
+            else:
                 commands.append(remedy)
         if typed.issuperset(commands):
             continue
         typed.update(commands)
         got = run(["bash", "-ec", "".join(it + "\n" for it in commands)], folder=one.folder, env=environment)
         put_files(program, top)
-        tally.holds("what is typed after %s" % words, (got.status == 0) == (FAILS not in commands), "%s: status %s, %s" % (commands, got.status, got.err))
+        tally.holds("what is typed after %s" % words, got.status == 0, "%s: status %s, %s" % (commands, got.status, got.err))
     lost = [form for form in forms_in(top) if not any(form.match("  " + it) for it in typed)]
     tally.holds("commands that are typed", not lost, "not these: %s" % lost)
 

@@ -10,8 +10,6 @@ from typing import Dict, Iterable, Iterator, List, NamedTuple, Optional, Set, Tu
 from dmremap_tools.base import disk_image, names, paths, program, quoting, store_places, streams, tables, written
 from dmremap_tools.base.given import Given, put
 from dmremap_tools.base.refusal import Refusal
-from dmremap_tools.explaining import texts
-from dmremap_tools.layers import refused
 from dmremap_tools.machines.placed import by_ids, disks_of
 
 NEXT = "--paths says where disks are, and --fresh takes every snapshot as new"
@@ -65,14 +63,10 @@ Started = NamedTuple("Started", [("words", List[str]), ("loaded", Stack), ("plac
 
 
 def load(asked: str, given: Given, folder: str) -> Stack:
-    """Loads a stack. A snapshot or a store that dmremap refuses is refused with what a kernel does with it."""
+    """Loads a stack. What dmremap says of one that it refuses is told."""
     copy, text = given.copied(folder), os.path.join(folder, "given.concise")
     printed, said, status = program.ask([asked, "concise", *copy.words()])
     if status:
-        name = streams.name_of(given.file)
-        why = refused.told(copy.form, texts.read(copy.file)._replace(path=name), texts.read(copy.disks), said)
-        if why:
-            raise Refusal("%s:%s" % (name, said.split()[-1]), why)
         if said:
             streams.tell(said.rstrip("\n"))
         program.fail(asked, status)
