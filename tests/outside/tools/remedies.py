@@ -52,11 +52,11 @@ def check_typed(tally, program, top):
     """Those of all rows, in a folder that is as new for each."""
     machine, typed = put_machine(program, top), set()
     environment = dict(os.environ, PATH=machine + os.pathsep + os.environ["PATH"])
-    rows = [row[1:3] for row in explained_rows.MISTAKES + explained_rows.CAUSES] + [(words, b"") for words in explained_rows.OTHERS]
     one = explained.Explain(program, top, put_files(program, top))
-    for words, given in rows:
+    for words, given, files in (row[1:4] for row in explained_rows.rows()):
         commands = []
-        for remedy in filter(None, explained.remedy_of(one.run(words, given).out.decode().splitlines()).split("\n")):
+        one.put(files)
+        for remedy in explained.remedy_of(one.run(words, given).out.decode().splitlines()).splitlines():
             if REQUEST.fullmatch(remedy):
                 got = program.run([it for it in words if not explained.REQUEST.match(it)], given=remedy + "\n", folder=one.folder)
                 tally.holds("the request %s" % remedy, got.status == 0, got.err)
