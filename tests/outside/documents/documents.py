@@ -5,6 +5,7 @@ import glob
 import os
 import re
 
+import diagnostics
 import transcripts
 from harness import Case
 
@@ -47,7 +48,7 @@ def check_names(tally, top):
         name = os.path.relpath(document, top)
         text = text_of(document)
         if document.endswith(".1"):
-            text = transcripts.without_escapes(text)
+            text = diagnostics.plain(text)
         lost = lost_paths(text, top)
         tally.holds("files that %s names" % name, not lost, "there is no %s" % ", ".join(lost))
         lost = lost_words(text, top)

@@ -6,6 +6,7 @@ import re
 import shutil
 import string
 
+import diagnostics
 import help_words
 import transcripts
 from harness import Case
@@ -179,7 +180,7 @@ def check_lines(tally, program, parts):
     outputs = dict(parts_of(r"^\.SS (.*)\n", parts["OUTPUT"]))
     for command, label, stack in ("map", "pieces", PIECES), ("replay", "N old", VALUES):
         forms = re.findall(r"\b(N \w+(?: [A-Z][A-Z\d]*)+)", lines_of(help_of(program, command), label))
-        entries = [re.sub(r"\\f.|\.\w+ ", "", it) for it in entries_of(outputs[command])]
+        entries = [re.sub(r"\.\w+ ", "", it) for it in entries_of(outputs[command])]
         entries = [it for it in entries if it.startswith("N ")]
         tally.holds("the lines of %s" % command, forms and forms == entries, "help has %s, and the manual %s" % (forms, entries))
         got = program.run([command, "table", program.file("help/stack", stack[0]), program.file("help/below", stack[1])], given=stack[2])
@@ -230,7 +231,7 @@ class HelpTexts(Case, checks=[
 
     @classmethod
     def setUpClass(cls):
-        text = transcripts.without_escapes(text_of(os.path.join(cls.top, "docs", "dmremap.1")))
+        text = diagnostics.plain(text_of(os.path.join(cls.top, "docs", "dmremap.1")))
         cls.parts = dict(parts_of(r"^\.SH (.*)\n", text))
         cls.manual, cls.synopsis = cls.parts["EXIT STATUS"], cls.parts["SYNOPSIS"]
         cls.commands = sorted(help_words.commands(cls.program) - {"help"})
