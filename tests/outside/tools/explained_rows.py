@@ -34,7 +34,7 @@ OF_FILE = [
     ("syntax at 1", "# mine\n" + TABLE, "# mine", "sed '/^#/d' file > file.mended"), ("syntax at 2", TABLE + "\n" + TABLE, "", "sed '/^ *$/d' file > file.mended"),
     ("syntax at 1", "a: 0 8  zero\n", "  ", "sed 's/^ *//; s/  */ /g' file > file.mended"), ("syntax at 2", "a: 0 8 zero\nb: 0 8 zero", "", END % "file"),
     ("syntax at 1", "a: 0 8\n", "a: 0 8", ""), ("syntax at 2", TABLE + "b: \n", "b: ", "sed '2d' file > file.mended"),
-    ("syntax at 2", TABLE + "0 8 zero\n", "0", "sed 's/^/NAME: /' file > file.mended"),
+    ("syntax at 2", TABLE + "0 8 zero\n", "0", "sed '2s/^/NAME: /' file > file.mended"),
     ("field at 1", "a: 0 8G zero\n", "8G", ""), ("field at 1", "a: -1 8 zero\n", "-1", ""), ("field at 1", "a: 00 8 zero\n", "00", ""),
     ("field at 1", "a: 0 8 striped\n", "striped", TABLES), ("field at 1", "a: 0 8 linear \n", "linear", TABLES),
     ("field at 1", "a: 0 8 striped 2 8 sda 0\n", "2 8 sda 0", COMPARE), ("field at 1", "a: 0 8 linear /dev/sda1 0k\n", "0k", ""),
@@ -101,7 +101,7 @@ OF_WORDS = [
     ("source: syntax at 1", "map lvm tables", None, TAKE % "DISKS", "tables is table text"),
     ("source: text at 1", "map lvm vg0.backup.gz", None, "gzip -dc vg0.backup.gz > vg0.backup.gz.mended", "vg0.backup.gz is compressed by gzip"),
     ("source: text at 1", "map lvm image", None, "dmremap-tools metadata image > image.mended", "image is the image of a disk or another binary file"),
-    ("source: syntax at 1", "map lvm folder/file", None, "", "folder/file is empty"),
+    ("source: field at 1", "map lvm folder/file", None, "", "folder/file is empty"),
     ("disks: syntax at 1", "map table tables requests", None, TAKE % "DISKS < requests", "requests is a list of requests"),
     ("disks: syntax at 1", "map table tables lsblk.txt", None, LIST, "lsblk.txt is what `lsblk` prints"),
     ("request 1: not top", "replay table stack disks R_b_0_8", "b", "dmremap map table stack disks", ""),
@@ -114,7 +114,7 @@ OF_WORDS = [
 # Contents of FILE that are no tables, what they are, and the remedy.
 OF_KINDS = [
     ("0 8 linear /dev/sda1 0\n", "table text without names", "sed 's/^/NAME: /' file > file.mended"), ('{\n  "report": [\n', "JSON", GROUP),
-    (TABLE.encode("utf-16"), "UTF-16", "iconv -f UTF-16 -t UTF-8 file > file.mended"), ("No devices found\n", "what dmsetup prints where there is no device", TABLES),
+    (TABLE.encode("utf-16"), "UTF-16", "iconv -f UTF-16 -t UTF-8 file > file.mended"), ("No devices found\n", "what dmsetup prints of no device", TABLES),
     ("vg0-lv0\t(253:0)\n", "what `dmsetup ls` prints", TABLES), ("  LV   VG  Attr       LSize\n  lv0  vg0 -wi-a----- 1g\n", "what `lvs`, `vgs` or `pvs` prints", GROUP),
 ]
 # FILE that names disks in other ways, and the remedy where DISKS isn't one.

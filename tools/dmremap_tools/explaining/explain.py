@@ -48,23 +48,24 @@ def add_words(parser: argparse.ArgumentParser) -> None:
 def run(words: argparse.Namespace) -> None:
     with tempfile.TemporaryDirectory(prefix="dmremap-tools-") as folder:
         for number, found in enumerate(_explanations(words, folder)):
-            streams.out.write(json.dumps(found.record()) + "\n" if words.json else "\n" * bool(number) + str(found))
+            streams.out.write(json.dumps(found.as_json()) + "\n" if words.json else "\n" * bool(number) + str(found))
 
 
 def _explanations(words: argparse.Namespace, folder: str) -> "Iterable[Explanation | RequestPath]":
     """What is printed, one by one: an explanation of a refusal, or the path of each request."""
     one, rest = program.dmremap(words.program), words.words
     rest = rest[os.path.basename(rest[0]) == "dmremap" and len(rest) > 1:]
-    typed = typed_words.read(rest)
+    typed = typed_words.command_of(rest)
     if typed is None:
         return [explain_words(one, rest)]
     mapping.Child.program = words.program
     copied = CopiedCommand(one, typed, words.before, words.paths, folder)
     # What is loaded is looked at first, so that no request is waited for where it is refused.
-    message, requests = copied.ask(b""), "".join(it + "\n" for it in typed.requests).encode("utf-8", "surrogateescape")
+    requests = "".join(it + "\n" for it in typed.requests).encode("utf-8", "surrogateescape")
+    message = copied.message_about(b"")
     if not message and not requests and typed.command in ("map", "replay") and not os.isatty(0):
         requests = streams.read_bytes("-", MOST_BYTES)
-    message = message or copied.ask(requests)
+    message = message or copied.message_about(requests)
     if message:
         return [copied.explain(message, requests)]
     loaded = stack.load(one, copied.given, folder)
@@ -73,7 +74,7 @@ def _explanations(words: argparse.Namespace, folder: str) -> "Iterable[Explanati
         why = f"there are {len(rows)}: give at most {MOST_REQUESTS}, and those before them by --before"
         raise Refusal("the requests", why)
     if rows:
-        return LevelQueries(copied, loaded, folder).paths(rows)
+        return LevelQueries(copied, loaded, folder).request_paths(rows)
     device = next((it.name for it in loaded.devices), "NAME")
     command = "  dmremap-tools explain map %s 'R %s 0 8'" % (" ".join(map(shlex.quote, typed.given.words())), device)
     return [Explanation("nothing is refused; this shows the path of a request:", command)]

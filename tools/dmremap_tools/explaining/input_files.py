@@ -33,7 +33,7 @@ class TextPlace(NamedTuple):
         first = begin + sum(len(it) + 1 for it in words[:at]) if at < len(words) else len(self.text)
         return self._replace(first=first, end=first + max(1, len(" ".join(words[at:at + count]))))
 
-    def rows(self) -> List[str]:
+    def shown_rows(self) -> List[str]:
         """The place as a compiler shows it: the part of the line around it, underlined."""
         begun = max(0, min(self.first - BEFORE, len(self.text) - WIDTH))
         part = self.text[begun:begun + WIDTH].replace("\t", " ")
@@ -43,7 +43,7 @@ class TextPlace(NamedTuple):
         mark = " " * (len(lead) + len(quoting.escaped(before))) + "^" * max(1, len(quoting.escaped(marked)))
         return ["%s%s%d" % (self.name, ", device " if self.is_device else ":", self.number), shown, mark]
 
-    def record(self) -> Dict[str, Any]:
+    def as_json(self) -> Dict[str, Any]:
         """It as an object of JSON."""
         number = {"device" if self.is_device else "line": self.number}
         return {"file": self.name, **number, "text": self.text, "from": self.first, "to": self.end}
@@ -63,14 +63,14 @@ class Explanation(NamedTuple):
     message: str = ""
 
     def __str__(self) -> str:
-        rows = [self.message] * bool(self.message) + (self.place.rows() if self.place else [])
+        rows = [self.message] * bool(self.message) + (self.place.shown_rows() if self.place else [])
         for lead, said in (("why: ", self.why.splitlines()), ("do:  ", self.remedy.splitlines())):
             rows += [(" " * len(lead) if place else lead) + it for place, it in enumerate(said)]
         return "".join(quoting.escaped(it) + "\n" for it in rows)
 
-    def record(self) -> Dict[str, Any]:
+    def as_json(self) -> Dict[str, Any]:
         """It as an object of JSON."""
-        do, place = [it.strip() for it in self.remedy.splitlines()], self.place.record() if self.place else None
+        do, place = [it.strip() for it in self.remedy.splitlines()], self.place.as_json() if self.place else None
         return {"message": self.message or None, "why": self.why, "do": do, "place": place}
 
 
@@ -121,7 +121,7 @@ class InputText(NamedTuple):
         return next((it for it in self.places(form) if it.number == number), after)
 
 
-def read(path: Optional[str]) -> InputText:
+def read_input(path: Optional[str]) -> InputText:
     """A file, if one is given."""
     if path is None:
         return InputText("", b"")

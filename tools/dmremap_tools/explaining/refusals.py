@@ -7,7 +7,7 @@ import re
 import shlex
 from typing import Dict, List, Optional, Tuple
 
-from dmremap_tools.base import names, paths, program
+from dmremap_tools.base import names, paths, program, streams
 from dmremap_tools.base.config_text import Document
 from dmremap_tools.base.given import Given, put
 from dmremap_tools.base.refusal import Refusal
@@ -20,7 +20,7 @@ ABOUT_REQUEST = re.compile(r"dmremap: request ([0-9]+): (.+)")
 ABOUT_EARLIER = re.compile(r"dmremap: before: (.+) at ([0-9]+)")
 UNREAD_STORE, OPERATIONS = re.compile("dmremap: store .+: read"), ("R", "W")
 # What is wrong with a file as a whole, or nothing; the place of what is refused; and the remedy, or nothing.
-Seen = Tuple[str, Optional[TextPlace], str]
+FileFault = Tuple[str, Optional[TextPlace], str]
 
 
 class CopiedCommand:
@@ -33,20 +33,20 @@ class CopiedCommand:
         self.asked, self.typed, self._folder = asked, typed, folder
         self._texts: Dict[str, InputText] = {}
         form, file, disks = typed.given
-        self.given = Given(form, self._copied("source", file), self._copied("disks", disks))
-        copies = self._copied("before", before), self._copied("paths", listed)
+        self.given = Given(form, self._copy_input("source", file), self._copy_input("disks", disks))
+        copies = self._copy_input("before", before), self._copy_input("paths", listed)
         self.earlier, self.listed = copies if typed.command == "map" else (None, None)
         self.words = self.given.words() + (["--paths", self.listed] if self.listed else [])
 
-    def _copied(self, part: str, path: Optional[str]) -> Optional[str]:
+    def _copy_input(self, part: str, path: Optional[str]) -> Optional[str]:
         """Reads a file, if one is given. Returns the path of its copy, which isn't made of one that can't be read."""
-        text = self._texts[part] = input_files.read(path)
+        text = self._texts[part] = input_files.read_input(path)
         copy = os.path.join(self._folder, part)
         if path is not None and not text.fault:
             put(copy, [text.decoded()])
         return None if path is None else copy
 
-    def ask(self, requests: bytes) -> str:
+    def message_about(self, requests: bytes) -> str:
         """What dmremap says on standard error when it gets these requests."""
         given = os.path.join(self._folder, "requests")
         put(given, [requests.decode("utf-8", "surrogateescape")])
@@ -59,16 +59,16 @@ class CopiedCommand:
         about, request, earlier = (it.fullmatch(message) for it in (ABOUT_TEXT, ABOUT_REQUEST, ABOUT_EARLIER))
         why, place, remedy = "", None, ""
         if about:
-            why, place, remedy = self._seen(*about.groups())
+            why, place, remedy = self._fault_of_file(*about.groups())
         elif message == "dmremap: words: disks":
-            why, _, remedy = self._seen("source", "", None)
+            why, _, remedy = self._fault_of_file("source", "", None)
             if not why:
-                is_missing = self.typed.given.disks is None
-                remedy = self._fitting() or (table_lines.list_of(self._texts["source"]) if is_missing else "")
+                listed = table_lines.disks_command(self._texts["source"])
+                remedy = self._fitting_command() or (listed if self.typed.given.disks is None else "")
         elif request:
-            place, remedy = self._marked_request(request[2], int(request[1]), InputText("REQUESTS", requests))
+            place, remedy = self._mark_in_request(request[2], int(request[1]), InputText("REQUESTS", requests))
         elif earlier:
-            place, remedy = self._marked_request(earlier[1], int(earlier[2]), self._texts["before"])
+            place, remedy = self._mark_in_request(earlier[1], int(earlier[2]), self._texts["before"])
         else:
             why = self._texts["paths"].fault or self._texts["before"].fault
             why = why or (self._unread_disk() if UNREAD_STORE.fullmatch(message) else "")
@@ -79,12 +79,12 @@ class CopiedCommand:
         """Names the first disk whose file in PATHS can't be read. Pipes are left out, as opening one waits for a
         writer."""
         for disk, place in paths.places(self.listed, are_apart=False).items():
-            fault = "" if pathlib.Path(place.path).is_fifo() else input_files.read(place.path).fault
+            fault = "" if pathlib.Path(place.path).is_fifo() else input_files.read_input(place.path).fault
             if fault:
                 return "the disk %s: %s" % (disk, fault)
         return ""
 
-    def _seen(self, part: str, word: str, number: Optional[str]) -> Seen:
+    def _fault_of_file(self, part: str, word: str, number: Optional[str]) -> FileFault:
         """What is wrong with FILE (`source`) or DISKS (`disks`), which is refused by a word, perhaps at a line. No
         place is looked for in a file that can't be read or is of another kind."""
         text, file, form = self._texts[part], self._texts["source"], self.typed.given.form
@@ -94,31 +94,31 @@ class CopiedCommand:
         is_right = kind in (remedies.DISKS, remedies.EMPTY) if is_disks else remedies.FORM_OF.get(kind) == form
         if not is_right and kind != remedies.UNKNOWN:
             is_unlisted = is_disks and kind != remedies.REQUESTS
-            converted = remedies.changed(remedies.OF_KIND.get(kind, ""), text.path)
-            remedy = table_lines.list_of(file) if is_unlisted else self._fitting() or converted
+            converted = remedies.as_typed(remedies.OF_KIND.get(kind, ""), text.path)
+            remedy = table_lines.disks_command(file) if is_unlisted else self._fitting_command() or converted
             return "%s is %s" % (text.name, kind), None, remedy
         if number is None:
             return "", None, ""
         if is_disks:
-            return ("", *table_lines.marked_disk(word, int(number), text, file))
+            return ("", *table_lines.mark_in_disks(word, int(number), text, file))
         if form == "lvm":
-            return ("", *self._marked_group(int(number)))
-        return ("", *table_lines.marked(word, int(number), form, file, self._texts["disks"]))
+            return ("", *self._mark_in_group(int(number)))
+        return ("", *table_lines.mark_in_file(word, int(number), form, file, self._texts["disks"]))
 
-    def _fitting(self) -> str:
+    def _fitting_command(self) -> str:
         """The command that fits what FILE and DISKS are, or nothing if it is the typed one, or that with DISKS."""
         words = [self.typed.command, *self.typed.given.words()]
-        fitting = typed_words.meant(words)
-        return "" if fitting in (remedies.command(words), remedies.command([*words, "DISKS"])) else fitting
+        fitting = typed_words.fitting_command(words)
+        return "" if fitting in map(remedies.dmremap_command, (words, [*words, "DISKS"])) else fitting
 
-    def _marked_group(self, number: int) -> Marked:
+    def _mark_in_group(self, number: int) -> Marked:
         """A line of metadata, with the command for a copy that dmremap loads, or for the metadata of another physical
         volume; with none if no volume can be mapped."""
         file, path = self._texts["source"], os.path.join(self._folder, "copy")
         place = file.place(number)
         place = place._replace(first=len(place.text) - len(place.text.lstrip()))
         try:
-            copy = lvm2_text.Copy(Document(file.name, file.content))
+            copy = lvm2_text.Copy(Document(file.name, streams.begun(file.name, file.content)))
             group = lvm2_text.group_of(copy)
             group.judge()
             if group.volumes and all(it.why for it in group.volumes.values()):
@@ -129,9 +129,9 @@ class CopiedCommand:
             is_loaded = not program.ask_quietly([self.asked, "check", "lvm", path])[1]
         except Refusal:
             is_loaded = False
-        return place, remedies.changed("dmremap-tools lvm2-text", file.path) if is_loaded else remedies.OTHER_GROUP
+        return place, remedies.as_typed("dmremap-tools lvm2-text", file.path) if is_loaded else remedies.OTHER_GROUP
 
-    def _marked_request(self, word: str, number: int, requests: InputText) -> Marked:
+    def _mark_in_request(self, word: str, number: int, requests: InputText) -> Marked:
         """The word of a request that is refused, or its whole line, and the remedy."""
         place, given, by = requests.place(number), self.typed.given.words(), ""
         row, words = place.text, place.text.split(" ")
@@ -150,10 +150,10 @@ class CopiedCommand:
         elif word == "unended":
             by = remedies.END_LINE % shlex.quote(requests.path)
         elif word == "unknown":
-            by = remedies.command(["table", *given]) + remedies.NAMES_ALONE
+            by = remedies.dmremap_command(["table", *given]) + remedies.NAMES_ALONE
         elif word == "not top":
-            by = remedies.command(["map", *given])
-        return place, remedies.changed(by, requests.path)
+            by = remedies.dmremap_command(["map", *given])
+        return place, remedies.as_typed(by, requests.path)
 
 
 def _plain_request(words: List[str]) -> str:
@@ -172,7 +172,7 @@ def explain_words(asked: str, words: List[str]) -> Explanation:
         return Explanation("nothing is refused: dmremap prints\n" + printed)
     message, *others = said.split("\n\n")[0].splitlines()
     why = help_of(asked, message) or "\n".join(map(str.strip, others))
-    return Explanation(why, typed_words.meant(words), None, message)
+    return Explanation(why, typed_words.fitting_command(words), None, message)
 
 
 def help_of(asked: str, message: str) -> str:

@@ -51,11 +51,11 @@ class DeviceRequest:
     def __str__(self) -> str:
         return "%s %s %d %d" % (self.operation, self.device, self.start, self.count)
 
-    def leaves(self) -> Iterator[Piece]:
+    def final_pieces(self) -> Iterator[Piece]:
         """The pieces on disks that it ends in, in their order."""
-        return (piece for parts in self.lines.values() for part in parts for piece in part.leaves())
+        return (piece for parts in self.lines.values() for part in parts for piece in part.final_pieces())
 
-    def tree(self, indent: str = "") -> Iterator[str]:
+    def tree_rows(self, indent: str = "") -> Iterator[str]:
         """The rows of the tree below it: lines of the device, and their pieces with what lies below these."""
         for line, parts in self.lines.items():
             if line is not None:
@@ -66,11 +66,11 @@ class DeviceRequest:
                 for below in part.below:
                     if len(part.below) > 1:
                         yield inner + str(below)
-                    yield from below.tree(inner)
+                    yield from below.tree_rows(inner)
 
-    def record(self) -> Dict[str, Any]:
+    def as_json(self) -> Dict[str, Any]:
         """It as an object of JSON, like its tree."""
-        lines = [{"line": line and str(line), "pieces": [it.record() for it in parts]}
+        lines = [{"line": line and str(line), "pieces": [it.as_json() for it in parts]}
                  for line, parts in self.lines.items()]
         return {"what": self.operation, "device": self.device, "start": self.start, "len": self.count, "lines": lines}
 
@@ -89,9 +89,9 @@ class LinePiece:
                       for it in ends]
         self.below = [it for it in self._ends if isinstance(it, DeviceRequest)]
 
-    def leaves(self) -> Iterator[Piece]:
+    def final_pieces(self) -> Iterator[Piece]:
         """The pieces on disks that it ends in. A copy joins those that read to those that write as many sectors."""
-        ends = [list(it.leaves()) if isinstance(it, DeviceRequest) else [it] for it in self._ends]
+        ends = [list(it.final_pieces()) if isinstance(it, DeviceRequest) else [it] for it in self._ends]
         if len(ends) == 1:
             yield from ends[0]
             return
@@ -102,12 +102,12 @@ class LinePiece:
                 what = "fill" if (source.what, target.what) == ("zero", "W") else "error"
                 yield Piece(0, what, source.count, "", 0, target.disk, target.start)
 
-    def record(self) -> Dict[str, Any]:
+    def as_json(self) -> Dict[str, Any]:
         """It as an object of JSON."""
         piece = self.piece
         read = {"disk": piece.disk, "start": piece.start} if piece.disk else {}
         written = {"to": piece.to, "to_start": piece.to_start} if piece.to else {}
-        below = [it.record() for it in self.below]
+        below = [it.as_json() for it in self.below]
         return {"what": piece.what, "len": piece.count, **read, **written, "note": self.note, "below": below}
 
 
@@ -118,18 +118,18 @@ class RequestPath(NamedTuple):
     answer: List[Piece]
 
     def __str__(self) -> str:
-        rows = [str(self.top), *self.top.tree(), "answer:", *("  " + piece_text(it) for it in self.answer)]
+        rows = [str(self.top), *self.top.tree_rows(), "answer:", *("  " + piece_text(it) for it in self.answer)]
         return "".join(quoting.escaped(it) + "\n" for it in rows)
 
     def is_whole(self) -> bool:
         """Whether the levels make the answer together."""
-        made = list(self.top.leaves())
+        made = list(self.top.final_pieces())
         is_as_long = sum(it.count for it in made) == sum(it.count for it in self.answer)
         return is_as_long and all(one[1:] == other[1:] for one, other in _cut_alike(made, self.answer))
 
-    def record(self) -> Dict[str, Any]:
+    def as_json(self) -> Dict[str, Any]:
         """It as an object of JSON."""
-        return {"request": str(self.top), "answer": [piece_text(it) for it in self.answer], "way": self.top.record()}
+        return {"request": str(self.top), "answer": [piece_text(it) for it in self.answer], "way": self.top.as_json()}
 
 
 class LevelQuery(NamedTuple):
@@ -145,7 +145,7 @@ class LevelQuery(NamedTuple):
     kept: Optional[str] = None
     is_watched: bool = False
 
-    def requests(self) -> List[str]:
+    def request_lines(self) -> List[str]:
         """The lines that dmremap gets. The first reads the origin that stays, of a written chunk all."""
         own = "%s %d %d" % (self.device.name, self.start, self.count)
         asked = ["R " + own, "W " + own, "R " + own] if self.is_watched else [self.operation + " " + own]
@@ -158,7 +158,7 @@ class LevelQuery(NamedTuple):
             count = min(chunk, self.line.length - first)
         return ["R %s %d %d" % (names.of_path(self.kept), first, count), *asked]
 
-    def pieces(self, got: List[List[Piece]], stores: Dict[str, str], invalid: Collection[str]
+    def noted_pieces(self, got: List[List[Piece]], stores: Dict[str, str], invalid: Collection[str]
                ) -> Iterator[Tuple[Piece, str]]:
         """The pieces of its answer, each with a note. `got` are the answers to its requests, `stores` the snapshots by
         the disks of their stores, and `invalid` those snapshots whose headers say so."""
@@ -270,14 +270,14 @@ class LevelQueries:
         counts = store_places.chunks_in([self._copied.asked, "map", *self._copied.words], snapshots)
         return [name for name, count in counts.items() if count is None]
 
-    def paths(self, requests: List[str]) -> Iterator[RequestPath]:
+    def request_paths(self, requests: List[str]) -> Iterator[RequestPath]:
         """The path of each request, in the state that those before it left. Raises Refusal for one with too many
         pieces, or whose levels don't make dmremap's answer."""
         for number, request in enumerate(requests):
             put(self._before, (it + "\n" for it in [*self._earlier, *requests[:number]]))
-            yield self._path_of(request)
+            yield self._request_path(request)
 
-    def _path_of(self, request: str) -> RequestPath:
+    def _request_path(self, request: str) -> RequestPath:
         """Asks unit by unit from the top on, as requests for a unit may come from several above it."""
         operation, name, start, count = request.split(" ")
         top = DeviceRequest(operation, name, int(start), int(count))
@@ -318,13 +318,13 @@ class LevelQueries:
         parts = ((key, step, part) for key, step in steps
                  for part in queries_of(step, self._by_path[names.MAPPER + step.device], kept))
         asked = list(itertools.islice(parts, 4 * MOST + 1))
-        requests = [request for _, _, part in asked for request in part.requests()]
+        requests = [request for _, _, part in asked for request in part.request_lines()]
         if len(requests) > 4 * MOST:
             raise Refusal(str(steps[0][1]), TOO_MANY)
         answers = iter(self._answers(words, requests, unit.startswith(OVER)))
         for key, step, part in asked:
             pieces = step.lines.setdefault(part.line, [])
-            for piece, note in part.pieces([next(answers) for _ in part.requests()], stores, self._invalid):
+            for piece, note in part.noted_pieces([next(answers) for _ in part.request_lines()], stores, self._invalid):
                 disk, to = (self._meant.get(it, it) for it in (piece.disk, piece.to))
                 pieces.append(LinePiece(piece._replace(disk=disk, to=to), note, self._by_path))
                 yield from ((key, it) for it in pieces[-1].below)

@@ -56,7 +56,7 @@ class TypedLine(tables.Line):
                 yield at, 1, self.compared
 
 
-def lines_of(form: str, text: InputText) -> Iterator[TypedLine]:
+def typed_lines(form: str, text: InputText) -> Iterator[TypedLine]:
     """All lines of table text or concise text. A device of the latter without lines has an empty one."""
     for place in text.places(form):
         if form == "concise":
@@ -87,19 +87,19 @@ def _wrong_words(word: str, line: TypedLine, end: int, lengths: Dict[str, int], 
             yield at, 1, ""
     for at, (lower, first, count) in zip(line.places(), line.spans() if word == "range" else ()):
         if first + (count or 0) > lengths.get(lower, 0):
-            is_device = lower.startswith(names.MAPPER)
-            yield at, 2, remedies.COMPARE % shlex.quote(names.of_path(lower)) if is_device else "  " + _length_of(lower)
+            compare = remedies.COMPARE % shlex.quote(names.of_path(lower))
+            yield at, 2, compare if lower.startswith(names.MAPPER) else "  " + _length_command(lower)
 
 
-def marked(word: str, number: int, form: str, file: InputText, disks: InputText) -> Marked:
+def mark_in_file(word: str, number: int, form: str, file: InputText, disks: InputText) -> Marked:
     """The part of a line of FILE, or of a device of concise text, that dmremap refuses by this word; all where none is
     known."""
     place = file.place(number, form)
     if word in ("text", "syntax"):
         if form == "table" or word == "text":
             return _wrong_part(word, place, file)
-        return place, remedies.changed(remedies.NO_NEWLINES if "\n" in place.text else "", file.path)
-    lines, rows = list(lines_of(form, file)), (it.text.split(" ") for it in disks.places())
+        return place, remedies.as_typed(remedies.NO_NEWLINES if "\n" in place.text else "", file.path)
+    lines, rows = list(typed_lines(form, file)), (it.text.split(" ") for it in disks.places())
     lengths = {it[0]: int(it[1]) for it in rows if len(it) == 2 and NUMBER.fullmatch(it[1])}
     lengths.update((names.MAPPER + it.device, it.start + it.length) for it in lines)
     for before, line in zip([None, *lines], lines):
@@ -107,19 +107,19 @@ def marked(word: str, number: int, form: str, file: InputText, disks: InputText)
             if word == "twice" or word == "name" and not names.FORM.fullmatch(line.device):
                 return place._replace(end=max(1, len(line.device))), line.compared if word == "twice" else ""
             end = before.start + before.length if before and before.device == line.device else 0
-            for words in _wrong_words(word, line, end, lengths, list_of(file)):
+            for words in _wrong_words(word, line, end, lengths, disks_command(file)):
                 return line.marked(*words)
     return place, remedies.COMPARE_TREE if word == "cycle" else ""
 
 
-def marked_disk(word: str, number: int, disks: InputText, file: InputText) -> Marked:
+def mark_in_disks(word: str, number: int, disks: InputText, file: InputText) -> Marked:
     """The part of a line of DISKS that dmremap refuses by this word."""
     place = disks.place(number)
     end = len(place.text.partition(" ")[0])
     if word == "text" or word == "syntax" and _is_unended(disks, number):
         return _wrong_part(word, place, disks)
     part = {"name": place._replace(end=end), "twice": place._replace(end=end), "field": place._replace(first=end + 1)}
-    return part.get(word, place), "" if word == "name" else list_of(file)
+    return part.get(word, place), "" if word == "name" else disks_command(file)
 
 
 def _wrong_part(word: str, place: TextPlace, text: InputText) -> Marked:
@@ -131,7 +131,7 @@ def _wrong_part(word: str, place: TextPlace, text: InputText) -> Marked:
         part = re.search(form, place.text)
         if part:
             place = place._replace(first=part.start(1), end=max(1, part.end(1)))
-            return place, remedies.changed(by.replace("NUMBER", str(place.number)), text.path)
+            return place, remedies.as_typed(by.replace("NUMBER", str(place.number)), text.path)
     return place, ""
 
 
@@ -140,17 +140,17 @@ def _is_unended(text: InputText, number: int) -> bool:
     return number == text.content.count(b"\n") + 1 and not text.content.endswith(b"\n")
 
 
-def list_of(file: InputText) -> str:
+def disks_command(file: InputText) -> str:
     """The command that lists the disks which tables name, with their sectors; DISK stands for those of another file.
     Where tables have the kernel's numbers, the command makes tables with names, too."""
     form = remedies.FORM_OF.get(file.kind, "lvm")
-    lowers = dict.fromkeys(lower for line in lines_of(form, file) for lower in line.lowers()) if form != "lvm" else ()
-    disks = [it for it in lowers if not it.startswith(names.MAPPER)] or ["DISK"]
-    entries = ('echo %s "$(%s)"' % (shlex.quote(it), _length_of(it)) for it in disks)
+    lowers = [lower for line in typed_lines(form, file) for lower in line.lowers()] if form != "lvm" else []
+    disks = [*dict.fromkeys(it for it in lowers if not it.startswith(names.MAPPER))] or ["DISK"]
+    entries = ('echo %s "$(%s)"' % (shlex.quote(it), _length_command(it)) for it in disks)
     return remedies.GET_MACHINE if any(map(NUMBERED.fullmatch, disks)) else remedies.LIST % "; ".join(entries)
 
 
-def _length_of(disk: str) -> str:
+def _length_command(disk: str) -> str:
     """The command that prints how many sectors an image or a disk has, which may be called as the kernel calls it."""
     if os.path.isfile(disk):
         return "expr $(stat -Lc %%s %s) / 512" % shlex.quote(disk)
