@@ -18,7 +18,6 @@ pub(crate) const WORDS: &str = "
 pub(crate) static EXPLANATIONS: [(&str, &str); %d] = [
 %s];
 %s'''
-FORM = re.compile(r"^\.EX\ndmremap: (.*)\n\.EE\n", re.M)
 # The form of messages about requests, and the other one that has their words, save the last of these.
 REQUESTS, EARLIER, LATE = "request N: WORD", "before: WORD at N", "not top"
 # What stands for a part in the form of messages about FILE and DISKS, and the words that the second of these has, too.
@@ -41,21 +40,14 @@ def module_of(path: str) -> str:
 
 
 def _explained(text: str) -> Iterator[Tuple[str, str]]:
-    """Each word with what an entry says of it."""
-    for section in re.split(r"^\.SS .*\n", text, flags=re.M)[1:]:
-        pieces = FORM.split(section)
-        for form, piece in zip([""] + pieces[1::2], pieces[::2]):
-            yield from _explained_of(form, piece)
-
-
-def _explained_of(form: str, piece: str) -> Iterator[Tuple[str, str]]:
-    """The same of the messages of a form, and of those that stand beside them as a whole."""
-    for word, text in diagnostics.entries_of(piece).items():
-        if word.startswith("dmremap: "):
-            for message in word.split(", "):
-                yield message.rpartition(": ")[2], _block([message], text)
-        else:
-            yield word, _block(["dmremap: " + it.replace("WORD", word) for it in _forms(form, word, text)], text)
+    """Each word of DIAGNOSTICS with what is printed of an entry for it."""
+    for form, entries in diagnostics.forms_of(text):
+        for word, said in entries.items():
+            if word.startswith("dmremap: "):
+                for message in word.split(", "):
+                    yield message.rpartition(": ")[2], _block([message], said)
+            else:
+                yield word, _block(["dmremap: " + it.replace("WORD", word) for it in _forms(form, word, said)], said)
 
 
 def _forms(form: str, word: str, text: str) -> List[str]:

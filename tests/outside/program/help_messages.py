@@ -18,8 +18,7 @@ def check_words(tally, program, top):
         sections = diagnostics.section_of(it.read(), "DIAGNOSTICS")
     listed = help_of(program, "map").partition("\nMessages, ")[2].partition("\n\n")[0]
     found = 0
-    for form, piece in forms_of(sections):
-        entries = diagnostics.entries_of(piece)
+    for form, entries in diagnostics.forms_of(sections):
         words = [it for it in entries if not it.startswith("dmremap: ")]
         if form and words and form != "name: WORD":
             first = form.replace("PART", "source")
@@ -32,13 +31,6 @@ def check_words(tally, program, top):
                 found += 1
                 check_said(tally, program, message, text)
     tally.holds("entries of the manual", found > 60, "there are %d" % found)
-
-
-def forms_of(sections):
-    """Each form of messages with the entries below it."""
-    for section in re.split(r"^\.SS .*\n", sections, flags=re.M)[1:]:
-        pieces = re.split(r"^\.EX\ndmremap: (.*)\n\.EE\n", section, flags=re.M)
-        yield from zip([None] + pieces[1::2], pieces[::2])
 
 
 def messages_of(form, word):
