@@ -16,23 +16,19 @@ Words = Tuple[int, int, str]
 
 
 class TypedLine(tables.Line):
-    """A line of tables as it was typed. `place` is that of its row, in which its words begin at the character `begin`;
-    a number that isn't one counts as 0."""
+    """A line of tables as it was typed, in the row or device of a `number`, where its words begin at the character
+    `begin`. A start or length that is no number counts as 0."""
 
-    def __init__(self, device: str, text: str, place: TextPlace, begin: int) -> None:
-        self.device, self.place, self._begin = device, place, begin
+    def __init__(self, device: str, text: str, number: int, begin: int) -> None:
+        self.device, self.number, self.begin = device, number, begin
         self.compared = remedies.COMPARE % shlex.quote(device)
-        self._typed = text.rstrip(" \r").split(" ")
-        start, length = (int(it) if NUMBER.fullmatch(it) else 0 for it in (self._typed + [""])[:2])
-        super().__init__(start, length, "".join(self._typed[2:3]), self._typed[3:])
-
-    def marked(self, at: int, count: int, remedy: str) -> Marked:
-        """The place of some of its words, with a remedy."""
-        return self.place.of_words(self._typed, at + 3, count, self._begin), remedy
+        self.typed = text.rstrip(" \r").split(" ")
+        start, length = (int(it) if NUMBER.fullmatch(it) else 0 for it in (self.typed + [""])[:2])
+        super().__init__(start, length, "".join(self.typed[2:3]), self.typed[3:])
 
     def wrong_fields(self) -> Iterator[Words]:
         """The words that can't stand where they do. Only the first is sure: what follows it may raise an error."""
-        yield from ((at - 3, 1, "") for at in (0, 1) if not NUMBER.fullmatch("".join(self._typed[at:at + 1])))
+        yield from ((at - 3, 1, "") for at in (0, 1) if not NUMBER.fullmatch("".join(self.typed[at:at + 1])))
         if self.target not in tables.TARGETS:
             yield -1, 1, remedies.GET_MACHINE
         count, given = tables.TARGETS[self.target], len(self.words)
@@ -47,14 +43,6 @@ class TypedLine(tables.Line):
             if self.words[at] not in tables.KINDS if is_kind else not NUMBER.fullmatch(self.words[at]):
                 yield at, 1, ""
 
-    def wrong_stripes(self) -> Iterator[Words]:
-        """The number of columns, the chunk or the length, if the line doesn't divide into stripes by it."""
-        columns, chunk = map(int, self.words[:2]) if self.target == "striped" else (1, 1)
-        for at, is_wrong in ((0, not 1 <= columns <= tables.MOST_COLUMNS), (1, not 1 <= chunk <= tables.LONGEST_CHUNK),
-                             (-2, self.length % (columns * chunk or 1))):
-            if is_wrong:
-                yield at, 1, self.compared
-
 
 def typed_lines(form: str, text: InputText) -> Iterator[TypedLine]:
     """All lines of table text or concise text. A device of the latter without lines has an empty one."""
@@ -67,14 +55,20 @@ def typed_lines(form: str, text: InputText) -> Iterator[TypedLine]:
             begin = len(device) + 2
             device, lines = device if colon else "", [place.text[begin:]]
         for line in lines:
-            yield TypedLine(device, line, place, begin)
+            yield TypedLine(device, line, place.number, begin)
             begin += len(line) + 1
 
 
 def _wrong_words(word: str, line: TypedLine, end: int, lengths: Dict[str, int], listed: str) -> Iterator[Words]:
     """What dmremap refuses of a line by this word. `end` is where the line before it ends, or 0 for another device's;
     `lengths` are in sectors, by the paths of devices and disks; `listed` is the command that lists the disks."""
-    yield from {"field": line.wrong_fields, "stripe": line.wrong_stripes}.get(word, tuple)()
+    if word == "field":
+        yield from line.wrong_fields()
+    if word == "stripe" and line.target == "striped":
+        columns, chunk = map(int, line.words[:2])
+        at = 0 if not 1 <= columns <= tables.MOST_COLUMNS else 1 if not 1 <= chunk <= tables.LONGEST_CHUNK else -2
+        if at >= 0 or line.length % (columns * chunk):
+            yield at, 1, line.compared
     if word == "empty" and not line.length:
         yield -2, 1, line.compared
     if word in ("gap", "overlap") and line.start != end:
@@ -103,12 +97,12 @@ def mark_in_file(word: str, number: int, form: str, file: InputText, disks: Inpu
     lengths = {it[0]: int(it[1]) for it in rows if len(it) == 2 and NUMBER.fullmatch(it[1])}
     lengths.update((names.MAPPER + it.device, it.start + it.length) for it in lines)
     for before, line in zip([None, *lines], lines):
-        if line.place.number == number:
+        if line.number == number:
             if word == "twice" or word == "name" and not names.FORM.fullmatch(line.device):
                 return place._replace(end=max(1, len(line.device))), line.compared if word == "twice" else ""
             end = before.start + before.length if before and before.device == line.device else 0
-            for words in _wrong_words(word, line, end, lengths, disks_command(file)):
-                return line.marked(*words)
+            for at, count, remedy in _wrong_words(word, line, end, lengths, disks_command(file)):
+                return place.of_words(line.typed, at + 3, count, line.begin), remedy
     return place, remedies.COMPARE_TREE if word == "cycle" else ""
 
 
