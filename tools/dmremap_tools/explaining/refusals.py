@@ -8,7 +8,6 @@ import re
 from typing import Callable, Dict, List, Optional
 
 from dmremap_tools.base import names, paths, program
-from dmremap_tools.base.config_text import Document, shown
 from dmremap_tools.base.given import Given, put
 from dmremap_tools.base.refusal import Refusal
 from dmremap_tools.base.requests import MOST
@@ -17,7 +16,8 @@ from dmremap_tools.explaining.asked import Typed, general, line
 from dmremap_tools.explaining.texts import HOW_MANY, Finding, Place, Text, shell, why_no_device, why_no_number
 from dmremap_tools.layers import refused, stack
 from dmremap_tools.metadata import lvm2_text
-from dmremap_tools.metadata.volume_group import TYPES
+from dmremap_tools.model.config_text import Document, shown
+from dmremap_tools.model.volume_group import TYPES
 
 ABOUT_TEXT = re.compile(r"dmremap: (source|disks): (\w+)(?: at ([0-9]+))?")
 ABOUT_REQUEST = re.compile(r"dmremap: request ([0-9]+): (.+)")

@@ -4,10 +4,10 @@ import re
 from typing import Optional
 
 from dmremap_tools.base import quoting, store_places, tables
-from dmremap_tools.base.config_text import Document
 from dmremap_tools.explaining.table_texts import Line, Tables
 from dmremap_tools.explaining.texts import Text
-from dmremap_tools.metadata.volume_group import Group
+from dmremap_tools.model.config_text import Document
+from dmremap_tools.model.volume_group import Group
 
 SAID = re.compile(r"dmremap: source: (text|field|syntax|extents|snapshot|store|limit) at ([0-9]{1,20})\n")
 LOST = "put a disk in the place of what is lost: in FILE write `linear lost 0` for `error`, and in DISKS `lost` with that line's length"

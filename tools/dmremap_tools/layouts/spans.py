@@ -22,16 +22,16 @@ from argparse import ArgumentParser, Namespace
 from typing import Callable, Collection, Dict, Iterable, Iterator, List, NamedTuple, Optional, Sequence, Tuple
 
 from dmremap_tools.base import (
-    config_text, disk_image, luks_header, names, numbers, partition_table, paths, quoting, streams, tables)
+    disk_image, luks_header, names, numbers, partition_table, paths, quoting, streams, tables)
 from dmremap_tools.base.disk_image import Image
 from dmremap_tools.base.numbers import SECTOR
 from dmremap_tools.base.refusal import Refusal, WrongWords
 from dmremap_tools.layouts.tree import devices_in
 from dmremap_tools.machines.placed import groups_in
 from dmremap_tools.metadata.chosen_part import check_places, found_table, volume_label
-from dmremap_tools.metadata.volume_group import Group
-from dmremap_tools.model import md_superblock
+from dmremap_tools.model import config_text, md_superblock
 from dmremap_tools.model.physical_volume import Label, label_of
+from dmremap_tools.model.volume_group import Group
 
 EXAMPLE = "dmremap-tools spans stack.disks stack.table > spans"
 

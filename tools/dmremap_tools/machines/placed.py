@@ -4,15 +4,15 @@ import os
 from typing import Dict, Iterator, List, Optional, Tuple
 
 from dmremap_tools.base import disk_image, quoting, streams
-from dmremap_tools.base.config_text import Document, shown
 from dmremap_tools.base.numbers import SECTOR
 from dmremap_tools.base.partition_table import Partition
 from dmremap_tools.base.paths import Place
 from dmremap_tools.base.refusal import Refusal
 from dmremap_tools.metadata.chosen_part import (
     GIVE, check_mirrored, check_places, chosen_parts, table_in, taken_from_array)
-from dmremap_tools.metadata.volume_group import Group, disk_names
+from dmremap_tools.model.config_text import Document, shown
 from dmremap_tools.model.physical_volume import label_of
+from dmremap_tools.model.volume_group import Group, disk_names
 
 
 def groups_in(path: str) -> Tuple[Document, List[Group]]:

@@ -36,9 +36,9 @@ import tempfile
 from typing import Collection, Dict, Iterator, List, NamedTuple, Optional, Set, Tuple
 
 from dmremap_tools.base import program, quoting, streams
-from dmremap_tools.base.config_text import ANEW, Document, Item, Node, shown
 from dmremap_tools.base.refusal import Refusal
-from dmremap_tools.metadata.volume_group import LINEAR, NOT_ASKED, STRIPED, Group, Volume
+from dmremap_tools.model.config_text import ANEW, Document, Item, Node, shown
+from dmremap_tools.model.volume_group import LINEAR, NOT_ASKED, STRIPED, Group, Volume
 
 EXAMPLE = "dmremap-tools lvm2-text vgm.backup > copy.backup && dmremap table lvm copy.backup"
 # How many bytes of a text are taken, and dmremap takes of the copy.

@@ -13,13 +13,13 @@ import weakref
 from typing import Any, Callable, Dict, Iterator, List, NamedTuple, NoReturn, Optional, Sequence, Tuple
 
 from dmremap_tools.base import names, numbers, paths, program, quoting, store_places, tables
-from dmremap_tools.base.config_text import shown
 from dmremap_tools.base.given import put
 from dmremap_tools.base.numbers import SECTOR
 from dmremap_tools.base.program import NoProgram
 from dmremap_tools.base.refusal import Refusal
-from dmremap_tools.metadata.volume_group import Record
+from dmremap_tools.model.config_text import shown
 from dmremap_tools.model.device import ZEROS, Device, Extent, Gap, Lenient, Missing
+from dmremap_tools.model.volume_group import Record
 
 # Sectors that one request asks for, and answers to these that are kept.
 WINDOW, MOST_WINDOWS = 1 << 15, 20

@@ -15,9 +15,9 @@ import zlib
 from typing import Dict, Iterator, List, NamedTuple, Optional, Set, Tuple
 
 from dmremap_tools.base import disk_image, quoting, streams
-from dmremap_tools.base.config_text import Document, Node, shown
 from dmremap_tools.base.numbers import SECTOR
 from dmremap_tools.base.refusal import Refusal
+from dmremap_tools.model.config_text import Document, Node, shown
 from dmremap_tools.model.device import ALL, Device, Image, Lenient, Part, Run
 
 LABEL, TYPE, LABEL_SECTORS = b"LABELONE", b"LVM2 001", 4

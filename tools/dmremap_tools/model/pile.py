@@ -9,8 +9,8 @@ from dmremap_tools.base.numbers import SECTOR
 from dmremap_tools.base.partition_table import Table, backup_of, table_of
 from dmremap_tools.base.program import NoProgram
 from dmremap_tools.base.refusal import Refusal
-from dmremap_tools.model import mapping, md_superblock, physical_volume
 from dmremap_tools.base.signatures import Signature
+from dmremap_tools.model import mapping, md_superblock, physical_volume
 from dmremap_tools.model.device import Device, Doubt, Image, Lenient, Part, Run
 from dmremap_tools.model.groups import REMOVED, Group, Texts, Volume, same_id
 from dmremap_tools.model.md_array import Array, put_together

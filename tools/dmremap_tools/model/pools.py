@@ -8,11 +8,11 @@ import struct
 from collections import namedtuple
 from typing import Any, Iterator, Optional, Tuple
 
-from dmremap_tools.base.config_text import shown
 from dmremap_tools.base.numbers import SECTOR
 from dmremap_tools.base.refusal import Refusal
-from dmremap_tools.metadata.volume_group import Segment
+from dmremap_tools.model.config_text import shown
 from dmremap_tools.model.device import ZEROS, Device, Entry, Gap, Overlaid, Part, Run, sorted_entries
+from dmremap_tools.model.volume_group import Segment
 
 BLOCK, WORD = 4096, 8
 # struct node_header and struct array_block, and what the sum of a block of each kind is changed by.

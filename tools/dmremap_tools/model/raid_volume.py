@@ -7,13 +7,13 @@ from collections import namedtuple
 from typing import Any, Callable, Dict, List, Optional, Sequence, Tuple
 
 from dmremap_tools.base import tables
-from dmremap_tools.base.config_text import shown
 from dmremap_tools.base.numbers import SECTOR
 from dmremap_tools.base.refusal import Refusal
-from dmremap_tools.metadata.volume_group import Segment
+from dmremap_tools.model.config_text import shown
 from dmremap_tools.model.device import ALL, Copies, Device, Gap, Missing, Part, Run
 from dmremap_tools.model.mapping import Mapped, Tables
 from dmremap_tools.model.md_chunks import LAYOUTS, PARITY, Rows, Shape
+from dmremap_tools.model.volume_group import Segment
 
 FORM, MAGIC, V190 = struct.Struct("<4L4Q4LQ12xl8xQ40xL"), 0x64526D44, 1
 Superblock = namedtuple("Superblock", "magic compat_features num_devices array_position events failed_devices "

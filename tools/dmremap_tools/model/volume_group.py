@@ -4,7 +4,7 @@ import collections
 from typing import Dict, List, NamedTuple, Optional, Tuple
 
 from dmremap_tools.base import names, store_places
-from dmremap_tools.base.config_text import Node, Value, shown
+from dmremap_tools.model.config_text import Node, Value, shown
 
 # The types of segments that dmremap reads, and what lvm2 calls the first of them as well.
 STRIPED, LINEAR, SNAPSHOT, NO_STORE = b"striped", b"linear", b"snapshot", (b"zero", b"error")
