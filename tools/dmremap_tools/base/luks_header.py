@@ -67,10 +67,6 @@ def headers_in(image: Image) -> List[Header]:
     return [it for it in (first, second) if it]
 
 
-def is_container(image: Image) -> bool:
-    return image.read(0, len(MAGIC)) == MAGIC
-
-
 def _header_at(image: Image, place: int) -> Optional[Header]:
     head = image.read(place, BINARY)
     if len(head) < BINARY:

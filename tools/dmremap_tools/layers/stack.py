@@ -7,12 +7,12 @@ import os
 import stat
 from typing import Dict, Iterable, Iterator, List, NamedTuple, Optional, Set, Tuple
 
-from dmremap_tools.base import disk_image, names, paths, program, quoting, store_places, streams, tables, written
+from dmremap_tools.base import names, paths, program, quoting, store_places, streams, tables
 from dmremap_tools.base.given import Given, put
 from dmremap_tools.base.refusal import Refusal
 from dmremap_tools.explaining import texts
 from dmremap_tools.layers import refused
-from dmremap_tools.machines.placed import by_ids, disks_of
+from dmremap_tools.model.placed import by_ids, disks_of, image_of
 
 NEXT = "--paths says where disks are, and --fresh takes every snapshot as new"
 INVALID = ("it is invalid, as it was full once: what the origin overwrote since is lost, and nothing of the snapshot is read; --fresh "
@@ -123,24 +123,8 @@ def rows_of(places: Dict[str, paths.Place]) -> Iterator[str]:
     """PATHS, with these disks."""
     for disk, place in places.items():
         row = paths.line(disk, place.path, place.start)
-        descriptor = opened(place.path)
-        if stat.S_ISBLK(os.fstat(descriptor).st_mode):
+        image_of(place.path)
+        if stat.S_ISBLK(os.stat(place.path).st_mode):
             streams.tell(f"{quoting.shown(place.path)} is a block device: if a snapshot on it is in use, suspend it first, or give an "
                          "image that was read with O_DIRECT, as `dd iflag=direct` does")
-        os.close(descriptor)
         yield row
-
-
-def opened(path: str) -> int:
-    """The descriptor of a disk or an image of one, which has its bytes in their order."""
-    try:
-        descriptor = os.open(path, os.O_RDONLY | os.O_NONBLOCK)
-    except OSError as fault:
-        raise Refusal(quoting.shown(path), streams.why(fault))
-    kind = os.fstat(descriptor).st_mode
-    if not stat.S_ISREG(kind) and not stat.S_ISBLK(kind):
-        os.close(descriptor)
-        raise Refusal(quoting.shown(path), "neither a file nor a disk: give the path of one")
-    written.note_input(descriptor)
-    disk_image.check_form(descriptor, quoting.shown(path))
-    return descriptor

@@ -116,9 +116,23 @@ class Tables:
     def _child(self, *wanted: str) -> Any:
         """The program that knows some devices, or why it can't; that is kept, too, and isn't tried again."""
         try:
-            return Child(self.closure(wanted))
+            return self.closure(wanted)._started()
         except Refusal as refusal:
             return refusal
+
+    def _started(self) -> "Child":
+        """The program with all of these tables, and with copies of what the stores say."""
+        asked = program.dmremap(Child.program)
+        with tempfile.TemporaryDirectory(prefix="dmremap-tools-") as folder:
+            copies = {name: os.path.join(folder, name) for name in self.stores}
+            for name, path in copies.items():
+                self.stores[name](path)
+            file, disks, listed = self.write(folder, copies)
+            words = [asked, "map", "table", file, disks] + ["--paths", listed] * bool(copies)
+            chunks = store_places.chunks_in(words, self.devices.values()) if copies else {}
+            child = Child(words, next(iter(self.devices)))
+            child.chunks = chunks
+            return child
 
     def write(self, folder: str, files: Dict[str, str]) -> List[str]:
         """Writes FILE, DISKS, and PATHS with these files; the paths of the three. A disk that is too short gets as many
@@ -134,28 +148,42 @@ class Tables:
         return written
 
 
+class LoadedTables(Tables):
+    """Tables that somebody gave, which one program has loaded, by these words; and the devices of their disks."""
+
+    def __init__(self, devices: Sequence[tables.Device], disks: Dict[str, Device], words: Sequence[str]) -> None:
+        super().__init__()
+        self.devices.update((device.name, device) for device in devices)
+        self.disks.update(disks)
+        self._words = words
+
+    def child_of(self, name: str) -> "Child":
+        return self._child()
+
+    @functools.lru_cache(1)
+    def _child(self) -> "Child":
+        return Child(self._words, next(iter(self.devices)))
+
+
 class Child:
     """The program, which knows devices of tables. It answers each request before it takes the next."""
 
     # The one that is asked, if it is given.
     program: Optional[str] = None
+    # How many chunks are in the store of each snapshot, or None where it is invalid.
+    chunks: Dict[str, Optional[int]] = {}
 
-    def __init__(self, source: Tables) -> None:
-        self._name, self._number, self._said = program.dmremap(Child.program), 0, tempfile.TemporaryFile()
-        with tempfile.TemporaryDirectory(prefix="dmremap-tools-") as folder:
-            copies = {name: os.path.join(folder, name) for name in source.stores}
-            for name, path in copies.items():
-                source.stores[name](path)
-            file, disks, listed = source.write(folder, copies)
-            words = [self._name, "map", "table", file, disks] + ["--paths", listed] * bool(copies)
-            self.chunks = store_places.chunks_in(words, source.devices.values()) if source.stores else {}
-            try:
-                self._child = program.start(words, stdin=subprocess.PIPE, stdout=subprocess.PIPE, stderr=self._said)
-            except Refusal as refusal:
-                raise NoProgram(refusal.where, f"{refusal.why}: {ASKED}")
-            # It ends once nobody may ask it any more.
-            weakref.finalize(self, self._child.kill)
-            self.ask(next(iter(source.devices)), 0, 1)
+    def __init__(self, words: Sequence[str], name: str) -> None:
+        """Starts it with these words, of which the first is its path, and asks for the first sector of a device. Raises
+        NoProgram where there is none, and what it says where it refuses its tables."""
+        self._name, self._number, self._said = words[0], 0, tempfile.TemporaryFile()
+        try:
+            self._child = program.start(words, stdin=subprocess.PIPE, stdout=subprocess.PIPE, stderr=self._said)
+        except Refusal as refusal:
+            raise NoProgram(refusal.where, f"{refusal.why}: {ASKED}")
+        # It ends once nobody may ask it any more.
+        weakref.finalize(self, self._child.kill)
+        self.ask(name, 0, 1)
 
     def ask(self, name: str, first: int, count: int) -> List[Piece]:
         """The answer to one request, which has its number."""

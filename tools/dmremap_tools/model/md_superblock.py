@@ -1,13 +1,11 @@
 """The superblocks of members of md arrays, as linux/raid/md_p.h has them: metadata 0.90, and 1.0 to 1.2. Nothing of one
 is believed that its sum doesn't confirm, or that says that it lies elsewhere."""
 
-import functools
 import itertools
 import struct
 from typing import Iterator, List, NamedTuple, Optional, Sequence, Tuple
 
-from dmremap_tools.base import partition_table, streams
-from dmremap_tools.base.disk_image import Image, Unreadable
+from dmremap_tools.base import partition_table
 from dmremap_tools.base.numbers import SECTOR
 from dmremap_tools.base.refusal import Refusal
 from dmremap_tools.model.device import Device, Lenient
@@ -63,16 +61,6 @@ def has_all(superblock: Superblock) -> bool:
     return superblock.level == MIRRORED or superblock.places == 1 and superblock.level in (LINEAR, STRIPED)
 
 
-def superblocks(image: Image, size: Optional[int] = None) -> List[Superblock]:
-    """The sound superblocks of a member, which has so many bytes, or those that the image has."""
-    return [found for _, _, found in _found(image, image.size if size is None else size) if found]
-
-
-def damaged(image: Image, size: Optional[int] = None) -> List[int]:
-    """The bytes at which something begins as a superblock does, and isn't sound."""
-    return [at for at, _, found in _found(image, image.size if size is None else size) if not found]
-
-
 def found_in(device: Device) -> Tuple[List[Superblock], List[Tuple[int, bytes]]]:
     """The sound superblocks of a device; and where something begins as one and isn't sound, with the id of its array."""
     found = list(_found(Lenient(device), device.size))
@@ -121,34 +109,19 @@ def bad_blocks(member: Member) -> List[Tuple[int, int]]:
     return [((entry >> 10) << shift, (entry & 0x3FF) << shift) for entry, in used]
 
 
-def _found(image: Image, size: int) -> Iterator[Tuple[int, bytes, Optional[Superblock]]]:
+def _found(image: Lenient, size: int) -> Iterator[Tuple[int, bytes, Optional[Superblock]]]:
     """Each place at which a superblock begins, what is there, and the superblock, if it is sound."""
     sectors = size // SECTOR
     for version, sector in (("1.0", (sectors - 16) & ~7), ("1.1", 0), ("1.2", 8)):
-        content = _read(image, sector * SECTOR) if sector >= 0 else b""
+        content = image.read(sector * SECTOR, MOST_BYTES) if sector >= 0 else b""
         is_one = content[:8] == struct.pack("<LL", MAGIC, 1)
         if is_one and not (version == "1.0" and _is_of_partition(image, content, sector)):
             yield sector * SECTOR, content, _first_version(content, version, sector)
     at = size // OLD_ROOM * OLD_ROOM - OLD_ROOM
-    content = _read(image, at) if at >= 0 else b""
+    content = image.read(at, MOST_BYTES) if at >= 0 else b""
     for order in "<>":
         if content[:8] == struct.pack(order + "LL", MAGIC, 0):
             yield at, content, _old_version(content, order, at)
-
-
-def _read(image: Image, at: int) -> bytes:
-    """What may be a superblock. Where it can't be read, a disk that fails is none the less looked into."""
-    try:
-        return image.read(at, MOST_BYTES)
-    except Unreadable:
-        _tell_unread(image.path, image.base + at)
-        return b""
-
-
-@functools.lru_cache(maxsize=None)
-def _tell_unread(path: str, at: int) -> None:
-    """Tells once that it can't be read."""
-    streams.tell(f"{path}: byte {at} can't be read, where the superblock of an md array may be")
 
 
 def _sum(content: bytes, order: str) -> int:
@@ -157,7 +130,7 @@ def _sum(content: bytes, order: str) -> int:
     return (total & 0xFFFFFFFF) + (total >> 32) & 0xFFFFFFFF
 
 
-def _is_of_partition(image: Image, content: bytes, sector: int) -> bool:
+def _is_of_partition(image: Lenient, content: bytes, sector: int) -> bool:
     """Whether a superblock of version 1.0 at the end of a disk is that of a partition, by where it says that it lies."""
     begin = (sector - (_summed(content) or sector)) * SECTOR
     try:
