@@ -78,7 +78,8 @@ def check_rings(command, group):
     whole = text_of_area(group, b"CCCCCC", 3)
     for size in (SECTOR + len(whole), SIZE, 1 << 21):
         for offset in (SECTOR, size - 1, size - len(whole)):
-            command.takes("one at %d of an area of %d bytes" % (offset, size), volume((FIRST, area(whole, offset, size=size))), whole)
+            head = volume((FIRST, area(whole, offset, size=size)), length=FIRST + size // SECTOR * SECTOR + SECTOR)
+            command.takes("one at %d of an area of %d bytes" % (offset, size), head, whole)
 
 
 def check_flips(tally, group):

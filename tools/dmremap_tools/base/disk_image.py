@@ -56,7 +56,8 @@ class Image(Protocol):
     size: int
 
     def read(self, at: int, count: int) -> bytes:
-        """The bytes from `at` on, fewer where they end or can't be read. Whoever asks sees to it that they aren't too many."""
+        """The bytes from `at` on, fewer where they end or can't be read. Whoever asks takes care that they aren't too
+        many."""
 
 
 def length_of(file: BinaryIO, path: str) -> int:
@@ -67,8 +68,8 @@ def length_of(file: BinaryIO, path: str) -> int:
 
 
 def form_of(descriptor: int) -> str:
-    """What is said of a file that begins as one does that has no bytes of a disk in their order, or nothing. What can't be
-    read there is met later."""
+    """What is said of a file that begins as one does that has no bytes of a disk in their order, or nothing. What can't
+    be read there is met later."""
     with contextlib.suppress(OSError):
         is_file = stat.S_ISREG(os.fstat(descriptor).st_mode)
         return other_form(os.pread(descriptor, LONGEST_MAGIC, 0)) if is_file else ""

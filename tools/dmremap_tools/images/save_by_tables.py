@@ -1,5 +1,5 @@
-"""What `save` takes by tables: a device of them over the disks that they name, or a file that lies in it. A snapshot is read
-as its store says, which is on these disks, too."""
+"""What `save` takes by tables: a device of them over the disks that they name, or a file that lies in it. A snapshot is
+read as its store says, which is on these disks, too."""
 
 import hashlib
 from argparse import Namespace
@@ -21,15 +21,18 @@ from dmremap_tools.requests.filefrag import Extent
 
 
 def target_of(words: Namespace, folder: str) -> Target:
-    """The device that is asked for, or the file that EXTENTS tells of in it; dmremap reads its tables in a folder. Refuses
-    what dmremap doesn't load, and stores that it can't read."""
-    source, volume = given.given_in(words, "VOLUME TARGET FORMAT FILE [DISKS]"), names.Names(words.ls).device(words.volume, "VOLUME")
+    """The device that is asked for, or the file that EXTENTS tells of in it; dmremap reads its tables in a folder.
+    Refuses what dmremap doesn't load, and stores that it can't read."""
+    source = given.given_in(words, "VOLUME TARGET FORMAT FILE [DISKS]")
+    volume = names.Names(words.ls).device(words.volume, "VOLUME")
     begun = stack.start(words, source, [volume], folder)
+    end = begun.loaded.length(volume, words.file) * SECTOR
     found = [] if words.extents is None else list(filefrag.read_filefrag(streams.Lines(words.extents), filefrag.KNOWN))
-    size, *others = [it[0] for it in found if it[1:] == filefrag.ENDED] or [begun.loaded.length(volume, words.file) * SECTOR]
+    size, *others = [it[0] for it in found if it[1:] == filefrag.ENDED] or [end]
     if others:
         raise Refusal(streams.name_of(words.extents), "more than one file: give the extents of one")
-    part, paths = begun.loaded.part([volume]), {name: begun.places.get(name) or Place(name) for name in begun.loaded.sizes}
+    part = begun.loaded.part([volume])
+    paths = {name: begun.places.get(name) or Place(name) for name in begun.loaded.sizes}
     for place in paths.values():
         written.note_input(place.path)
     unread = rescue_map.unread_in(words, [place.path for place in paths.values()])
@@ -53,8 +56,8 @@ def check_stores(part: stack.Stack, gapped: Set[str], paths: Dict[str, Place]) -
 
 
 def disk_at(name: str, place: Place, unread: Dict[str, List[Run]]) -> Device:
-    """The whole sectors of a disk from its place on, or what says why it isn't there; `unread` has by its path the runs of
-    bytes of an image that weren't read."""
+    """The whole sectors of a disk from its place on, or what says why it isn't there; `unread` has by its path the runs
+    of bytes of an image that weren't read."""
     try:
         image = Image(place.path, unread.get(place.path, ()))
         why = image.other_form
@@ -79,7 +82,7 @@ def file_in(device: Device, extents: List[Extent], size: int) -> Device:
 
 
 def sum_of(part: stack.Stack, extents: List[Extent]) -> str:
-    """A sum over what says where the bytes of a device lie, and those of a file in it. A line that gives no bytes of disks
-    may become another."""
+    """A sum over what says where the bytes of a device lie, and those of a file in it. A line that gives no bytes of
+    disks may become another."""
     lines = [f"{it.name} {line}" for it in part.devices for line in it.lines if line.target not in ("zero", "error")]
     return hashlib.sha256("\n".join([*lines, *map(str, extents)]).encode()).hexdigest()[:16]

@@ -7,7 +7,7 @@ where that line begins on the device, and as what it is used. A line with `end` 
 A snapshot uses all of its origin, as `origin`, and all of its store. With metadata, what a physical volume has before its
 extents, its label and an area for the metadata, is `label+metadata` of its group. What it has after them, where a second area
 may lie, and the extents of volumes without a line, such as inactive ones, are `allocated`. With --paths the disks are read:
-labels tell which physical volume is which, and what `owner` says to have sectors that no line has is `allocated` as well.
+labels tell which physical volume is which, and who has sectors that no line has, as `owner` says, is `allocated` as well.
 
 With --free, lines `unnamed` stand between: sectors that no line names. They needn't be free: a file system may lie there
 without a device, or a partition table, swap space, or a volume that isn't active or was left out. --clashes prints, in place of
@@ -48,7 +48,7 @@ LINE = "%s %d %d %s %s %s\n"
 Span = NamedTuple("Span", [("on", str), ("first", int), ("end", int), ("device", str), ("start", str), ("kind", str)])
 # The kind of what is taken; `device` says what it is. What it is taken of is said where it is known.
 ALLOCATED = "allocated"
-# What the names of those begin with of whom nobody knows that they have sectors, and of those that say what others have.
+# What the names of those begin with that aren't known to have sectors, and of those that say what others have.
 NOBODY = ("nobody", "unknown: ", "free in ")
 HEAD = re.compile("GPT|MBR|backup of |label of |metadata area of |superblock of |LUKS[0-9] header")
 
@@ -160,7 +160,7 @@ def with_free(spans: List[Span]) -> Iterator[str]:
 
 
 def device_at(pile: Pile, place: paths.Place) -> Optional[Device]:
-    """What begins at a place in an image of a pile: the image, a partition, or what nobody knows; None where it isn't."""
+    """What begins at a place in an image of a pile, as the image or a partition; None where the image isn't there."""
     image = image_at(pile, place.path)
     devices = (spot.device for spot in pile.spots() if image and place.start in begins_in(pile, spot.device, image))
     rest = Part(image.name, image, place.start, max(0, image.size - place.start)) if image else None
@@ -168,8 +168,8 @@ def device_at(pile: Pile, place: paths.Place) -> Optional[Device]:
 
 
 def spans_of_owners(ground: Ground, end: int, lines: Sequence[Span]) -> Iterator[Span]:
-    """Who has the sectors of a device up to an end, with their own sectors: as `owner` says it, without those of which nobody
-    is known. What lies in something else is told only where no line has sectors of that."""
+    """Who has the sectors of a device up to an end, with their own sectors, as `owner` says it, where that is known.
+    What lies in something else is told only where no line has sectors of that."""
     found = [(way, [step for step in way.steps if not step[0].startswith(NOBODY)]) for way in ways(ground, 0, end)]
     for way, steps in found:
         is_within = any(it.first < way.first + way.count and way.first < it.end for it in lines)

@@ -296,8 +296,8 @@ def lengths_of(words: argparse.Namespace) -> Tuple[Dict[str, Optional[int]], Dic
 
 
 def partitions_of(image: Image, sector: int) -> Tuple[str, List[Partition]]:
-    """What the partition table of an image is called, or nothing, and its partitions, as far as they can be read; an MBR
-    counts in sectors of so many bytes. What is left of a GPT isn't the table of a physical volume."""
+    """What the partition table of an image is called, or nothing, and its partitions, as far as they can be read; an
+    MBR counts in sectors of so many bytes. What is left of a GPT isn't the table of a physical volume."""
     disk = Lenient(image)
     try:
         table = table_of(disk, sector) or (backup_of(disk) if label_of(disk)[0] is None else None)
@@ -307,8 +307,8 @@ def partitions_of(image: Image, sector: int) -> Tuple[str, List[Partition]]:
 
 
 def sectors_at(place: paths.Place, image: Image, partitions: List[Partition]) -> int:
-    """The sectors of an image, or of the partition or the physical volume in it that begins at a place. Refuses a place at
-    which neither does."""
+    """The sectors of an image, or of the partition or the physical volume in it that begins at a place. Refuses a place
+    at which neither does."""
     if not place.start:
         return image.size // numbers.SECTOR
     check_places({"": place}, pile_at([place.path]))

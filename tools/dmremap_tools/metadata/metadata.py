@@ -1,9 +1,10 @@
 """Prints the metadata text of the group that a physical volume of LVM2 belongs to.
 
-Takes HEAD, the physical volume, or an image of its beginning, such as its first MiB, or of the whole disk, which is searched
-as by `scan`: each physical volume in it is taken, in a partition, in a member of an md array, or anywhere if nothing else is
-found. HEAD?offset=BYTES is what begins there in it. Several physical volumes have to agree. `dd if=/dev/sda1 of=head.img bs=1M count=1` makes an image of the beginning; with
-lvm2, `pvck --dump metadata -f TEXT head.img` does the same as this command.
+Takes HEAD, the physical volume, or an image of its beginning, such as its first MiB, or of the whole disk, which is
+searched as by `scan`: each physical volume in it is taken, in a partition, in a member of an md array, or anywhere if
+nothing else is found. HEAD?offset=BYTES is what begins there in it. Several physical volumes have to agree. `dd if=/dev/sda1
+of=head.img bs=1M count=1` makes an image of the beginning; with lvm2, `pvck --dump metadata -f TEXT head.img` does the same
+as this command.
 
 Prints the valid text. The label says where the metadata areas are, and the header of an area which of its texts is valid. Each
 of the three has a checksum. If the first area is damaged, the second is taken, if there is one. If both are sound, the text
@@ -56,8 +57,8 @@ def run(words: argparse.Namespace) -> None:
     places = [paths.place_of("/dev/stdin" if path == "-" else path) for path in words.heads]
     for path, place in zip(words.heads, places):
         if place.is_said and os.path.lexists(path):
-            raise Refusal(quoting.shown(path), f"a file is called so, and here it means a byte of {quoting.shown(place.path)}: give "
-                          "the file another name, or a link to it")
+            raise Refusal(quoting.shown(path), f"a file is called so, and here it means a byte of "
+                          f"{quoting.shown(place.path)}: give the file another name, or a link to it")
     # What is no image of a disk is refused by its path.
     images = [image_of(place.path) for place in places]
     pile = Pile([place.path for place in dict.fromkeys(places) if not place.is_said], None)
@@ -92,7 +93,8 @@ def part_at(image: Image, start: int) -> Device:
 
 def volume_of(device: Device) -> Optional[PhysicalVolume]:
     """The physical volume that a device is, or that is in it as a member of an array; what is left of one, or None."""
-    datas = [Part(device.name, device, it.start * SECTOR, it.length * SECTOR) for it in md_superblock.found_in(device)[0]]
+    members = md_superblock.found_in(device)[0]
+    datas = [Part(device.name, device, it.start * SECTOR, it.length * SECTOR) for it in members]
     found, left = next(filter(None, map(volume_in, [device, *datas])), None), leftover_in(device, True)
     return found or (left.unlabelled() if left else None)
 
@@ -103,7 +105,8 @@ def first_if_equal(volumes: List[PhysicalVolume]) -> bytes:
     if len({it.body() for it in texts}) > 1:
         for volume, text in zip(volumes, texts):
             streams.tell(f"{volume.place}: {text.summary()}")
-        raise Refusal(volumes[0].place, "the texts differ: look at what each has, and take the volume that is right alone")
+        raise Refusal(volumes[0].place, "the texts differ: "
+                      "look at what each has, and take the volume that is right alone")
     return texts[0].content
 
 
@@ -114,7 +117,8 @@ def valid_text(volume: PhysicalVolume) -> Text:
         why = next(iter(volume.faults), "this physical volume keeps no metadata")
         raise Refusal(volume.place, f"{why}: {OTHER}")
     if volume.faults and label.sector < 0:
-        streams.tell(f"{volume.place}: {volume.faults[0]}: metadata areas were looked for in the first and last {SEARCHED >> 20} MiB")
+        streams.tell(f"{volume.place}: {volume.faults[0]}: metadata areas were looked for in the first and last "
+                     f"{SEARCHED >> 20} MiB")
     if label.is_used is False and all(it.fault in (EMPTY, MISSING) for it in areas):
         raise Refusal(volume.place, f"the physical volume belongs to no group: {OLDER}")
     sound = [it for it in areas if it.text]
@@ -143,12 +147,13 @@ def named(areas: List[Area]) -> str:
 
 
 def texts_in(image: Image, volumes: List[PhysicalVolume]) -> List[Text]:
-    """The older texts of a physical volume, or at the beginning of an image where none is known, each with its byte in the
-    image. Refuses an image without any."""
+    """The older texts of a physical volume, or at the beginning of an image where none is known, each with its byte in
+    the image. Refuses an image without any."""
     texts = [it._replace(at=place_of(volume.device) + it.at) for volume in volumes for it in volume.texts]
     texts = texts or texts_of_ring(0, Lenient(image).read(0, HEAD), False)
     if not texts:
-        raise Refusal(image.name, "there is no text of a group: take another physical volume, or a file in /etc/lvm/archive")
+        raise Refusal(image.name, "there is no text of a group: "
+                      "take another physical volume, or a file in /etc/lvm/archive")
     return texts
 
 

@@ -317,16 +317,17 @@ class Leftover(NamedTuple):
         last = max((text for text in self.texts if text.said_time()), key=lambda text: text.seqno, default=None)
         return f"{self.fault}: `metadata` prints a text of {last.group} (seqno {last.seqno})" if last else self.fault
 
-    def unlabelled(self) -> PhysicalVolume:
-        """A physical volume with these areas and texts, of which nothing says what it is; its first fault is that."""
-        found = PhysicalVolume(self.device, Label(-1, b"", self.device.size, self.areas, True), 0)
+    def unlabelled(self, size: int = ALL) -> PhysicalVolume:
+        """A physical volume of at most so many bytes with these areas and texts, of which nothing says what it is; its
+        first fault is that."""
+        found = PhysicalVolume(self.device, Label(-1, b"", size, self.areas, True), 0)
         found.texts, found.faults = self.texts, [self.fault, *found.faults]
         return found
 
     def volume(self) -> Optional[PhysicalVolume]:
         """The physical volume that it is, if its current text has one disk, or one with the id that is left in the label,
         which is as long as this, and nobody wrote anything else where the label was."""
-        found, image = self.unlabelled(), Lenient(self.device)
+        found, image = self.unlabelled(self.device.size), Lenient(self.device)
         if len({text.key() for text in found.current}) != 1:
             return None
         nodes = {node.value(b"id", bytes): node for node in found.current[0].node().sections_in(b"physical_volumes")}

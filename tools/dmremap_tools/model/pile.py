@@ -90,7 +90,7 @@ class Pile:
         self.volumes: List[PhysicalVolume] = []
         self.leftovers: List[Leftover] = []
         self.groups: List[Group] = []
-        # All members, also those of which no array is put together, and what seems to be one, with a damaged superblock.
+        # All members, also those of which no array is put together; and what seems to be one by a damaged superblock.
         self.members: List[Member] = []
         self.damaged: List[Spot] = []
         self._members: Dict[bytes, List[Member]] = {}
@@ -358,7 +358,7 @@ class Pile:
         self.containers = [each for each in self.containers if is_elsewhere(each[0].device)]
         self._damaged = [each for each in self._damaged if is_elsewhere(each[0].device)]
         self.spot_of = {other: spot for other, spot in self.spot_of.items() if is_elsewhere(other)}
-        for members in self._members.values():
+        for members in [self.members, *self._members.values()]:
             members[:] = [member for member in members if is_elsewhere(member.device)]
 
     def _is_bare(self, array: Array) -> bool:

@@ -1,6 +1,6 @@
-"""Where the disks of tables, or of a text of lvm2, lie in images: at the places that are given, or where the images have the
-physical volumes of the text. Places are refused at which the bytes of a disk aren't those that lie there, as in a member of
-an array that has only some of these."""
+"""Where the disks of tables, or of a text of lvm2, lie in images: at the places that are given, or where the images have
+the physical volumes of the text. Places are refused at which the bytes of a disk aren't those that lie there, as in a
+member of an array that has only some of these."""
 
 import os
 import re
@@ -34,8 +34,8 @@ def groups_in(path: str) -> Tuple[Document, List[Group]]:
     document = Document(streams.name_of(path), streams.read_bytes(path))
     groups = [group for group in map(Group, document.top.sections()) if group.physicals]
     if not groups:
-        raise Refusal(document.path, "no physical volumes of a group: give a text of /etc/lvm/backup, or what `metadata` "
-                      "prints")
+        raise Refusal(document.path, "no physical volumes of a group: give a text of /etc/lvm/backup, or what "
+                      "`metadata` prints")
     return document, groups
 
 
@@ -53,8 +53,8 @@ def disks_of(path: str) -> Iterator[Tuple[str, int, Optional[bytes]]]:
 
 def by_ids(text: Optional[str], places: Dict[str, Place], sizes: Dict[str, int]) -> Dict[str, Place]:
     """The places of disks, of which some may be whole disks that have a physical volume on a partition. Without `text`,
-    the metadata of their group, they are what was given. `sizes` has the sectors of each disk. Refuses an image of another
-    disk, and one of which nothing says where the disk is."""
+    the metadata of their group, they are what was given. `sizes` has the sectors of each disk. Refuses an image of
+    another disk, and one of which nothing says where the disk is."""
     ids = {name: identity for name, _, identity in (disks_of(text) if text is not None else ()) if identity is not None}
     found, pile = dict(places), pile_at(place.path for place in places.values())
     check_places(places, pile, bool(ids))
@@ -62,8 +62,8 @@ def by_ids(text: Optional[str], places: Dict[str, Place], sizes: Dict[str, int])
         image, size = image_at(pile, place.path), sizes.get(name)
         if image and name in ids:
             found[name] = place_of_volume(pile, image, name, ids[name], place)
-        # The image of a whole disk isn't one of a partition, which doesn't begin where that does. A disk that is as long as
-        # said is taken, and one whose image ends too early, if its partitions lie within so many sectors.
+        # The image of a whole disk isn't one of a partition, which doesn't begin where that does. A disk that is as long
+        # as said is taken, and one whose image ends too early, if its partitions lie within so many sectors.
         table = pile.tables.get(image) if image and size is not None and not found[name].is_said else None
         ends = [image.bytes, *(part.start + part.size for part in table.partitions.values())] if table else []
         if table and image.bytes // SECTOR != size and max(ends) > size * SECTOR:
@@ -73,7 +73,7 @@ def by_ids(text: Optional[str], places: Dict[str, Place], sizes: Dict[str, int])
 
 
 def pile_at(paths: Iterable[str]) -> Pile:
-    """What is in the images at these paths, without those that aren't there or can't be read: who reads them says why."""
+    """What is in the images at these paths, without those that can't be read, of which who reads them says why."""
     return Pile([path for path in dict.fromkeys(paths) if written.identity_at(path) and os.access(path, os.R_OK)], None)
 
 
@@ -92,8 +92,8 @@ def image_at(pile: Pile, path: str) -> Optional[Image]:
 
 
 def begins_in(pile: Pile, device: Device, image: Image) -> Iterator[int]:
-    """The bytes of an image from which on all bytes of a device lie, one after the other: of an array those of its members
-    that have them."""
+    """The bytes of an image from which on all bytes of a device lie, one after the other: of an array those of its
+    members that have them."""
     if device is image:
         yield 0
     elif isinstance(device, Part):
@@ -104,10 +104,11 @@ def begins_in(pile: Pile, device: Device, image: Image) -> Iterator[int]:
 
 
 def place_of_volume(pile: Pile, image: Image, name: str, identity: bytes, place: Place) -> Place:
-    """Where an image has the physical volume with this id: in all of it, or at a place that was given. That place itself
-    where nothing says which volume is there. Refuses the image of another volume, and one that is in question."""
-    members = [(begin, member) for member in pile.members for begin in begins_in(pile, member.device, image)]
-    datas = [(begin, begin + member.superblock.start * SECTOR) for begin, member in members if has_all(member.superblock)]
+    """Where an image has the physical volume with this id: in all of it, or at a place that was given. That place
+    itself where nothing says which volume is there. Refuses the image of another volume, and one that is in question."""
+    members = (member for member in pile.members if has_all(member.superblock))
+    datas = [(begin, begin + member.superblock.start * SECTOR) for member in members
+             for begin in begins_in(pile, member.device, image)]
     labels = {begin: label_at(image, begin) for begin in (place.start, *(data for _, data in datas))}
     found = {begin: label.identity for begin, label in labels.items() if label}
     whys: Dict[int, Optional[str]] = {}
@@ -125,8 +126,8 @@ def place_of_volume(pile: Pile, image: Image, name: str, identity: bytes, place:
     if mine is not None:
         return Place(place.path, mine, True)
     if found:
-        wrong = f"it isn't {quoting.shown(name)}, whose id is {shown(identity)}"
-        raise Refusal(image.name, f"{wrong}, but has the id {' or '.join(map(shown, found.values()))}: give the path of that")
+        wrong, ids = f"it isn't {quoting.shown(name)}, whose id is {shown(identity)}", map(shown, found.values())
+        raise Refusal(image.name, f"{wrong}, but has the id {' or '.join(ids)}: give the path of that")
     if table and not place.is_said:
         numbers = quoting.some(list(map(str, table.partitions))) or "-"
         raise Refusal(image.name, table.fault or f"the image of a whole disk ({table.kind}), none of whose partitions "
@@ -162,8 +163,8 @@ def check_places(places: Dict[str, Place], pile: Pile, are_volumes: bool = False
                     raise Refusal(quoting.shown(place.path), why)
                 is_array_place = is_array and not are_volumes and (is_behind or is_beginning)
                 if is_array_place and place.start != data and not PARTITION.fullmatch(name):
-                    raise Refusal(quoting.shown(place.path), f"{quoting.shown(name)} is an array, and this place is in a "
-                                  f"member of one whose data begins at byte {data}: give that, as IMAGE?offset=BYTES")
+                    raise Refusal(quoting.shown(place.path), f"{quoting.shown(name)} is an array, and this place is in "
+                                  f"a member of one whose data begins at byte {data}: give that, as IMAGE?offset=BYTES")
 
 
 def fault_of(member: Member, pile: Pile) -> Optional[str]:
@@ -173,6 +174,7 @@ def fault_of(member: Member, pile: Pile) -> Optional[str]:
         return PARTS
     if mine.role is None or mine.features & ~HARMLESS:
         return CHANGING
-    newer = ((pile.spot_of[it.device].path, it.superblock.events) for it in pile.members if it.superblock.array == mine.array)
+    alike = (it for it in pile.members if it.superblock.array == mine.array)
+    newer = ((pile.spot_of[it.device].path, it.superblock.events) for it in alike)
     ages = (OLDER.format(mine.events, path, events) for path, events in newer if events > mine.events)
     return BAD if mine.features & BAD_BLOCKS else next(ages, None)
