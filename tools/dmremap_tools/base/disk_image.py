@@ -49,7 +49,7 @@ UNMOUNTED = ("luks", "bitlocker", "swap", "lvm2", "zfs", "bcache")
 WITHOUT_JOURNAL = {"ext3": ",noload", "ext4": ",noload", "xfs": ",norecovery"}
 
 
-class Image(Protocol):
+class Readable(Protocol):
     """Bytes at their places, as readers of labels and tables take them; messages call them `path`."""
 
     path: str
@@ -85,7 +85,7 @@ def other_form(beginning: bytes) -> str:
     return form and f"it is an image of {form}: convert it with qemu-img convert -O raw"
 
 
-def file_system_of(image: Image) -> Optional[str]:
+def file_system_of(image: Readable) -> Optional[str]:
     """What begins an image, or None where nothing known does or its first bytes aren't there."""
     head = image.read(0, READ)
     if len(head) < min(READ, image.size):
@@ -117,7 +117,7 @@ def mount_command(system: Optional[str], path: str, folder: str) -> Optional[str
     return f"mount -o ro,loop{WITHOUT_JOURNAL.get(system, '')} {path} {folder}"
 
 
-def other_table_of(image: Image) -> Optional[str]:
+def other_table_of(image: Readable) -> Optional[str]:
     """The kind of partition table that a disk has which isn't followed, or None."""
     head = image.read(0, 2 * 512)
     return next((name for name, at, content in OTHER_TABLES if head.startswith(content, at)), None)

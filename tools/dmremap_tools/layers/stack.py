@@ -93,7 +93,7 @@ def start(words: argparse.Namespace, source: Given, devices: Optional[Iterable[s
     asked, places = program.dmremap(words.program), paths.places(words.paths)
     loaded = load(asked, source, folder)
     paths.check_known(words.paths, places, loaded.sizes)
-    places = by_ids(loaded.group, places, loaded.sizes)
+    places = by_ids(loaded.group, places, loaded.sizes, asked)
     part = loaded if devices is None else loaded.part(devices)
     command = [asked, "map", *part.write(folder)]
     snapshots = [] if words.fresh else [it for it in part.devices if it.lines[0].target == "snapshot"]

@@ -123,26 +123,27 @@ def valid_text(volume: PhysicalVolume) -> Text:
         raise Refusal(volume.place, f"the physical volume belongs to no group: {OLDER}")
     sound = [it for it in areas if it.text]
     if not sound:
-        why = "; ".join(f"{named([it])}: {it.fault}" for it in areas)
+        why = "; ".join(f"{areas_in_words([it])}: {it.fault}" for it in areas)
         is_cut = any(it.fault == MISSING for it in areas)
         raise Refusal(volume.place, f"{why}: " + ("take more of the disk" if is_cut else f"{OTHER}, or {OLDER}"))
     newest = [it for it in sound if it.text.seqno == max(each.text.seqno for each in sound)]
     are_of_one = len(sound) == 1 or sound[0].text.group and len({it.text.identity for it in sound}) == 1
     if not are_of_one or len({it.text.body() for it in newest}) > 1:
         for area in sound:
-            streams.tell(f"{volume.place}: {named([area])}: {area.text.summary()}")
+            streams.tell(f"{volume.place}: {areas_in_words([area])}: {area.text.summary()}")
         why = "have different texts with one seqno" if are_of_one else "have texts of different groups"
-        raise Refusal(volume.place, f"{named(sound)} {why}: {OTHER}")
+        raise Refusal(volume.place, f"{areas_in_words(sound)} {why}: {OTHER}")
     for area in areas:
         if area.fault:
-            streams.tell(f"{volume.place}: passed over: {named([area])}: {area.fault}")
+            streams.tell(f"{volume.place}: passed over: {areas_in_words([area])}: {area.fault}")
         elif area not in newest:
-            streams.tell(f"{volume.place}: passed over: {named([area])}: its text is older: {area.text.summary()}")
-            streams.tell(f"{volume.place}: taken: {named(newest[:1])}: {newest[0].text.summary()}")
+            streams.tell(f"{volume.place}: passed over: {areas_in_words([area])}: its text is older: {area.text.summary()}")
+            streams.tell(f"{volume.place}: taken: {areas_in_words(newest[:1])}: {newest[0].text.summary()}")
     return newest[0].text
 
 
-def named(areas: List[Area]) -> str:
+def areas_in_words(areas: List[Area]) -> str:
+    """What areas are called in messages, by the bytes at which they begin."""
     return f"the metadata area{'s' * (len(areas) > 1)} at byte {' and '.join(str(it.start) for it in areas)}"
 
 

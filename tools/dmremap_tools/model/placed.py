@@ -25,6 +25,7 @@ PARTS = ("a member of an md array that isn't raid1, so that no member has all of
 CHANGING = ("a member of an md array that is a spare, or is being filled or reshaped, so that it doesn't have the "
             "array's bytes: take another member")
 BAD = "a member of an md array that has bad blocks, which a kernel reads from another one: take that"
+NO_VOLUME = "a member of an md array in which the physical volume isn't found: give its place, as IMAGE?offset=BYTES"
 OLDER = ("a member of an md array that was away when others changed: it has the count of events {}, and {} has {}: "
          "take that")
 
@@ -51,12 +52,12 @@ def disks_of(path: str) -> Iterator[Tuple[str, int, Optional[bytes]]]:
         yield name, size, node.value(b"id", bytes)
 
 
-def by_ids(text: Optional[str], places: Dict[str, Place], sizes: Dict[str, int]) -> Dict[str, Place]:
+def by_ids(text: Optional[str], places: Dict[str, Place], sizes: Dict[str, int], asked: str) -> Dict[str, Place]:
     """The places of disks, of which some may be whole disks that have a physical volume on a partition. Without `text`,
-    the metadata of their group, they are what was given. `sizes` has the sectors of each disk. Refuses an image of
-    another disk, and one of which nothing says where the disk is."""
+    the metadata of their group, they are what was given. `sizes` has the sectors of each disk, and `asked` is dmremap.
+    Refuses an image of another disk, and one of which nothing says where the disk is."""
     ids = {name: identity for name, _, identity in (disks_of(text) if text is not None else ()) if identity is not None}
-    found, pile = dict(places), pile_at(place.path for place in places.values())
+    found, pile = dict(places), pile_at((place.path for place in places.values()), asked)
     check_places(places, pile, bool(ids))
     for name, place in places.items():
         image, size = image_at(pile, place.path), sizes.get(name)
@@ -72,9 +73,9 @@ def by_ids(text: Optional[str], places: Dict[str, Place], sizes: Dict[str, int])
     return found
 
 
-def pile_at(paths: Iterable[str]) -> Pile:
+def pile_at(paths: Iterable[str], asked: Optional[str] = None) -> Pile:
     """What is in the images at these paths, without those that can't be read, of which who reads them says why."""
-    return Pile([path for path in dict.fromkeys(paths) if written.identity_at(path) and os.access(path, os.R_OK)], None)
+    return Pile([path for path in dict.fromkeys(paths) if written.identity_at(path) and os.access(path, os.R_OK)], asked)
 
 
 def image_of(path: str) -> Image:
@@ -99,16 +100,15 @@ def begins_in(pile: Pile, device: Device, image: Image) -> Iterator[int]:
     elif isinstance(device, Part):
         yield from (begin + device.start for begin in begins_in(pile, device.lower, image))
     for member in (member for array in pile.arrays if array.device is device for member in array.by_role.values()):
-        if has_all(member.superblock):
+        if not fault_of(member, pile):
             yield from (begin + member.superblock.start * SECTOR for begin in begins_in(pile, member.device, image))
 
 
 def place_of_volume(pile: Pile, image: Image, name: str, identity: bytes, place: Place) -> Place:
     """Where an image has the physical volume with this id: in all of it, or at a place that was given. That place
     itself where nothing says which volume is there. Refuses the image of another volume, and one that is in question."""
-    members = (member for member in pile.members if has_all(member.superblock))
-    datas = [(begin, begin + member.superblock.start * SECTOR) for member in members
-             for begin in begins_in(pile, member.device, image)]
+    members = [(begin, member) for member in pile.members for begin in begins_in(pile, member.device, image)]
+    datas = [(begin, begin + it.superblock.start * SECTOR) for begin, it in members if has_all(it.superblock)]
     labels = {begin: label_at(image, begin) for begin in (place.start, *(data for _, data in datas))}
     found = {begin: label.identity for begin, label in labels.items() if label}
     whys: Dict[int, Optional[str]] = {}
@@ -134,6 +134,8 @@ def place_of_volume(pile: Pile, image: Image, name: str, identity: bytes, place:
                       f"({numbers}) has a sound label: {GIVE}")
     if any(each.device is image for each in pile.damaged):
         raise Refusal(image.name, note)
+    for member in (member for begin, member in members if begin == place.start and member.superblock.start):
+        raise Refusal(image.name, fault_of(member, pile) or NO_VOLUME)
     return place
 
 
