@@ -103,10 +103,10 @@ def run(words: Namespace) -> None:
     for path in words.metadata:
         spans += spans_of_groups(path, {it.name for it in devices}, place_of)
     owners, of_lines = Owners(pile), list(spans)
-    for on, device in on_images.items():
+    for on, image in on_images.items():
         if on not in described:
-            end, lines = min(sizes[on], device.size // SECTOR), [it for it in of_lines if it.on == on]
-            spans += (span._replace(on=on) for span in spans_of_owners(owners.on(device), end, lines))
+            end, lines = min(sizes[on], image.size // SECTOR), [it for it in of_lines if it.on == on]
+            spans += (span._replace(on=on) for span in spans_of_owners(owners.on(image), end, lines))
     ends = {on: sizes[on] for on in [*ends, *(it.on for it in spans)]}
     spans = sorted(spans + [Span(on, end, end, "-", "-", END) for on, end in ends.items()])
     if words.clashes:

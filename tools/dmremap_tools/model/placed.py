@@ -61,13 +61,15 @@ def by_ids(text: Optional[str], places: Dict[str, Place], sizes: Dict[str, int],
     check_places(places, pile, bool(ids))
     for name, place in places.items():
         image, size = image_at(pile, place.path), sizes.get(name)
-        if image and name in ids:
+        if not image:
+            continue
+        if name in ids:
             found[name] = place_of_volume(pile, image, name, ids[name], place)
         # The image of a whole disk isn't one of a partition, which doesn't begin where that does. A disk that is as long
         # as said is taken, and one whose image ends too early, if its partitions lie within so many sectors.
-        table = pile.tables.get(image) if image and size is not None and not found[name].is_said else None
+        table = pile.tables.get(image) if not found[name].is_said else None
         ends = [image.bytes, *(part.start + part.size for part in table.partitions.values())] if table else []
-        if table and image.bytes // SECTOR != size and max(ends) > size * SECTOR:
+        if table and size is not None and image.bytes // SECTOR != size and max(ends) > size * SECTOR:
             raise Refusal(image.name, f"the image of a whole disk ({table.kind}), and {quoting.shown(name)} has {size} "
                           f"sectors: {GIVE}")
     return found
@@ -150,7 +152,9 @@ def check_places(places: Dict[str, Place], pile: Pile, are_volumes: bool = False
     those of disks. Where they are physical volumes or arrays, a place at which a member begins is the same."""
     for name, place in places.items():
         image, is_array = image_at(pile, place.path), bool(ARRAY.fullmatch(name))
-        begins = [(spot, begin) for spot in pile.spots() if image for begin in begins_in(pile, spot.device, image)]
+        if not image:
+            continue
+        begins = [(spot, begin) for spot in pile.spots() for begin in begins_in(pile, spot.device, image)]
         behind = [spot for spot, begin in begins if begin < place.start < begin + spot.device.size]
         damaged = next((spot for spot in behind if spot in pile.damaged), None)
         if damaged:
