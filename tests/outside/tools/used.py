@@ -114,7 +114,7 @@ def check_refused(case):
     os.mkfifo(os.path.join(case.folder, "pipe"))
     for path in "pipe", "/dev/zero":
         case.put("away", "cow %s\n" % path)
-        case.refused("a store in " + path, path + ": neither a file nor a disk: give the path of one", ["--paths", "away"])
+        case.refused("a store in " + path, path + ": neither a file nor a disk: give an image of the disk", ["--paths", "away"])
     case.put("away", "cow image?offset=100\n")
     case.refused("a place within a sector", "--paths: cow begins at byte 100, within a sector: give a multiple of 512", ["--paths", "away"])
     case.put("away", "cows image\n")
