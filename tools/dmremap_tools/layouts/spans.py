@@ -7,7 +7,7 @@ where that line begins on the device, and as what it is used. A line with `end` 
 A snapshot uses all of its origin, as `origin`, and all of its store. With metadata, what a physical volume has before its
 extents, its label and an area for the metadata, is `label+metadata` of its group. What it has after them, where a second area
 may lie, and the extents of volumes without a line, such as inactive ones, are `allocated`. With --paths the disks are read:
-labels tell which physical volume is which, and who has sectors that no line has, as `owner` says, is `allocated` as well.
+labels tell which physical volume is which, and who has sectors that no line has, as `owner` says, is `allocated`, too.
 
 With --free, lines `unnamed` stand between: sectors that no line names. They needn't be free: a file system may lie there
 without a device, or a partition table, swap space, or a volume that isn't active or was left out. --clashes prints, in place of

@@ -2,9 +2,9 @@
 
 Takes HEAD, the physical volume, or an image of its beginning, such as its first MiB, or of the whole disk, which is
 searched as by `scan`: each physical volume in it is taken, in a partition, in a member of an md array, or anywhere if
-nothing else is found. HEAD?offset=BYTES is what begins there in it. Several physical volumes have to agree. `dd if=/dev/sda1
-of=head.img bs=1M count=1` makes an image of the beginning; with lvm2, `pvck --dump metadata -f TEXT head.img` does the same
-as this command.
+nothing else is found. HEAD?offset=BYTES is what begins there in it. Several physical volumes have to agree. `dd
+if=/dev/sda1 of=head.img bs=1M count=1` makes an image of the beginning; with lvm2, `pvck --dump metadata -f TEXT head.img`
+does the same as this command.
 
 Prints the valid text. The label says where the metadata areas are, and the header of an area which of its texts is valid. Each
 of the three has a checksum. If the first area is damaged, the second is taken, if there is one. If both are sound, the text
@@ -137,7 +137,8 @@ def valid_text(volume: PhysicalVolume) -> Text:
         if area.fault:
             streams.tell(f"{volume.place}: passed over: {areas_in_words([area])}: {area.fault}")
         elif area not in newest:
-            streams.tell(f"{volume.place}: passed over: {areas_in_words([area])}: its text is older: {area.text.summary()}")
+            older = area.text.summary()
+            streams.tell(f"{volume.place}: passed over: {areas_in_words([area])}: its text is older: {older}")
             streams.tell(f"{volume.place}: taken: {areas_in_words(newest[:1])}: {newest[0].text.summary()}")
     return newest[0].text
 

@@ -100,7 +100,8 @@ def of_data(array: Array, member: Member, above: Ground, first: int, end: int) -
                 part = device.source.disks[disk]
                 if isinstance(part, Part) and part.lower is member.device:
                     begin, until = max(first, start), min(end, start + (count or 0))
-                    yield from chunks(begin, until, chunk, lambda row: [row * columns + place], begin=start, to=line.start)
+                    yield from chunks(begin, until, chunk, lambda row: [row * columns + place], begin=start,
+                                      to=line.start)
     else:
         role = next(role for role, other in array.by_role.items() if other is member)
         is_copied, until = array.level == "raid10", min(end, array.chunks * array.chunk)

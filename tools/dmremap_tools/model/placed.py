@@ -1,5 +1,5 @@
-"""Where the disks of tables, or of a text of lvm2, lie in images: at the places that are given, or where the images have
-the physical volumes of the text. Places are refused at which the bytes of a disk aren't those that lie there, as in a
+"""Where the disks of tables, or of a text of lvm2, lie in images: at places that are given, or where the images have the
+physical volumes of the text. Places are refused at which the bytes of a disk aren't those that lie there, as in a
 member of an array that has only some of these."""
 
 import os
@@ -65,8 +65,8 @@ def by_ids(text: Optional[str], places: Dict[str, Place], sizes: Dict[str, int],
             continue
         if name in ids:
             found[name] = place_of_volume(pile, image, name, ids[name], place)
-        # The image of a whole disk isn't one of a partition, which doesn't begin where that does. A disk that is as long
-        # as said is taken, and one whose image ends too early, if its partitions lie within so many sectors.
+        # The image of a whole disk isn't one of a partition, which doesn't begin where that does. A disk as long as said
+        # is taken, and one whose image ends too early, if its partitions lie within so many sectors.
         table = pile.tables.get(image) if not found[name].is_said else None
         ends = [image.bytes, *(part.start + part.size for part in table.partitions.values())] if table else []
         if table and size is not None and image.bytes // SECTOR != size and max(ends) > size * SECTOR:
@@ -77,7 +77,8 @@ def by_ids(text: Optional[str], places: Dict[str, Place], sizes: Dict[str, int],
 
 def pile_at(paths: Iterable[str], asked: Optional[str] = None) -> Pile:
     """What is in the images at these paths, without those that can't be read, of which who reads them says why."""
-    return Pile([path for path in dict.fromkeys(paths) if written.identity_at(path) and os.access(path, os.R_OK)], asked)
+    here = (path for path in dict.fromkeys(paths) if written.identity_at(path) and os.access(path, os.R_OK))
+    return Pile(list(here), asked)
 
 
 def image_of(path: str) -> Image:
@@ -108,7 +109,7 @@ def begins_in(pile: Pile, device: Device, image: Image) -> Iterator[int]:
 
 def place_of_volume(pile: Pile, image: Image, name: str, identity: bytes, place: Place) -> Place:
     """Where an image has the physical volume with this id: in all of it, or at a place that was given. That place
-    itself where nothing says which volume is there. Refuses the image of another volume, and one that is in question."""
+    itself where nothing says which volume is there. Refuses the image of another volume, and one in question."""
     members = [(begin, member) for member in pile.members for begin in begins_in(pile, member.device, image)]
     datas = [(begin, begin + it.superblock.start * SECTOR) for begin, it in members if has_all(it.superblock)]
     labels = {begin: label_at(image, begin) for begin in (place.start, *(data for _, data in datas))}
