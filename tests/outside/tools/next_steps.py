@@ -19,10 +19,6 @@ STEP = re.compile(r"`|(?<![\w-])--[a-z]|;|(?:^|[:,.(] )(?:or )?(?:%s)\b" % VERBS
 ELEMENTS = "dmremap_tools.machines.thin"
 METHOD = re.compile(r"_?refuse(?:_line|_where)?|refused")
 EXCEPTIONS = {
-    "there are both a partition table ({}) and the label of a physical volume, which lvm2 doesn't take then: IMAGE?offset=BYTES "
-    "takes a partition, and IMAGE?offset=0 the disk itself",
-    # Where a label is, or what else to try.
-    "{}, and no metadata area is in the first or last {} MiB{}",
     # What is wrong with a leg, to which is added which disks to give.
     "it has no superblock of dm-raid", "its superblock is of another array, or of another place in it",
 }
