@@ -28,7 +28,7 @@ SPAN = re.compile(r">([^<>]+) \.\. ([^<>]+)</text>")
 # The line in the picture of stripes, the length of its chunks, and how many it shows.
 STRIPED, CHUNK, CHUNKS = "striped 2 8 sda 0 sdb 100", 8, 4
 # The section of examples that are explained, and how many it has.
-WORKED, COUNT = "## 10. Worked examples", 5
+WORKED, COUNT = "## 10. Worked examples", 4
 
 
 def check_formats(tally, program, top):

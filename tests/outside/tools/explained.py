@@ -71,7 +71,7 @@ def check_mistakes(tally, explain, top):
     """Each of the likely mistakes leads to its remedy, and to the row of the document."""
     with open(os.path.join(top, "docs", "RECIPES.md"), encoding="utf-8") as it:
         rows = {cause: (symptom, command) for symptom, cause, command in ROW.findall(it.read())}
-    tally.holds("the mistakes in the document", len(rows) > 10, "there are %d" % len(rows))
+    tally.holds("the mistakes in the document", len(rows) > 6, "there are %d" % len(rows))
     lost = set(rows) - {it[0] for it in explained_rows.MISTAKES}
     tally.holds("rows of the document that are run", not lost, "not these: %s" % lost)
     before = ""
