@@ -1,15 +1,15 @@
-"""Says what sectors of images belong to: whether data is lost there, or whether you may write there.
+"""Names the owner of sectors of images: is data lost there, and may you write there?
 
 Takes images, which are searched as by `scan`, and standard input: lines IMAGE FIRST or IMAGE FIRST COUNT, in sectors of 512
 bytes unless --bytes or --sector-size says otherwise, or a kernel's log, of which the lines with `dev DISK, sector N` are taken.
 With --map IMAGE=MAP, asks for the areas that a map of ddrescue doesn't list as finished, and reads nothing there. Only the length
-says whether a map is that of its image.
+shows whether a map is that of its image.
 
 Prints a line for each run of sectors and each way up: the image, the first sector, how many, and who has them, with their own
 sectors: partition, array, volumes from below. Volumes count whether they are active or not. A sector may belong to an origin
 and its snapshots, or to several thin volumes. Other words are
 
-    GPT, MBR, label of LVM, metadata area of LVM, superblock of .., LUKS2 header    what says where other things lie
+    GPT, MBR, label of LVM, metadata area of LVM, superblock of .., LUKS2 header    labels of what lies elsewhere
     parity of .., metadata of .., store of .., journal of ..                        what keeps volumes
     free in GROUP              no volume has it; GROUP/VOLUME, removed: one had it once, and may still be saved
     nobody                     no partition has it, and there are zeros

@@ -7,10 +7,10 @@ the bytes of the volume, with holes where it reads as zeros. Without a map, OUT 
 Refuses a volume if something of it is missing, and leaves no OUT. With --resume or --allow-missing, these sectors are reported
 and become holes. Sectors that can't be read are reported and become holes in any case. The status is 4 then, or 0 with
 --allow-missing. --resume MAP writes these areas as a map of ddrescue; if MAP is there already, a run that was broken off goes
-on. MAP says which volume it is of, and no other one goes on by it. Give the maps of images each time.
+on. MAP names its volume, and no other one continues by it. Give the maps of images each time.
 
 With --map IMAGE=MAP, for each image that has one, the areas that a map of ddrescue doesn't list as finished aren't there. What
-another member of an array or another leg has is taken from that. Only the length says whether a map is that of its image.
+another member of an array or another leg has is taken from that. Only the length shows whether a map is that of its image.
 
 Also takes VOLUME TARGET FORMAT FILE [DISKS], with FORMAT, FILE and DISKS as for `dmremap map`. The disks that they name are
 read at their names, or where --paths says. (If an image is called as a format is, write ./table.) With --extents, the output of

@@ -2,7 +2,7 @@
 
 Takes GROUP, a name or an id, images, which are searched as by `scan`, and a folder for the three files, none of which may be
 there yet. FILE is table text: the volumes under the names that lvm2 gives them, snapshots over their origins and stores, and
-the md arrays that they lie on. DISKS lists the images, and PATHS says where they are; an image whose path no line of PATHS can
+the md arrays that they lie on. DISKS lists the images, and PATHS their paths; an image whose path no line of PATHS can
 say is refused. With --map IMAGE=MAP, what a map of ddrescue doesn't list as finished isn't there: of copies one that is whole is
 taken, and what a volume lacks is reported. Prints the command line that uses them. A
 volume that a layer computes, such as a thin one or one with parity, has no table. It is reported; `save` and `serve` read it.

@@ -1,8 +1,8 @@
-"""Says what lies where: each range of a disk or a device that a line of a stack uses.
+"""Lists what lies where: each range of a disk or a device that a line of a stack uses.
 
 Takes DISKS, FILE, which is table text or concise text of a stack that dmremap loads, and perhaps the metadata of volume groups.
 Prints a line for each range, sorted: what it lies on, the first sector, the sector after the last, the device whose line it is,
-where that line begins on the device, and as what it is used. A line with `end` says where a disk or a device ends.
+where that line begins on the device, and as what it is used. A line with `end` is the end of a disk or a device.
 
 A snapshot uses all of its origin, as `origin`, and all of its store. With metadata, what a physical volume has before its
 extents, its label and an area for the metadata, is `label+metadata` of its group. What it has after them, where a second area

@@ -20,12 +20,12 @@ which answers end. These are
 
     devices of other targets, such as thin, raid, mirror, cache, multipath, verity, integrity and snapshot-merge;
     those without a table, or with a name that dmremap doesn't take (`dmsetup rename` gives another);
-    those that aren't as long as lsblk says, or go past the end of what lies below, or lie on a disk without a length;
+    those that aren't as long as in lsblk's output, or go past the end of what lies below, or lie on a disk without a length;
     snapshots whose status isn't as `16/1048576 16`, with two equal figures, so that their stores have copies, unless --store
     names them: `dmremap map --paths` reads these stores;
     those of kind PO or with features, not as long as their origin, or with a store that is read-only or not plain.
 
-If a snapshot is left out, its origin stays, and a message says that copies for this snapshot are missing in answers.
+If a snapshot is left out, its origin stays, and a message warns that answers lack copies for this snapshot.
 
 With --only, which may be given several times, FILE has that device and all that it stands on.
 

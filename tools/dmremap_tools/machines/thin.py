@@ -9,7 +9,7 @@ With --cache and --origin in place of --data, takes what `cache_dump` prints, an
 dirty blocks lie on the cache, the rest on the origin, which has the same content there as the cache. After a crash a kernel
 takes all blocks as dirty; so does --all. Take the dump of a cache that isn't active.
 
-A device of more lines than dmremap takes is refused, unless --part says which of its sectors are wanted. Refuses a dump that
+A device of more lines than dmremap takes is refused, unless --part names the sectors that are wanted. Refuses a dump that
 isn't whole, a device or a list that it doesn't have, and blocks past the end of the data or twice.
 """
 
