@@ -168,7 +168,9 @@ def _next_step(words: List[str], why: str) -> List[str]:
     if folder and not os.path.isdir(folder):
         return ["there is no folder %s: mend the path, or make the folder" % quoting.shown(folder)]
     near = difflib.get_close_matches(name, os.listdir(folder or "."), 3)
-    return ["near are: " + quoting.some([quoting.shown(it) for it in near])] if near else ["there is no file of such a name: mend the path"]
+    if not near:
+        return ["there is no file of such a name: mend the path"]
+    return ["near are: " + quoting.some([quoting.shown(it) for it in near])]
 
 
 def _end(status: int, message: str, is_fed: bool, usage: str = "", step: Sequence[str] = ()) -> int:
