@@ -45,7 +45,8 @@ pub enum WordsFault {
 
 const NOT_TEXT: &str = "invalid UTF-8 was detected in one or more arguments";
 
-const LONE_HYPHEN: &str = "unexpected argument '-' found";
+const LONE_HYPHEN: &str =
+    "unexpected argument '-' found\n\n  tip: /dev/stdin is the standard input";
 
 const FORMATS: &[&str] = &["lvm", "concise", "table"];
 

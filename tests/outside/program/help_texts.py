@@ -17,7 +17,7 @@ CLASH, CLASH_DISKS = "a: 0 8 linear sda 0\nb: 0 8 linear sda 4\n", "sda 16\n"
 # What a text on a status has to say, wherever it stands.
 MEANT = [
     ("0", r"help (?:or the version )?was asked for"),
-    ("1", r"FILE.*DISKS.*PATHS.* a store, a name or the requests of --before (?:are|were) refused"),
+    ("1", r"FILE.*DISKS.*PATHS.* a store, a name or earlier requests (?:are|were) refused"),
     ("2", r"[Tt]he words (?:of the command line )?(?:are|were) refused"),
     ("3", r"[Aa] request (?:is|was) bad"),
     ("4", r"[Tt]he requests (?:can't|could not) be read"),
@@ -32,9 +32,9 @@ WAYS = {
     "the check was printed, also one with a clash": ("good", "clash"),
     "the name was printed": ("good",),
     "the parts were printed": ("good",),
-    "FILE, DISKS, PATHS, a store, a name or the requests of --before were refused": (
+    "FILE, DISKS, PATHS, a store, a name or earlier requests were refused": (
         "no file", "bad disks", "bad paths", "bad store", "bad name", "bad earlier"),
-    "FILE, DISKS, PATHS, a store or the requests of --before were refused": (
+    "FILE, DISKS, PATHS, a store or earlier requests were refused": (
         "no file", "bad disks", "bad paths", "bad store", "bad earlier"),
     "FILE or DISKS was refused": ("no file", "bad disks"),
     "FILE or DISKS was refused, or two lines claim one sector": ("no file", "bad disks", "clash"),
@@ -57,10 +57,15 @@ PARTS = {"NAME:": "a:", "START": "0", "LEN": "8", "DEV": "sda", "OFFSET": "0", "
 # A device of the example's stack that no other one lies on.
 TOP_DEVICE = "fast"
 COMMANDS_WITH_REQUESTS = {"map", "replay"}
+# How many columns a terminal has.
+COLUMNS = 80
 
 
-def check_commands(tally, commands):
+def check_commands(tally, program, commands):
     tally.holds("the commands of help", len(commands) > 6, "they are %s" % commands)
+    for command in [*commands, "help", None]:
+        longest = max(help_of(program, command).splitlines(), key=len)
+        tally.holds("the columns of the help of %s" % (command or "the program"), len(longest) <= COLUMNS, "it has the line %r" % longest)
 
 
 def help_of(program, command):

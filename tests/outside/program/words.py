@@ -102,7 +102,7 @@ HELPED = [
     ("help map", "FORMAT is one of\n  lvm      the"),
     ("map --help", "map [OPTIONS] <FORMAT> <FILE> [DISKS]"),
     ("map --help", "      --status"),
-    ("map --help", "      --before <REQUESTS>  First play the requests of this file"),
+    ("map --help", "      --before <REQUESTS>  First play these requests"),
     ("table -h", "table <FORMAT> <FILE> [DISKS]"),
     ("table -h", "dmremap table lvm"),
     ("concise -h", "concise <FORMAT> <FILE> [DISKS]"),

@@ -1,5 +1,5 @@
-"""Every command that dmremap-tools explain prints as a remedy is typed, with what it needs of a machine put in its place: it ends with
-status 0. A request that it prints is asked, and a file that it names is there."""
+"""Every command that dmremap-tools explain or dmremap help prints as a remedy is typed, with what it needs of a machine put in its
+place: it ends with status 0. A request that explain prints is asked, and a file that it names is there."""
 
 import ast
 import contextlib
@@ -22,6 +22,7 @@ MACHINE = {
     "blockdev": '[ "$1 $#" = "--getsz 2" ] && case $2 in /dev/?*|DISK) echo 100;; *) exit 1;; esac',
     "dmsetup": 'case $* in ls|status) cat "$SAMPLES/$1.txt";; "table --concise") cat "$SAMPLES/concise.txt";; "ls --tree"|table|"table "*) cat tables;; *) exit 1;; esac',
     "lsblk": '[ "$*" = "-brno MAJ:MIN,SIZE,KNAME,PKNAME" ] && cat "$SAMPLES/lsblk.txt"',
+    "lvs": '[ "$*" = -a ]',
     "vgcfgbackup": '[ "$1 $2 $3" = "-f GROUP.backup GROUP" ] && echo > "$2"',
     "sudo": 'exec "$@"',
 }
@@ -32,6 +33,23 @@ REQUEST = re.compile("[RW] .*")
 REASON = re.compile(r"\S+: .*|\.\.")
 # A command as it stands in the sources, and what is put into it.
 COMMAND, PUT = re.compile("  [a-z].*"), re.compile(r"%[sd]|FORMAT FILE|FILE|DISKS|NUMBER")
+# What help prints as a command, and what is typed for it, with what only the user knows.
+OF_HELP = {
+    "cat FILE > /dev/null": "cat FILE > /dev/null",
+    "dmremap check": "dmremap check table FILE DISKS",
+    "dmremap name": "dmremap name VG LV",
+    "dmremap table": "dmremap table table FILE DISKS",
+    "dmremap-tools cut": "dmremap-tools cut < REQUESTS",
+    "dmremap-tools lvm2-text": "dmremap-tools lvm2-text vgm.backup > copy.backup",
+    "dmremap-tools machine": "dmsetup ls > ls.txt; dmsetup status > status.txt; dmsetup table --concise > concise.txt; "
+                             "dmremap-tools machine --disks new.disks ls.txt status.txt lsblk.txt concise.txt > new.tables",
+    "dmsetup table": "dmsetup table > new.tables",
+    "dmsetup table DEVICE": "dmsetup table DEVICE > one",
+    "lvs -a": "lvs -a",
+    "tr -d '\\r'": "tr -d '\\r' < FILE > without",
+    "ulimit -s": "ulimit -s",
+}
+PROGRAMS = re.compile(r"`((?:%s)\b[^`]*)`" % "|".join(sorted({it.split(" ")[0] for it in OF_HELP})))
 # This one says what is wrong with a file that can't be read, and so fails.
 FAILS = "cat tables/none > /dev/null"
 
@@ -58,8 +76,9 @@ def put_machine(program, top):
     for name, script in MACHINE.items():
         os.chmod(program.file("machine/" + name, "#!/bin/sh\nSAMPLES=%s\n%s\n" % (samples(top), script)), 0o755)
     folder = os.path.join(program.folder, "machine")
-    os.symlink(program.path, os.path.join(folder, "dmremap"))
-    os.symlink(os.path.join(top, "dmremap-tools"), os.path.join(folder, "dmremap-tools"))
+    for name, path in (("dmremap", program.path), ("dmremap-tools", os.path.join(top, "dmremap-tools"))):
+        if not os.path.lexists(os.path.join(folder, name)):
+            os.symlink(path, os.path.join(folder, name))
     return folder
 
 
@@ -115,5 +134,19 @@ def forms_in(top):
                 yield re.compile(".*".join(map(re.escape, PUT.split(node.value))))
 
 
-class Remedies(Case, checks=[check_typed]):
-    """The remedies that explain prints."""
+def check_help(tally, program, top):
+    """Those of all entries of help."""
+    environment = dict(os.environ, PATH=put_machine(program, top) + os.pathsep + os.environ["PATH"])
+    words = re.search(r"help knows:\n((?:  .*\n)+)", program.run(["help", "no: such: word"]).err.decode())[1].replace("\n", " ").split(",")
+    said = "".join(program.run(["help", it.strip()]).out.decode() for it in words)
+    said += "".join(program.run(["help", it + ": name"]).out.decode() for it in ("source", "paths"))
+    found = set(PROGRAMS.findall(said))
+    tally.holds("commands that help prints", found == set(OF_HELP), "there are %s" % sorted(found ^ set(OF_HELP)))
+    folder = put_files(program, top)
+    for command in OF_HELP.values():
+        got = run(["bash", "-ec", command], folder=folder, env=environment)
+        tally.holds("what help has typed: %s" % command, got.status == 0, "status %s, %s" % (got.status, got.err))
+
+
+class Remedies(Case, checks=[check_typed, check_help]):
+    """The remedies that explain and help print."""
