@@ -32,6 +32,8 @@ FORMAT is one of
   lvm      the metadata of a volume group, as vgcfgbackup(8) writes it; DISKS is left out
   concise  devices `NAME,UUID,MINOR,FLAGS,START LEN TYPE ARGS,..` with `;` between them, as
            `dmsetup table --concise` prints them
+  images   the images of a volume group's disks: FILE is a list as --paths has it, and their heads
+           have the metadata; DISKS and --paths are left out
   table    lines `NAME: START LEN TYPE ARGS`, as dmsetup(8) prints them
 
 Lines
@@ -73,6 +75,8 @@ Messages, of which `dmremap help WORD` says what each WORD means, and what to do
       form, number, length, unknown, long, unended, many
   dmremap: paths: WORD at LINE
       text, syntax, field, name, twice, unknown
+  dmremap: disk NAME: WORD
+      read, label, header, long, text, ends, differ, twice, foreign
   dmremap: store NAME: WORD
       missing, read, magic, version, chunk, order, range, again
   dmremap: requests: read, dmremap: paths: read, dmremap: paths: long, dmremap: before: read,
@@ -80,7 +84,7 @@ Messages, of which `dmremap help WORD` says what each WORD means, and what to do
 
 Exit status
   0  all requests were answered
-  1  FILE, DISKS, PATHS, a store or the requests of --before were refused
+  1  FILE, DISKS, PATHS, a disk, a store or the requests of --before were refused
   2  the words were refused
   3  a request was bad
   4  the requests could not be read
@@ -199,7 +203,8 @@ Example
 
 pub(crate) const FORMAT_HELP: &str = "The format of FILE";
 
-pub(crate) const FILE_HELP: &str = "The file of the devices and their tables, or of the metadata";
+pub(crate) const FILE_HELP: &str =
+    "The file of the devices and their tables, or of the metadata, or the list of images";
 
 pub(crate) const DISKS_HELP: &str =
     "The file of the disks and their lengths, for the formats concise and table";

@@ -1,7 +1,7 @@
 //! dmremap maps block requests through device-mapper tables to the disks below.
 //!
-//! This file is the table of contents: `words` reads the command line, `map_whole`, `map_stored` and
-//! `other_whole` do the work, and `main` joins them to the real files and streams and does nothing else.
+//! This file is the table of contents: `words` reads the command line, `map_whole`, `map_stored`,
+//! `map_images`, `other_whole` and `images_whole` do the work, and `main` joins them to the real files and streams and does nothing else.
 #![tactic(auto)]
 
 ghost use Rattle.std.specs.Prelude.{◌≡◌, true};
@@ -13,9 +13,13 @@ mod exit;
 mod explanation;
 mod file_images;
 mod help;
+mod images_load;
+mod images_whole;
 mod job;
+mod listed_images;
 mod load;
 mod map_from;
+mod map_images;
 mod map_stored;
 mod map_whole;
 mod messages;
@@ -32,7 +36,10 @@ use dm_stream::Ending;
 use dm_table::{Counted, Gathered};
 use exit::Exit;
 use file_images::FileImages;
-use job::{Job, Source};
+use images_whole::images_whole;
+use job::{Job, Source, Task};
+use listed_images::ListedImages;
+use map_images::map_images;
 use map_stored::map_stored;
 use map_whole::map_whole;
 use other_whole::other_whole;
@@ -88,6 +95,12 @@ fn answer(rt: &HostRuntime) -> Result<u8, WordsFault> {
             earlier,
             status,
         } => map_files(rt, source, paths, earlier, status),
+        Job::MapImages {
+            paths,
+            earlier,
+            status,
+        } => map_images_of(rt, paths, earlier, status),
+        Job::OfImages { paths, task } => do_with_images(rt, paths, task),
         job => Ok(do_other(rt, &job)),
     }
 }
@@ -156,6 +169,51 @@ fn map_files(
     ))
 }
 
+/// Maps the requests of the standard input through the tables of a group in images, after the requests of a file, if
+/// there are these.
+fn map_images_of(
+    rt: &HostRuntime,
+    paths: &str,
+    earlier: Option<&str>,
+    status: bool,
+) -> Result<u8, WordsFault> {
+    let mut disks = ListedImages::new(rt.alloc(), FileImages::new(rt.alloc(), rt)?);
+    let mut paths: File<'_, PathsPart> = file_at(rt, paths);
+    let mut earlier: Option<File<'_, EarlierPart>> = file_if(rt, earlier);
+    Ok(map_images::<
+        File<'_, PathsPart>,
+        FileImages<'_>,
+        File<'_, EarlierPart>,
+        Requests,
+        Answers,
+        Messages,
+    >(
+        rt.alloc(),
+        status,
+        &mut paths,
+        &mut disks,
+        &mut earlier,
+        &mut Counted::new(rt.stdin()),
+        &mut Gathered::new(Counted::new(rt.stdout())),
+        &mut Counted::new(rt.stderr()),
+    ))
+}
+
+/// Does something else with a group in images.
+fn do_with_images(rt: &HostRuntime, paths: &str, task: Task) -> Result<u8, WordsFault> {
+    let mut disks = ListedImages::new(rt.alloc(), FileImages::new(rt.alloc(), rt)?);
+    let mut paths: File<'_, PathsPart> = file_at(rt, paths);
+    Ok(images_whole::<File<'_, PathsPart>, FileImages<'_>, Requests, Answers, Messages>(
+        rt.alloc(),
+        task,
+        &mut paths,
+        &mut disks,
+        &mut Counted::new(rt.stdin()),
+        &mut Gathered::new(Counted::new(rt.stdout())),
+        &mut Counted::new(rt.stderr()),
+    ))
+}
+
 /// Does a job of another command.
 fn do_other<'r>(rt: &'r HostRuntime, job: &'r Job<'r>) -> u8
     requires { is_other (job_words job.now) ≡ true }
@@ -177,7 +235,7 @@ fn do_other<'r>(rt: &'r HostRuntime, job: &'r Job<'r>) -> u8
 
 /// The file of a source, which is opened once it is read.
 fn source_at<'r>(rt: &'r HostRuntime, source: Source<'r>) -> File<'r, SourcePart> {
-    Counted::new(PartFile::new(rt, source.file()))
+    file_at(rt, source.file())
 }
 
 /// The disk list of a source, where its format has one.
@@ -185,10 +243,15 @@ fn disks_at<'r>(rt: &'r HostRuntime, source: Source<'r>) -> Option<File<'r, Disk
     file_if(rt, source.disks())
 }
 
+/// A file of the command.
+fn file_at<'r, P>(rt: &'r HostRuntime, path: &'r str) -> File<'r, P> {
+    Counted::new(PartFile::new(rt, path))
+}
+
 /// A file of the command, if there is one.
 fn file_if<'r, P>(rt: &'r HostRuntime, path: Option<&'r str>) -> Option<File<'r, P>> {
     match path {
-        Some(path) => Some(Counted::new(PartFile::new(rt, path))),
+        Some(path) => Some(file_at(rt, path)),
         None => None,
     }
 }

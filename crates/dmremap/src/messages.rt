@@ -4,24 +4,30 @@
 
 /// The words that are explained, in lines of their own.
 pub(crate) const WORDS: &str = "
-  again, chunk, cycle, deep, disks, empty, extents, field, form, gap, hyphen,
-  length, letter, limit, long, magic, many, memory, missing, name, not top,
-  number, order, overlap, range, read, snapshot, split, store, stripe, syntax,
-  text, twice, unended, unknown, untidy, version, write";
+  again, chunk, cycle, deep, differ, disks, empty, ends, extents, field,
+  foreign, form, gap, header, hyphen, label, length, letter, limit, long, magic,
+  many, memory, missing, name, not top, number, order, overlap, range, read,
+  snapshot, split, store, stripe, syntax, text, twice, unended, unknown, untidy,
+  version, write";
 
 /// Each of them, and what is said of it.
-pub(crate) static EXPLANATIONS: [(&str, &str); 38] = [
+pub(crate) static EXPLANATIONS: [(&str, &str); 43] = [
     ("again", AGAIN),
     ("chunk", CHUNK),
     ("cycle", CYCLE),
     ("deep", DEEP),
+    ("differ", DIFFER),
     ("disks", DISKS),
     ("empty", EMPTY),
+    ("ends", ENDS),
     ("extents", EXTENTS),
     ("field", FIELD),
+    ("foreign", FOREIGN),
     ("form", FORM),
     ("gap", GAP),
+    ("header", HEADER),
     ("hyphen", HYPHEN),
+    ("label", LABEL),
     ("length", LENGTH),
     ("letter", LETTER),
     ("limit", LIMIT),
@@ -74,10 +80,16 @@ dmremap: source: deep at NUMBER
   map in two runs. Or sections of metadata are more than 16 deep.
 ";
 
+const DIFFER: &str = "\
+dmremap: disk NAME: differ
+  Its metadata isn't that of an earlier area or disk, so one of them is stale.
+  Leave out the disk that is older.
+";
+
 const DISKS: &str = "\
 dmremap: words: disks
-  DISKS is missing, or is there though the format is `lvm`. Give it, or leave it
-  out.
+  DISKS is missing, or is there though the format is `lvm` or `images`; or
+  `--paths` is there with `images`. Give it, or leave it out.
 ";
 
 const EMPTY: &str = "\
@@ -87,6 +99,12 @@ dmremap: disks: empty at NUMBER
 
 dmremap: name: empty
   A part is empty. Look for a variable of the shell that has no value.
+";
+
+const ENDS: &str = "\
+dmremap: disk NAME: ends
+  The image is shorter than the physical volume. It was cut short, or is one
+  member of an array: give an image of the whole array.
 ";
 
 const EXTENTS: &str = "\
@@ -122,6 +140,12 @@ dmremap: paths: field at LINE
   first sector by 512.
 ";
 
+const FOREIGN: &str = "\
+dmremap: disk NAME: foreign
+  The metadata has no physical volume of its id: the disk is of another group,
+  or of none. Leave it out.
+";
+
 const FORM: &str = "\
 dmremap: request N: form
 dmremap: before: form at N
@@ -137,9 +161,21 @@ dmremap: source: gap at NUMBER
   begin at 0. Look for a line that is missing.
 ";
 
+const HEADER: &str = "\
+dmremap: disk NAME: header
+  Its label or an area of metadata isn't sound: a list doesn't end, an area has
+  another sum, or the text lies past its end. The image is damaged.
+";
+
 const HYPHEN: &str = "\
 dmremap: name: hyphen
   A part begins with a hyphen. Look for a word that is missing.
+";
+
+const LABEL: &str = "\
+dmremap: disk NAME: label
+  None of its first four sectors is the label of a physical volume. Look at the
+  image and at the offset: that of a partition is 512 times its first sector.
 ";
 
 const LENGTH: &str = "\
@@ -175,6 +211,9 @@ dmremap: before: long at N
 
 dmremap: paths: long
   The list can't be opened or read, or has more than 1,048,576 bytes.
+
+dmremap: disk NAME: long
+  The text of the metadata has more than 1,048,576 bytes.
 
 dmremap: name: long
   The name has more than 127 bytes. No device can have it: take shorter parts.
@@ -272,6 +311,10 @@ dmremap: requests: read
 dmremap: paths: read
   The list can't be opened or read, or has more than 1,048,576 bytes.
 
+dmremap: disk NAME: read
+  A sector of its head can't be opened or read, or the image ends before it. An
+  image is a file or a block device that you may read; see that it is whole.
+
 dmremap: store NAME: read
   A part of them can't be opened or read, or the image ends before it. An image
   is a file or a block device that you may read; see that it is whole.
@@ -348,6 +391,10 @@ dmremap: disks: text at NUMBER
 dmremap: paths: text at LINE
   The line isn't UTF-8, or has a NUL. Give the image another name, or a link
   with one.
+
+dmremap: disk NAME: text
+  The text of the metadata has another sum or another end. The image is damaged,
+  or was made while the metadata changed.
 ";
 
 const TWICE: &str = "\
@@ -360,6 +407,10 @@ dmremap: disks: twice at NUMBER
 
 dmremap: paths: twice at LINE
   An earlier line names the same disk. Delete one of them.
+
+dmremap: disk NAME: twice
+  An earlier disk has the same id: one is a copy of the other, or both are
+  halves of a mirror. Leave out one of them.
 ";
 
 const UNENDED: &str = "\
