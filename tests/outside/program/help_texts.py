@@ -34,8 +34,8 @@ WAYS = {
     "the parts were printed": ("good",),
     "FILE, DISKS, PATHS, a store, a name or the requests of --before were refused": (
         "no file", "bad disks", "bad paths", "bad store", "bad name", "bad earlier"),
-    "FILE, DISKS, PATHS, a store or the requests of --before were refused": (
-        "no file", "bad disks", "bad paths", "bad store", "bad earlier"),
+    "FILE, DISKS, PATHS, a disk, a store or the requests of --before were refused": (
+        "no file", "bad disks", "bad paths", "bad head", "bad store", "bad earlier"),
     "FILE or DISKS was refused": ("no file", "bad disks"),
     "FILE or DISKS was refused, or two lines claim one sector": ("no file", "bad disks", "clash"),
     "a part was refused, or the name is too long": ("bad name", "long name"),
@@ -95,6 +95,7 @@ def outcomes(program, command):
     if command == "map":
         found["bad earlier"] = status([*good, "--before", bad])
         found["bad paths"] = status([*good, "--paths", bad])
+        found["bad head"] = status([command, "images", program.file("help/paths", "sda %s\n" % bad)])
         snapshot = program.file("help/snapshot", "s: 0 8 snapshot sda sdb P 8\n")
         found["bad store"] = status([command, "table", snapshot, program.file("help/two disks", "sda 8\nsdb 64\n"), "--paths", os.devnull])
     if command == "replay":
