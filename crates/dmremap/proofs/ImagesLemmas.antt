@@ -1,5 +1,5 @@
 -- What is done with images that open nothing, and with a list that is read.
-use Rattle.std.proofs.Common.{◌≡◌, ◌≢◌, ◌⊎◌, Bool, ℕ, List, [], Option, Some, None, Result, Ok, Err, arith, length, map, slice_get, refl, sym, ap, ap₂, subst, ◌∙◌}
+use Rattle.std.proofs.Common.{◌≡◌, ◌≢◌, ◌⊎◌, Bool, ℕ, List, Option, Some, Result, Ok, Err, arith, length, map, slice_get, refl, sym, ap, ap₂, subst}
 use Rattle.dm_table.specs.declared.load.load_fault.LoadFault.{LoadFault}
 use Rattle.dm_table.specs.declared.load.load_fault.LoadKind.TheVariants as kinds
 use Rattle.dm_table.specs.declared.load.place.Part.TheVariants.{Paths}
@@ -18,7 +18,6 @@ use Rattle.lvm_volume.specs.group.Owners.{Owners}
 use Rattle.lvm_volume.specs.OwnedMetadata.{Gives, OwnedAnswers, Tables}
 use Rattle.dm_store.specs.ImageList.{images_of}
 use Rattle.dm_store.specs.Images.{Contents}
-use Rattle.dm_store.specs.Places.{Place}
 use Rattle.dm_stream.specs.runs.Messages.{HasTold}
 use Rattle.lvm_head.specs.declared.fault.HeadFault.{HeadFault}
 use Rattle.lvm_head.specs.declared.fault.HeadFault.TheVariants as faults
@@ -31,7 +30,6 @@ use Rattle.dmremap.specs.declared.images_load.Unopened.{Unopened}
 use Rattle.dmremap.specs.declared.images_load.Unopened.TheVariants as unopened
 use Rattle.dmremap.specs.declared.job.Task.{Task}
 use Rattle.dmremap.specs.declared.job.Task.TheVariants.{Check, Print, Replay}
-use Rattle.dmremap.specs.declared.status.TheConstants.{STATUS_MEMORY, STATUS_REFUSED}
 use Rattle.dmremap.specs.Exit.{load_status}
 use Rattle.dmremap.specs.ImagesLoad.{AreSeen, HeadsOpen, ImagesOpen, IsOpened, IsStoppedBy, IsUnowned, ListOpens, OpensBy, SaidOpens, StackGives, owners_of, disk_message, list_in, listed_disks, unopened_message, unopened_status}
 use Rattle.dmremap.specs.ImagesWhole.{Does, ExitsBy, LoadsBy, TaskDoes, Told}
@@ -39,7 +37,7 @@ use Rattle.dmremap.specs.Load.{Load, RefusedBy, SoundAs}
 use Rattle.dmremap.specs.OtherWhole.{ReplaysLoad, ReplaysStack}
 use Rattle.dmremap.specs.Printing.{LoadReports, LoadSays}
 use Rattle.dmremap.specs.StoredStart.{images_in, start_over, stored_start}
-use Rattle.dmremap.specs.Streams.{HasExited, StreamsLeft}
+use Rattle.dmremap.specs.Streams.{StreamsLeft}
 use Rattle.dmremap.specs.Whole.{ArePlayedOver, EarlierReadBy, Opening, Loaded, RunsBy, RunsOver, Start, Stops}
 use Rattle.dmremap.proofs.ExitLemmas.{read_on_none, refused_output, refused_told, unasked_requests}
 use Rattle.dmremap.proofs.PrintLemmas.{printed_more}

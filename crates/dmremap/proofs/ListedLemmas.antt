@@ -2,11 +2,10 @@
 use Rattle.std.proofs.Common.{◌≡◌, ◌∙◌, ℕ, ◌+◌, ◌*◌, ◌<◌, zero, suc, List, Option, Some, None, Result, Ok, Err, arith, length, slice_get, refl, sym, ap}
 use Rattle.dm_table.specs.declared.tables.disk_path.DiskPath.{DiskPath}
 use Rattle.dm_store.specs.declared.images.ReadFault.{ReadFault}
-use Rattle.dm_store.specs.Images.{AreRead, Contents, sector_in}
+use Rattle.dm_store.specs.Images.{Contents, sector_in}
 use Rattle.dm_store.proofs.RowLemmas.{whole_sector}
 use Rattle.lvm_head.specs.declared.disks.ReadFault.{ReadFault as HeadReadFault}
-use Rattle.lvm_head.specs.Disks.{Contents as DiskContents}
-use Rattle.dmremap.specs.ImagesLoad.{AreSeen, at_path, listed_disks, on_disk}
+use Rattle.dmremap.specs.ImagesLoad.{listed_disks, on_disk}
 
 -- ---- a disk that the list has
 

@@ -9,7 +9,7 @@ use Rattle.dm_stack.specs.Description.{Description, described}
 use Rattle.dm_stack.proofs.OneFault.{never_both, one_fault as one_refusal}
 use Rattle.dm_store.specs.Images.{Contents}
 use Rattle.lvm_head.specs.declared.fault.HeadRefusal.{HeadRefusal}
-use Rattle.lvm_head.specs.Heads.{AllSaid, heads_of}
+use Rattle.lvm_head.specs.Heads.{AllSaid}
 use Rattle.lvm_volume.proofs.OwnedLemmas.{gives_one}
 use Rattle.lvm_volume.specs.declared.owned_metadata.OwnedFault.{OwnedFault}
 use Rattle.lvm_volume.specs.declared.owned_metadata.OwnedFault.TheVariants as owned

@@ -82,8 +82,7 @@ dmremap: source: deep at NUMBER
 
 const DIFFER: &str = "\
 dmremap: disk NAME: differ
-  Its metadata isn't that of an earlier area or disk, so one of them is stale.
-  Leave out the disk that is older.
+  Its metadata isn't that of an earlier area or disk: leave out the older disk.
 ";
 
 const DISKS: &str = "\
@@ -103,8 +102,8 @@ dmremap: name: empty
 
 const ENDS: &str = "\
 dmremap: disk NAME: ends
-  The image is shorter than the physical volume. It was cut short, or is one
-  member of an array: give an image of the whole array.
+  The image ends before the physical volume: it was cut short, or is one member
+  of an array. Give an image of all of it.
 ";
 
 const EXTENTS: &str = "\
@@ -142,8 +141,8 @@ dmremap: paths: field at LINE
 
 const FOREIGN: &str = "\
 dmremap: disk NAME: foreign
-  The metadata has no physical volume of its id: the disk is of another group,
-  or of none. Leave it out.
+  The metadata doesn't have its id: leave out this disk of another group, or of
+  none.
 ";
 
 const FORM: &str = "\
@@ -163,8 +162,7 @@ dmremap: source: gap at NUMBER
 
 const HEADER: &str = "\
 dmremap: disk NAME: header
-  Its label or an area of metadata isn't sound: a list doesn't end, an area has
-  another sum, or the text lies past its end. The image is damaged.
+  Its label or an area of metadata is damaged.
 ";
 
 const HYPHEN: &str = "\
@@ -174,8 +172,8 @@ dmremap: name: hyphen
 
 const LABEL: &str = "\
 dmremap: disk NAME: label
-  None of its first four sectors is the label of a physical volume. Look at the
-  image and at the offset: that of a partition is 512 times its first sector.
+  It has no label of a physical volume. Look at the offset: 512 times a
+  partition's first sector.
 ";
 
 const LENGTH: &str = "\
@@ -213,7 +211,7 @@ dmremap: paths: long
   The list can't be opened or read, or has more than 1,048,576 bytes.
 
 dmremap: disk NAME: long
-  The text of the metadata has more than 1,048,576 bytes.
+  Its metadata has more than 1,048,576 bytes.
 
 dmremap: name: long
   The name has more than 127 bytes. No device can have it: take shorter parts.
@@ -312,8 +310,8 @@ dmremap: paths: read
   The list can't be opened or read, or has more than 1,048,576 bytes.
 
 dmremap: disk NAME: read
-  A sector of its head can't be opened or read, or the image ends before it. An
-  image is a file or a block device that you may read; see that it is whole.
+  A sector of its head can't be read, or the image ends before it. See that it
+  is a whole file or block device that you may read.
 
 dmremap: store NAME: read
   A part of them can't be opened or read, or the image ends before it. An image
@@ -393,8 +391,7 @@ dmremap: paths: text at LINE
   with one.
 
 dmremap: disk NAME: text
-  The text of the metadata has another sum or another end. The image is damaged,
-  or was made while the metadata changed.
+  Its metadata has another sum or end: it is damaged, or changed meanwhile.
 ";
 
 const TWICE: &str = "\
@@ -409,8 +406,7 @@ dmremap: paths: twice at LINE
   An earlier line names the same disk. Delete one of them.
 
 dmremap: disk NAME: twice
-  An earlier disk has the same id: one is a copy of the other, or both are
-  halves of a mirror. Leave out one of them.
+  An earlier disk has its id: leave out the copy, or one half of a mirror.
 ";
 
 const UNENDED: &str = "\

@@ -11,7 +11,7 @@ from harness import Case
 # What these documents have at most, so that each is read at one sitting.
 BYTES = {"ARCHITECTURE.md": 9900, "DECISIONS.md": 5200, "DEVELOPING.md": 10000, "PROMISES.md": 21200}
 # And all pages together.
-ALL_BYTES = 190500
+ALL_BYTES = 192600
 SOURCES = ("crates/*/*/**/*.rt", "crates/*/*/**/*.antt", "crates/*/must-fail/*", "crates.txt", "HANDLES", "tools/*/*",
            "tests/benches/*", "tools/**/*.py", "tests/**/*.py", "[a-z]*")
 # Wrong changes that the gate has to refuse, and how many of them a document says that there are.

@@ -1,4 +1,4 @@
-use Rattle.std.proofs.Common.{Ok, sym, ◌∙◌}
+use Rattle.std.proofs.Common.{Ok, ◌∙◌}
 use Rattle.dmremap.specs.ImagesLoad.{ImagesOpen}
 use Rattle.dmremap.proofs.ImagesLemmas.{head_refused, heads_opened, stopped_opens}
 use Rattle.dmremap.proofs.images_load.load_images.Goals as goal
