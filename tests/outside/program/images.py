@@ -1,5 +1,5 @@
-"""Runs over the images of a volume group's disks, FORMAT `images`: what their heads say, each refusal of a head at its edges, and
-that stores are read in the same images."""
+"""Runs over the images of a volume group's disks, FORMAT `images`: what their heads say, each refusal of a head at its
+edges, and that stores are read in the same images."""
 
 import os
 import struct
@@ -7,7 +7,7 @@ import struct
 import physical_volumes
 import stored
 from harness import Case, become_nobody
-from models import DATA, EXTENT, dashed, identity, linear, section, segment, text, volume
+from models import DATA, EXTENT, identity, linear, segment, text, volume
 
 SECTOR = 512
 HOME = volume("home", "h", linear(0, 5, ("pv0", 3)), linear(5, 2, ("pv1", 0)))
@@ -15,7 +15,8 @@ TEXT = text("vg0", "g", 4, "ab", HOME)
 ASKED, ANSWER = "R vg0-home 0 56\n", "1 R %s 2072 40\n1 R %s 2048 16\n"
 # An origin, its snapshot with a store of 6 extents, and the group's text of them.
 SNAPSHOT = [volume("base", "o", linear(0, 2, ("pv0", 0))), volume("snap", "s", linear(0, 6, ("pv0", 8))),
-            volume("snapshot0", "t", segment(0, 2, "snapshot", "chunk_size = 8", 'origin = "base"', 'cow_store = "snap"'))]
+            volume("snapshot0", "t", segment(
+                0, 2, "snapshot", "chunk_size = 8", 'origin = "base"', 'cow_store = "snap"'))]
 LOST = text("vg0", "g", 4, "ab", volume("home", "h", linear(0, 99, ("pv0", 3))))
 
 
@@ -78,7 +79,8 @@ def check_maps(tally, program):
     for place in range(4):
         image = disk("a", area(), place=place)
         image = changed(image, SECTOR, bytes(SECTOR)) if place != 1 else image
-        image = changed(image, place * SECTOR, physical_volumes.label([(4096, 65536)], place, len(image), identity=identity("a")))
+        label = physical_volumes.label([(4096, 65536)], place, len(image), identity=identity("a"))
+        image = changed(image, place * SECTOR, label)
         tally.same("a label in sector %d" % place, mapped(program, [("sda", image)]), 0, ANSWER % ("sda", "/dev/b"))
     two = changed(PAIR[0][1], 0, physical_volumes.label([(4096, 65536)], 0, 1 << 20, identity=identity("z")))
     tally.same("the first of two labels", mapped(program, [("sda", two)]), 1, "", told("sda", "foreign"))
@@ -144,8 +146,8 @@ def check_refused(tally, program):
     ]
     for name, image, word in rows:
         tally.same(name, mapped(program, [("sda", image)]), 1, "", told("sda", word))
-    tally.same("the area's first sector is missing", mapped(program, [("sda", full[:first])]), 1, "", told("sda", "read"))
-    tally.same("a sector of the text is missing", mapped(program, [("sda", full[:first + 1024])]), 1, "", told("sda", "read"))
+    for name, end in ("the area's first sector", first), ("a sector of the text", first + 1024):
+        tally.same("%s is missing" % name, mapped(program, [("sda", full[:end])]), 1, "", told("sda", "read"))
 
 
 def check_groups(tally, program):
@@ -161,13 +163,15 @@ def check_groups(tally, program):
             ("the other order", [("y", b""), ("x", bytes(2048))], "y", "read"),
             ("a foreign disk before one that can't be read", [("sdc", disk("c", area())), ("y", b"")], "y", "read")]:
         tally.same(name, mapped(program, images), 1, "", told(disk_told, word))
-    tally.same("a disk without a text, of the group", mapped(program, [PAIR[0], ("sdb", disk("b"))]), 0, ANSWER % ("sda", "sdb"))
+    got = mapped(program, [PAIR[0], ("sdb", disk("b"))])
+    tally.same("a disk without a text, of the group", got, 0, ANSWER % ("sda", "sdb"))
     got = mapped(program, [("same", PAIR[0][1]), ("same", PAIR[1][1])])
     tally.same("two disks of one name", got, 1, "", "dmremap: source: twice at 14\n")
     tally.same("no disk", mapped(program, []), *told_of(program, b""))
     lost = [("sda", disk("a", area(LOST)))]
     tally.same("a text that is refused", mapped(program, lost), *told_of(program, LOST[:-1]))
-    tally.same("a foreign disk of a text that is refused", mapped(program, lost + [("c", disk("c"))]), 1, "", told("c", "foreign"))
+    got = mapped(program, lost + [("c", disk("c"))])
+    tally.same("a foreign disk of a text that is refused", got, 1, "", told("c", "foreign"))
 
 
 def told_of(program, content):
@@ -205,7 +209,8 @@ def check_files(tally, program):
     secret = program.file("secret.img", PAIR[0][1])
     os.chmod(secret, 0)
     for name, path, how in (("a folder", folder, {}), ("a pipe", pipe, {}), ("no file", "missing", {}),
-                            ("a device of characters", "/dev/zero", {}), ("a file that may not be read", secret, {"before": become_nobody})):
+                            ("a device of characters", "/dev/zero", {}),
+                            ("a file that may not be read", secret, {"before": become_nobody})):
         tally.same("%s as an image" % name, mapped(program, [("sda", path)], **how), 1, "", told("sda", "read"))
     many = [("d%d" % number, "missing") for number in range(2000)]
     tally.same("2,000 images", mapped(program, many), 1, "", told("d0", "read"))
@@ -217,7 +222,8 @@ def check_stores(tally, program):
     at = (DATA + 8 * EXTENT) * SECTOR
     asked = "R vg0-snap 0 16\n"
     fresh = disk("a", area(known))
-    used = changed(changed(fresh, at, struct.pack("<4I", stored.MAGIC, 1, 1, 8)), at + 8 * SECTOR, struct.pack("<2Q", 1, 2))
+    used = changed(fresh, at, struct.pack("<4I", stored.MAGIC, 1, 1, 8))
+    used = changed(used, at + 8 * SECTOR, struct.pack("<2Q", 1, 2))
     cow = DATA + 8 * EXTENT + 16
     both = "1 R sda 2048 8\n1 R sda %d 8\n" % cow
     state = "vg0-snap: 0 16 snapshot 24/48 16\n"
@@ -230,13 +236,14 @@ def check_stores(tally, program):
     got = mapped(program, [("sda", used)], asked, "--before", program.file("earlier", "W vg0-snap 0\n"))
     tally.same("after earlier requests that are bad", got, 1, "", "dmremap: before: form at 1\n")
     bad = changed(used, at, b"X")
-    tally.same("a store that is refused", mapped(program, [("sda", bad)], asked), 1, "", "dmremap: store vg0-snap: magic\n")
-    got = mapped(program, [("sda", bad)], asked, "--before", "missing")
-    tally.same("before earlier requests", got, 1, "", "dmremap: store vg0-snap: magic\n")
+    for name, more in ("a store that is refused", []), ("before earlier requests", ["--before", "missing"]):
+        tally.same(name, mapped(program, [("sda", bad)], asked, *more), 1, "", "dmremap: store vg0-snap: magic\n")
     other = text("vg0", "g", 4, "ba", *SNAPSHOT)
     got = mapped(program, [("sda", disk("a", area(other)))], asked)
     tally.same("a store on a disk without an image", got, 1, "", "dmremap: store vg0-snap: missing\n")
 
 
-class Images(Case, checks=[check_maps, check_commands, check_refused, check_groups, check_rings, check_files, check_stores]):
-    pass
+class Images(Case, checks=[
+    check_maps, check_commands, check_refused, check_groups, check_rings, check_files, check_stores
+]):
+    """What heads say, what of them is refused, and runs from the stores in the same images."""
