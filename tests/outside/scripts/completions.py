@@ -166,7 +166,7 @@ def rows_of(program):
         rows.append(([command, ""], formats))
         for form in sorted(formats):
             rows.append(([command, form, ""], files))
-            rows.append(([command, form, "stack.table", ""], set() if form == "lvm" else files))
+            rows.append(([command, form, "stack.table", ""], set() if form in ("lvm", "images") else files))
             rows.append(([command, form, "stack.table", "stack.disks", ""], set()))
     rows += [
         (["name", ""], set()),
