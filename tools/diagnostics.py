@@ -2,15 +2,22 @@
 
 import re
 import shlex
-from typing import Dict, List
+from typing import Dict, Iterator, List, Tuple
 
 ESCAPES = [("\\&", ""), ("\\(aq", "'"), ("\\(ti", "~"), ("\\(ha", "^"), ("\\~", " "), ("\\-", "-"), ("\\e", "\\")]
-FONT = re.compile(r"\\f[BIRP]")
+FONT, FORM = re.compile(r"\\f[BIRP]"), re.compile(r"^\.EX\ndmremap: (.*)\n\.EE\n", re.M)
 
 
 def section_of(manual: str, title: str) -> str:
     """The text of a section of a manual."""
     return re.search(r"^\.SH %s\n(.*?)^\.SH " % title, manual, re.M | re.S)[1]
+
+
+def forms_of(text: str) -> Iterator[Tuple[str, Dict[str, str]]]:
+    """Each form of messages in DIAGNOSTICS, without `dmremap: `, with the entries below it; an empty one for those before."""
+    for section in re.split(r"^\.SS .*\n", text, flags=re.M)[1:]:
+        pieces = FORM.split(section)
+        yield from zip([""] + pieces[1::2], map(entries_of, pieces[::2]))
 
 
 def entries_of(part: str) -> Dict[str, str]:

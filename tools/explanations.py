@@ -10,52 +10,74 @@ HEAD = '''//! What each word of a message means, its causes and what to do, as t
 //!
 //! Made by tools/derive of the DIAGNOSTICS in docs/dmremap.1: don't edit.
 
+use crate::help::HELP;
+
 /// The words that are explained, in lines of their own.
 pub(crate) const WORDS: &str = "
 %s";
 
-/// Each of them, and what is said of it.
-pub(crate) static EXPLANATIONS: [(&str, &str); %d] = [
+/// What is said of the first of them in all messages; these rows name no part. A static of more text takes a proof too long.
+pub(crate) static FIRST_WORDS: [((&str, &str), &str); %d] = [
+%s];
+
+/// What is said of the others, and of how to ask.
+pub(crate) static LATER_WORDS: [((&str, &str), &str); %d] = [
+%s];
+
+/// What is said of a word in the messages of a part, where others have it, too.
+pub(crate) static ENTRIES: [((&str, &str), &str); %d] = [
 %s];
 %s'''
-FORM = re.compile(r"^\.EX\ndmremap: (.*)\n\.EE\n", re.M)
 # The form of messages about requests, and the other one that has their words, save the last of these.
 REQUESTS, EARLIER, LATE = "request N: WORD", "before: WORD at N", "not top"
 # What stands for a part in the form of messages about FILE and DISKS, and the words that the second of these has, too.
 PART, OF_DISKS = "PART", ("read", "long", "text", "syntax", "field", "name", "twice", "empty", "limit")
 NO_PLACE = "there is no number"
+# Words that ask for the help of `help`; and the first word of the second table.
+ASKED, MIDDLE = ("help", "--help", "-h"), "not top"
 WIDTH = 80
 
 
 def module_of(path: str) -> str:
-    """The text of the module."""
+    """The text of the module. A word of several entries has a text of all of them, and one for each."""
     with open(path, encoding="utf-8") as it:
         manual = it.read()
-    said: Dict[str, List[str]] = {}
-    for word, text in _explained(diagnostics.section_of(manual, "DIAGNOSTICS")):
-        said.setdefault(word, []).append(text)
-    names = {word: word.replace(" ", "_").upper() for word in sorted(said)}
-    rows = "".join('    ("%s", %s),\n' % it for it in names.items())
-    texts = "".join('\nconst %s: &str = "\\\n%s";\n' % (name, _escaped("\n".join(said[word]))) for word, name in names.items())
-    return HEAD % (_wrapped(", ".join(names)), len(names), rows, texts)
+    said: Dict[str, List[Tuple[str, str]]] = {}
+    for word, parts, text in _explained(diagnostics.section_of(manual, "DIAGNOSTICS")):
+        said.setdefault(word, []).append((parts, text))
+    rows, texts, entries = [], [], []
+    for word, found in sorted(said.items()):
+        name = word.replace(" ", "_").upper()
+        rows.append(_row("", word, name))
+        texts.append((name, "\n".join(text for _, text in found)))
+        for parts, text in found if len(found) > 1 else []:
+            texts.append(("%s_%s" % (parts[0].upper(), name), text))
+            entries += [_row(it, word, texts[-1][0]) for it in parts]
+    consts = "".join('\nconst %s: &str = "\\\n%s";\n' % (name, _escaped(text)) for name, text in texts)
+    first = sorted(said).index(MIDDLE)
+    tables = (rows[:first], rows[first:] + [_row("", it, "HELP") for it in ASKED], entries)
+    return HEAD % (_wrapped(", ".join(sorted(said))), *(it for rows in tables for it in (len(rows), "".join(rows))), consts)
 
 
-def _explained(text: str) -> Iterator[Tuple[str, str]]:
-    """Each word with what an entry says of it."""
-    for section in re.split(r"^\.SS .*\n", text, flags=re.M)[1:]:
-        pieces = FORM.split(section)
-        for form, piece in zip([""] + pieces[1::2], pieces[::2]):
-            yield from _explained_of(form, piece)
+def _row(part: str, word: str, name: str) -> str:
+    return '    (("%s", "%s"), %s),\n' % (part, word, name)
 
 
-def _explained_of(form: str, piece: str) -> Iterator[Tuple[str, str]]:
-    """The same of the messages of a form, and of those that stand beside them as a whole."""
-    for word, text in diagnostics.entries_of(piece).items():
-        if word.startswith("dmremap: "):
-            for message in word.split(", "):
-                yield message.rpartition(": ")[2], _block([message], text)
-        else:
-            yield word, _block(["dmremap: " + it.replace("WORD", word) for it in _forms(form, word, text)], text)
+def _explained(text: str) -> Iterator[Tuple[str, List[str], str]]:
+    """Each word of DIAGNOSTICS with the parts of an entry, and what is printed of it."""
+    for form, entries in diagnostics.forms_of(text):
+        for word, said in entries.items():
+            if word.startswith("dmremap: "):
+                for message in word.split(", "):
+                    yield message.rpartition(": ")[2], _parts([message[len("dmremap: "):]]), _block([message], said)
+            else:
+                forms = _forms(form, word, said)
+                yield word, _parts(forms), _block(["dmremap: " + it.replace("WORD", word) for it in forms], said)
+
+
+def _parts(forms: List[str]) -> List[str]:
+    """The parts of messages."""
+    return [re.split("[ :]", it)[0] for it in forms]
 
 
 def _forms(form: str, word: str, text: str) -> List[str]:

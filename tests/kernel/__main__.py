@@ -25,7 +25,7 @@ sys.dont_write_bytecode = True
 HERE = os.path.dirname(os.path.abspath(__file__))
 TOP = os.path.dirname(os.path.dirname(HERE))
 # What the tests from outside have is used here too.
-sys.path += [os.path.join(TOP, "tests", "outside"), os.path.join(TOP, "tests", "outside", "documents")]
+sys.path += [os.path.join(TOP, *it) for it in (("tests", "outside"), ("tests", "outside", "documents"), ("tools",))]
 
 import departures
 import lvm2_texts

@@ -226,7 +226,7 @@ class CodeFile(Scope):
         words = self.words[head:after]
         split = words.index("for") if "for" in words else -1
         place.implements = words[0] if split >= 0 else None
-        place.of = next(it for it in words[split + 1:] if WORD.match(it) and it not in ("mut", "dyn"))
+        place.of = next((it for it in words[split + 1:] if WORD.match(it) and it not in ("mut", "dyn")), "()")
         place.bounds["Self"] = words[:1] if split >= 0 else []
         if place.implements == "Model":
             item = self.items[place.of]

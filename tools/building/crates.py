@@ -4,7 +4,6 @@ import os
 import re
 import signal
 import subprocess
-import time
 
 import folders
 from calls import Failed, write
@@ -15,7 +14,7 @@ class Crate:
     """A crate that is being built in its folder, in a process group of its own."""
 
     def __init__(self, name, jobs, lock):
-        self.name, self.since = name, time.strftime("%H:%M")
+        self.name = name
         self.folder = os.path.join(folders.FOLDERS, name)
         self.said = os.path.join(self.folder, "said")
         is_program = name == "dmremap"
@@ -30,9 +29,10 @@ class Crate:
         with open(self.said, encoding="utf-8", errors="replace") as it:
             return it.read().replace(self.folder, TOP).splitlines()
 
-    def progress(self):
-        checked = re.findall(r"^so far: (\d+ of \d+) functions", "\n".join(self.lines()), re.M)
-        return ", ".join(["%s since %s" % (self.name, self.since), *checked[-1:]])
+    def checked(self):
+        """Returns how many functions of how many rt has checked."""
+        found = re.findall(r"^so far: (\d+) of (\d+) functions", "\n".join(self.lines()), re.M) or [(0, 0)]
+        return int(found[-1][0]), int(found[-1][1])
 
     def is_built(self):
         """Whether rt has ended. Fails where it failed, was killed, or left nothing."""

@@ -26,27 +26,26 @@ COMMANDS: List[Command] = [
     Command("save", "images", "a volume, or a file of one, out of images or disks"),
     Command("serve", "images", "a volume as a disk, by nbdkit"),
     Command("lost", "images", "the files that missing or unreadable sectors cost"),
-    Command("owner", "images", "who has sectors of an image, and whether somebody has"),
+    Command("owner", "images", "whose the sectors of an image are"),
     Command("tables", "images", "FILE, DISKS and PATHS of a group, for dmremap itself"),
     Command("filefrag", "requests", "from the extents of files, as filefrag or debugfs prints them", True),
-    Command("trace", "requests", "from a trace of blkparse, btrace, ftrace or perf, or a log of fio", True),
-    Command("cut", "requests", "from requests that are longer than dmremap takes, or count in bytes", True),
+    Command("trace", "requests", "from a trace of blkparse, btrace, ftrace, perf or fio", True),
+    Command("cut", "requests", "from requests that are too long, or in bytes", True),
     Command("machine", "machines", "of a machine with device-mapper devices", True),
-    Command("elsewhere", "machines", "for dmsetup, where disks have other paths, with all devices read-only", True),
-    Command("thin", "machines", "thin or cached devices, from what thin_dump or cache_dump prints", True),
+    Command("elsewhere", "machines", "for dmsetup where disks have other paths, all read-only", True),
+    Command("thin", "machines", "thin or cached devices, from the metadata of their pool or cache", True),
     Command("btrfs", "machines", "the addresses of a btrfs file system as a device", True),
     Command("metadata", "metadata", "the text of a group, from the head of a physical volume"),
     Command("lvm2-text", "metadata", "a copy of lvm2's metadata that dmremap reads"),
-    Command("report", "answers", "what is done on each disk, how requests were split, and a picture"),
+    Command("report", "answers", "what is done on each disk, how requests were split, a picture"),
     Command("dd", "answers", "a line for dd for each piece", True),
-    Command("spans", "layouts", "which line uses which sectors of disks and devices, what is free, and what clashes",
-            True),
+    Command("spans", "layouts", "which line uses which sectors, what is free, what clashes", True),
     Command("tree", "layouts", "the stack as a tree, or as a graph for Graphviz"),
     Command("extents", "layouts", "where a whole device lies"),
     Command("store", "layouts", "whether the stores of snapshots can be full, and what fills them"),
     Command("picture", "layouts", "the disks and what lies on them, as a picture"),
     Command("md", "layers", "the table of an md array, or answers followed on through one", True),
-    Command("explain", "explaining", "why dmremap refuses something, or how an answer comes about"),
+    Command("explain", "explaining", "why dmremap refuses something, or how an answer arises"),
 ]
 
 
@@ -57,7 +56,7 @@ def find(name: str) -> Optional[Command]:
 def overview() -> str:
     """What `dmremap-tools --help` prints."""
     lines = ["usage: dmremap-tools COMMAND ..", "", "Connects dmremap with other tools, and makes something of its answers.",
-             "`dmremap-tools COMMAND --help` says more of a command, with an example."]
+             "`dmremap-tools COMMAND --help` tells more about a command, with an example."]
     for group, title in GROUPS.items():
         lines += ["", title + ":"] + ["  %-12s %s" % (it.name, it.summary) for it in COMMANDS if it.group == group]
     return "\n".join(lines) + "\n"

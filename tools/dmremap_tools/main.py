@@ -1,12 +1,17 @@
 """Finds the command, runs it, and gives each way to end its status."""
 
 import argparse
+import difflib
+import errno
 import gc
 import importlib
+import itertools
 import os
+import re
 import signal
+import textwrap
 from types import ModuleType
-from typing import Callable, Dict, List, NoReturn, Tuple, Type
+from typing import Callable, Dict, List, NoReturn, Sequence, Tuple, Type
 
 from dmremap_tools import commands
 from dmremap_tools.base import quoting, streams, written
@@ -14,6 +19,11 @@ from dmremap_tools.base.refusal import Refusal, WrongWords
 
 TOOL = "dmremap-tools"
 OUTPUT_FAILED = 5
+# How many columns a help has, and where an example may go on in another line.
+COLUMNS = 80
+JOINTS = re.compile(r"( \||&&) ")
+# What an item of a list explains, up to the explanation.
+ITEM = re.compile(r" +\S.*?  +(?=\S)")
 # The status of each way to end, and what is said then: {0} is the text of the exception, {1} this itself.
 ENDINGS: Dict[Type[Exception], Tuple[int, str]] = {
     WrongWords: (2, "{0}"), Refusal: (1, "{0}"), MemoryError: (1, "out of memory"),
@@ -78,7 +88,7 @@ def run(words: List[str]) -> int:
     except Exception as fault:
         status, said = next(end for kind, end in ENDINGS.items() if isinstance(fault, kind))
         why = said.format(getattr(fault, "strerror", None) or fault, fault)
-        return _end(status, f"{name}: {why}" if why else "", is_fed, getattr(fault, "usage", ""))
+        return _end(status, f"{name}: {why}" if why else "", is_fed, getattr(fault, "usage", ""), _next_step(words, why))
 
 
 def _run(command: "commands.Command | None", name: str, words: List[str]) -> int:
@@ -96,7 +106,10 @@ def _run(command: "commands.Command | None", name: str, words: List[str]) -> int
     if words and words[0] in ("-h", "--help"):
         streams.out.write(commands.overview())
         return 0
-    reason = "no command '%s'; --help lists them" % quoting.shown(words[0]) if words else "--help lists the commands"
+    if not words:
+        raise WrongWords("--help lists the commands", "usage: %s COMMAND .." % TOOL)
+    near = difflib.get_close_matches(words[0], [it.name for it in commands.COMMANDS], 1)
+    reason = "no command '%s'; %s--help lists them" % (quoting.shown(words[0]), "".join("near is %s; " % it for it in near))
     raise WrongWords(reason, "usage: %s COMMAND .." % TOOL)
 
 
@@ -112,18 +125,60 @@ def _answer_signals(action: "signal.Handlers | Callable[[int, object], object]")
 
 
 def parser_of(command: "commands.Command", module: ModuleType, name: str) -> Parser:
-    text = "%s\n\nexample:\n  %s" % ((module.__doc__ or "").strip(), module.EXAMPLE)
+    text = "%s\n\nexample:\n%s" % (_wrapped(module.__doc__ or ""), _example(module.EXAMPLE))
     parser = Parser(prog=name, description=text, allow_abbrev=False, formatter_class=argparse.RawDescriptionHelpFormatter)
     module.add_words(parser)
     return parser
 
 
-def _end(status: int, message: str, is_fed: bool, usage: str = "") -> int:
+def _wrapped(text: str) -> str:
+    """The paragraphs of a text in lines of 80 columns, those of lists each by itself."""
+    rows: List[str] = []
+    for paragraph in text.strip().split("\n\n"):
+        for is_list, lines in itertools.groupby(paragraph.split("\n"), lambda it: it.startswith(" ")):
+            for line in lines if is_list else [" ".join(lines)]:
+                rows += _folded(line)
+        rows.append("")
+    return "\n".join(rows[:-1])
+
+
+def _folded(line: str) -> List[str]:
+    """A line in pieces, of which the later ones stand below what it explains, or a little to the right of its beginning."""
+    item = ITEM.match(line)
+    lead = len(line) - len(line.lstrip()) and (item.end() if item and item.end() < COLUMNS // 2 else 6)
+    return textwrap.wrap(line, COLUMNS, subsequent_indent=" " * lead, break_long_words=False, break_on_hyphens=False)
+
+
+def _example(text: str) -> str:
+    """A command, which goes on in another line where it is long: behind a pipe, if it has one."""
+    if len(text) + 2 <= COLUMNS:
+        return "  " + text
+    if JOINTS.search(text):
+        return "  " + JOINTS.sub(lambda it: it[1] + "\n    ", text)
+    return "  " + " \\\n    ".join(textwrap.wrap(text, COLUMNS - 6, break_long_words=False, break_on_hyphens=False))
+
+
+def _next_step(words: List[str], why: str) -> List[str]:
+    """What a terminal shows after a file that isn't there: names that are near to it, or the folder to make."""
+    if not os.isatty(2) or not why.endswith(": " + os.strerror(errno.ENOENT)):
+        return []
+    given = [part for it in words for part in (it, it.partition("=")[2])]
+    path = next((it for it in given if it and why == "%s: %s" % (quoting.shown(it), os.strerror(errno.ENOENT))), "")
+    folder, name = os.path.split(path)
+    if folder and not os.path.isdir(folder):
+        return ["there is no folder %s: mend the path, or make the folder" % quoting.shown(folder)]
+    near = difflib.get_close_matches(name, os.listdir(folder or "."), 3)
+    if not near:
+        return ["there is no file of such a name: mend the path"]
+    return ["near are: " + quoting.some([quoting.shown(it) for it in near])]
+
+
+def _end(status: int, message: str, is_fed: bool, usage: str = "", step: Sequence[str] = ()) -> int:
     """Removes what was begun, says why, and spoils the outputs. One that fails only now is told, too, unless messages fail."""
     _answer_signals(signal.SIG_IGN)
     written.discard()
     _answer_signals(signal.SIG_DFL)
-    unsaid = message and streams.failure_of(streams.tell, *usage.splitlines(), message)
+    unsaid = message and streams.failure_of(streams.tell, *usage.splitlines(), message, *step)
     failed = streams.spoil(is_fed)
     if failed and status != OUTPUT_FAILED:
         streams.failure_of(streams.tell, f"{message.split(':')[0] or TOOL}: {failed}")

@@ -15,7 +15,7 @@ use Rattle.dm_replay.specs.declared.range_values.RangeValues.{RangeValues}
 use Rattle.dm_replay.specs.declared.value.Value.{Value}
 use Rattle.dm_replay.specs.declared.value.Value.TheVariants as value
 use Rattle.dm_replay.specs.Ranges.{AreFirst, HoldOn}
-use Rattle.dm_replay.specs.Stored.{AreApart, Has, IsBare, IsCleared, IsCut, KeepsStored, NoneFrom, Shows, Stored, held, spanned, stored_in, values_of}
+use Rattle.dm_replay.specs.Stored.{AreApart, Has, IsBare, IsCleared, IsCut, IsLastBefore, IsRoomMade, KeepsStored, NoneFrom, Shows, Stored, held, spanned, stored_in, values_of}
 use Rattle.dm_replay.specs.Values.{further}
 use Rattle.dm_replay.proofs.RangeLemmas.{further_twice}
 
@@ -182,6 +182,38 @@ pub cleared_more : (first old new : BTreeMap ℕ RangeValues) (start end key : �
 cleared_more first old new start end key were from before set = record {
   some = λ at range is out. set.others at (λ same. out (omega (arith, from, same)) (omega (arith, before, same))) ∙ were.some at range is out;
   only = λ at range is. were.only at range (taken_out old new key at range set is);
+}
+
+-- Sectors in which nothing is stored
+
+-- those after the end of the last range that begins before their end
+module _ (ranges : BTreeMap ℕ RangeValues) (start end at : ℕ) (range : RangeValues) (are : AreApart ranges) (last : IsLastBefore ranges end at range) (less : at < start) (ends : range.len ≤ start - at) (order : start < end) where
+  ends_by : (other : ℕ) (r : RangeValues) → get nat_cmp ranges other ≡ Some r → other < end → other + r.len ≤ start
+  ends_by other r is before = elim (cases_eq other at) [
+    | inl same ↦ let len : r.len ≡ range.len = ap (λ (x : RangeValues). x.len) (same_range (get nat_cmp ranges other) r range is (ap (get nat_cmp ranges) same ∙ last.is)) in omega (arith, same, len, less, ends)
+    | inr differ ↦ omega (arith, less, are.apart other at r range is last.is (omega (arith, differ, last.last other r is before)))
+  ]
+
+  pub none_between : NoneFrom ranges start end
+  none_between other r is from before = omega (arith, from, less, last.last other r is before)
+
+  pub room_there : IsRoomMade ranges ranges start end
+  room_there = record {
+    cut = ranges;
+    same = λ stored shows. shows;
+    cut_start = λ other r is before. ends_by other r is (omega (arith, before, order));
+    cut_end = λ other r is before. omega (arith, order, ends_by other r is before);
+    is_cleared = record { some = λ other r is out. is; only = λ other r is. is };
+  }
+
+-- all before an end, where no range begins
+pub room_in_all : (ranges : BTreeMap ℕ RangeValues) (start end : ℕ) → NoneFrom ranges 0 end → start < end → IsRoomMade ranges ranges start end
+room_in_all ranges start end none order = record {
+  cut = ranges;
+  same = λ stored shows. shows;
+  cut_start = λ other r is before. absurd (none other r is (omega arith) (omega (arith, before, order)));
+  cut_end = λ other r is before. absurd (none other r is (omega arith) before);
+  is_cleared = record { some = λ other r is out. is; only = λ other r is. is };
 }
 
 -- A range in two parts

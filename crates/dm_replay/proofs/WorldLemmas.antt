@@ -6,7 +6,6 @@ use Rattle.dm_table.specs.declared.requests.request.Op.TheVariants as ops
 use Rattle.dm_table.specs.declared.requests.request.Request.{Request}
 use Rattle.dm_stack.specs.claims.Claims.{IsTidy, IsTop}
 use Rattle.dm_stack.specs.Description.{Description, device_len}
-use Rattle.dm_stack.proofs.HandedOn.{all_append}
 use Rattle.dm_map.specs.Mapper.{MapperView}
 use Rattle.dm_map.specs.walk.Mapping.{request_step, step_for}
 use Rattle.dm_map.specs.state.State.{start_state}
@@ -30,6 +29,7 @@ use Rattle.dm_replay.proofs.OwnWorlds.{own_after}
 use Rattle.dm_replay.proofs.Playbacks.{units_asked}
 use Rattle.dm_replay.proofs.RerunLemmas.{next_inside, rerun_halted, rerun_more, whole_few}
 use Rattle.dm_replay.proofs.StoredLemmas.{nothing_held}
+use Rattle.dm_table.proofs.Lists.{all_append}
 
 from-push : (stack : Description) (world : World) (all : List Asked) (asked : Asked) → world_from stack world (all ++ asked ∷ []) ≡ next_world stack (world_from stack world all) asked
 unfolding world_from

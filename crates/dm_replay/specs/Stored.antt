@@ -86,3 +86,11 @@ NoneFrom ranges start end = (other : ℕ) (after : RangeValues) → get nat_cmp 
 pub record IsCleared (old new : BTreeMap ℕ RangeValues) (start end : ℕ) : Type 0 where
   pub some : (at : ℕ) (range : RangeValues) → get nat_cmp old at ≡ Some range → (start ≤ at → at < end → ⊥) → get nat_cmp new at ≡ Some range
   pub only : (at : ℕ) (range : RangeValues) → get nat_cmp new at ≡ Some range → get nat_cmp old at ≡ Some range
+
+-- nothing is left from a sector on, before an end: ranges were cut there at most, and those between were taken out
+pub record IsRoomMade (old new : BTreeMap ℕ RangeValues) (start end : ℕ) : Type 0 where
+  pub cut : BTreeMap ℕ RangeValues
+  pub same : KeepsStored old cut
+  pub cut_start : IsCut cut start
+  pub cut_end : IsCut cut end
+  pub is_cleared : IsCleared cut new start end

@@ -5,7 +5,7 @@
 
 ghost use Rattle.std.specs.Prelude.{◌≡◌, ℕ, ◌+◌, ◌<◌, ◌≤◌, ◌^◌, None, [], OnOk, IfSome};
 ghost use Rattle.dm_replay.specs.Ranges.{AreFirst};
-ghost use Rattle.dm_replay.specs.Stored.{AreApart, Has, IsBare, IsCleared, IsCut, IsFirstFrom, IsLastBefore, KeepsCuts, KeepsStored, NoneFrom, Shows, Stored, held, spanned, stored_in};
+ghost use Rattle.dm_replay.specs.Stored.{AreApart, Has, IsBare, IsCleared, IsCut, IsFirstFrom, IsLastBefore, IsRoomMade, KeepsCuts, KeepsStored, NoneFrom, Shows, Stored, held, spanned, stored_in};
 
 use crate::range_values::RangeValues;
 use crate::value::Value;
@@ -100,13 +100,40 @@ fn store_in(
     let first: Value = range.first;
     let len = range.len;
     let end = start + len;
-    cut(ranges, start)?;
-    cut(ranges, end)?;
-    clear(ranges, start, end);
+    let goes_on = make_room(ranges, start, end, &range)?;
     ranges.insert(start, RangeValues { first, len })?;
-    join(ranges, start)?;
+    join_front(ranges, start, goes_on)?;
     join(ranges, end)?;
     Ok(())
+}
+
+/// Takes out what is stored from a sector on, before an end. Where nothing is, that is found by one search, which also
+/// tells whether values that come there go on from the range before them; else `true` is returned, as they may.
+fn make_room(
+    ranges: &mut BTreeMap<u64, RangeValues>,
+    start: u64,
+    end: u64,
+    values: &RangeValues,
+) -> Result<bool, AllocError>
+    requires order { start < end }
+    requires apart { AreApart ranges.old }
+    ensures apart { AreApart ranges.new }
+    ensures none { OnOk result (NoneFrom ranges.new start end) }
+    ensures made { OnOk result (IsRoomMade ranges.old ranges.new start end) }
+{
+    match last_before(ranges, end) {
+        None => return Ok(false),
+        Some((at, range)) => {
+            if at < start && range.len <= start - at {
+                return Ok(range.joins(values));
+            }
+            cut(ranges, Some((at, range)), end)?;
+        }
+    }
+    let before = last_before(ranges, start);
+    cut(ranges, before, start)?;
+    clear(ranges, start, end);
+    Ok(true)
 }
 
 /// The last range that begins before a sector, and where.
@@ -163,15 +190,21 @@ fn bare_len(ranges: &BTreeMap<u64, RangeValues>, start: u64, len: u64) -> u64
     }
 }
 
-/// Cuts the range that goes on over a sector from the one before it, if there is one.
-fn cut(ranges: &mut BTreeMap<u64, RangeValues>, sector: u64) -> Result<(), AllocError>
-    requires { AreApart ranges.old }
+/// Cuts the last range that begins before a sector there, if it goes on over it.
+fn cut(
+    ranges: &mut BTreeMap<u64, RangeValues>,
+    last: Option<(u64, RangeValues)>,
+    sector: u64,
+) -> Result<(), AllocError>
+    requires apart { AreApart ranges.old }
+    requires some { IfSome last (λ found. IsLastBefore ranges.old sector found.0 found.1) }
+    requires none { last ≡ None → NoneFrom ranges.old 0 sector }
     ensures apart { AreApart ranges.new }
     ensures same { OnOk result (KeepsStored ranges.old ranges.new) }
     ensures cuts { OnOk result (KeepsCuts ranges.old ranges.new) }
     ensures cut { OnOk result (IsCut ranges.new sector) }
 {
-    let Some((start, range)) = last_before(ranges, sector) else {
+    let Some((start, range)) = last else {
         return Ok(());
     };
     let front = sector - start;
@@ -193,6 +226,23 @@ fn clear(ranges: &mut BTreeMap<u64, RangeValues>, start: u64, end: u64)
 {
     while let Some(at) = first_from(ranges, start, end) {
         ranges.remove(&at);
+    }
+}
+
+/// Does what `join` does if the range that begins at a sector may go on from the last one before.
+fn join_front(
+    ranges: &mut BTreeMap<u64, RangeValues>,
+    sector: u64,
+    goes_on: bool,
+) -> Result<(), AllocError>
+    requires { AreApart ranges.old }
+    ensures apart { AreApart ranges.new }
+    ensures same { OnOk result (KeepsStored ranges.old ranges.new) }
+{
+    if goes_on {
+        join(ranges, sector)
+    } else {
+        Ok(())
     }
 }
 

@@ -30,8 +30,8 @@ use Rattle.dm_stack.proofs.checks.HandedOn.{line_within}
 use Rattle.dm_stack.proofs.checks.LayoutLemmas.{AreInRow, in_row}
 use Rattle.dm_stack.proofs.checks.ChunkLemmas.{chunk_within}
 use Rattle.dm_stack.proofs.lines.Members.{found_there, only}
-use Rattle.dm_stack.proofs.lines.StripeLemmas.{at_index}
-use Rattle.dm_stack.proofs.checks.Passes.{append_none, all_parts, faults_by_none, passes_all}
+use Rattle.dm_stack.proofs.checks.Passes.{faults_by_none, passes_all}
+use Rattle.dm_table.proofs.Lists.{all_parts, append-nil_both, at_index}
 
 -- A search in a list, and in what its elements become
 
@@ -42,17 +42,12 @@ position_or_len-map f test (x ∷ xs) = rw (position_or_len-map f test xs)
 pub position-map : {X Y : Type 0} (f : X → Y) (test : Y → Bool) (xs : List X) → position test (map f xs) ≡ position (λ x. test (f x)) xs
 position-map f test xs = rw (position_or_len-map f test xs, length-map xs f)
 
-got : {X : Type 0} (P : X → Type 0) (xs : List X) (id : ℕ) (x : X) → AllByRecursion P xs → slice_get xs id ≡ Some x → P x
-got P [] id x h e = absurd cc
-got P (first ∷ xs) zero x h e = let same : first ≡ x = cc in subst P same h.0
-got P (first ∷ xs) (suc id) x h e = got P xs id x h.1 e
-
 -- what a search found passes its test, and shares what all elements have
 pub found : {X : Type 0} (P : X → Type 0) (test : X → Bool) (xs : List X) (x : X) → AllByRecursion P xs → find test xs ≡ Some x → (test x ≡ true) × P x
 found P test xs x h e =
     let at = sym (find_at test xs) ∙ e in
     let here = get_or_from_slice_get xs (position_or_len test xs) x x at in
-    (ap test (sym here) ∙ passes_at_first test xs x (slice_get_within xs (position_or_len test xs) x at), got P xs (position_or_len test xs) x h at)
+    (ap test (sym here) ∙ passes_at_first test xs x (slice_get_within xs (position_or_len test xs) x at), at_index P xs (position_or_len test xs) x h at)
 
 -- Lines that start where the one before ends
 
@@ -161,7 +156,7 @@ crowd_by stack lines false is good = all_alone stack (length lines) lines is goo
 no_crowd : (stack : Description) (devices : List DeviceSpec) → flat_map (λ d. bad_snapshots_in stack d.lines) devices ≡ [] → list_any has_crowd devices ≡ false
 no_crowd stack [] e = refl
 no_crowd stack (device ∷ devices) e =
-    let parts = append_none (bad_snapshots_in stack device.lines) _ e in
+    let parts = append-nil_both (bad_snapshots_in stack device.lines) _ e in
     let good = faults_by_none Snapshot (λ line. line.at) (λ line. is_bad_snapshot stack (length device.lines) line.len line.target) device.lines parts.0 in
     rw (crowd_by stack device.lines (length device.lines == 1) refl good, no_crowd stack devices parts.1)
 
@@ -202,19 +197,19 @@ pub record IsDeviceSound (stack : Description) (device : DeviceSpec) : Type 0 wh
 part_of : {X : Type 0} (check : DeviceSpec → List X) (devices : List DeviceSpec) (id : ℕ) (device : DeviceSpec) → flat_map check devices ≡ [] → slice_get devices id ≡ Some device → check device ≡ []
 part_of check [] id device e at = absurd cc
 part_of {X} check (first ∷ devices) zero device e at =
-    let same : first ≡ device = cc in rw (← same) (append_none (check first) _ e).0
-part_of check (first ∷ devices) (suc id) device e at = part_of check devices id device (append_none (check first) _ e).1 at
+    let same : first ≡ device = cc in rw (← same) (append-nil_both (check first) _ e).0
+part_of check (first ∷ devices) (suc id) device e at = part_of check devices id device (append-nil_both (check first) _ e).1 at
 
 pub device_sound : (stack : Description) (id : ℕ) (device : DeviceSpec) → IsSound stack → slice_get stack.devices id ≡ Some device → IsDeviceSound stack device
 device_sound stack id device sound at =
     let p = passes_all stack sound in
     record {
-      small = of_device (λ line. is_large line ≡ false) stack.devices id device (faults_by_none Limit (λ line. line.at) is_large (all_lines stack.devices) (append_none _ _ p.small).0) at;
+      small = of_device (λ line. is_large line ≡ false) stack.devices id device (faults_by_none Limit (λ line. line.at) is_large (all_lines stack.devices) (append-nil_both _ _ p.small).0) at;
       striped = of_device (λ line. has_bad_stripes line line.target ≡ false) stack.devices id device (faults_by_none Stripe (λ line. line.at) (λ line. has_bad_stripes line line.target) (all_lines stack.devices) p.divided) at;
       inside = of_device (λ line. passes_end stack line ≡ false) stack.devices id device (faults_by_none Range (λ line. line.at) (passes_end stack) (all_lines stack.devices) p.inside) at;
       fitting = faults_by_none Snapshot (λ line. line.at) (λ line. is_bad_snapshot stack (length device.lines) line.len line.target) device.lines (part_of (λ d. bad_snapshots_in stack d.lines) stack.devices id device p.fitting at);
       stored = of_device (λ line. has_bad_store stack line.target ≡ false) stack.devices id device (faults_by_none Store (λ line. line.at) (λ line. has_bad_store stack line.target) (all_lines stack.devices) p.stored) at;
-      filled = part_of empty_in stack.devices id device (append_none _ _ p.filled).0 at;
+      filled = part_of empty_in stack.devices id device (append-nil_both _ _ p.filled).0 at;
       placed = in_row device.lines (part_of (λ d. misplaced_in d.lines) stack.devices id device p.placed at);
     }
 
@@ -298,14 +293,14 @@ pub lines_filled : (stack : Description) (id : ℕ) → IsSound stack → id < l
 lines_filled stack id sound within =
     let d = there stack.devices id within in
     let s = device_sound stack id d.it sound d.at in
-    let parts = append_none (without_lines d.it d.it.lines) _ s.filled in
+    let parts = append-nil_both (without_lines d.it d.it.lines) _ s.filled in
     rw (lines_there stack id d.it d.at) (faults_by_none Empty (λ line. line.at) (λ line. line.len == 0) d.it.lines parts.1)
 
 pub device_some : (stack : Description) (id : ℕ) → IsSound stack → id < length stack.devices → 0 < device_len stack id
 device_some stack id sound within =
     let d = there stack.devices id within in
     let lines = lines_there stack id d.it d.at in
-    rw lines (filled_lines d.it d.it.lines (append_none (without_lines d.it d.it.lines) _ (device_sound stack id d.it sound d.at).filled).0 (rw lines at (lines_filled stack id sound within)))
+    rw lines (filled_lines d.it d.it.lines (append-nil_both (without_lines d.it d.it.lines) _ (device_sound stack id d.it sound d.at).filled).0 (rw lines at (lines_filled stack id sound within)))
 
 pub device_small : (stack : Description) (id : ℕ) → IsSound stack → id < length stack.devices → device_len stack id ≤ 2 ^ 50
 device_small stack id sound within =
@@ -317,9 +312,9 @@ device_small stack id sound within =
 pub disk_some : (stack : Description) (id : ℕ) (disk : Disk) → IsSound stack → slice_get stack.disks id ≡ Some disk → 0 < disk.len
 disk_some stack id disk sound at =
     let p = passes_all stack sound in
-    positive disk.len (at_index (λ d. (d.len == 0) ≡ false) stack.disks id disk (faults_by_none Empty (λ d. d.at) (λ d. d.len == 0) stack.disks (append_none _ _ p.filled).1) at)
+    positive disk.len (at_index (λ d. (d.len == 0) ≡ false) stack.disks id disk (faults_by_none Empty (λ d. d.at) (λ d. d.len == 0) stack.disks (append-nil_both _ _ p.filled).1) at)
 
 pub disk_small : (stack : Description) (id : ℕ) (disk : Disk) → IsSound stack → slice_get stack.disks id ≡ Some disk → disk.len ≤ 2 ^ 50
 disk_small stack id disk sound at =
     let p = passes_all stack sound in
-    ltb-false _ _ (at_index (λ d. nat_lt (2 ^ 50) d.len ≡ false) stack.disks id disk (faults_by_none Limit (λ d. d.at) (λ d. nat_lt (2 ^ 50) d.len) stack.disks (append_none _ _ p.small).1) at)
+    ltb-false _ _ (at_index (λ d. nat_lt (2 ^ 50) d.len ≡ false) stack.disks id disk (faults_by_none Limit (λ d. d.at) (λ d. nat_lt (2 ^ 50) d.len) stack.disks (append-nil_both _ _ p.small).1) at)

@@ -63,7 +63,7 @@ impl DiskImages {
         let Some(place) = self.place(disk) else {
             return Err(SectorFault::Missing);
         };
-        match images.read(disk, place.path(), place.start() + sector, into) {
+        match images.read(place.line(), place.path(), place.start() + sector, into) {
             Ok(()) => Ok(()),
             Err(ReadFault) => Err(SectorFault::Read),
         }

@@ -5,11 +5,13 @@ ghost use Rattle.std.specs.String.{string_bytes};
 
 use std::marker::Model;
 
-/// An image that has a disk, from a sector of it on. A clause sees the bytes of the path, and the sector.
+/// An image that has a disk, from a sector of it on, and the line of its list that names it. A clause sees the
+/// bytes of the path, and the sector.
 #[derive(Debug, Drop)]
 pub struct ImagePlace {
     path: String,
     start: u64,
+    line: u64,
 }
 
 impl Model for ImagePlace {
@@ -25,12 +27,17 @@ impl Model for ImagePlace {
 }
 
 impl ImagePlace {
-    /// The image at a path, from a sector of it on. No memory is taken.
-    pub(crate) fn new(path: String, start: u64) -> ImagePlace
+    /// The image at a path, from a sector of it on, by this line. No memory is taken.
+    pub(crate) fn new(path: String, start: u64, line: u64) -> ImagePlace
         requires { start < 2 ^ 51 }
         ensures { result ≡ record { path = string_bytes path; start = start } }
     {
-        ImagePlace { path, start }
+        ImagePlace { path, start, line }
+    }
+
+    /// The line that names it.
+    pub(crate) fn line(&self) -> u64 {
+        self.line
     }
 
     /// The path of the image.

@@ -7,8 +7,6 @@
 ghost use Rattle.std.specs.Prelude.{◌≡◌, ◌<◌, ◌≤◌, ◌%◌, ◌^◌, length};
 ghost use Rattle.dm_store.specs.Images.{AreRead, Contents};
 
-use dm_stack::DiskId;
-
 /// The bytes of a sector.
 pub const SECTOR: usize = 512;
 
@@ -25,15 +23,9 @@ pub trait Images {
     /// whoever makes images promises that.
     ghost IsSeen: { Self → Contents → Type 0 };
 
-    /// Reads whole sectors of the image at this path, from a sector of it on. The disk tells images apart, so
-    /// that each can be opened once. After a fault the slice may hold anything.
-    fn read(
-        &mut self,
-        disk: DiskId,
-        path: &str,
-        sector: u64,
-        into: &mut [u8],
-    ) -> Result<(), ReadFault>
+    /// Reads whole sectors of the image at this path, from a sector of it on. The line of the path in its list
+    /// tells images apart, so that each can be opened once. After a fault the slice may hold anything.
+    fn read(&mut self, line: u64, path: &str, sector: u64, into: &mut [u8]) -> Result<(), ReadFault>
         requires whole { length into.old % SECTOR ≡ 0 }
         requires some { SECTOR ≤ length into.old }
         requires few { length into.old ≤ MOST_BYTES }

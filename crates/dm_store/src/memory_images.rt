@@ -7,7 +7,6 @@ ghost use Rattle.dm_store.specs.declared.images.TheConstants.{SECTOR};
 
 use crate::images::{Images, ReadFault, SECTOR};
 use crate::read_log::ReadLog;
-use dm_stack::DiskId;
 
 /// Files in memory by their paths. So many reads are answered, and each later one fails.
 #[derive(Drop)]
@@ -82,7 +81,7 @@ impl Images for MemoryImages<'_> {
 
     fn read(
         &mut self,
-        _disk: DiskId,
+        _line: u64,
         path: &str,
         sector: u64,
         into: &mut [u8],

@@ -1,5 +1,6 @@
 -- The proofs stand under the paths of the modules that they are of.
 -- What crates above cite: they see no folder of a module that is private.
+pub mod Lists
 pub use Rattle.dm_table.proofs.io.Growth
 pub use Rattle.dm_table.proofs.io.WriteLemmas
 pub use Rattle.dm_table.proofs.load.FaultLemmas

@@ -8,6 +8,7 @@ pub mod ConciseRows
 mod ConciseWorked
 pub mod DiskLemmas
 mod KindsWorked
+pub mod PairRows
 pub mod PathLemmas
 pub mod PathPlaces
 pub mod TableDescribed

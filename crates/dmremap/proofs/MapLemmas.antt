@@ -30,7 +30,7 @@ use Rattle.dmremap.specs.Exit.{ending_status, exit_message, exit_status, load_st
 use Rattle.dmremap.specs.Load.{RefusedBy, SoundAs, PartsGive}
 use Rattle.dmremap.specs.StoredStart.{IsBegunAt, IsOutOfMemory, unbegun_message, unbegun_status}
 use Rattle.dmremap.specs.Streams.{Exits, OutputWritten, StreamsLeft}
-use Rattle.dmremap.specs.Whole.{ArePlayedOver, Begins, EarlierReadFrom, FailsOver, GiveFrom, IsRunOver, Refuses, RunsFrom, RunsOver, Start, Whole, begun_after, earlier_from, outcome_from, whole_at, whole_over}
+use Rattle.dmremap.specs.Whole.{ArePlayedOver, Begins, EarlierReadBy, EarlierReadFrom, FailsOver, GiveBy, IsRunOver, Loaded, Opening, PartsOpen, Refuses, RunsBy, RunsFrom, RunsOver, Start, Stops, Whole, begun_after, earlier_from, outcome_from, whole_at, whole_over}
 use Rattle.dmremap.proofs.ExitLemmas.{exits_told, never_memory, never_one, no_write_fault, ran_requests, read_on_none, refused_load, refused_output, refused_told, unasked_requests, write_fault_is}
 
 -- ---- a load
@@ -41,40 +41,65 @@ at_exit : (output : List ℕ) (exit refused : Exit) (status : ℕ) → exit ≡ 
 at_exit output exit refused status same none is = cc
 
 -- a refused load is a whole run, wherever runs start
-pub refused_from : (starts : Description → Start) (format : Format) (flag : Bool) (source disks : Delivery) (before : Option Delivery) (requests : Delivery) (output : List ℕ) (fault : LoadFault) (exit : Exit) (status : ℕ) → exit ≡ exits.Refused (refusals.Load fault) → (fault.kind ≢ kinds.Memory → PartsGive format source disks (RefusedBy fault))
-    → output ≡ [] → status ≡ exit_status exit → status ≢ STATUS_MEMORY → GiveFrom starts format flag source disks before requests (record { output = output; message = exit_message exit; status = status })
-refused_from starts format flag source disks before requests output fault exit status same gives none is other = record {
-  load = RefusedBy fault;
-  loaded = gives (λ memory. other (is ∙ ap exit_status same ∙ ap load_status memory));
+refused_by : (Opens : Opening → Type 0) (starts : Description → Start) (flag : Bool) (before : Option Delivery) (requests : Delivery) (output : List ℕ) (fault : LoadFault) (exit : Exit) (status : ℕ) → exit ≡ exits.Refused (refusals.Load fault) → (fault.kind ≢ kinds.Memory → Opens (Loaded (RefusedBy fault)))
+    → output ≡ [] → status ≡ exit_status exit → status ≢ STATUS_MEMORY → GiveBy Opens starts flag before requests (record { output = output; message = exit_message exit; status = status })
+refused_by Opens starts flag before requests output fault exit status same gives none is other = record {
+  opening = Loaded (RefusedBy fault);
+  opens = gives (λ memory. other (is ∙ ap exit_status same ∙ ap load_status memory));
   is = at_exit output exit (exits.Refused (refusals.Load fault)) status same none is;
 }
 
 -- a run over a stack that was loaded is the run of that load
-pub runs_from : (starts : Description → Start) (format : Format) (flag : Bool) (source disks : Delivery) (before : Option Delivery) (requests : Delivery) (status : ℕ) (output_old output_new messages_old messages_new : OutputPast) (stack : Description) → PartsGive format source disks (SoundAs stack)
-    → RunsOver (starts stack) stack flag before requests status output_old output_new messages_old messages_new → RunsFrom starts format flag source disks before requests status output_old output_new messages_old messages_new
-runs_from starts format flag source disks before requests status output_old output_new messages_old messages_new stack gives over = record {
-  whole = λ five six. let run = over.whole five six in record { message = run.message; gives = record { load = SoundAs stack; loaded = gives; is = run.is }; told = run.told };
+pub runs_by : (Opens : Opening → Type 0) (starts : Description → Start) (flag : Bool) (before : Option Delivery) (requests : Delivery) (status : ℕ) (output_old output_new messages_old messages_new : OutputPast) (stack : Description) → Opens (Loaded (SoundAs stack))
+    → RunsOver (starts stack) stack flag before requests status output_old output_new messages_old messages_new → RunsBy Opens starts flag before requests status output_old output_new messages_old messages_new
+runs_by Opens starts flag before requests status output_old output_new messages_old messages_new stack gives over = record {
+  whole = λ five six. let run = over.whole five six in record { message = run.message; gives = record { opening = Loaded (SoundAs stack); opens = gives; is = run.is }; told = run.told };
   beginning = λ five. record { description = stack; loaded = gives; fails = over.beginning five };
 }
 
+pub runs_from : (starts : Description → Start) (format : Format) (flag : Bool) (source disks : Delivery) (before : Option Delivery) (requests : Delivery) (status : ℕ) (output_old output_new messages_old messages_new : OutputPast) (stack : Description) → PartsGive format source disks (SoundAs stack)
+    → RunsOver (starts stack) stack flag before requests status output_old output_new messages_old messages_new → RunsFrom starts format flag source disks before requests status output_old output_new messages_old messages_new
+runs_from starts format flag source disks = runs_by (PartsOpen format source disks) starts flag
+
 -- so is one whose load was refused, wherever runs start
-pub unloaded_runs : (starts : Description → Start) (format : Format) (flag : Bool) (source disks : Delivery) (before : Option Delivery) (requests : Delivery) (status : ℕ) (output messages_old messages_new : OutputPast) (fault : LoadFault) (exit : Exit)
-    → (fault.kind ≢ kinds.Memory → PartsGive format source disks (RefusedBy fault)) → exit ≡ exits.Refused (refusals.Load fault) → Exits exit status messages_old messages_new
-    → RunsFrom starts format flag source disks before requests status output output messages_old messages_new
-unloaded_runs starts format flag source disks before requests status output messages_old messages_new fault exit gives same exited = record {
+pub unloaded_by : (Opens : Opening → Type 0) (starts : Description → Start) (flag : Bool) (before : Option Delivery) (requests : Delivery) (status : ℕ) (output messages_old messages_new : OutputPast) (fault : LoadFault) (exit : Exit)
+    → (fault.kind ≢ kinds.Memory → Opens (Loaded (RefusedBy fault))) → exit ≡ exits.Refused (refusals.Load fault) → Exits exit status messages_old messages_new
+    → RunsBy Opens starts flag before requests status output output messages_old messages_new
+unloaded_by Opens starts flag before requests status output messages_old messages_new fault exit gives same exited = record {
   whole = λ five six. record {
     message = exit_message exit;
-    gives = refused_from starts format flag source disks before requests _ fault exit status same gives (since-same output.written) exited.is six;
+    gives = refused_by Opens starts flag before requests _ fault exit status same gives (since-same output.written) exited.is six;
     told = exited.told.told;
   };
   beginning = λ five. absurd (no_write_fault (refusals.Load fault) (sym (ap exit_status same) ∙ sym exited.is ∙ five));
 }
 
+pub unloaded_runs : (starts : Description → Start) (format : Format) (flag : Bool) (source disks : Delivery) (before : Option Delivery) (requests : Delivery) (status : ℕ) (output messages_old messages_new : OutputPast) (fault : LoadFault) (exit : Exit)
+    → (fault.kind ≢ kinds.Memory → PartsGive format source disks (RefusedBy fault)) → exit ≡ exits.Refused (refusals.Load fault) → Exits exit status messages_old messages_new
+    → RunsFrom starts format flag source disks before requests status output output messages_old messages_new
+unloaded_runs starts format flag source disks = unloaded_by (PartsOpen format source disks) starts flag
+
+-- so is one that stopped before its load
+pub stopped_by : (Opens : Opening → Type 0) (starts : Description → Start) (flag : Bool) (before : Option Delivery) (requests : Delivery) (status : ℕ) (output messages_old messages_new : OutputPast) (message : List ℕ) → Opens (Stops message)
+    → status ≡ STATUS_REFUSED → IsTold message messages_old messages_new → RunsBy Opens starts flag before requests status output output messages_old messages_new
+stopped_by Opens starts flag before requests status output messages_old messages_new message opens is told = record {
+  whole = λ five six. record {
+    message = message;
+    gives = record { opening = Stops message; opens = opens; is = rw (since-same output.written, is) refl };
+    told = told;
+  };
+  beginning = λ five. absurd (omega (arith, is, five));
+}
+
 -- earlier requests that were asked for over a stack that was loaded
+pub earlier_read_by : {X : Type 0} → (past : X → InputPast) (Opens : Opening → Type 0) (starts : Description → Start) (stack : Description) (old new : Option X) → Opens (Loaded (SoundAs stack))
+    → (new ≡ old) ⊎ ArePlayedOver past (starts stack) stack old new → EarlierReadBy past Opens starts old new
+earlier_read_by past Opens starts stack old new gives (inl same) = inl same
+earlier_read_by past Opens starts stack old new gives (inr played) = inr (stack, gives, played)
+
 pub earlier_read : {X : Type 0} → (past : X → InputPast) (starts : Description → Start) (format : Format) (source disks : Delivery) (stack : Description) (old new : Option X) → PartsGive format source disks (SoundAs stack)
     → (new ≡ old) ⊎ ArePlayedOver past (starts stack) stack old new → EarlierReadFrom past starts format source disks old new
-earlier_read past starts format source disks stack old new gives (inl same) = inl same
-earlier_read past starts format source disks stack old new gives (inr played) = inr (stack, gives, played)
+earlier_read past starts format source disks = earlier_read_by past (PartsOpen format source disks) starts
 
 -- ---- a run that does not begin
 

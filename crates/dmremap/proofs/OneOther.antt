@@ -22,10 +22,14 @@ use Rattle.dmremap.specs.declared.exit.Exit.TheVariants as exits
 use Rattle.dmremap.specs.declared.exit.Refusal.TheVariants as refusals
 use Rattle.dmremap.specs.declared.job.Format.{Format}
 use Rattle.dmremap.specs.Exit.{IsPlain, load_status}
-use Rattle.dmremap.specs.Job.{JobWords, format_of, map_words, print_words, check_words, replay_words, name_words, split_words, explain_words}
+use Rattle.dmremap.specs.declared.job.TableForm.{TableForm}
+use Rattle.dmremap.specs.declared.job.Task.{Task}
+use Rattle.dmremap.specs.declared.job.Task.TheVariants.{Check, Print, Replay}
+use Rattle.dmremap.specs.ImagesWhole.{TaskDoes}
+use Rattle.dmremap.specs.Job.{JobWords, format_of, map_images_words, map_words, of_images_words, print_words, check_words, replay_words, name_words, split_words, explain_words}
 use Rattle.dmremap.specs.Load.{Load, PartsGive, RefusedBy, SoundAs}
-use Rattle.dmremap.specs.OtherWhole.{ReplaysFiles, ReplaysStack, JobDoes}
-use Rattle.dmremap.specs.Printing.{IsPrinted, Prints, Refuses, ReportSays, Said, SplitSays, JobSays, devices_said, line}
+use Rattle.dmremap.specs.OtherWhole.{ReplaysLoad, ReplaysStack, JobDoes}
+use Rattle.dmremap.specs.Printing.{IsPrinted, LoadReports, LoadSays, Prints, Refuses, ReportSays, Said, SplitSays, JobSays, devices_said, line}
 use Rattle.dmremap.specs.ReplayOutcome.{AreAnswered, IsAnswer, IsOfNone, IsPlayed, IsWhole, StopsAt, asked_of}
 use Rattle.dmremap.proofs.OneWhole.{one_load}
 
@@ -42,12 +46,19 @@ one_report_said : (load : Load) (a b : Said) → ReportSays load a → ReportSay
 one_report_said (RefusedBy fault) a b x y = sym x ∙ y
 one_report_said (SoundAs description) a b x y = sym x.2 ∙ ap Prints (one_report description x.0 y.0 x.1 y.1) ∙ y.2
 
+one_devices : (Gives : Load → Type 0) → ((a b : Load) → Gives a → Gives b → a ≡ b) → (form : TableForm) (a b : Said) → LoadSays Gives form a → LoadSays Gives form b → a ≡ b
+one_devices Gives one form a b x y = sym x.is ∙ ap (devices_said form) (one x.load y.load x.loaded y.loaded) ∙ y.is
+
+one_reported : (Gives : Load → Type 0) → ((a b : Load) → Gives a → Gives b → a ≡ b) → (a b : Said) → LoadReports Gives a → LoadReports Gives b → a ≡ b
+one_reported Gives one a b x y = one_report_said y.load a b (rw (← one x.load y.load x.loaded y.loaded) x.says) y.says
+
 one_said : (asked : JobWords) (source disks : Delivery) (a b : Said) → JobSays asked source disks a → JobSays asked source disks b → a ≡ b
 one_said (map_words from paths earlier status) source disks a b x y = absurd x
 one_said (replay_words from) source disks a b x y = absurd x
-one_said (print_words form from) source disks a b x y = sym x.is ∙ ap (devices_said form) (one_load (format_of from) source disks x.load y.load x.loaded y.loaded) ∙ y.is
-one_said (check_words from) source disks a b x y =
-    one_report_said y.load a b (rw (← one_load (format_of from) source disks x.load y.load x.loaded y.loaded) x.says) y.says
+one_said (map_images_words paths earlier status) source disks a b x y = absurd x
+one_said (of_images_words paths task) source disks a b x y = absurd x
+one_said (print_words form from) source disks a b x y = one_devices (PartsGive (format_of from) source disks) (one_load (format_of from) source disks) form a b x y
+one_said (check_words from) source disks a b x y = one_reported (PartsGive (format_of from) source disks) (one_load (format_of from) source disks) a b x y
 one_said (name_words parts) source disks a b x y = sym x ∙ y
 one_said (split_words name) source disks a b x y = one_split_said name a b x y
 one_said (explain_words text) source disks a b x y = sym x ∙ y
@@ -170,18 +181,18 @@ one_of_stack stack requests a b x y plain plain' is is' = one_end stack (request
 -- What the files give
 
 -- a load is refused or sound, and not both
-never_loaded : (format : Format) (source disks : Delivery) (fault : LoadFault) (stack : Description) → PartsGive format source disks (RefusedBy fault) → PartsGive format source disks (SoundAs stack) → ⊥
-never_loaded format source disks fault stack refused sound = let same = one_load format source disks (RefusedBy fault) (SoundAs stack) refused sound in absurd cc
+never_loaded : (Gives : Load → Type 0) → ((a b : Load) → Gives a → Gives b → a ≡ b) → (fault : LoadFault) (stack : Description) → Gives (RefusedBy fault) → Gives (SoundAs stack) → ⊥
+never_loaded Gives one fault stack refused sound = let same = one (RefusedBy fault) (SoundAs stack) refused sound in absurd cc
 
-one_replay : (format : Format) (source disks requests : Delivery) (a b : Exit) (x y : List ℕ) → IsPlain a → IsPlain b
-    → ReplaysFiles format source disks requests x a → ReplaysFiles format source disks requests y b → (a ≡ b) × (x ≡ y)
-one_replay format source disks requests (exits.Refused (refusals.Load f)) (exits.Refused (refusals.Load g)) x y plain plain' is is' =
-    let same = one_load format source disks (RefusedBy f) (RefusedBy g) (is.1 (never_memory f plain)) (is'.1 (never_memory g plain')) in
+one_replay : (Gives : Load → Type 0) → ((a b : Load) → Gives a → Gives b → a ≡ b) → (requests : Delivery) (a b : Exit) (x y : List ℕ) → IsPlain a → IsPlain b
+    → ReplaysLoad Gives requests x a → ReplaysLoad Gives requests y b → (a ≡ b) × (x ≡ y)
+one_replay Gives one requests (exits.Refused (refusals.Load f)) (exits.Refused (refusals.Load g)) x y plain plain' is is' =
+    let same = one (RefusedBy f) (RefusedBy g) (is.1 (never_memory f plain)) (is'.1 (never_memory g plain')) in
     (cc, is.0 ∙ sym is'.0)
-one_replay format source disks requests (exits.Refused (refusals.Load f)) b x y plain plain' is is' = absurd (never_loaded format source disks f is'.0 (is.1 (never_memory f plain)) is'.1)
-one_replay format source disks requests a (exits.Refused (refusals.Load g)) x y plain plain' is is' = absurd (never_loaded format source disks g is.0 (is'.1 (never_memory g plain')) is.1)
-one_replay format source disks requests a b x y plain plain' is is' =
-    let load = one_load format source disks (SoundAs is.0) (SoundAs is'.0) is.1 is'.1 in
+one_replay Gives one requests (exits.Refused (refusals.Load f)) b x y plain plain' is is' = absurd (never_loaded Gives one f is'.0 (is.1 (never_memory f plain)) is'.1)
+one_replay Gives one requests a (exits.Refused (refusals.Load g)) x y plain plain' is is' = absurd (never_loaded Gives one g is.0 (is'.1 (never_memory g plain')) is.1)
+one_replay Gives one requests a b x y plain plain' is is' =
+    let load = one (SoundAs is.0) (SoundAs is'.0) is.1 is'.1 in
     let same : is.0 ≡ is'.0 = cc in
     one_of_stack is'.0 requests a b x y plain plain' (subst (λ (stack : Description). ReplaysStack stack requests x a) same is.2) is'.2
 
@@ -190,5 +201,15 @@ one_replay format source disks requests a b x y plain plain' is is' =
 pub one_other : (asked : JobWords) (source disks requests : Delivery) (a b : Exit) (x y : List ℕ) → IsPlain a → IsPlain b
     → JobDoes asked source disks requests x a → JobDoes asked source disks requests y b → (a ≡ b) × (x ≡ y)
 one_other (map_words from paths earlier status) source disks requests a b x y plain plain' is is' = absurd is
-one_other (replay_words from) source disks requests a b x y plain plain' is is' = one_replay (format_of from) source disks requests a b x y plain plain' is is'
+one_other (map_images_words paths earlier status) source disks requests a b x y plain plain' is is' = absurd is
+one_other (of_images_words paths task) source disks requests a b x y plain plain' is is' = absurd is
+one_other (replay_words from) source disks requests a b x y plain plain' is is' = one_replay (PartsGive (format_of from) source disks) (one_load (format_of from) source disks) requests a b x y plain plain' is is'
 one_other asked source disks requests a b x y plain plain' is is' = one_printed (JobSays asked source disks) (one_said asked source disks) a b x y plain plain' is is'
+
+-- What is done with any load does
+
+pub one_task : (Gives : Load → Type 0) → ((a b : Load) → Gives a → Gives b → a ≡ b) → (task : Task) (requests : Delivery) (a b : Exit) (x y : List ℕ) → IsPlain a → IsPlain b
+    → TaskDoes task Gives requests x a → TaskDoes task Gives requests y b → (a ≡ b) × (x ≡ y)
+one_task Gives one (Print form) requests a b x y plain plain' is is' = one_printed (LoadSays Gives form) (one_devices Gives one form) a b x y plain plain' is is'
+one_task Gives one Check requests a b x y plain plain' is is' = one_printed (LoadReports Gives) (one_reported Gives one) a b x y plain plain' is is'
+one_task Gives one Replay requests a b x y plain plain' is is' = one_replay Gives one requests a b x y plain plain' is is'

@@ -21,7 +21,7 @@ use Rattle.dm_stack.specs.checks.Soundness.{IsSound}
 use Rattle.dm_stack.proofs.OneFault.{never_both, one_fault as one_refusal}
 use Rattle.lvm_volume.proofs.OneGroup.{never_refused, one_group, one_refusal as one_text_refusal}
 use Rattle.dmremap.specs.Load.{Load, RefusedBy, SoundAs, Describes, DescribesDevices, DescribesGroupAs, device_checks, GivesFault, MetadataGives, MetadataPartGives, TextsGive, TextPartsGive, PartsGive}
-use Rattle.dmremap.specs.Whole.{GiveFrom, Start, Whole}
+use Rattle.dmremap.specs.Whole.{GiveBy, GiveFrom, Loaded, Opening, PartsOpen, Start, Stops, Whole}
 
 -- What two texts describe
 
@@ -119,9 +119,19 @@ one_load Lvm source disks a b is_a is_b = one_of_part (part_read Source source) 
 
 -- What the run gives
 
-pub one_from : (starts : Description → Start) (format : Format) (flag : Bool) (source disks : Delivery) (before : Option Delivery) (requests : Delivery) (a b : Whole) → GiveFrom starts format flag source disks before requests a
-    → GiveFrom starts format flag source disks before requests b → a ≡ b
-one_from starts format flag source disks before requests a b is_a is_b =
-    let same = one_load format source disks is_a.load is_b.load is_a.loaded is_b.loaded in
+-- what opens at most one run gives one at the most
+pub one_by : (Opens : Opening → Type 0) → ((a b : Opening) → Opens a → Opens b → a ≡ b) → (starts : Description → Start) (flag : Bool) (before : Option Delivery) (requests : Delivery) (a b : Whole) → GiveBy Opens starts flag before requests a
+    → GiveBy Opens starts flag before requests b → a ≡ b
+one_by Opens one starts flag before requests a b is_a is_b =
+    let same = one is_a.opening is_b.opening is_a.opens is_b.opens in
     let some : Some a ≡ Some b = cc in
     cc
+
+one_opening : (format : Format) (source disks : Delivery) (a b : Opening) → PartsOpen format source disks a → PartsOpen format source disks b → a ≡ b
+one_opening format source disks (Loaded a) (Loaded b) is_a is_b = ap Loaded (one_load format source disks a b is_a is_b)
+one_opening format source disks (Stops message) b is_a is_b = absurd is_a
+one_opening format source disks (Loaded a) (Stops message) is_a is_b = absurd is_b
+
+pub one_from : (starts : Description → Start) (format : Format) (flag : Bool) (source disks : Delivery) (before : Option Delivery) (requests : Delivery) (a b : Whole) → GiveFrom starts format flag source disks before requests a
+    → GiveFrom starts format flag source disks before requests b → a ≡ b
+one_from starts format flag source disks = one_by (PartsOpen format source disks) (one_opening format source disks) starts flag

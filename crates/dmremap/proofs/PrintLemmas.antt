@@ -11,8 +11,8 @@ use Rattle.dmremap.specs.declared.job.Format.{Format}
 use Rattle.dmremap.specs.declared.job.TableForm.{TableForm}
 use Rattle.dmremap.specs.Done.{HasDone}
 use Rattle.dmremap.specs.Exit.{exit_after}
-use Rattle.dmremap.specs.Load.{PartsGive, SoundAs}
-use Rattle.dmremap.specs.Printing.{CheckSays, FilesSay, IsPrinted, IsTextPrinted, Prints, ReportSays, Said, line, name_said, written_as}
+use Rattle.dmremap.specs.Load.{Load, PartsGive, SoundAs}
+use Rattle.dmremap.specs.Printing.{CheckSays, FilesSay, IsPrinted, IsTextPrinted, LoadReports, LoadSays, Prints, ReportSays, Said, line, name_said, written_as}
 use Rattle.dmremap.specs.Streams.{AskedBy}
 use Rattle.dmremap.proofs.ExitLemmas.{read_on_none}
 
@@ -38,25 +38,33 @@ asked_none Says text (exits.Refused refusal) past is = record { read_on = read_o
 asked_none Says text exit past is = absurd is
 
 -- the devices of a load
+pub load_printed : (Gives : Load → Type 0) (form : TableForm) (description : Description) (output : List ℕ) (exit : Exit) → Gives (SoundAs description)
+    → IsTextPrinted (written_as form description.devices) output exit → IsPrinted (LoadSays Gives form) output exit
+load_printed Gives form description output exit gives printed =
+    says_printed (LoadSays Gives form) (written_as form description.devices) output exit (record { load = SoundAs description; loaded = gives; is = refl }) printed
+
 pub stack_printed : (form : TableForm) (format other : Format) (source disks : Delivery) (description : Description) (output : List ℕ) (exit : Exit) → other ≡ format → PartsGive other source disks (SoundAs description)
     → IsTextPrinted (written_as form description.devices) output exit → IsPrinted (FilesSay form format source disks) output exit
 stack_printed form format other source disks description output exit same gives printed =
-    let loaded = rw same at gives in
-    says_printed (FilesSay form format source disks) (written_as form description.devices) output exit (record { load = SoundAs description; loaded = loaded; is = refl }) printed
+    load_printed (PartsGive format source disks) form description output exit (rw same at gives) printed
 
 -- what is said by one rule is said by another that it gives
-printed_more : (Says More : Said → Type 0) → ((said : Said) → Says said → More said) → (output : List ℕ) (exit : Exit) → IsPrinted Says output exit → IsPrinted More output exit
+pub printed_more : (Says More : Said → Type 0) → ((said : Said) → Says said → More said) → (output : List ℕ) (exit : Exit) → IsPrinted Says output exit → IsPrinted More output exit
 printed_more Says More more output (exits.Ended endings.Done) is = more (Prints output) is
 printed_more Says More more output (exits.Ended endings.WriteFault) is = (is.0, more (Prints is.0) is.1, is.2)
 printed_more Says More more output (exits.Refused refusal) is = (is.0, λ six. more _ (is.1 six))
 printed_more Says More more output exit is = absurd is
 
 -- the report of a load
+pub load_reported : (Gives : Load → Type 0) (description : Description) (output : List ℕ) (exit : Exit) → Gives (SoundAs description)
+    → IsPrinted (ReportSays (SoundAs description)) output exit → IsPrinted (LoadReports Gives) output exit
+load_reported Gives description output exit gives is =
+    printed_more (ReportSays (SoundAs description)) (LoadReports Gives) (λ said says. record { load = SoundAs description; loaded = gives; says = says }) output exit is
+
 pub check_printed : (format other : Format) (source disks : Delivery) (description : Description) (output : List ℕ) (exit : Exit) → other ≡ format → PartsGive other source disks (SoundAs description)
     → IsPrinted (ReportSays (SoundAs description)) output exit → IsPrinted (CheckSays format source disks) output exit
 check_printed format other source disks description output exit same gives is =
-    let loaded = rw same at gives in
-    printed_more (ReportSays (SoundAs description)) (CheckSays format source disks) (λ said says. record { load = SoundAs description; loaded = loaded; says = says }) output exit is
+    load_reported (PartsGive format source disks) description output exit (rw same at gives) is
 
 -- a name that is built
 pub name_done : (parts : NameParts) (name : List ℕ) {old new : OutputPast} (exit : Exit) → Ok name ≡ built parts → HasDone (IsTextPrinted (line name)) old new exit

@@ -9,6 +9,7 @@ use Rattle.dmremap.specs.declared.job.Job.TheVariants as job
 use Rattle.dmremap.specs.declared.job.Source.{Source}
 use Rattle.dmremap.specs.declared.job.Source.TheVariants as source
 use Rattle.dmremap.specs.declared.job.TableForm.{TableForm}
+use Rattle.dmremap.specs.declared.job.Task.{Task}
 
 -- a source with its texts themselves
 pub data SourceWords : Type 0 where
@@ -18,6 +19,8 @@ pub data SourceWords : Type 0 where
 -- a job with its texts themselves
 pub data JobWords : Type 0 where
   map_words : SourceWords → (paths earlier : Option Text) → (status : Bool) → JobWords
+  map_images_words : (paths : Text) → (earlier : Option Text) → (status : Bool) → JobWords
+  of_images_words : (paths : Text) → Task → JobWords
   print_words : TableForm → SourceWords → JobWords
   check_words : SourceWords → JobWords
   replay_words : SourceWords → JobWords
@@ -34,6 +37,8 @@ source_words (source.Tables form file disks) = table_words form file.now disks.n
 abbrev pub job_words : Job → JobWords
 job_words (job.Map from paths earlier status) =
     map_words (source_words from) (option_map (λ path. path.now) paths) (option_map (λ path. path.now) earlier) status
+job_words (job.MapImages paths earlier status) = map_images_words paths.now (option_map (λ path. path.now) earlier) status
+job_words (job.OfImages paths task) = of_images_words paths.now task
 job_words (job.Print form from) = print_words form (source_words from)
 job_words (job.Check from) = check_words (source_words from)
 job_words (job.Replay from) = replay_words (source_words from)
@@ -44,6 +49,8 @@ job_words (job.Explain text) = explain_words text.now
 -- the source that a job loads, if it loads any
 abbrev pub source_of : JobWords → Option SourceWords
 source_of (map_words from paths earlier status) = Some from
+source_of (map_images_words paths earlier status) = None
+source_of (of_images_words paths task) = None
 source_of (print_words form from) = Some from
 source_of (check_words from) = Some from
 source_of (replay_words from) = Some from

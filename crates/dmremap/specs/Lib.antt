@@ -1,6 +1,8 @@
 pub mod Done
 pub mod Exit
 pub mod Explanation
+pub mod ImagesLoad
+pub mod ImagesWhole
 pub mod Inputs
 pub mod Job
 pub mod Limits

@@ -18,7 +18,7 @@ use Rattle.dmremap.specs.declared.job.TableForm.{TableForm}
 use Rattle.dmremap.specs.declared.job.TableForm.TheVariants.{Concise, Table}
 use Rattle.dmremap.specs.declared.status.TheConstants.{STATUS_MEMORY}
 use Rattle.dmremap.specs.Exit.{refusal_status}
-use Rattle.dmremap.specs.Job.{JobWords, format_of, map_words, print_words, check_words, replay_words, name_words, split_words, explain_words}
+use Rattle.dmremap.specs.Job.{JobWords, format_of, map_images_words, map_words, of_images_words, print_words, check_words, replay_words, name_words, split_words, explain_words}
 use Rattle.dmremap.specs.Load.{Load, PartsGive, RefusedBy, SoundAs}
 
 -- ---- what there is to print
@@ -42,22 +42,30 @@ abbrev pub devices_said : TableForm → Load → Said
 devices_said form (RefusedBy fault) = Refuses (refusals.Load fault)
 devices_said form (SoundAs description) = Prints (written_as form description.devices)
 
--- the files say this
-pub record FilesSay (form : TableForm) (format : Format) (source disks : Delivery) (said : Said) : Type 0 where
+-- what is loaded says this
+pub record LoadSays (Gives : Load → Type 0) (form : TableForm) (said : Said) : Type 0 where
   pub load : Load
-  pub loaded : PartsGive format source disks load
+  pub loaded : Gives load
   pub is : devices_said form load ≡ said
+
+-- the files say this
+abbrev pub FilesSay : (form : TableForm) (format : Format) (source disks : Delivery) (said : Said) → Type 0
+FilesSay form format source disks said = LoadSays (PartsGive format source disks) form said
 
 -- the report of a load, or why it is refused
 abbrev pub ReportSays : Load → Said → Type 0
 ReportSays (RefusedBy fault) said = Refuses (refusals.Load fault) ≡ said
 ReportSays (SoundAs description) said = (text : List ℕ) × IsReport description text × (Prints text ≡ said)
 
--- the files have this report
-pub record CheckSays (format : Format) (source disks : Delivery) (said : Said) : Type 0 where
+-- what is loaded has this report
+pub record LoadReports (Gives : Load → Type 0) (said : Said) : Type 0 where
   pub load : Load
-  pub loaded : PartsGive format source disks load
+  pub loaded : Gives load
   pub says : ReportSays load said
+
+-- the files have this report
+abbrev pub CheckSays : (format : Format) (source disks : Delivery) (said : Said) → Type 0
+CheckSays format source disks said = LoadReports (PartsGive format source disks) said
 
 -- a name, or why it is not built
 abbrev pub name_said : Result (List ℕ) NameFault → Said
@@ -69,9 +77,11 @@ abbrev pub SplitSays : List ℕ → Said → Type 0
 SplitSays name (Prints text) = (parts : List ℕ) × IsSpaced name parts × (line parts ≡ text)
 SplitSays name (Refuses refusal) = ((p : NameParts) → Builds p name → ⊥) × (refusals.Split ≡ refusal)
 
--- a job says this, by what its files delivered; `map` and `replay`, which read requests, are none of these jobs
+-- a job says this, by what its files delivered; `map`, `replay` and what is done with images are none of these jobs
 abbrev pub JobSays : JobWords → (source disks : Delivery) → Said → Type 0
 JobSays (map_words from paths earlier status) source disks said = ⊥
+JobSays (map_images_words paths earlier status) source disks said = ⊥
+JobSays (of_images_words paths task) source disks said = ⊥
 JobSays (replay_words from) source disks said = ⊥
 JobSays (print_words form from) source disks said = FilesSay form (format_of from) source disks said
 JobSays (check_words from) source disks said = CheckSays (format_of from) source disks said

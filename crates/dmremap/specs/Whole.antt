@@ -78,11 +78,30 @@ abbrev pub whole_from : (starts : Description → Start) → Load → (flag : Bo
 whole_from starts (RefusedBy fault) flag before requests = Some (whole_at [] (Refused (refusals.Load fault)))
 whole_from starts (SoundAs description) flag before requests = whole_over (starts description) description flag before requests
 
--- the format, the flag and the deliveries of the source, of the disk list, of earlier requests and of the requests give this run
-pub record GiveFrom (starts : Description → Start) (format : Format) (flag : Bool) (source disks : Delivery) (before : Option Delivery) (requests : Delivery) (whole : Whole) : Type 0 where
-  pub load : Load
-  pub loaded : PartsGive format source disks load
-  pub is : whole_from starts load flag before requests ≡ Some whole
+-- what a run begins with: a load; or it stops before that, by a message
+pub data Opening : Type 0 where
+  Loaded : Load → Opening
+  Stops : (message : List ℕ) → Opening
+
+-- a run that begins with it: one that stops writes nothing
+abbrev pub whole_of : (starts : Description → Start) → Opening → (flag : Bool) → (before : Option Delivery) → Delivery → Option Whole
+whole_of starts (Loaded load) flag before requests = whole_from starts load flag before requests
+whole_of starts (Stops message) flag before requests = Some (record { output = []; message = message; status = STATUS_REFUSED })
+
+-- what the source and the disk list give that were delivered is a load
+abbrev pub PartsOpen : Format → (source disks : Delivery) → Opening → Type 0
+PartsOpen format source disks (Loaded load) = PartsGive format source disks load
+PartsOpen format source disks (Stops message) = ⊥
+
+-- what opens a run, the flag and the deliveries of earlier requests and of the requests give this run
+pub record GiveBy (Opens : Opening → Type 0) (starts : Description → Start) (flag : Bool) (before : Option Delivery) (requests : Delivery) (whole : Whole) : Type 0 where
+  pub opening : Opening
+  pub opens : Opens opening
+  pub is : whole_of starts opening flag before requests ≡ Some whole
+
+-- the same of a format and of the deliveries of the source and of the disk list
+abbrev pub GiveFrom : (starts : Description → Start) (format : Format) (flag : Bool) (source disks : Delivery) (before : Option Delivery) (requests : Delivery) (whole : Whole) → Type 0
+GiveFrom starts format flag source disks before requests whole = GiveBy (PartsOpen format source disks) starts flag before requests whole
 
 -- ---- by what became of the streams
 
@@ -92,11 +111,14 @@ pub record IsRunOver (start : Start) (description : Description) (flag : Bool) (
   pub is : whole_over start description flag before requests ≡ Some (record { output = written_since output_old output_new; message = message; status = status })
   pub told : IsTold message messages_old messages_new
 
--- the deliveries gave this run: it wrote its output, told its message, and exits with this status
-pub record IsRunFrom (starts : Description → Start) (format : Format) (flag : Bool) (source disks : Delivery) (before : Option Delivery) (requests : Delivery) (status : ℕ) (output_old output_new messages_old messages_new : OutputPast) : Type 0 where
+-- what opens it and the deliveries gave this run: it wrote its output, told its message, and exits with this status
+pub record IsRunBy (Opens : Opening → Type 0) (starts : Description → Start) (flag : Bool) (before : Option Delivery) (requests : Delivery) (status : ℕ) (output_old output_new messages_old messages_new : OutputPast) : Type 0 where
   pub message : List ℕ
-  pub gives : GiveFrom starts format flag source disks before requests (record { output = written_since output_old output_new; message = message; status = status })
+  pub gives : GiveBy Opens starts flag before requests (record { output = written_since output_old output_new; message = message; status = status })
   pub told : IsTold message messages_old messages_new
+
+abbrev pub IsRunFrom : (starts : Description → Start) (format : Format) (flag : Bool) (source disks : Delivery) (before : Option Delivery) (requests : Delivery) (status : ℕ) (output_old output_new messages_old messages_new : OutputPast) → Type 0
+IsRunFrom starts format flag source disks = IsRunBy (PartsOpen format source disks) starts flag
 
 -- earlier requests were played over a stack in this state up to how they end, and nothing more was asked of them
 pub record ArePlayedFrom (start : State) (description : Description) (old new : InputPast) : Type 0 where
@@ -118,9 +140,12 @@ ArePlayedOver past (Refuses message) description old new = ⊥
 ArePlayedOver past Unsettled description old new = ⊥
 
 -- they are not asked for unless the load gave a stack, and that a state
+abbrev pub EarlierReadBy : {X : Type 0} → (past : X → InputPast) → (Opens : Opening → Type 0) → (starts : Description → Start) → (old new : Option X) → Type 0
+EarlierReadBy past Opens starts old new =
+    (new ≡ old) ⊎ ((description : Description) × Opens (Loaded (SoundAs description)) × ArePlayedOver past (starts description) description old new)
+
 abbrev pub EarlierReadFrom : {X : Type 0} → (past : X → InputPast) → (starts : Description → Start) → Format → (source disks : Delivery) → (old new : Option X) → Type 0
-EarlierReadFrom past starts format source disks old new =
-    (new ≡ old) ⊎ ((description : Description) × PartsGive format source disks (SoundAs description) × ArePlayedOver past (starts description) description old new)
+EarlierReadFrom past starts format source disks old new = EarlierReadBy past (PartsOpen format source disks) starts old new
 
 -- all earlier requests were played over a stack in this state, and a beginning was written of what the requests give that were delivered. Something was
 -- left to write where no flush was asked for, and nothing where the flush failed.
@@ -135,10 +160,13 @@ FailsOver (Refuses message) description flag before requests old new = ⊥
 FailsOver Unsettled description flag before requests old new = ⊥
 
 -- the output failed
-pub record IsFailedFrom (starts : Description → Start) (format : Format) (flag : Bool) (source disks : Delivery) (before : Option Delivery) (requests : Delivery) (old new : OutputPast) : Type 0 where
+pub record IsFailedBy (Opens : Opening → Type 0) (starts : Description → Start) (flag : Bool) (before : Option Delivery) (requests : Delivery) (old new : OutputPast) : Type 0 where
   pub description : Description
-  pub loaded : PartsGive format source disks (SoundAs description)
+  pub loaded : Opens (Loaded (SoundAs description))
   pub fails : FailsOver (starts description) description flag before requests old new
+
+abbrev pub IsFailedFrom : (starts : Description → Start) (format : Format) (flag : Bool) (source disks : Delivery) (before : Option Delivery) (requests : Delivery) (old new : OutputPast) → Type 0
+IsFailedFrom starts format flag source disks = IsFailedBy (PartsOpen format source disks) starts flag
 
 -- ---- all that is promised of a run that begins so
 
@@ -147,10 +175,14 @@ pub record RunsOver (start : Start) (description : Description) (flag : Bool) (b
   pub whole : status ≢ STATUS_WRITE_FAULT → status ≢ STATUS_MEMORY → IsRunOver start description flag before requests status output_old output_new messages_old messages_new
   pub beginning : status ≡ STATUS_WRITE_FAULT → FailsOver start description flag before requests output_old output_new
 
+-- from what opens it on
+pub record RunsBy (Opens : Opening → Type 0) (starts : Description → Start) (flag : Bool) (before : Option Delivery) (requests : Delivery) (status : ℕ) (output_old output_new messages_old messages_new : OutputPast) : Type 0 where
+  pub whole : status ≢ STATUS_WRITE_FAULT → status ≢ STATUS_MEMORY → IsRunBy Opens starts flag before requests status output_old output_new messages_old messages_new
+  pub beginning : status ≡ STATUS_WRITE_FAULT → IsFailedBy Opens starts flag before requests output_old output_new
+
 -- from the parts of a load on
-pub record RunsFrom (starts : Description → Start) (format : Format) (flag : Bool) (source disks : Delivery) (before : Option Delivery) (requests : Delivery) (status : ℕ) (output_old output_new messages_old messages_new : OutputPast) : Type 0 where
-  pub whole : status ≢ STATUS_WRITE_FAULT → status ≢ STATUS_MEMORY → IsRunFrom starts format flag source disks before requests status output_old output_new messages_old messages_new
-  pub beginning : status ≡ STATUS_WRITE_FAULT → IsFailedFrom starts format flag source disks before requests output_old output_new
+abbrev pub RunsFrom : (starts : Description → Start) (format : Format) (flag : Bool) (source disks : Delivery) (before : Option Delivery) (requests : Delivery) (status : ℕ) (output_old output_new messages_old messages_new : OutputPast) → Type 0
+RunsFrom starts format flag source disks = RunsBy (PartsOpen format source disks) starts flag
 
 -- ---- the same of a run that begins from the start
 

@@ -19,11 +19,13 @@ use Rattle.clap.specs.declared.error.Error.{Error}
 use Rattle.clap.specs.declared.error.kind.ErrorKind.{ErrorKind}
 use Rattle.clap.specs.declared.error.kind.ErrorKind.TheVariants as kind
 use Rattle.dmremap.specs.Explanation.{explanation}
-use Rattle.dmremap.specs.Job.{JobWords, SourceWords, check_words, explain_words, job_words, lvm_words, map_words, name_words, print_words, replay_words, split_words, table_words}
+use Rattle.dmremap.specs.Job.{JobWords, SourceWords, check_words, explain_words, job_words, lvm_words, map_images_words, map_words, name_words, of_images_words, print_words, replay_words, split_words, table_words}
 use Rattle.dmremap.specs.declared.job.Format.{Format}
 use Rattle.dmremap.specs.declared.job.Format.TheVariants.{Lvm, Tables}
 use Rattle.dmremap.specs.declared.job.Job.{Job}
 use Rattle.dmremap.specs.declared.job.TableForm.TheVariants.{Concise, Table}
+use Rattle.dmremap.specs.declared.job.Task.{Task}
+use Rattle.dmremap.specs.declared.job.Task.TheVariants.{Check, Print, Replay}
 use Rattle.dmremap.specs.declared.status.TheConstants.{STATUS_DONE, STATUS_MEMORY, STATUS_WORDS}
 use Rattle.dmremap.specs.declared.words.WordsFault.{WordsFault}
 use Rattle.dmremap.specs.declared.words.WordsFault.TheVariants.{Words, Disks, Memory}
@@ -32,9 +34,9 @@ use Rattle.dmremap.specs.declared.words.WordsFault.TheVariants.{Words, Disks, Me
 
 -- the words that FORMAT may be
 abbrev pub formats : List Text
-formats = codes "lvm" ∷ codes "concise" ∷ codes "table" ∷ []
+formats = codes "lvm" ∷ codes "concise" ∷ codes "table" ∷ codes "images" ∷ []
 
--- the format that a word of these names
+-- the format that a word of these names, other than that of images
 abbrev pub format_named : Text → Format
 format_named word = if bytes_eq word (codes "lvm") then Lvm else (if bytes_eq word (codes "concise") then Tables Concise else Tables Table)
 
@@ -149,16 +151,45 @@ loading_job command rows from =
     else (if bytes_eq command (codes "concise") then print_words Concise from
     else (if bytes_eq command (codes "check") then check_words from else replay_words from)))
 
+-- FORMAT is that of images
+abbrev pub is_of_images : List Row → Bool
+is_of_images rows = bytes_eq (word_of (codes "format") rows) (codes "images")
+
+-- the list of images, which is FILE: they have no list of disks, and no other list of paths
+abbrev pub list_at : Text → (disks paths : Option Text) → Option Text
+list_at file None None = Some file
+list_at file None (Some paths) = None
+list_at file (Some disks) paths = None
+
+-- what a command does with devices that are loaded; `replay` is the last
+abbrev pub task_of : Text → Task
+task_of command =
+    if bytes_eq command (codes "table") then Print Table
+    else (if bytes_eq command (codes "concise") then Print Concise
+    else (if bytes_eq command (codes "check") then Check else Replay))
+
+-- the job of a command of these images
+abbrev pub images_job : Text → List Row → Text → JobWords
+images_job command rows paths =
+    if bytes_eq command (codes "map") then map_images_words paths (first_of (codes "before") rows) (has_flag (codes "status") rows)
+    else of_images_words paths (task_of command)
+
+-- the job of a command that loads something
+abbrev pub format_job : Text → List Row → Option JobWords
+format_job command rows =
+    if is_of_images rows then option_map (images_job command rows) (list_at (word_of (codes "file") rows) (first_of (codes "disks") rows) (first_of (codes "paths") rows))
+    else option_map (loading_job command rows) (source_in rows)
+
 -- the job of `name`
 abbrev pub name_job : List Row → JobWords
 name_job rows = name_words (record { vg = word_of (codes "vg") rows; lv = word_of (codes "lv") rows; layer = first_of (codes "layer") rows })
 
--- the job of a command with these words, unless DISKS is missing or too much
+-- the job of a command with these words, unless DISKS is missing or too much, or another list beside images
 abbrev pub job_in : Text → List Row → Option JobWords
 job_in command rows =
     if bytes_eq command (codes "name") then Some (name_job rows)
     else (if bytes_eq command (codes "splitname") then Some (split_words (word_of (codes "name") rows))
-    else option_map (loading_job command rows) (source_in rows))
+    else format_job command rows)
 
 -- the same of the command that clap met, which takes no words without one
 abbrev pub said_by : Option (Text × List Row) → Option JobWords

@@ -8,21 +8,20 @@ ghost use Rattle.std.specs.Prelude.{◌≡◌, ◌<◌, ◌^◌, IfOk};
 ghost use Rattle.dm_store.specs.Images.{Contents};
 ghost use Rattle.dm_store.specs.ReadLog.{AgreesWith};
 
-use dm_stack::DiskId;
 use dm_store::{Images, ReadFault, ReadLog};
 use std::alloc::{AllocError, Global};
 use std::fs;
 use std::fs::File;
 use std::os::unix::fs::{FileExt, FileTypeExt};
 
-/// The most disks of a stack, and so the most images.
-const MOST_IMAGES: usize = 1024;
+/// The most disks of a stack, and so the most lines of a list, which count from 1.
+const MOST_LINES: usize = 1024;
 
 /// The images of disks, and all that was read of them.
 #[derive(Drop)]
 pub(crate) struct FileImages<'r> {
     files: &'r HostRuntime,
-    /// The image of each disk, by its id, once it is open.
+    /// The image of each line, once it is open; no line is 0.
     open: Vec<Option<File>>,
     log: ReadLog,
 }
@@ -33,7 +32,7 @@ impl<'r> FileImages<'r> {
         ensures { IfOk result (λ images. (held : Contents) → ⟦<FileImages<'r> as Images>⟧.IsSeen images held) }
     {
         let mut open = Vec::new(alloc);
-        for _ in 0..MOST_IMAGES {
+        for _ in 0..MOST_LINES + 1 {
             open.push(None)?;
         }
         Ok(FileImages {
@@ -43,17 +42,17 @@ impl<'r> FileImages<'r> {
         })
     }
 
-    /// Reads the bytes of the image of a disk from a byte of it on.
+    /// Reads the bytes of the image of a line from a byte of it on.
     fn read_at(
         &mut self,
-        disk: DiskId,
+        line: u64,
         path: &str,
         byte: u64,
         into: &mut [u8],
     ) -> Result<(), ReadFault>
         ensures { self.new.log ≡ self.old.log }
     {
-        let Some(image) = self.open.get_mut(disk.index()) else {
+        let Some(image) = self.open.get_mut(line as usize) else {
             return Err(ReadFault);
         };
         if image.is_none() {
@@ -74,12 +73,12 @@ impl<'r> Images for FileImages<'r> {
 
     fn read(
         &mut self,
-        disk: DiskId,
+        line: u64,
         path: &str,
         sector: u64,
         into: &mut [u8],
     ) -> Result<(), ReadFault> {
-        let answer = self.read_at(disk, path, 512 * sector, into);
+        let answer = self.read_at(line, path, 512 * sector, into);
         self.log.note(path, sector, answer, into);
         answer
     }

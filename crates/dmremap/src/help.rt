@@ -1,4 +1,4 @@
-//! The texts of the help, and the version.
+//! The texts of the help, and the version. No line has more than 80 columns.
 
 /// The version of the program.
 pub(crate) const VERSION: &str = "0.1.0";
@@ -7,13 +7,13 @@ pub(crate) const ABOUT: &str =
     "Maps block requests through device-mapper tables to the disks below";
 
 pub(crate) const NOTES: &str = "\
-`dmremap help COMMAND` has the words of a command, an example and its exit statuses.
-`dmremap help WORD` says what a word of a message means, and what to do: `dmremap help field`, or
-with all that was told, `dmremap help 'dmremap: source: field at 20'`. `dmremap help map` lists them.
+`dmremap help COMMAND` lists the arguments of a command, an example and its exit
+statuses. `dmremap help WORD` explains a word of a message, and what to do then.
+`dmremap help map` lists these words.
 
 Exit status
   0  done, or help or the version was asked for
-  1  FILE, DISKS, PATHS, a store, a name or the requests of --before were refused
+  1  FILE, DISKS, PATHS, a store, a name or earlier requests were refused
   2  the words were refused
   3  a request was bad
   4  the requests could not be read
@@ -22,16 +22,40 @@ Exit status
 
 Manual: man dmremap";
 
-pub(crate) const MAP_ABOUT: &str = "Maps the requests of the standard input to pieces on the disks";
+/// The help of `help`.
+pub(crate) const HELP: &str = "\
+Explains the program, a command, or a word of a message
+
+Usage: dmremap help [COMMAND|WORD]
+
+With a command, prints what `dmremap COMMAND --help` prints. With a word of a
+message, prints what it means in each message that has it, and what to do. With
+a whole message, or a message without its beginning or its number, prints only
+the entry of that message.
+
+Exit status
+  0  the help was printed
+  2  there is no such command or word
+  5  the output could not be written
+
+Example
+  dmremap help 'source: field'
+";
+
+pub(crate) const MAP_ABOUT: &str = "Maps requests to pieces on the disks";
 
 pub(crate) const MAP_NOTES: &str = "\
-Requests come from the standard input. Pieces go to the standard output, messages to the standard
-error. START, LEN, CHUNK and OFFSET are whole sectors of 512 bytes.
+Requests come from the standard input. Pieces go to the standard output, and
+messages to the standard error.
+START, LEN, CHUNK and OFFSET are in whole sectors of 512 bytes.
 
 FORMAT is one of
-  lvm      the metadata of a volume group, as vgcfgbackup(8) writes it; DISKS is left out
-  concise  devices `NAME,UUID,MINOR,FLAGS,START LEN TYPE ARGS,..` with `;` between them, as
-           `dmsetup table --concise` prints them
+  lvm      the metadata of a volume group, as vgcfgbackup(8) writes it; DISKS is
+           left out
+  concise  devices `NAME,UUID,MINOR,FLAGS,START LEN TYPE ARGS,..`, with `;` in
+           between, as `dmsetup table --concise` prints them
+  images   images of a volume group's disks; FILE is a list like that of
+           --paths, and DISKS and --paths are left out
   table    lines `NAME: START LEN TYPE ARGS`, as dmsetup(8) prints them
 
 Lines
@@ -44,43 +68,46 @@ Lines
   DISKS     DISK LEN
   requests  R NAME START LEN      a read
             W NAME START LEN      a write
-  pieces    N R DISK START LEN    of the request in line N, which is a read
-            N W DISK START LEN    the same of a write
+  pieces    N R DISK START LEN    sectors that the request in line N reads
+            N W DISK START LEN    sectors that it writes
             N zero LEN            sectors that read as zeros
             N drop LEN            sectors whose writes are thrown away
             N error LEN           sectors that fail
             N copy DISK START LEN DISK2 START2
-                                  sectors of an origin that go to a store first
-            N fill LEN DISK START zeros of an origin that go to a store first
+                                  sectors of an origin, copied to a store first
+            N fill LEN DISK START zeros of an origin, written to a store first
   --status  NAME: 0 LEN snapshot ALLOCATED/TOTAL METADATA
-                                  what is used of a store, at the end of the requests
+                                  used sectors of a store, after the requests
             NAME: 0 LEN snapshot Invalid
-  --before  requests in the same form, which are played first: those of the standard input
-            start from the state that they leave
-  --paths   DISK PATH             the file or block device that has this disk
+  --before  lines like those of requests, which are played first; the standard
+            input starts from the state that they leave
+  --paths   DISK PATH             the file or block device that holds this disk
             DISK PATH?offset=BYTES
-                                  the same of a disk that begins later in it
-            The stores of snapshots of the kinds P and K are read there first, and the run starts
-            from what they hold. Without this, all snapshots are taken as fresh.
-DEV, ORIGIN and STORE are a disk, or /dev/mapper/NAME for a device of FILE. KIND is P, N or K.
-A request has 1 to 1048576 sectors.
+                                  the same, if the disk begins later in it
+            The run starts from what the stores of snapshots of the kinds P
+            and K hold there. Without --paths, every snapshot counts as fresh.
+DEV, ORIGIN and STORE are each a disk, or /dev/mapper/NAME for a device of FILE.
+KIND is P, N or K. A request has 1 to 1048576 sectors.
 
-Messages, of which `dmremap help WORD` says what each WORD means, and what to do
+Messages, of which `dmremap help WORD` explains each WORD
   dmremap: source: WORD at NUMBER, dmremap: disks: WORD at NUMBER
-      read, long, text, syntax, field, name, twice, empty, gap, overlap, unknown, cycle, deep,
-      stripe, range, snapshot, store, extents, limit
+      read, long, text, syntax, field, name, twice, empty, gap, overlap,
+      unknown, cycle, deep, stripe, range, snapshot, store, extents, limit
   dmremap: request N: WORD, dmremap: before: WORD at N
       form, number, length, unknown, long, unended, many
   dmremap: paths: WORD at LINE
       text, syntax, field, name, twice, unknown
+  dmremap: disk NAME: WORD
+      read, label, header, long, text, ends, differ, twice, foreign
   dmremap: store NAME: WORD
       missing, read, magic, version, chunk, order, range, again
-  dmremap: requests: read, dmremap: paths: read, dmremap: paths: long, dmremap: before: read,
-  dmremap: words: disks, dmremap: output: write, dmremap: memory
+  dmremap: requests: read, dmremap: paths: read, dmremap: paths: long,
+  dmremap: before: read, dmremap: words: disks, dmremap: output: write,
+  dmremap: memory
 
 Exit status
   0  all requests were answered
-  1  FILE, DISKS, PATHS, a store or the requests of --before were refused
+  1  FILE, DISKS, PATHS, a disk, a store or earlier requests were refused
   2  the words were refused
   3  a request was bad
   4  the requests could not be read
@@ -91,10 +118,11 @@ Example
   dmremap map table stack.table disks.txt --status < requests.txt";
 
 pub(crate) const TABLE_ABOUT: &str =
-    "Checks the tables of FILE, and prints them as lines `NAME: START LEN TYPE ARGS`";
+    "Checks FILE, and prints it as lines `NAME: START LEN TYPE ARGS`";
 
 pub(crate) const TABLE_NOTES: &str = "\
-FILE and DISKS are those of `dmremap map`. Whether a device is read-only is not printed.
+FILE and DISKS are those of `dmremap map`. The output doesn't show which devices
+are read-only.
 
 Exit status
   0  the tables were printed
@@ -107,11 +135,11 @@ Example
   dmremap table lvm vg0.backup";
 
 pub(crate) const CONCISE_ABOUT: &str =
-    "Checks the tables of FILE, and prints them in the concise form of dmsetup(8)";
+    "Checks FILE, and prints it in the concise form of dmsetup(8)";
 
 pub(crate) const CONCISE_NOTES: &str = "\
-FILE and DISKS are those of `dmremap map`. All devices are printed in one line, each as
-`NAME,,,rw,START LEN TYPE ARGS`, or with `ro` if it is read-only.
+FILE and DISKS are those of `dmremap map`. All devices are printed in one line,
+each as `NAME,,,rw,START LEN TYPE ARGS`, or with `ro` if it is read-only.
 
 Exit status
   0  the tables were printed
@@ -124,12 +152,13 @@ Example
   dmremap concise lvm vg0.backup";
 
 pub(crate) const CHECK_ABOUT: &str =
-    "Checks the tables of FILE, and whether two lines claim the same sectors";
+    "Checks FILE, and whether two of its lines use the same sectors";
 
 pub(crate) const CHECK_NOTES: &str = "\
-FILE and DISKS are those of `dmremap map`. Four lines are printed: `devices N`, `disks N`, `depth N`
-and `tidy`, or `clash LOWER SECTOR FIRST SECOND` in place of `tidy`: the devices FIRST and SECOND both
-use that sector of the disk or device LOWER, and not both only to read it.
+FILE and DISKS are those of `dmremap map`. Four lines are printed: `devices N`,
+`disks N`, `depth N`, and `tidy` or `clash LOWER SECTOR FIRST SECOND`. A clash
+means that the devices FIRST and SECOND both use this sector of the disk or
+device LOWER, and that at least one of them writes it.
 
 Exit status
   0  the check was printed, also one with a clash
@@ -141,15 +170,14 @@ Exit status
 Example
   dmremap check table stack.table disks.txt";
 
-pub(crate) const REPLAY_ABOUT: &str =
-    "Plays the requests of the standard input on the disks of FILE";
+pub(crate) const REPLAY_ABOUT: &str = "Plays requests, and prints what each sector reads or stores";
 
 pub(crate) const REPLAY_NOTES: &str = "\
-FILE, DISKS and the requests are those of `dmremap map`; each request is of a device that no line
-uses, and `dmremap check` has to print `tidy`. For each request N is printed what its sectors read
-or hold then:
-  N old DISK START LEN      what was there before, at START of the disk
-  N wrote K START LEN       what the request in line K wrote, from START of its device on
+FILE, DISKS and the requests are those of `dmremap map`. Each request has to be
+for a device that no line uses, and `dmremap check` has to print `tidy`. For
+each request N, lines tell what its sectors read or store:
+  N old DISK START LEN      what was there before, from START of the disk on
+  N wrote K START LEN       what request K wrote, from START of its device on
   N zero LEN                zeros, or writes that are thrown away
   N error LEN               sectors that fail
 
@@ -165,11 +193,12 @@ Exit status
 Example
   dmremap replay table stack.table disks.txt < requests.txt";
 
-pub(crate) const NAME_ABOUT: &str = "Prints the device mapper's name of a logical volume";
+pub(crate) const NAME_ABOUT: &str = "Prints the device-mapper name of a logical volume";
 
 pub(crate) const NAME_NOTES: &str = "\
-The parts are joined by hyphens, each with its own hyphens doubled. A part has letters, digits and
-`+_.-`, and does not begin with a hyphen. The name has at most 127 bytes.
+Hyphens join the parts, and each hyphen within a part is doubled. A part has
+letters, digits and `+_.-`, and doesn't begin with a hyphen.
+The name has at most 127 bytes.
 
 Exit status
   0  the name was printed
@@ -181,11 +210,11 @@ Exit status
 Example
   dmremap name vg0 lv-1";
 
-pub(crate) const SPLIT_ABOUT: &str =
-    "Prints the parts of the device mapper's name of a logical volume";
+pub(crate) const SPLIT_ABOUT: &str = "Prints the parts of such a name";
 
 pub(crate) const SPLIT_NOTES: &str = "\
-The group, the volume and, if there is one, the layer are printed with single spaces between them.
+The group, the volume and, if there is one, the layer are printed with single
+spaces between them.
 
 Exit status
   0  the parts were printed
@@ -199,19 +228,15 @@ Example
 
 pub(crate) const FORMAT_HELP: &str = "The format of FILE";
 
-pub(crate) const FILE_HELP: &str = "The file of the devices and their tables, or of the metadata";
+pub(crate) const FILE_HELP: &str = "The tables, the metadata, or the list of images";
 
-pub(crate) const DISKS_HELP: &str =
-    "The file of the disks and their lengths, for the formats concise and table";
+pub(crate) const DISKS_HELP: &str = "The disks and their lengths; not with lvm";
 
-pub(crate) const STATUS_OPTION_HELP: &str =
-    "After all pieces, print how much of each snapshot's store is used";
+pub(crate) const STATUS_OPTION_HELP: &str = "At the end, print how full each snapshot's store is";
 
-pub(crate) const BEFORE_HELP: &str =
-    "First play the requests of this file, and print nothing of them";
+pub(crate) const BEFORE_HELP: &str = "First play these requests, without answers";
 
-pub(crate) const PATHS_HELP: &str =
-    "Start from what the stores of snapshots hold, on the disks of this list";
+pub(crate) const PATHS_HELP: &str = "Read the stores of snapshots on these disks or images";
 
 pub(crate) const VERSION_HELP: &str = "Print the version";
 

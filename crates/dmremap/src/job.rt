@@ -39,6 +39,17 @@ pub enum Source<'a> {
     },
 }
 
+/// What is done with the devices of a load, other than to map requests through them.
+#[derive(Clone, Copy)]
+pub enum Task {
+    /// Print them in a form.
+    Print(TableForm),
+    /// Check them, and print whether two of their lines claim one sector.
+    Check,
+    /// Replay the requests of the standard input on their disks.
+    Replay,
+}
+
 /// What the words ask for. The texts are those of the words.
 #[derive(Clone, Copy)]
 pub enum Job<'a> {
@@ -50,6 +61,18 @@ pub enum Job<'a> {
         paths: Option<&'a str>,
         earlier: Option<&'a str>,
         status: bool,
+    },
+    /// Map the requests of the standard input through the tables of the group that lies in the images of the list
+    /// `paths`, from the state that its stores hold, and otherwise as `Map` does.
+    MapImages {
+        paths: &'a str,
+        earlier: Option<&'a str>,
+        status: bool,
+    },
+    /// Do something else with the devices of the group that lies in the images of a list.
+    OfImages {
+        paths: &'a str,
+        task: Task,
     },
     /// Print the devices of a source in a form.
     Print {
@@ -113,7 +136,11 @@ impl<'a> Job<'a> {
             | Job::Print { source, .. }
             | Job::Check(source)
             | Job::Replay(source) => Some(source),
-            Job::Name { .. } | Job::SplitName(_) | Job::Explain(_) => None,
+            Job::MapImages { .. }
+            | Job::OfImages { .. }
+            | Job::Name { .. }
+            | Job::SplitName(_)
+            | Job::Explain(_) => None,
         }
     }
 }

@@ -1,7 +1,7 @@
 //! dmremap maps block requests through device-mapper tables to the disks below.
 //!
-//! This file is the table of contents: `words` reads the command line, `map_whole`, `map_stored` and
-//! `other_whole` do the work, and `main` joins them to the real files and streams and does nothing else.
+//! This file is the table of contents: `words` reads the command line, `map_whole`, `map_stored`,
+//! `map_images`, `other_whole` and `images_whole` do the work, and `main` joins them to the real files and streams and does nothing else.
 #![tactic(auto)]
 
 ghost use Rattle.std.specs.Prelude.{◌≡◌, true};
@@ -13,12 +13,17 @@ mod exit;
 mod explanation;
 mod file_images;
 mod help;
+mod images_load;
+mod images_whole;
 mod job;
+mod listed_images;
 mod load;
 mod map_from;
+mod map_images;
 mod map_stored;
 mod map_whole;
 mod messages;
+mod next_step;
 mod other_whole;
 mod part_file;
 mod prepared;
@@ -32,14 +37,18 @@ use dm_stream::Ending;
 use dm_table::{Counted, Gathered};
 use exit::Exit;
 use file_images::FileImages;
-use job::{Job, Source};
+use images_whole::images_whole;
+use job::{Job, Source, Task};
+use listed_images::ListedImages;
+use map_images::map_images;
 use map_stored::map_stored;
 use map_whole::map_whole;
+use next_step::Told;
 use other_whole::other_whole;
 use part_file::{DisksPart, EarlierPart, PartFile, PathsPart, SourcePart};
 use status::STATUS_DONE;
 use std::io;
-use std::io::{Stderr, Stdin, Stdout};
+use std::io::{Stdin, Stdout};
 use std::process::ExitCode;
 use words::{WordsFault, not_text, read_words};
 
@@ -53,42 +62,61 @@ type Requests = Counted<Stdin>;
 type Answers = Gathered<Counted<Stdout>>;
 
 /// Where messages go.
-type Messages = Counted<Stderr>;
+type Messages<'m> = Counted<&'m mut Told>;
 
 /// Runs the command that the words ask for, and exits with its status.
 fn main(rt: HostRuntime) -> ExitCode {
-    let status = match begin(&rt) {
+    let mut told = Told::new(rt.stderr());
+    let status = match begin(&rt, &mut told) {
         Ok(status) => status,
-        Err(fault) => refuse(&rt, &fault),
+        Err(fault) => refuse(&rt, &mut told, &fault),
     };
     ExitCode::from(status)
 }
 
 /// Does what the words ask for, where the stack has room for it, and returns the exit status.
-fn begin(rt: &HostRuntime) -> Result<u8, WordsFault> {
+fn begin(rt: &HostRuntime, told: &mut Told) -> Result<u8, WordsFault> {
     if !has_stack_room(rt) {
         return Err(WordsFault::Memory);
     }
-    answer(rt)
+    answer(rt, told)
 }
 
-/// Does what the words ask for, and returns the exit status. Its room on the stack is taken when it is
-/// called, and no sooner.
+/// Does what the words ask for, and returns the exit status; then names what explains a refusal. Its room on the stack is
+/// taken when it is called, and no sooner.
 #[inline(never)]
-fn answer(rt: &HostRuntime) -> Result<u8, WordsFault> {
+fn answer(rt: &HostRuntime, told: &mut Told) -> Result<u8, WordsFault> {
     let arguments = arguments_of(rt)?;
     let words: Vec<&str> = arguments
         .iter()
         .map(|argument| argument.as_str())
         .collect(rt.alloc())?;
-    match read_words(rt.alloc(), words.as_slice())? {
+    let status = match do_words(rt, told, words.as_slice()) {
+        Ok(status) => status,
+        Err(fault) => refuse(rt, told, &fault),
+    };
+    if status != STATUS_DONE {
+        told.name_next_step(rt, words.as_slice());
+    }
+    Ok(status)
+}
+
+/// Does what the words ask for, and returns the exit status.
+fn do_words(rt: &HostRuntime, told: &mut Told, words: &[&str]) -> Result<u8, WordsFault> {
+    match read_words(rt.alloc(), words)? {
         Job::Map {
             source,
             paths,
             earlier,
             status,
-        } => map_files(rt, source, paths, earlier, status),
-        job => Ok(do_other(rt, &job)),
+        } => map_files(rt, told, source, paths, earlier, status),
+        Job::MapImages {
+            paths,
+            earlier,
+            status,
+        } => map_images_of(rt, told, paths, earlier, status),
+        Job::OfImages { paths, task } => do_with_images(rt, told, paths, task),
+        job => Ok(do_other(rt, told, &job)),
     }
 }
 
@@ -105,6 +133,7 @@ fn arguments_of(rt: &HostRuntime) -> Result<Vec<String>, WordsFault> {
 /// images of a list, and after the requests of a file, if there are these.
 fn map_files(
     rt: &HostRuntime,
+    told: &mut Told,
     source: Source<'_>,
     paths: Option<&str>,
     earlier: Option<&str>,
@@ -117,7 +146,7 @@ fn map_files(
             File<'_, DisksPart>,
             Requests,
             Answers,
-            Messages,
+            Messages<'_>,
         >(
             rt.alloc(),
             source.format(),
@@ -126,7 +155,7 @@ fn map_files(
             &mut disks,
             &mut Counted::new(rt.stdin()),
             &mut Gathered::new(Counted::new(rt.stdout())),
-            &mut Counted::new(rt.stderr()),
+            &mut Counted::new(&mut *told),
         ));
     }
     let mut images = FileImages::new(rt.alloc(), rt)?;
@@ -140,7 +169,7 @@ fn map_files(
         File<'_, EarlierPart>,
         Requests,
         Answers,
-        Messages,
+        Messages<'_>,
     >(
         rt.alloc(),
         source.format(),
@@ -152,32 +181,83 @@ fn map_files(
         &mut earlier,
         &mut Counted::new(rt.stdin()),
         &mut Gathered::new(Counted::new(rt.stdout())),
-        &mut Counted::new(rt.stderr()),
+        &mut Counted::new(&mut *told),
+    ))
+}
+
+/// Maps the requests of the standard input through the tables of a group in images, after the requests of a file, if
+/// there are these.
+fn map_images_of(
+    rt: &HostRuntime,
+    told: &mut Told,
+    paths: &str,
+    earlier: Option<&str>,
+    status: bool,
+) -> Result<u8, WordsFault> {
+    let mut disks = ListedImages::new(rt.alloc(), FileImages::new(rt.alloc(), rt)?);
+    let mut paths: File<'_, PathsPart> = file_at(rt, paths);
+    let mut earlier: Option<File<'_, EarlierPart>> = file_if(rt, earlier);
+    Ok(map_images::<
+        File<'_, PathsPart>,
+        FileImages<'_>,
+        File<'_, EarlierPart>,
+        Requests,
+        Answers,
+        Messages<'_>,
+    >(
+        rt.alloc(),
+        status,
+        &mut paths,
+        &mut disks,
+        &mut earlier,
+        &mut Counted::new(rt.stdin()),
+        &mut Gathered::new(Counted::new(rt.stdout())),
+        &mut Counted::new(&mut *told),
+    ))
+}
+
+/// Does something else with a group in images.
+fn do_with_images(
+    rt: &HostRuntime,
+    told: &mut Told,
+    paths: &str,
+    task: Task,
+) -> Result<u8, WordsFault> {
+    let mut disks = ListedImages::new(rt.alloc(), FileImages::new(rt.alloc(), rt)?);
+    let mut paths: File<'_, PathsPart> = file_at(rt, paths);
+    Ok(images_whole::<File<'_, PathsPart>, FileImages<'_>, Requests, Answers, Messages<'_>>(
+        rt.alloc(),
+        task,
+        &mut paths,
+        &mut disks,
+        &mut Counted::new(rt.stdin()),
+        &mut Gathered::new(Counted::new(rt.stdout())),
+        &mut Counted::new(&mut *told),
     ))
 }
 
 /// Does a job of another command.
-fn do_other<'r>(rt: &'r HostRuntime, job: &'r Job<'r>) -> u8
+fn do_other<'r>(rt: &'r HostRuntime, told: &mut Told, job: &'r Job<'r>) -> u8
     requires { is_other (job_words job.now) ≡ true }
 {
     let (mut source, mut disks) = match job.source() {
         Some(source) => (Some(source_at(rt, source)), disks_at(rt, source)),
         None => (None, None),
     };
-    other_whole::<File<'_, SourcePart>, File<'_, DisksPart>, Requests, Answers, Messages>(
+    other_whole::<File<'_, SourcePart>, File<'_, DisksPart>, Requests, Answers, Messages<'_>>(
         rt.alloc(),
         job,
         &mut source,
         &mut disks,
         &mut Counted::new(rt.stdin()),
         &mut Gathered::new(Counted::new(rt.stdout())),
-        &mut Counted::new(rt.stderr()),
+        &mut Counted::new(&mut *told),
     )
 }
 
 /// The file of a source, which is opened once it is read.
 fn source_at<'r>(rt: &'r HostRuntime, source: Source<'r>) -> File<'r, SourcePart> {
-    Counted::new(PartFile::new(rt, source.file()))
+    file_at(rt, source.file())
 }
 
 /// The disk list of a source, where its format has one.
@@ -185,10 +265,15 @@ fn disks_at<'r>(rt: &'r HostRuntime, source: Source<'r>) -> Option<File<'r, Disk
     file_if(rt, source.disks())
 }
 
+/// A file of the command.
+fn file_at<'r, P>(rt: &'r HostRuntime, path: &'r str) -> File<'r, P> {
+    Counted::new(PartFile::new(rt, path))
+}
+
 /// A file of the command, if there is one.
 fn file_if<'r, P>(rt: &'r HostRuntime, path: Option<&'r str>) -> Option<File<'r, P>> {
     match path {
-        Some(path) => Some(Counted::new(PartFile::new(rt, path))),
+        Some(path) => Some(file_at(rt, path)),
         None => None,
     }
 }
@@ -196,8 +281,8 @@ fn file_if<'r, P>(rt: &'r HostRuntime, path: Option<&'r str>) -> Option<File<'r,
 /// Prints why there is no job, and returns its exit status. Out of memory is told as by any command, and help or
 /// the version that could not be printed as an output that could not be written; whether a message could be printed
 /// makes no difference.
-fn refuse(rt: &HostRuntime, fault: &WordsFault) -> u8 {
-    let mut messages: Messages = Counted::new(rt.stderr());
+fn refuse(rt: &HostRuntime, told: &mut Told, fault: &WordsFault) -> u8 {
+    let mut messages: Messages<'_> = Counted::new(told);
     if let WordsFault::Memory = fault {
         return Exit::Memory.tell(&mut messages);
     }

@@ -29,7 +29,7 @@ use dm_table::{Input, Output};
 use std::alloc::Global;
 use std::mem::forget;
 
-/// Does what a job asks for, of any command but `map`: prints the devices of a source in a form, once they
+/// Does what a job asks for, of any command but `map`, and of any format but images: prints the devices of a source in a form, once they
 /// are checked as for `map`; or the report of a check; or the name of a volume, or the parts of one; or what
 /// is said of a word of messages; or replays requests on the disks of a source, and writes for each what its
 /// sectors answer, in maximal runs, a line each. It returns the exit status.
@@ -115,7 +115,7 @@ fn answer<S: Input, D: Input, Q: Exchange<W>, W: Output>(
     ensures disks { IsReadOnIf D.past disks.old disks.new }
 {
     match job {
-        Job::Map { .. } => unreachable!(),
+        Job::Map { .. } | Job::MapImages { .. } | Job::OfImages { .. } => unreachable!(),
         Job::Replay(from) => replay(alloc, from.format(), source, disks, requests, output),
         Job::Print { form, source: from } => {
             match load_if(alloc, from.format(), source, disks) {

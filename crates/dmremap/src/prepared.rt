@@ -3,23 +3,26 @@
 //! All memory of a run is taken here, after the load and before a request is read. The state is that at the start
 //! of the stack or that of its stores, or what earlier requests left of it.
 
-ghost use Rattle.std.specs.Prelude.{◌≡◌, ◌⊎◌, IfErr, IfOk, None};
+ghost use Rattle.std.specs.Prelude.{◌≡◌, ◌⊎◌, IfErr, IfOk, None, Some};
+ghost use Rattle.std.specs.Result.{IsErrAnd};
 ghost use Rattle.dm_map.specs.state.State.{start_state};
 ghost use Rattle.dm_stream.specs.runs.Earlier.{HasPlayed};
 ghost use Rattle.dm_stream.specs.runs.Messages.{HasTold};
 ghost use Rattle.dm_stream.specs.runs.Run.{CanMap};
+ghost use Rattle.dm_store.specs.ImageList.{images_of};
 ghost use Rattle.dm_store.specs.Images.{Contents, disk_contents};
 ghost use Rattle.dm_store.specs.Start.{stored_state};
 ghost use Rattle.dmremap.specs.Inputs.{IsReadOnIf, IsUnasked, delivered_if};
-ghost use Rattle.dmremap.specs.StoredStart.{AreImagesAsked, IsBegunAt, IsOutOfMemory, start_at, stored_start};
+ghost use Rattle.dmremap.specs.StoredStart.{AreImagesAsked, IsBegunAt, IsOutOfMemory, start_at, start_over, stored_start};
 ghost use Rattle.dmremap.specs.StoredStart.{unbegun_message, unbegun_status};
-ghost use Rattle.dmremap.specs.Whole.{ArePlayedIf, ArePlayedOver, earlier_from, fresh_start};
+ghost use Rattle.dmremap.specs.Whole.{ArePlayedIf, ArePlayedOver, Start, earlier_from, fresh_start};
 
 use crate::disk_paths::load_images;
 use crate::exit::{Exit, Refusal, refuse};
+use crate::listed_images::ListedImages;
 use dm_map::{Mapper, TrieTaken};
 use dm_stack::Stack;
-use dm_store::{DiskImages, Images, StoreMessage, read_stores};
+use dm_store::{DiskImages, Images, StoreMessage, listed_images, read_stores};
 use dm_stream::{DiskTexts, EarlierFault, play_earlier};
 use dm_table::{Input, LoadFault, Output, Part};
 use std::alloc::{AllocError, Global};
@@ -95,10 +98,81 @@ pub(crate) fn begin_after<'s, P: Input, I: Images, B: Input>(
         earlier.old earlier.new }
     ensures earlier { IsReadOnIf B.past earlier.old earlier.new }
 {
-    let mut prepared = begin_by(alloc, stack, paths, images)?;
-    match play_if(stack, &mut prepared.mapper, earlier) {
-        Ok(()) => Ok(prepared),
-        Err(fault) => Err(Unbegun::Earlier(fault)),
+    let begun = begin_by(alloc, stack, paths, images);
+    after_earlier(stack, begun, earlier)
+}
+
+/// Begins from what the stores of a stack hold in the images of a list, and plays earlier requests from there on, if
+/// there are any.
+pub(crate) fn begin_listed<'s, I: Images, B: Input>(
+    alloc: Global,
+    stack: &'s Stack,
+    disks: &mut ListedImages<I>,
+    earlier: &mut Option<B>,
+) -> Result<Prepared<'s>, Unbegun>
+    ensures going { IfOk result (λ prepared. CanMap stack.now prepared.mapper) }
+    ensures texts { IfOk result (λ prepared. prepared.texts ≡ stack.now) }
+    ensures begun { (held : Contents) → I.IsSeen disks.new.images held
+        → IsBegunAt stack.now (delivered_if B.past earlier.old earlier.new)
+        (start_over held stack.now (Some (images_of stack.now disks.old.paths.items))) result }
+    ensures memory { IfErr result (λ why. IsOutOfMemory why → IsUnasked B.past earlier.old earlier.new) }
+    ensures images { (held : Contents) → I.IsSeen disks.new.images held → I.IsSeen disks.old.images held }
+    ensures earlier_asked { (held : Contents) → I.IsSeen disks.new.images held → (earlier.new ≡ earlier.old)
+        ⊎ ArePlayedOver B.past (start_over held stack.now (Some (images_of stack.now disks.old.paths.items)))
+        stack.now earlier.old earlier.new }
+    ensures earlier { IsReadOnIf B.past earlier.old earlier.new }
+{
+    let begun = begin_in(alloc, stack, disks);
+    after_earlier(stack, begun, earlier)
+}
+
+/// Plays earlier requests, if there are any, from where a run was begun.
+fn after_earlier<'s, B: Input>(
+    stack: &'s Stack,
+    begun: Result<Prepared<'s>, Unbegun>,
+    earlier: &mut Option<B>,
+) -> Result<Prepared<'s>, Unbegun>
+    requires going { IfOk begun (λ prepared. CanMap stack.now prepared.mapper) }
+    requires texts { IfOk begun (λ prepared. prepared.texts ≡ stack.now) }
+    ensures going { IfOk result (λ prepared. CanMap stack.now prepared.mapper) }
+    ensures texts { IfOk result (λ prepared. prepared.texts ≡ stack.now) }
+    ensures begun { (start : Start) → IsBegunAt stack.now None start begun.entry
+        → IsBegunAt stack.now (delivered_if B.past earlier.old earlier.new) start result }
+    ensures asked { (start : Start) → IsBegunAt stack.now None start begun.entry → (earlier.new ≡ earlier.old)
+        ⊎ ArePlayedOver B.past start stack.now earlier.old earlier.new }
+    ensures memory { IfErr result (λ why. IsOutOfMemory why
+        → IsErrAnd begun.entry IsOutOfMemory × IsUnasked B.past earlier.old earlier.new) }
+    ensures earlier { IsReadOnIf B.past earlier.old earlier.new }
+{
+    match begun {
+        Ok(mut prepared) => match play_if(stack, &mut prepared.mapper, earlier) {
+            Ok(()) => Ok(prepared),
+            Err(fault) => Err(Unbegun::Earlier(fault)),
+        },
+        Err(unbegun) => Err(unbegun),
+    }
+}
+
+/// Begins from what the stores of a stack hold in the images of a list.
+fn begin_in<'s, I: Images>(
+    alloc: Global,
+    stack: &'s Stack,
+    disks: &mut ListedImages<I>,
+) -> Result<Prepared<'s>, Unbegun>
+    ensures going { IfOk result (λ prepared. CanMap stack.now prepared.mapper) }
+    ensures texts { IfOk result (λ prepared. prepared.texts ≡ stack.now) }
+    ensures begun { (held : Contents) → I.IsSeen disks.new.images held → IsBegunAt stack.now None
+        (start_over held stack.now (Some (images_of stack.now disks.old.paths.items))) result }
+    ensures images { (held : Contents) → I.IsSeen disks.new.images held → I.IsSeen disks.old.images held }
+{
+    match listed_images(alloc, stack, &disks.paths) {
+        Ok(places) => {
+            let begun = begin_stored(alloc, stack, &places, &mut disks.images);
+            // As for `begin_by`.
+            forget(places);
+            begun
+        }
+        Err(fault) => Err(Unbegun::Load(fault)),
     }
 }
 

@@ -2,7 +2,7 @@
 //!
 //! The command line is made one word at a time, by functions that hold nothing else where memory runs out.
 //! A new command is a line in `program` and one in `job_in` or, if it loads a source, in `loading_job`. A new
-//! format is a word of `FORMATS` and of `format_named`.
+//! format is a word of `FORMATS` and of `format_named`. Images, which are no text, are asked for in `format_job`.
 
 ghost use Rattle.std.specs.Prelude.{◌≡◌, IfErr, IfOk, List, false, option_map, true};
 ghost use Rattle.clap.specs.Walk.{texts};
@@ -10,7 +10,7 @@ ghost use Rattle.clap.specs.Words.{App, Rule, Text, app_of, first_of, found_of, 
 ghost use Rattle.clap.specs.declared.error.kind.ErrorKind.TheVariants as kind;
 ghost use Rattle.dmremap.specs.Job.{job_words, source_words};
 ghost use Rattle.dmremap.specs.Words.{HasApp, TakesFormats, bare_app, before_rule, command_line, flag_rule, format_named, format_rule, loading_app, map_app, name_app, optional_rule, paths_rule, required_rule, split_app, status_rule, version_rule};
-ghost use Rattle.dmremap.specs.Words.{has_flag, has_lone_hyphen, job_in, loading_job, name_job, said_by, source_at, source_in, word_of};
+ghost use Rattle.dmremap.specs.Words.{format_job, has_flag, has_lone_hyphen, images_job, is_of_images, job_in, list_at, loading_job, name_job, said_by, source_at, source_in, task_of, word_of};
 ghost use Rattle.dmremap.specs.Words.{IsCommandOf, IsFaultOf, IsJobOf, IsOfKind, IsRefusedFor, IsTaken, IsUntaken, explained_by, fault_from, is_unknown, status_of};
 ghost use Rattle.dmremap.specs.declared.words.WordsFault.TheVariants as fault;
 
@@ -19,7 +19,7 @@ mod tests;
 
 use crate::explanation::explanation;
 use crate::help;
-use crate::job::{Format, Job, Source, TableForm};
+use crate::job::{Format, Job, Source, TableForm, Task};
 use crate::messages::WORDS;
 use crate::status::{STATUS_DONE, STATUS_MEMORY, STATUS_WORDS};
 use clap::builder::ValueParser;
@@ -35,7 +35,7 @@ pub enum WordsFault {
     /// clap refuses the words, or was asked for its help or the version; the text is clap's.
     #[error("{0}")]
     Words(clap::Error),
-    /// DISKS is missing though the format asks for it, or is there though it doesn't.
+    /// DISKS is missing though the format asks for it, or is there though it doesn't, as is another list beside images.
     #[error("dmremap: words: disks")]
     Disks,
     /// Memory ran out.
@@ -45,9 +45,10 @@ pub enum WordsFault {
 
 const NOT_TEXT: &str = "invalid UTF-8 was detected in one or more arguments";
 
-const LONE_HYPHEN: &str = "unexpected argument '-' found";
+const LONE_HYPHEN: &str =
+    "unexpected argument '-' found\n\n  tip: /dev/stdin is the standard input";
 
-const FORMATS: &[&str] = &["lvm", "concise", "table"];
+const FORMATS: &[&str] = &["lvm", "concise", "table", "images"];
 
 // ---- what clap found, and the job that this gives
 
@@ -78,7 +79,7 @@ fn has_flag(found: &ArgMatches<'_>, id: &str) -> bool
     }
 }
 
-/// The format that a word of `FORMATS` names.
+/// The format that a word of `FORMATS` names, other than that of images.
 fn format_named(word: &str) -> Format
     ensures { result ≡ format_named word.now }
 {
@@ -134,6 +135,72 @@ fn loading_job<'a>(command: &str, found: &ArgMatches<'a>, source: Source<'a>) ->
     }
 }
 
+/// Whether FORMAT is that of images.
+fn is_of_images(found: &ArgMatches<'_>) -> bool
+    ensures { result ≡ is_of_images (rows_of (found_of found.now)) }
+{
+    word_of(found, "format") == "images"
+}
+
+/// The list of images, unless there is a list of disks too, or another list of paths.
+fn list_at<'a>(file: &'a str, disks: Option<&'a str>, paths: Option<&'a str>) -> Option<&'a str>
+    ensures { option_map (λ list. list.now) result ≡ list_at file.entry.now
+        (option_map (λ d. d.now) disks.entry) (option_map (λ p. p.now) paths.entry) }
+{
+    match (disks, paths) {
+        (None, None) => Some(file),
+        _ => None,
+    }
+}
+
+/// What a command does with devices that are loaded, other than `map`.
+fn task_of(command: &str) -> Task
+    ensures { result ≡ task_of command.now }
+{
+    match command {
+        "table" => Task::Print(TableForm::Table),
+        "concise" => Task::Print(TableForm::Concise),
+        "check" => Task::Check,
+        _ => Task::Replay,
+    }
+}
+
+/// The job of a command of these images.
+fn images_job<'a>(command: &str, found: &ArgMatches<'a>, paths: &'a str) -> Job<'a>
+    ensures { job_words result
+        ≡ images_job command.now (rows_of (found_of found.now)) paths.entry.now }
+{
+    match command {
+        "map" => Job::MapImages {
+            paths,
+            earlier: text_of(found, "before"),
+            status: has_flag(found, "status"),
+        },
+        _ => Job::OfImages {
+            paths,
+            task: task_of(command),
+        },
+    }
+}
+
+/// The job of a command that loads something.
+fn format_job<'a>(command: &str, found: &ArgMatches<'a>) -> Option<Job<'a>>
+    ensures { option_map job_words result ≡ format_job command.now (rows_of (found_of found.now)) }
+{
+    if is_of_images(found) {
+        let file = word_of(found, "file");
+        match list_at(file, text_of(found, "disks"), text_of(found, "paths")) {
+            Some(paths) => Some(images_job(command, found, paths)),
+            None => None,
+        }
+    } else {
+        match source_in(found) {
+            Some(source) => Some(loading_job(command, found, source)),
+            None => None,
+        }
+    }
+}
+
 /// The job of `name`.
 fn name_job<'a>(found: &ArgMatches<'a>) -> Job<'a>
     ensures { job_words result ≡ name_job (rows_of (found_of found.now)) }
@@ -145,17 +212,14 @@ fn name_job<'a>(found: &ArgMatches<'a>) -> Job<'a>
     }
 }
 
-/// The job of a command with these words, unless DISKS is missing or too much.
+/// The job of a command with these words, unless DISKS is missing or too much, or another list beside images.
 fn job_in<'a>(command: &str, found: &ArgMatches<'a>) -> Option<Job<'a>>
     ensures { option_map job_words result ≡ job_in command.now (rows_of (found_of found.now)) }
 {
     match command {
         "name" => Some(name_job(found)),
         "splitname" => Some(Job::SplitName(word_of(found, "name"))),
-        _ => match source_in(found) {
-            Some(source) => Some(loading_job(command, found, source)),
-            None => None,
-        },
+        _ => format_job(command, found),
     }
 }
 

@@ -4,7 +4,8 @@
 //! read so far, and these are exactly the ones that agree with each read. If a disk gives other bytes for a sector
 //! than it gave before, none do.
 
-ghost use Rattle.std.specs.Prelude.{◌≡◌, ◌≤◌, ◌^◌, length};
+ghost use Rattle.std.specs.Prelude.{◌≡◌, ◌≤◌, ◌^◌, List, length};
+ghost use Rattle.dm_table.specs.declared.tables.disk_path.DiskPath.{DiskPath};
 ghost use Rattle.lvm_head.specs.Disks.{Contents, answer};
 
 /// The bytes of a sector.
@@ -16,6 +17,9 @@ pub struct ReadFault;
 
 /// Disks, each named by its number.
 pub trait Disks {
+    /// Where the disks lie, by their numbers, if a list says that. No read changes it.
+    ghost listed: { Self → List DiskPath };
+
     /// Contents of all disks that agree with all that was read so far. All contents do before the first read, and
     /// whoever makes disks promises that.
     ghost IsSeen: { Self → Contents → Type 0 };
@@ -24,6 +28,7 @@ pub trait Disks {
     fn read(&mut self, disk: usize, sector: u64, into: &mut [u8]) -> Result<(), ReadFault>
         requires len { length into.old ≡ SECTOR }
         requires near { sector ≤ 2 ^ 50 }
+        ensures listed { listed self.new ≡ listed self.old }
         ensures still { (held : Contents) → IsSeen self.new held → IsSeen self.old held }
         ensures is { (held : Contents) → IsSeen self.new held
             → held disk sector ≡ answer result into.new }

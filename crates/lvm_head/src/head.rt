@@ -54,6 +54,7 @@ fn read_areas<D: Disks>(
     areas: AreaRange,
 ) -> Result<Vec<u8>, HeadFault>
     requires inside { areas.from + areas.count < most_pairs label.now }
+    ensures listed { D.listed disks.new ≡ D.listed disks.old }
     ensures still { (held : Contents) → D.IsSeen disks.new held → D.IsSeen disks.old held }
     ensures is { (held : Contents) → D.IsSeen disks.new held → Returns (λ text. text.items) result
         (common_text (λ i. area_text (held disk) (area_at label.now (areas.from + i))) areas.count) }
@@ -75,6 +76,7 @@ fn read_areas<D: Disks>(
 
 /// Whether a disk has the last whole sector of so many bytes.
 fn is_whole<D: Disks>(disks: &mut D, disk: usize, bytes: u64) -> bool
+    ensures listed { D.listed disks.new ≡ D.listed disks.old }
     ensures still { (held : Contents) → D.IsSeen disks.new held → D.IsSeen disks.old held }
     ensures is { (held : Contents) → D.IsSeen disks.new held → result ≡ is_whole (held disk) bytes }
 {
@@ -94,6 +96,7 @@ pub(crate) fn read_head<D: Disks>(
     disks: &mut D,
     disk: usize,
 ) -> Result<Head, HeadFault>
+    ensures listed { D.listed disks.new ≡ D.listed disks.old }
     ensures still { (held : Contents) → D.IsSeen disks.new held → D.IsSeen disks.old held }
     ensures is { (held : Contents) → D.IsSeen disks.new held
         → Returns (λ head. head) result (head_of (held disk)) }

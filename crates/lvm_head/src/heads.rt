@@ -69,6 +69,7 @@ pub fn read_heads<D: Disks>(
     disks: &mut D,
     count: usize,
 ) -> Result<Heads, HeadRefusal>
+    ensures listed { D.listed disks.new ≡ D.listed disks.old }
     ensures still { (held : Contents) → D.IsSeen disks.new held → D.IsSeen disks.old held }
     ensures given { (held : Contents) → D.IsSeen disks.new held
         → IfOk result (λ heads. heads_of held count ≡ Ok heads) }

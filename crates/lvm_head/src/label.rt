@@ -39,6 +39,7 @@ impl Model for Label {
 impl Label {
     /// Reads the label of a disk: the first of the first four sectors that is one.
     pub(crate) fn read<D: Disks>(disks: &mut D, disk: usize) -> Result<Label, HeadFault>
+        ensures listed { D.listed disks.new ≡ D.listed disks.old }
         ensures still { (held : Contents) → D.IsSeen disks.new held → D.IsSeen disks.old held }
         ensures is { (held : Contents) → D.IsSeen disks.new held
             → Returns (λ label. label) result (label_of (held disk)) }

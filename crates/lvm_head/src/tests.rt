@@ -1,6 +1,6 @@
 //! Heads in memory, and what is read of them.
 
-ghost use Rattle.std.specs.Prelude.{◌≡◌, ℕ, ◌+◌, ◌*◌, ◌==◌, ◌&&◌, Err, Ok, if◌then◌else◌, length, nat_le, nat_lt, not, slice_range};
+ghost use Rattle.std.specs.Prelude.{◌≡◌, [], ℕ, ◌+◌, ◌*◌, ◌==◌, ◌&&◌, Err, Ok, if◌then◌else◌, length, nat_le, nat_lt, not, slice_range};
 
 use super::*;
 use dm_table::DiskName;
@@ -18,6 +18,8 @@ struct MemoryDisks<'a> {
 }
 
 impl Disks for MemoryDisks<'_> {
+    ghost listed = { λ _. [] };
+
     ghost IsSeen = { λ m held. (disk sector : ℕ) → held disk sector
         ≡ (if nat_lt sector 16 && not (16 * disk + sector == m.bad)
         && nat_le (512 * (16 * disk + sector) + 512) (length m.bytes.now)

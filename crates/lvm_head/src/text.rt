@@ -28,6 +28,7 @@ fn reach<D: Disks>(
 ) -> Result<(), ReadFault>
     requires len { length block.old ≡ SECTOR }
     requires near { sector ≤ 2 ^ 50 }
+    ensures listed { D.listed disks.new ≡ D.listed disks.old }
     ensures still { (held : Contents) → D.IsSeen disks.new held → D.IsSeen disks.old held }
     ensures is { (held : Contents) → D.IsSeen disks.new held
         → IfSome loaded (λ before. held disk before ≡ Ok block.old)
@@ -51,6 +52,7 @@ fn read_ring<D: Disks>(
     requires ring { location.ring ≤ 2 ^ 58 }
     requires within { is_within location ≡ true }
     requires short { location.size ≤ 1048576 }
+    ensures listed { D.listed disks.new ≡ D.listed disks.old }
     ensures still { (held : Contents) → D.IsSeen disks.new held → D.IsSeen disks.old held }
     ensures is { (held : Contents) → D.IsSeen disks.new held
         → Returns (λ bytes. bytes.items) result (ring_bytes (held disk) start location location.size) }
@@ -95,6 +97,7 @@ fn read_text<D: Disks>(
 ) -> Result<Vec<u8>, HeadFault>
     requires start { start ≤ 2 ^ 58 }
     requires ring { location.ring ≤ 2 ^ 58 }
+    ensures listed { D.listed disks.new ≡ D.listed disks.old }
     ensures still { (held : Contents) → D.IsSeen disks.new held → D.IsSeen disks.old held }
     ensures is { (held : Contents) → D.IsSeen disks.new held
         → Returns (λ text. text.items) result (text_at (held disk) start location) }
@@ -126,6 +129,7 @@ pub(crate) fn read_area<D: Disks>(
     disk: usize,
     area: Area,
 ) -> Result<Vec<u8>, HeadFault>
+    ensures listed { D.listed disks.new ≡ D.listed disks.old }
     ensures still { (held : Contents) → D.IsSeen disks.new held → D.IsSeen disks.old held }
     ensures is { (held : Contents) → D.IsSeen disks.new held
         → Returns (λ text. text.items) result (area_text (held disk) area) }

@@ -11,6 +11,7 @@ use Rattle.lvm_text.specs.Spelling.{Element, White, Comment, Lexeme, spelling, t
 use Rattle.lvm_text.specs.Scan.{line_length, word_length, raw_length, sign_of, element_at}
 use Rattle.lvm_text.proofs.Cases.{mapped}
 use Rattle.lvm_text.proofs.Scans.{line_again, line_none, Line, line_found, word_again, word_found, raw_again, Raw, raw_found}
+use Rattle.std.proofs.Math.Seq.{drop-append_seam, take-append_seam}
 
 -- An element is found
 
@@ -65,14 +66,6 @@ element_found (b ∷ bs) =
 
 -- An element is found again
 
-take_front : (c r : List ℕ) → take (length c) (c ++ r) ≡ c
-take_front [] r = refl
-take_front (b ∷ c) r = rw (take_front c r)
-
-drop_front : (c r : List ℕ) → drop (length c) (c ++ r) ≡ r
-drop_front [] r = refl
-drop_front (b ∷ c) r = drop_front c r
-
 drop_past : (c : List ℕ) (x : ℕ) (r : List ℕ) → drop (suc (length c)) (c ++ x ∷ r) ≡ r
 drop_past [] x r = refl
 drop_past (b ∷ c) x r = drop_past c x r
@@ -89,15 +82,15 @@ word_again' [] after h = absurd (h.some refl)
 word_again' (b ∷ w) after h =
     let a = and_parts (is_word_byte b) (list_all is_word_byte w) h.bytes in
     let s = word_sign b a.0 in
-    rw (word_white b a.0, s.0, s.1, a.0, word_again w after a.1 h.longest, take_front w after, drop_front w after)
+    rw (word_white b a.0, s.0, s.1, a.0, word_again w after a.1 h.longest, take-append_seam w after, drop-append_seam w after)
 
 comment_again : (c after : List ℕ) → is_line c ≡ true → element_at (code "#" ∷ (c ++ code "\n" ∷ after)) ≡ Some (Comment c, after)
 unfolding element_at
-comment_again c after h = rw (line_again c after h, take_front c (code "\n" ∷ after), drop_past c (code "\n") after)
+comment_again c after h = rw (line_again c after h, take-append_seam c (code "\n" ∷ after), drop_past c (code "\n") after)
 
 text_again : (t after : List ℕ) → IsToken (Text t) after → element_at (code "\"" ∷ (t ++ code "\"" ∷ after)) ≡ Some (Lexeme (Text t), after)
 unfolding element_at
-text_again t after h = rw (raw_again t after h, take_front t (code "\"" ∷ after), drop_past t (code "\"") after)
+text_again t after h = rw (raw_again t after h, take-append_seam t (code "\"" ∷ after), drop_past t (code "\"") after)
 
 white_again : (b : ℕ) (after : List ℕ) → is_white b ≡ true → element_at (b ∷ after) ≡ Some (White b, after)
 unfolding element_at

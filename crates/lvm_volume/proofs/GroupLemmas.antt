@@ -10,8 +10,8 @@ use Rattle.lvm_volume.specs.checks.Extents.{name_faults, snapshot_faults, unknow
 use Rattle.lvm_volume.specs.fields.Fields.{faults_of_fields}
 use Rattle.lvm_volume.specs.group.Group.{Group, group_of}
 use Rattle.lvm_volume.specs.tables.Tables.{members_of, checks_of_parts, extent_faults, group_checks, unnamed}
-use Rattle.lvm_volume.proofs.fields.Faults.{err_is, first_kept}
 use Rattle.lvm_volume.proofs.checks.FaultKinds.{NoMemory, first_kind, of_walk, of_unknown, of_extents, of_snapshots, of_unnamed}
+use Rattle.dm_table.proofs.FaultLemmas.{first_or-found, first_or-passed, unless-err}
 
 -- what is returned where a fault is found
 abbrev pub Refused : {X : Type 0} → LoadFault → Result X LoadFault → Type 0
@@ -22,10 +22,6 @@ pub refused_by : {X : Type 0} {found : Option LoadFault} {fault : LoadFault} {sa
 refused_by refused (inl is) = refused is
 refused_by refused (inr memory) = (λ kind. memory, λ other. absurd (other (rw memory)))
 
-pub found_later : (faults : List LoadFault) (later : Option LoadFault) → first_or faults None ≡ None → first_or faults later ≡ later
-found_later [] later e = refl
-found_later (f ∷ faults) later e = absurd cc
-
 -- The two checks of fields
 
 -- the first fault of the two checks of fields
@@ -33,7 +29,7 @@ abbrev pub of_both : Tree → Option LoadFault
 of_both top = first_or (faults_of_fields Fields top) (first_or (faults_of_fields (Limits (group_of top).extent_size) top) None)
 
 both_found : (fields limits : List LoadFault) (later : Option LoadFault) (fault : LoadFault) → first_or fields (first_or limits None) ≡ Some fault → first_or fields (first_or limits later) ≡ Some fault
-both_found [] limits later fault e = first_kept limits later fault e
+both_found [] limits later fault e = first_or-found limits later fault e
 both_found (f ∷ fields) limits later fault e = e
 
 both_kind : (fields limits : List LoadFault) (fault : LoadFault) → NoMemory fields → NoMemory limits → first_or fields (first_or limits None) ≡ Some fault → fault.kind ≢ Memory
@@ -60,15 +56,15 @@ of_group group = first_or (name_faults group.physicals) (first_fault (checks_of_
 past_fields : (top : Tree) → of_both top ≡ None → first_fault (group_checks top) ≡ of_group (group_of top)
 past_fields top none =
     let h = both_none (faults_of_fields Fields top) (faults_of_fields (Limits (group_of top).extent_size) top) none in
-    found_later (faults_of_fields Fields top) _ h.0 ∙ found_later (faults_of_fields (Limits (group_of top).extent_size) top) _ h.1
+    first_or-passed (faults_of_fields Fields top) _ h.0 ∙ first_or-passed (faults_of_fields (Limits (group_of top).extent_size) top) _ h.1
 
 past_names : (top : Tree) → of_both top ≡ None → first_or (name_faults (group_of top).physicals) None ≡ None → first_fault (group_checks top) ≡ first_fault (checks_of_parts (group_of top))
-past_names top none names = past_fields top none ∙ found_later (name_faults (group_of top).physicals) _ names
+past_names top none names = past_fields top none ∙ first_or-passed (name_faults (group_of top).physicals) _ names
 
 pub at_names : {X : Type 0} (top : Tree) (x : X) (fault : LoadFault) → of_both top ≡ None → Refused fault (unless (first_or (name_faults (group_of top).physicals) None) x) → Refused fault (unless (first_fault (group_checks top)) (group_of top))
 at_names top x fault none h = (
   h.0,
-  λ other. rw (past_fields top none, first_kept (name_faults (group_of top).physicals) _ fault (err_is _ x fault (h.1 other))),
+  λ other. rw (past_fields top none, first_or-found (name_faults (group_of top).physicals) _ fault (unless-err _ x fault (h.1 other))),
 )
 
 parts_kind : (group : Group) (fault : LoadFault) → first_fault (checks_of_parts group) ≡ Some fault → fault.kind ≢ Memory

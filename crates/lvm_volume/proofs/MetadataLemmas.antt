@@ -11,10 +11,10 @@ use Rattle.dm_table.specs.declared.load.load_fault.LoadFault.{LoadFault}
 use Rattle.dm_table.specs.declared.tables.table.DeviceSpec.{DeviceSpec}
 use Rattle.dm_table.specs.declared.tables.disk.Disk.{Disk}
 use Rattle.dm_table.specs.load.LoadFault.{Answers, first_fault, first_or, unless}
-use Rattle.lvm_volume.proofs.fields.Faults.{err_is}
 use Rattle.lvm_volume.specs.group.Group.{Group, group_of}
 use Rattle.lvm_volume.specs.Metadata.{SaysTree, IsRefusedText, OfText, OfGroup, metadata_checks}
 use Rattle.lvm_volume.specs.tables.Tables.{group_checks, tables_of, text_fault, unnamed}
+use Rattle.dm_table.proofs.FaultLemmas.{unless-err, unless-ok}
 
 -- a check after others of which none finds anything, and after one that does
 pub last_check : (checks : List (List LoadFault)) (last : List LoadFault) → first_fault checks ≡ None → first_fault (checks ++ last ∷ []) ≡ first_or last None
@@ -27,20 +27,15 @@ earlier_check [] last fault is = absurd cc
 earlier_check ([] ∷ checks) last fault is = earlier_check checks last fault is
 earlier_check ((found ∷ faults) ∷ checks) last fault is = is
 
--- a reading that gave a value found no fault, and one that gave a fault found that
-pub no_fault : {X : Type 0} (found : Option LoadFault) (x y : X) → unless found x ≡ Ok y → (found ≡ None) × (x ≡ y)
-no_fault None x y is = (refl, cc)
-no_fault (Some fault) x y is = absurd cc
-
 -- the checks of a group, then the one of names
 pub refused_group : (top : Tree) (fault : LoadFault) → unless (first_fault (group_checks top)) (group_of top) ≡ Err fault → unless (first_fault (metadata_checks top)) (tables_of (group_of top)) ≡ Err fault
 refused_group top fault is =
-    rw (earlier_check (group_checks top) (unnamed (group_of top)) fault (err_is (first_fault (group_checks top)) (group_of top) fault is))
+    rw (earlier_check (group_checks top) (unnamed (group_of top)) fault (unless-err (first_fault (group_checks top)) (group_of top) fault is))
 
 pub named_group : (top : Tree) (group : Group) → unless (first_fault (group_checks top)) (group_of top) ≡ Ok group
     → unless (first_or (unnamed group) None) (tables_of group) ≡ unless (first_fault (metadata_checks top)) (tables_of (group_of top))
 named_group top group is =
-    let p = no_fault (first_fault (group_checks top)) (group_of top) group is in
+    let p = unless-ok (first_fault (group_checks top)) (group_of top) group is in
     ap (λ (g : Group). unless (first_or (unnamed g) None) (tables_of g)) (sym p.1)
     ∙ ap (λ (found : Option LoadFault). unless found (tables_of (group_of top))) (sym (last_check (group_checks top) (unnamed (group_of top)) p.0))
 
@@ -49,7 +44,7 @@ pub refused_tables : {X : Type 0} (source : List ℕ) (tree : Tree) (view : X �
     → Answers Source view result (unless (first_fault (metadata_checks tree)) (tables_of (group_of tree))) → IfErr result (λ fault. fault.kind ≢ Memory → IsRefusedText source fault)
 refused_tables source tree view (Ok x) says answers = tt
 refused_tables source tree view (Err fault) says answers =
-    λ not_memory. OfGroup tree says (err_is (first_fault (metadata_checks tree)) (tables_of (group_of tree)) fault (answers.1 not_memory))
+    λ not_memory. OfGroup tree says (unless-err (first_fault (metadata_checks tree)) (tables_of (group_of tree)) fault (answers.1 not_memory))
 
 pub refused_text : (source : List ℕ) (found : TextFault) → IsUtf8 source → (found ≢ texts.Memory → HasFault source found) → (text_fault found).kind ≢ Memory → IsRefusedText source (text_fault found)
 refused_text source found utf8 has not_memory = OfText utf8 found (has (λ is. not_memory (rw is))) refl

@@ -21,7 +21,8 @@ use Rattle.lvm_volume.specs.group.Owners.{Owners, foreign, id_in, ids_of, owned_
 use Rattle.lvm_volume.specs.Metadata.{SaysTree, bad_byte_line, metadata_checks}
 use Rattle.lvm_volume.specs.OwnedMetadata.{Gives, GivesOneThing, NotUtf8, OfText, OfTree, OwnedAnswers, Tables, of_load, owned_tables, unless_foreign}
 use Rattle.lvm_volume.specs.tables.Tables.{group_checks, tables_of, text_fault, unnamed}
-use Rattle.lvm_volume.proofs.MetadataLemmas.{last_check, no_fault}
+use Rattle.lvm_volume.proofs.MetadataLemmas.{last_check}
+use Rattle.dm_table.proofs.FaultLemmas.{unless-ok}
 
 -- ---- the group of a tree
 
@@ -35,7 +36,7 @@ ids_counted top ids group are is =
     let sections : List Keyed = sections_at (codes "physical_volumes") (first_section (sections_of top.values)).1 in
     ap (λ (xs : List (List ℕ)). length xs) are
     ∙ count_both id_in (physical_of (map device_of sections)) sections
-    ∙ ap (λ (g : Group). length g.physicals) (no_fault (first_fault (group_checks top)) (group_of top) group is).1
+    ∙ ap (λ (g : Group). length g.physicals) (unless-ok (first_fault (group_checks top)) (group_of top) group is).1
 
 pub said_foreign : (owners : Owners) (top : Tree) (ids : List (List ℕ)) (disk : ℕ) → ids ≡ ids_of top → foreign owners.ids ids ≡ Some disk → Err (Foreign disk) ≡ owned_tables owners top
 said_foreign owners top ids disk are is =
@@ -64,7 +65,7 @@ said_refused owners top ids fault are none is =
 pub said_tables : (owners : Owners) (top : Tree) (ids : List (List ℕ)) (group owned : Group) (said : Result Tables LoadFault) → ids ≡ ids_of top → foreign owners.ids ids ≡ None → unless (first_fault (group_checks top)) (group_of top) ≡ Ok group
     → owned ≡ owned_group owners ids group → unless (first_or (unnamed owned) None) (tables_of owned) ≡ said → of_load said ≡ owned_tables owners top
 said_tables owners top ids group owned said are none is same tables =
-    let p = no_fault (first_fault (group_checks top)) (group_of top) group is in
+    let p = unless-ok (first_fault (group_checks top)) (group_of top) group is in
     let e : owned ≡ owned_group owners (ids_of top) (group_of top) = same ∙ ap (λ (xs : List (List ℕ)). owned_group owners xs group) are ∙ ap (owned_group owners (ids_of top)) (sym p.1) in
     said_known owners top ids said are none
     (ap (λ (found : Option LoadFault). unless found (tables_of (owned_group owners (ids_of top) (group_of top)))) (last_check (group_checks top) (unnamed (group_of top)) p.0)

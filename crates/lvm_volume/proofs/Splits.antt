@@ -14,6 +14,7 @@ use Rattle.dm_table.specs.words.Name.{is_device_byte, is_device_name}
 use Rattle.lvm_volume.specs.Cuts.{slice_length, first_slice, after_hyphen, later_slices, with_layer, slices_of}
 use Rattle.lvm_volume.specs.declared.fault.NameFault.{NameFault}
 use Rattle.lvm_volume.specs.declared.fault.NameFault.TheVariants.{Letter, HyphenFirst, Empty, Long, Memory}
+use Rattle.std.proofs.Math.Seq.{drop-append_seam, take-append_seam}
 
 -- Doubled parts
 
@@ -237,20 +238,12 @@ length_doubled (b ∷ w) rest h =
     (λ e. rw (length_doubled w rest h))
     (λ e. rw (← length_doubled w rest h) (plain_length b (doubled w ++ rest) e))
 
-take_front : (xs ys : List ℕ) → take (length xs) (xs ++ ys) ≡ xs
-take_front [] ys = refl
-take_front (x ∷ xs) ys = rw (take_front xs ys)
-
-drop_front : (xs ys : List ℕ) → drop (length xs) (xs ++ ys) ≡ ys
-drop_front [] ys = refl
-drop_front (x ∷ xs) ys = drop_front xs ys
-
 -- of a doubled part with an end after it
 cut_first : (w rest : List ℕ) → IsEnd rest → first_slice (doubled w ++ rest) ≡ doubled w
-cut_first w rest h = rw (length_doubled w rest h) (take_front (doubled w) rest)
+cut_first w rest h = rw (length_doubled w rest h) (take-append_seam (doubled w) rest)
 
 cut_later : (w rest : List ℕ) → IsEnd rest → later_slices (doubled w ++ rest) ≡ after_hyphen rest
-cut_later w rest h = ap after_hyphen (ap (λ n. drop n (doubled w ++ rest)) (length_doubled w rest h) ∙ drop_front (doubled w) rest)
+cut_later w rest h = ap after_hyphen (ap (λ n. drop n (doubled w ++ rest)) (length_doubled w rest h) ∙ drop-append_seam (doubled w) rest)
 
 -- any text begins with a doubled part
 record Front (bs : List ℕ) (n : ℕ) : Type 0 where

@@ -8,6 +8,7 @@ import shutil
 
 import help_words
 import transcripts
+from dmremap_tools import commands
 from harness import Case, run
 
 SECTIONS = ["NAME", "SYNOPSIS", "DESCRIPTION", "COMMANDS", "FORMATS", "OUTPUT", "EXIT STATUS", "DIAGNOSTICS",
@@ -24,6 +25,8 @@ RULED = re.compile(r"^\|[^|`]*\| ((?:`\w+`(?:, )?)+) \|", re.M)
 NOT_TOP = "not top"
 # The word of a load that has a message of its own.
 MEMORY = "memory"
+# How many columns a help has.
+COLUMNS = 80
 # Messages without a word that another text puts in.
 WHOLE = re.compile(r'"(dmremap: (?!name: )\w+(?:: \w+)?)(?:\\n)?"')
 
@@ -101,5 +104,13 @@ def text_of(path):
         return it.read()
 
 
-class Manual(Case, checks=[check_page]):
-    """The page as a whole."""
+def check_columns(tally, top):
+    """The help of the tools fits a terminal."""
+    for name in [None, *(it.name for it in commands.COMMANDS)]:
+        got = run([os.path.join(top, "dmremap-tools"), *filter(None, [name]), "--help"], env=dict(os.environ, COLUMNS=str(COLUMNS)))
+        longest = max(got.out.decode().splitlines(), key=len, default="")
+        tally.holds("the columns of the help of %s" % (name or "the tools"), 0 < len(longest) <= COLUMNS, "it has the line %r" % longest)
+
+
+class Manual(Case, checks=[check_page, check_columns]):
+    """The page as a whole, and the help of the tools."""

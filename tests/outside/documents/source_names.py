@@ -9,9 +9,9 @@ from documents import text_of
 from harness import Case
 
 # What these documents have at most, so that each is read at one sitting.
-BYTES = {"ARCHITECTURE.md": 9900, "DECISIONS.md": 5200, "DEVELOPING.md": 10000, "PROMISES.md": 21200}
-# And all pages together.
-ALL_BYTES = 190500
+BYTES = {"ARCHITECTURE.md": 8800, "DECISIONS.md": 4000, "DEVELOPING.md": 8500, "PROMISES.md": 17600}
+# And all pages together, with their pictures.
+ALL_BYTES = 180000
 SOURCES = ("crates/*/*/**/*.rt", "crates/*/*/**/*.antt", "crates/*/must-fail/*", "crates.txt", "HANDLES", "tools/*/*",
            "tests/benches/*", "tools/**/*.py", "tests/**/*.py", "[a-z]*")
 # Wrong changes that the gate has to refuse, and how many of them a document says that there are.
@@ -28,7 +28,7 @@ def check_pages(tally, top):
         tally.holds("names that docs/%s has of the sources" % name, not lost, "there is no %s" % ", ".join(lost))
         size = os.path.getsize(path)
         tally.holds("the size of docs/%s" % name, size <= most, "it has %d bytes" % size)
-    pages = [os.path.join(top, "README.md"), *glob.glob(os.path.join(top, "docs", "*.md")), *glob.glob(os.path.join(top, "docs", "*.1"))]
+    pages = [os.path.join(top, "README.md"), os.path.join(top, "CHANGELOG.md"), *glob.glob(os.path.join(top, "docs", "*"))]
     size = sum(map(os.path.getsize, pages))
     tally.holds("the size of all pages", size <= ALL_BYTES, "they have %d bytes" % size)
     edits = len(glob.glob(os.path.join(top, EDITS)))

@@ -7,35 +7,10 @@ import os
 import shutil
 from importlib.machinery import SourceFileLoader
 
+import completions
 import manual
 from harness import Case, run
 from tool_calls import TOOL, samples
-
-# What a shell runs to print what is offered for the last of the words after the script, one on each line.
-BASH = """
-source "$1" || exit
-shift
-COMP_WORDS=("$@") COMP_CWORD=$(($# - 1))
-_dmremap_tools
-printf '%s\\n' "${COMPREPLY[@]}"
-"""
-ZSH = """
-_describe() { print -l -- ${${(P)@[-1]}%%:*} }
-_wanted() { $4 }
-_files() { print -l -- $words[CURRENT]*(N) }
-complete() {
-    local script=$1
-    shift
-    local -a words=("$@")
-    local CURRENT=$#
-    source $script
-}
-complete "$@" || true
-"""
-SHELLS = [
-    ("bash", ["bash", "--norc", "-c", BASH, "bash"], "dmremap-tools.bash"),
-    ("zsh", ["zsh", "-f", "-c", ZSH, "zsh"], "_dmremap-tools"),
-]
 
 
 def check_made(tally, top, derive):
@@ -58,16 +33,7 @@ def check_offered(tally, program, top, derive):
     found = list(derive.parsers())
     rows = [([""], {command.name for command, _, _ in found}), (["met"], {"metadata"})]
     rows += [([command.name, "-"], set(derive.names(parser))) for command, _, parser in found]
-    folder = os.path.dirname(program.file("offered/a file"))
-    for shell, words, script in SHELLS:
-        if shutil.which(shell) is None:
-            tally.skip("the completions of " + shell, "it isn't there")
-            continue
-        for given, wanted in rows:
-            got = run(words + [os.path.join(top, "tools", "packaging", "completions", script), TOOL] + given, folder=folder)
-            offered = {it for it in got.out.decode().split("\n") if it.startswith(given[-1])} - {"", "--help"}
-            is_so = (got.status, got.err) == (0, b"") and offered == wanted - {"--help"}
-            tally.holds("what %s offers after %s" % (shell, given), is_so, "status %s, %r, %s" % (got.status, got.err, offered))
+    completions.check_rows(tally, top, os.path.dirname(program.file("offered/a file")), TOOL, rows, left_out={"--help"})
 
 
 def check_derived(tally, program, top):

@@ -10,6 +10,7 @@ import re
 import shutil
 import textwrap
 
+import diagnostics
 from harness import run
 
 # A block of a document in Markdown: its kind and its lines.
@@ -18,8 +19,6 @@ PROMPT, MORE = "$ ", "> "
 POWER_CUT = "crates/power_cut/out/power_cut"
 # What needs debugfs.
 ABOUT_FILES, ADMINISTRATORS = ("debugfs ", "dmremap-tools lost "), ":/sbin:/usr/sbin"
-# What stands in a manual for characters that mean something to it.
-ESCAPES = [("\\-", "-"), ("\\(aq", "'"), ("\\e", "\\")]
 
 
 def blocks(text):
@@ -34,15 +33,8 @@ def of_markdown(text):
 
 def of_manual(text):
     """The commands of a manual page: those of its blocks of literal text that have a prompt."""
-    found = re.findall(r"^\.EX\n(.*?)^\.EE$", without_escapes(text), re.M | re.S)
+    found = re.findall(r"^\.EX\n(.*?)^\.EE$", diagnostics.plain(text), re.M | re.S)
     return [it for block in found if block.startswith(PROMPT) for it in commands(block.splitlines())]
-
-
-def without_escapes(text):
-    """The text of a manual page as it is shown, of its letters at least."""
-    for escape, meant in ESCAPES:
-        text = text.replace(escape, meant)
-    return text
 
 
 def commands(lines):

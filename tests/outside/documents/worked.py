@@ -25,10 +25,8 @@ EXAMPLE = re.compile(r"^```example ([^\n]*)\n(.*?)^```$", re.M | re.S)
 REMARK = re.compile(r"  +\S.*$")
 # The chunks of data in the picture of a store: from which one to which one, by how many numbers an area has.
 SPAN = re.compile(r">([^<>]+) \.\. ([^<>]+)</text>")
-# The line in the picture of stripes, the length of its chunks, and how many it shows.
-STRIPED, CHUNK, CHUNKS = "striped 2 8 sda 0 sdb 100", 8, 4
 # The section of examples that are explained, and how many it has.
-WORKED, COUNT = "## 10. Worked examples", 5
+WORKED, COUNT = "## 10. Worked examples", 4
 
 
 def check_formats(tally, program, top):
@@ -49,7 +47,6 @@ def check_mapping(tally, program, top):
 
 def check_pictures(tally, program, top):
     check_store(tally, program, text_of(os.path.join(top, "docs", "store.svg")))
-    check_striped(tally, program, text_of(os.path.join(top, "docs", "striped.svg")))
 
 
 def check_refused(tally, program, top, text):
@@ -130,18 +127,6 @@ def place_of(text, numbers):
     """A chunk as the picture has it, such as 2e + 1, where an area has that many numbers."""
     times, more = re.fullmatch(r"(?:(\d*)e(?: \+ )?)?(\d*)", text).groups()
     return (0 if times is None else int(times or 1) * numbers) + int(more or 0)
-
-
-def check_striped(tally, program, picture):
-    """The sectors in the picture of stripes are those of its chunks, and those that they are read from."""
-    asked = [(chunk * CHUNK, CHUNK) for chunk in range(CHUNKS)]
-    got = loaded(program, "table", "a: 0 %d %s\n" % (CHUNK * CHUNKS, STRIPED), "sda 16\nsdb 116\n",
-                 ended("R a %d %d" % it for it in asked))
-    read = re.findall(r"R (\S+ )(\d+) (\d+)", got.out.decode())
-    wanted = [("", *it) for it in asked] + [(disk, int(at), int(count)) for disk, at, count in read]
-    wanted = sorted("%s%d to %d" % (disk, at, at + count - 1) for disk, at, count in wanted)
-    shown = sorted(re.findall(r">([\w ]* to \d+)</text>", picture))
-    tally.holds("the picture of stripes", STRIPED in picture and shown == wanted, "it has %s, and the program %s" % (shown, wanted))
 
 
 def ended(lines):

@@ -1,9 +1,11 @@
-"""What help says of the words of messages is what the manual says, whatever part of a message is given; and help lists them."""
+"""What help says of the words of messages is what the manual says, whatever part of a message is given; help lists them, and
+explains itself."""
 
 import os
 import re
 
 import diagnostics
+import explanations
 from harness import Case
 
 # What a message may have in place of what its form names.
@@ -18,8 +20,7 @@ def check_words(tally, program, top):
         sections = diagnostics.section_of(it.read(), "DIAGNOSTICS")
     listed = help_of(program, "map").partition("\nMessages, ")[2].partition("\n\n")[0]
     found = 0
-    for form, piece in forms_of(sections):
-        entries = diagnostics.entries_of(piece)
+    for form, entries in diagnostics.forms_of(sections):
         words = [it for it in entries if not it.startswith("dmremap: ")]
         if form and words and form != "name: WORD":
             first = form.replace("PART", "source")
@@ -34,30 +35,24 @@ def check_words(tally, program, top):
     tally.holds("entries of the manual", found > 60, "there are %d" % found)
 
 
-def forms_of(sections):
-    """Each form of messages with the entries below it."""
-    for section in re.split(r"^\.SS .*\n", sections, flags=re.M)[1:]:
-        pieces = re.split(r"^\.EX\ndmremap: (.*)\n\.EE\n", section, flags=re.M)
-        yield from zip([None] + pieces[1::2], pieces[::2])
-
-
 def messages_of(form, word):
     """Messages with a word, as they are told."""
-    forms = [form, form.replace("PART", "disks")] + (["before: WORD at N"] if form == "request N: WORD" else [])
+    forms = [form, *[form.replace("PART", "disks")] * (word in explanations.OF_DISKS), *["before: WORD at N"] * (form == "request N: WORD")]
     for it in sorted(set(forms)):
         yield "dmremap: " + re.sub("[A-Z]+", lambda part: word if part[0] == "WORD" else NAMED[part[0]], it)
 
 
 def check_said(tally, program, message, text):
-    """The whole message, without its beginning, without its part and without its place: help says the same of all of them."""
+    """The whole message, without its beginning, and without its place: help prints its entry. With the word alone, all entries."""
     short = message.partition(": ")[2]
     bare = short.rpartition(": ")[2].partition(" at ")[0]
-    forms = {message, short, short.partition(" at ")[0], bare} - {COMMAND}
-    said = {it: program.run(["help", it]) for it in forms}
+    forms = {message, short, short.partition(" at ")[0]}
+    said = {it: program.run(["help", it]) for it in forms | {bare} - {COMMAND}}
     for form, got in said.items():
         is_said = (got.status, got.err) == (0, b"") and plain(text) in plain(got.out.decode())
         tally.holds("help on %r" % form, is_said, "status %s, %r, %r" % (got.status, got.out, got.err))
-    tally.holds("help on %r in all its forms" % message, len({it.out for it in said.values()}) == 1, "it isn't the same")
+    outs = {said[it].out for it in forms - {bare}}
+    tally.holds("help on %r in all its forms" % message, len(outs) < 2 and not any(b"\n\n" in it for it in outs), "it prints %s" % outs)
 
 
 def plain(text):
@@ -76,6 +71,14 @@ def check_command(tally, program):
     tally.holds("help on no word", is_refused, "status %s, %r" % (got.status, got.err))
 
 
+def check_itself(tally, program):
+    """How to ask for help."""
+    wanted = program.run(["help", "help"])
+    tally.holds("help help", (wanted.status, wanted.err) == (0, b"") and b"WORD" in wanted.out, "status %s, %r" % (wanted.status, wanted.err))
+    for word in "--help", "-h":
+        tally.same("help " + word, program.run(["help", word]), 0, wanted.out)
+
+
 def check_streams(tally, program):
     with open("/dev/full", "wb") as full:
         tally.same("help on a word and a full output", program.run(["help", "field"], stdout=full), 5, "", "dmremap: output: write\n")
@@ -83,5 +86,5 @@ def check_streams(tally, program):
     tally.same("help on a word and a closed output", got, 5, "", "dmremap: output: write\n")
 
 
-class HelpMessages(Case, checks=[check_words, check_command, check_streams]):
+class HelpMessages(Case, checks=[check_words, check_command, check_itself, check_streams]):
     """What help says of messages, and how it ends."""

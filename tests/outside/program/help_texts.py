@@ -6,6 +6,7 @@ import re
 import shutil
 import string
 
+import diagnostics
 import help_words
 import transcripts
 from harness import Case
@@ -17,7 +18,7 @@ CLASH, CLASH_DISKS = "a: 0 8 linear sda 0\nb: 0 8 linear sda 4\n", "sda 16\n"
 # What a text on a status has to say, wherever it stands.
 MEANT = [
     ("0", r"help (?:or the version )?was asked for"),
-    ("1", r"FILE.*DISKS.*PATHS.* a store, a name or the requests of --before (?:are|were) refused"),
+    ("1", r"FILE.*DISKS.*PATHS.* a store, a name or earlier requests (?:are|were) refused"),
     ("2", r"[Tt]he words (?:of the command line )?(?:are|were) refused"),
     ("3", r"[Aa] request (?:is|was) bad"),
     ("4", r"[Tt]he requests (?:can't|could not) be read"),
@@ -32,10 +33,10 @@ WAYS = {
     "the check was printed, also one with a clash": ("good", "clash"),
     "the name was printed": ("good",),
     "the parts were printed": ("good",),
-    "FILE, DISKS, PATHS, a store, a name or the requests of --before were refused": (
+    "FILE, DISKS, PATHS, a store, a name or earlier requests were refused": (
         "no file", "bad disks", "bad paths", "bad store", "bad name", "bad earlier"),
-    "FILE, DISKS, PATHS, a store or the requests of --before were refused": (
-        "no file", "bad disks", "bad paths", "bad store", "bad earlier"),
+    "FILE, DISKS, PATHS, a disk, a store or earlier requests were refused": (
+        "no file", "bad disks", "bad paths", "bad head", "bad store", "bad earlier"),
     "FILE or DISKS was refused": ("no file", "bad disks"),
     "FILE or DISKS was refused, or two lines claim one sector": ("no file", "bad disks", "clash"),
     "a part was refused, or the name is too long": ("bad name", "long name"),
@@ -57,10 +58,15 @@ PARTS = {"NAME:": "a:", "START": "0", "LEN": "8", "DEV": "sda", "OFFSET": "0", "
 # A device of the example's stack that no other one lies on.
 TOP_DEVICE = "fast"
 COMMANDS_WITH_REQUESTS = {"map", "replay"}
+# How many columns a terminal has.
+COLUMNS = 80
 
 
-def check_commands(tally, commands):
+def check_commands(tally, program, commands):
     tally.holds("the commands of help", len(commands) > 6, "they are %s" % commands)
+    for command in [*commands, "help", None]:
+        longest = max(help_of(program, command).splitlines(), key=len)
+        tally.holds("the columns of the help of %s" % (command or "the program"), len(longest) <= COLUMNS, "it has the line %r" % longest)
 
 
 def help_of(program, command):
@@ -95,6 +101,7 @@ def outcomes(program, command):
     if command == "map":
         found["bad earlier"] = status([*good, "--before", bad])
         found["bad paths"] = status([*good, "--paths", bad])
+        found["bad head"] = status([command, "images", program.file("help/paths", "sda %s\n" % bad)])
         snapshot = program.file("help/snapshot", "s: 0 8 snapshot sda sdb P 8\n")
         found["bad store"] = status([command, "table", snapshot, program.file("help/two disks", "sda 8\nsdb 64\n"), "--paths", os.devnull])
     if command == "replay":
@@ -179,7 +186,7 @@ def check_lines(tally, program, parts):
     outputs = dict(parts_of(r"^\.SS (.*)\n", parts["OUTPUT"]))
     for command, label, stack in ("map", "pieces", PIECES), ("replay", "N old", VALUES):
         forms = re.findall(r"\b(N \w+(?: [A-Z][A-Z\d]*)+)", lines_of(help_of(program, command), label))
-        entries = [re.sub(r"\\f.|\.\w+ ", "", it) for it in entries_of(outputs[command])]
+        entries = [re.sub(r"\.\w+ ", "", it) for it in entries_of(outputs[command])]
         entries = [it for it in entries if it.startswith("N ")]
         tally.holds("the lines of %s" % command, forms and forms == entries, "help has %s, and the manual %s" % (forms, entries))
         got = program.run([command, "table", program.file("help/stack", stack[0]), program.file("help/below", stack[1])], given=stack[2])
@@ -230,7 +237,7 @@ class HelpTexts(Case, checks=[
 
     @classmethod
     def setUpClass(cls):
-        text = transcripts.without_escapes(text_of(os.path.join(cls.top, "docs", "dmremap.1")))
+        text = diagnostics.plain(text_of(os.path.join(cls.top, "docs", "dmremap.1")))
         cls.parts = dict(parts_of(r"^\.SH (.*)\n", text))
         cls.manual, cls.synopsis = cls.parts["EXIT STATUS"], cls.parts["SYNOPSIS"]
         cls.commands = sorted(help_words.commands(cls.program) - {"help"})

@@ -12,10 +12,10 @@ BYTES = 1048576
 LINES = 65536
 # 65,536 lines are there within 1 MiB only if most of them are short.
 ZERO_LINE = "a: %d 1 zero\n"
-# A store with all the places that there can be, 4,194,304, for chunks of 32 sectors: the header, 4,096 areas,
-# the chunks, and the next area. And how much memory may be touched while ten chunks are taken.
-PLACES_DISKS = "base 320\ncow %d\n" % (32 * (1 + 4096 + 4194304 + 1))
-MOST_TOUCHED = 24 << 10
+# How many chunks an origin has, and for how many more its store has places: all that there can be, and a few.
+PLACES = ((10, 4194304), (1048576, 1052680))
+# How much more memory may be touched than with a place for each chunk, as a ratio.
+MOST_TOUCHED = 1.25
 # How much more memory, in KiB, may be taken for 1,000 devices on 1,000 disks than for one of each.
 MOST_LOADED = 5 << 9
 
@@ -147,13 +147,22 @@ def check_memory(tally, program):
 
 
 def check_touched_memory(tally, program):
-    """Of the memory that is reserved for chunks, little is touched before they are taken."""
+    """Of the memory that is reserved for chunks, little is touched before they are taken, and no more for more places
+    than the origin has chunks."""
     requests = "".join("W s %d 1\n" % (32 * it) for it in range(10))
     answers = "".join("%d copy base %d 32 cow %d\n%d W cow %d 1\n" % (it + 1, 32 * it, 64 + 32 * it, it + 1, 64 + 32 * it)
                       for it in range(10))
-    touched, got = memory_of(program, "VmHWM", "s: 0 320 snapshot base cow P 32\n", PLACES_DISKS, requests, answers)
-    tally.same("ten writes to a store of all places", got, 0, answers)
-    tally.holds("the memory that they touch", touched < MOST_TOUCHED, "it is %d KiB" % touched)
+    for chunks, more in PLACES:
+        table, touched = "s: 0 %d snapshot base cow P 32\n" % (32 * chunks), []
+        for places in (chunks, more):
+            # The header, an area before each 1,024 places, and the places.
+            disks = "base %d\ncow %d\n" % (32 * chunks, 32 * (1 + (places + 1023) // 1024 + places))
+            size, got = memory_of(program, "VmHWM", table, disks, requests, answers)
+            tally.same("ten writes to a store of %d places" % places, got, 0, answers)
+            touched.append(size)
+        ratio = touched[1] / touched[0]
+        tally.holds("the memory that they touch", ratio < MOST_TOUCHED,
+                    "it is %.2f times that for %d places" % (ratio, chunks))
 
 
 def check_loaded_memory(tally, program):

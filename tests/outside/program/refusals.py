@@ -22,7 +22,7 @@ OURS = "a function whose only error is that of a growth"
 # was a refused growth.
 PLACES = {
     ("dm_map/pieces/piece_list", "piece", "self.pieces.push(piece), at Err(_)"): STD,
-    ("dm_map/state/trie_taken", "with_places", "count > 1 << 23"):
+    ("dm_map/state/trie_taken", "for_chunks", "count > 1 << 23"):
         "none: so many places are refused as too much memory (docs/DECISIONS.md); a load allows 4,194,304",
     ("dm_replay/playback", "play_front", "mapper.request(request, device, &mut halting), at Err(_)"):
         "where the sink did not stop at the last unit asked for, its error is that of a growth",
@@ -54,6 +54,9 @@ PLACES = {
     ("dm_table/load/part_input", "read_part", "text.extend_from_slice(&chunk[..n]).is_err()"): STD,
     ("dm_table/load/reading", "read_rows", "read_each::<T>(alloc, part, text), at Err(_)"): OURS,
     ("dm_table/load/text_checks", "check_pieces", "cut(alloc, at, text)"): OURS,
+    ("dmremap/images_load", "stopped", "fault == HeadFault::Memory"): "the fault of a head whose text a growth had no room for",
+    ("dmremap/images_load", "stopped", "paths.get(disk), at None"):
+        "none: the disk that a head or a text refuses is one of the list",
     ("dmremap/main", "begin", "!has_stack_room(rt)"): "the limit of the stack is lower than what the program may take",
     ("dmremap/prepared", "begin", "prepare(alloc, stack), at Err(_)"): OURS,
     ("dmremap/printing", "print_parts", "spaced_parts(alloc, name), at Err(_)"): OURS,

@@ -72,6 +72,7 @@ TOLD = [
     ("", "Usage: dmremap <COMMAND>"),
     ("map", "<FORMAT> <FILE>"),
     ("map lvm2 a", "invalid value 'lvm2' for '<FORMAT>'"),
+    ("table images a --paths b", "unexpected argument '--paths'"),
     ("explain table a b", "unrecognized subcommand 'explain'"),
     ("map table a b --status --status", "'--status' cannot be used multiple times"),
     ("map lvm a -- b --status", "unexpected argument '--status'"),
@@ -102,7 +103,7 @@ HELPED = [
     ("help map", "FORMAT is one of\n  lvm      the"),
     ("map --help", "map [OPTIONS] <FORMAT> <FILE> [DISKS]"),
     ("map --help", "      --status"),
-    ("map --help", "      --before <REQUESTS>  First play the requests of this file"),
+    ("map --help", "      --before <REQUESTS>  First play these requests"),
     ("table -h", "table <FORMAT> <FILE> [DISKS]"),
     ("table -h", "dmremap table lvm"),
     ("concise -h", "concise <FORMAT> <FILE> [DISKS]"),
@@ -131,6 +132,9 @@ DISKLESS = [
     "table table a.table",
     "map concise a.concise",
     "concise lvm vg0.backup a.disks",
+    "map images a.paths a.disks",
+    "map images a.paths --paths b.paths",
+    "check images a.paths a.disks",
 ]
 
 # Words that ask for status lines, of a stack without a snapshot.

@@ -12,8 +12,14 @@ import time
 from harness import Case, Outcome, become_nobody, run
 from trees import ANEW, BUILD, BUILDING, CRATES, HELD_RT, RT, SLOW_RT, TOOLCHAIN, WAITING, Tree, becomes, runs, told, without_times
 
-# How often the script tells what runs.
-OFTEN = ("MINUTE, AWAY, MOMENT = 60, 300, 0.02", "MINUTE, AWAY, MOMENT = 1, 1, 0.02")
+# How often the script tells how far it is.
+OFTEN = ("WATCHED, AWAY, MOMENT = 5, 300, 0.02", "WATCHED, AWAY, MOMENT = 1, 1, 0.02")
+# A build that was timed: once all functions were checked, it took five minutes more.
+PACE = """\
+low 7 0 0 0 0 0 0 0 0 0 0 0 0
+middle 7 0 0 0 0 0 0 0 0 0 0 0 0
+dmremap 6 0 0 0 0 0 0 0 0 0 0 0 300
+"""
 SOURCE = "crates/low/src/text"
 USAGE = "usage: tools/building/build [--run WORD.. | --by COMMAND..]\n"
 
@@ -271,11 +277,13 @@ def check_told(tally, tree):
     os.chmod(often, 0o755)
     tree.rt(HELD_RT)
     let = os.path.join(tree.folder, "let")
-    running = b"dmremap: low since 00:00, 3 of 7"
     here, there = os.openpty()
     with tempfile.TemporaryFile() as file:
-        for name, err, line, last in (("in lines", file.fileno(), running + b"\n", b""),
-                                      ("on a terminal", there, b"\r\x1b[K" + running, b"\r\x1b[K")):
+        for name, err, pace, running in (("in lines", file.fileno(), PACE, b"3 of 20 functions, 5 min to go: low"),
+                                         ("on a terminal", there, "", b"3 of 7 functions: low")):
+            line = b"dmremap: proved " + running
+            line, last = (b"\r\x1b[K" + line, b"\r\x1b[K") if err == there else (line + b"\n", b"")
+            tree.write("tools/building/pace", pace)
             tree.remove()
             ran = tree.start(["--run", "splitname", "a-b"], err, often, LET=let)
             said = Said(here if err == there else err, err == there)

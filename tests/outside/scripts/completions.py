@@ -17,7 +17,7 @@ BASH = """
 source "$1" || exit
 shift
 COMP_WORDS=("$@") COMP_CWORD=$(($# - 1))
-_dmremap
+"_${1//-/_}"
 printf '%s\\n' "${COMPREPLY[@]}"
 """
 ZSH = """
@@ -33,10 +33,7 @@ complete() {
 }
 complete "$@" || true
 """
-SHELLS = [
-    ("bash", ["bash", "--norc", "-c", BASH, "bash"], "dmremap.bash"),
-    ("zsh", ["zsh", "-f", "-c", ZSH, "zsh"], "_dmremap"),
-]
+SHELLS = [("bash", ["bash", "--norc", "-c", BASH, "bash"], "%s.bash"), ("zsh", ["zsh", "-f", "-c", ZSH, "zsh"], "_%s")]
 # What a shell reads before the line that is typed: in place of the program a function that tells the words that
 # it gets, and what its standard input holds if that is a file.
 TOLD = """
@@ -126,22 +123,23 @@ def check_offered(tally, program, top):
     folder = os.path.join(program.folder, "completed")
     for name in ("stack.table", "stack.disks", "other file"):
         program.file(os.path.join("completed", name))
-    rows = rows_of(program)
+    check_rows(tally, top, folder, "dmremap", rows_of(program))
+
+
+def check_rows(tally, top, folder, name, rows, left_out=()):
+    """Whether each shell offers, after some words of a command, those that are wanted, but for some. A shell may leave it to itself to
+    take those that fit the last word."""
     for shell, words, script in SHELLS:
         if shutil.which(shell) is None:
             tally.skip("the completions of " + shell, "it isn't there")
             continue
         for given, wanted in rows:
-            got = run(words + [os.path.join(top, "tools", "packaging", "completions", script), "dmremap"] + given, folder=folder)
-            offered = set(got.out.decode().split("\n")) - {""}
-            is_so = got.status == 0 and got.err == b"" and is_offered(offered, given[-1], wanted)
-            tally.holds("what %s offers after %s" % (shell, given), is_so,
-                        "status %s, %r, and it offers %s, not %s" % (got.status, got.err, offered, wanted))
-
-
-def is_offered(offered, word, wanted):
-    """Whether these words are offered: a shell may leave it to itself to take those that fit."""
-    return {it for it in offered if it.startswith(word)} == {it for it in wanted if it.startswith(word)}
+            script_path = os.path.join(top, "tools", "packaging", "completions", script % name)
+            got = run([*words, script_path, name, *given], folder=folder)
+            offered, fitting = ({it for it in found if it.startswith(given[-1])}.difference(left_out, {""})
+                                for found in (got.out.decode().split("\n"), wanted))
+            is_so = got.status == 0 and got.err == b"" and offered == fitting
+            tally.holds("what %s offers after %s" % (shell, given), is_so, "status %s, %r, and it offers %s, not %s" % (got.status, got.err, offered, fitting))
 
 
 def rows_of(program):
@@ -166,7 +164,7 @@ def rows_of(program):
         rows.append(([command, ""], formats))
         for form in sorted(formats):
             rows.append(([command, form, ""], files))
-            rows.append(([command, form, "stack.table", ""], set() if form == "lvm" else files))
+            rows.append(([command, form, "stack.table", ""], set() if form in ("lvm", "images") else files))
             rows.append(([command, form, "stack.table", "stack.disks", ""], set()))
     rows += [
         (["name", ""], set()),

@@ -17,6 +17,7 @@ import gzip
 import io
 import lzma
 import os
+import pathlib
 import re
 import subprocess
 import sys
@@ -82,8 +83,8 @@ def main():
     folder = os.path.abspath(asked.folder)
     os.makedirs(os.path.join(folder, "nothing"), exist_ok=True)
     for name in ("wipefs", "blkid"):
-        with open(os.path.join(folder, "nothing", name), "w", opener=lambda path, flags: os.open(path, flags, 0o755)) as script:
-            script.write("#!/bin/sh\nexit 2\n")
+        write(os.path.join(folder, "nothing", name), b"#!/bin/sh\nexit 2\n")
+        os.chmod(os.path.join(folder, "nothing", name), 0o755)
     status = 0
     for package, compare in (("util-linux", compare_signatures), ("cryptsetup", compare_headers), ("e2fsprogs", compare_file_systems)):
         try:
@@ -110,8 +111,8 @@ def fetch(folder, package):
                                 check=True, stdout=subprocess.PIPE, text=True).stdout
         for place in re.findall("'(.*)'", config):
             for path in glob.glob(os.path.join(place, "*")) if os.path.isdir(place) else filter(os.path.exists, [place]):
-                with open(path) as listed, open(os.path.join(own, "parts", os.path.basename(path)), "w") as copy:
-                    copy.write(re.sub(r"(?m)^(Types: *)?deb\b(?!-)", r"\1deb-src", listed.read()))
+                sources = re.sub(r"(?m)^(Types: *)?deb\b(?!-)", r"\1deb-src", read(path))
+                write(os.path.join(own, "parts", os.path.basename(path)), sources.encode())
         apt = ["apt-get", "-qq", *(word for name, place in (("Etc::sourcelist", os.devnull), ("Etc::sourceparts", own + "/parts"), (
             "State::lists", own + "/lists"), ("Cache", own)) for word in ("-o", "Dir::%s=%s" % (name, place)))]
         subprocess.run([*apt, "update"], check=True, stdout=subprocess.DEVNULL)
@@ -122,18 +123,15 @@ def fetch(folder, package):
 
 
 def write(path, content):
-    with open(path, "wb") as image:
-        image.write(content)
+    pathlib.Path(path).write_bytes(content)
 
 
 def read(path):
-    with open(path) as text:
-        return text.read()
+    return pathlib.Path(path).read_text()
 
 
 def content_of(path):
-    with OPENERS[os.path.splitext(path)[1]](path) as image:
-        return image.read()
+    return OPENERS[os.path.splitext(path)[1]](path).read()
 
 
 def verdict_of(kind, said):
@@ -242,8 +240,7 @@ def compare_headers(checks, sources):
         if subprocess.run(words, cwd=os.path.dirname(script), stdout=subprocess.DEVNULL, stderr=subprocess.DEVNULL).returncode:
             print("not tried: %s: its generator needs jq and xxd" % name)
             continue
-        with open(os.path.join(made, name), "rb") as image:
-            check_header(checks, name, image.read(), wanted == "R")
+        check_header(checks, name, pathlib.Path(made, name).read_bytes(), wanted == "R")
         os.unlink(os.path.join(made, name))
 
 

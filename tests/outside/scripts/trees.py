@@ -22,8 +22,8 @@ SCRIPTS = ["dmremap", "try", "tools/building"]
 BUILDING = "dmremap: building the proved program; the first time this takes 25 minutes on four processors\n"
 ANEW = "dmremap: building the proved program; the sources were changed meanwhile\n"
 WAITING = "dmremap: another call builds the program; waiting for it\n"
-# How long crates took and since when they run, which no two runs have in common.
-TOOK = [(re.compile(rb"after \d+ min \d+ s"), b"after 0 min 0 s"), (re.compile(rb"since \d\d:\d\d"), b"since 00:00")]
+# How long crates took, which no two runs have in common.
+TOOK = re.compile(rb"after \d+ min \d+ s"), b"after 0 min 0 s"
 LOGIC = "logic 2"
 VERSION = "a kit 1 " + LOGIC
 # What the scripts call, for a path where there is no rt.
@@ -176,9 +176,7 @@ def restore_signals():
 
 
 def without_times(text):
-    for pattern, plain in TOOK:
-        text = pattern.sub(plain, text)
-    return text
+    return TOOK[0].sub(TOOK[1], text)
 
 
 def runs(process):

@@ -1,6 +1,7 @@
-"""Arrays of md: rows of the commands `md` and `under`. What a kernel reads of such arrays is what the tables say: they were
+"""Arrays of md: rows of the command `md`. What a kernel reads of such arrays is what the tables say: they were
 compared sector by sector. The texts are those of `mdadm --examine` 4.2."""
 
+import physical_volumes
 from tool_calls import bad, good
 
 NEW = """\
@@ -118,9 +119,9 @@ TABLES = [
     table(old(0, level="raid0", sizes="", chunk=CHUNK) + old(1, level="raid0", sizes="", chunk=CHUNK),
           "m: 0 256 striped 2 16 /dev/sda 0 /dev/sdb 0\n", ["--size", "/dev/sda=256", "--size", "/dev/sdb=300"]),
     # Members that are left out.
-    table(member(0, level="raid1", chunk="", sizes="     Array Size : 30 KiB\n", events="6") + member(1, level="raid1", chunk="", sizes="     Array Size : 30 KiB\n"),
+    table(member(0, level="raid1", chunk="", sizes="     Array Size : 30 KiB\n", events="5") + member(1, level="raid1", chunk="", sizes="     Array Size : 30 KiB\n"),
           "m: 0 60 linear /dev/sdb 2048\n", message="left out: /dev/sda, which was away when others changed\n"),
-    table(member(0, level="raid1", chunk="", sizes="     Array Size : 30 KiB\n", state=".A") + member(1, level="raid1", chunk="", sizes="     Array Size : 30 KiB\n"),
+    table(member(0, level="raid1", chunk="", sizes="     Array Size : 30 KiB\n") + member(1, level="raid1", chunk="", sizes="     Array Size : 30 KiB\n", events="8", state=".A"),
           "m: 0 60 linear /dev/sdb 2048\n", message="left out: /dev/sda, which the array has dropped\n"),
     table(member(0, level="raid1", chunk="", sizes="     Array Size : 30 KiB\n", role="spare") + member(1, level="raid1", chunk="", sizes="     Array Size : 30 KiB\n"),
           "m: 0 60 linear /dev/sdb 2048\n", message="left out: /dev/sda, which is no active device\n"),
@@ -140,12 +141,11 @@ def without_second(count, layout):
 REFUSED = [
     no_table("", "1: no member of an array: make the text anew by `mdadm --examine`"),
     no_table("mdadm: No md superblock detected on /dev/sda.\n", "1:1: not a line of `mdadm --examine`, leave it out: mdadm: No md superblock detected on /dev/sda."),
-    no_table("/dev/sda:\n   MBR Magic : aa55\n", "1:1: nothing is said of 'Array UUID' of /dev/sda: make the text anew by `mdadm --examine`"),
-    no_table(member(0) + member(1, uuid="0"), "1:1: the members differ in 'Array UUID' (0:235eeae6:6e699b6a:fb964b50, 73e36154:235eeae6:6e699b6a:fb964b50): give those of one array"),
-    no_table(member(0) + member(1, level="raid1"), "1:1: the members differ in 'Raid Level' (raid0, raid1): give those of one array"),
-    no_table(member(0) + member(1, count=3), "1:1: the members differ in 'Raid Devices' (2, 3): give those of one array"),
-    no_table(member(0) + member(1, version="1.1"), "1:1: the members differ in 'Version' (1.1, 1.2): give those of one array"),
-    no_table(member(0) + member(1, chunk="     Chunk Size : 64K\n"), "1:1: the members differ in 'Chunk Size' (64K, 8K): give those of one array"),
+    no_table("/dev/sda:\n   MBR Magic : aa55\n", "1:1: nothing is said of 'Version' of /dev/sda: make the text anew by `mdadm --examine`"),
+    no_table(member(0) + member(1, uuid="0"), "1:1: these are members of several arrays, or say different things of one: give those of one"),
+    no_table(member(0) + member(1, level="raid1", sizes="     Array Size : 30\n"), "1:1: these are members of several arrays, or say different things of one: give those of one"),
+    no_table(member(0) + member(1, count=3), "1:1: these are members of several arrays, or say different things of one: give those of one"),
+    no_table(member(0) + member(1, chunk="     Chunk Size : 64K\n"), "1:1: these are members of several arrays, or say different things of one: give those of one"),
     no_table(members(2, version="0.91.00"), "1:1: metadata of version 0.91.00, and only 0.90 and 1.0 to 1.2 are known: start it by `mdadm --assemble --readonly`"),
     no_table(members(2).replace("Devices : 2", "Devices : 5000"), "1:1: no array has 5000 devices: make the text anew by `mdadm --examine`"),
     no_table(members(2).replace("Devices : 2", "Devices : two"), "1:1: no number, make the text anew by `mdadm --examine`: Raid Devices : two"),
@@ -155,10 +155,14 @@ REFUSED = [
     no_table(members(2, more="  Reshape pos'n : 0\n"), "1:1: it is being reshaped or rebuilt, or has features that aren't known (feature map 0x0): start it by `mdadm --assemble --readonly`"),
     no_table(members(2, features="2", more="Recovery Offset : 0 sectors\n"), "1:1: it is being reshaped or rebuilt, or has features that aren't known (feature map 0x2): start it by `mdadm --assemble --readonly`"),
     no_table(members(2, features="200"), "1:1: it has a journal, where the newest data may be: start it by `mdadm --assemble --readonly`"),
+    no_table(members(2, level="multipath"), "1:1: an md array of multipath, which nothing here follows: start it by `mdadm --assemble --readonly`"),
+    no_table(member(0, level="raid1", sizes="     Array Size : 30\n", state="A.") + member(1, level="raid1", sizes="     Array Size : 30\n", state=".A"),
+             "1:1: its members were written to apart from each other, as the superblocks of each side say that the other one failed: give the images of one side "
+             "alone (/dev/sda or /dev/sdb)"),
     no_table(members(2, chunk=""), "1:1: nothing is said of 'Chunk Size' of /dev/sda: make the text anew by `mdadm --examine`"),
-    no_table(members(2, chunk="     Chunk Size : 0K\n"), "1:1: no size of chunks: make the text anew by `mdadm --examine`"),
-    no_table(member(0) + member(0), "1:25: /dev/sda is device 0 as well: leave one of them out"),
-    no_table(members(2, role="spare"), "left out: /dev/sda, which is no active device\nleft out: /dev/sdb, which is no active device\n1:1: no member of it is active: give those that are, or start it by `mdadm --assemble --readonly`"),
+    no_table(members(2, chunk="     Chunk Size : 0K\n"), "1:1: its superblock has no size of chunks: start it by `mdadm --assemble --readonly`"),
+    no_table(member(0) + member(0), "1:1: /dev/sda and /dev/sda are both its member 0: give one of them"),
+    no_table(members(2, role="spare"), "left out: /dev/sda, which is no active device\nleft out: /dev/sdb, which is no active device\n1:1: of its members only /dev/sda and /dev/sdb is here, which is a spare, or was being filled: give the other members"),
     no_table(member(0), "1:1: device 1 of the array is missing: add what `mdadm --examine` prints of it"),
     no_table(member(0, count=3, size=16) + member(1, count=3, size=32) + member(2, count=3, size=32),
              "1:1: members of several lengths, and no layout that is said: write it by `mdadm --assemble --update=layout-original`, or -alternate for one that was written to since Linux 3.14"),
@@ -170,7 +174,7 @@ REFUSED = [
     no_table(member(0, level="raid1", chunk="", sizes="     Array Size : 30\n"), "1:1: device 1 of the array is missing: add what `mdadm --examine` prints of it", ["--copy", "1", "1"]),
     no_table(without_second(4, "near=2"), "1:1: device 1 of the array is missing: add what `mdadm --examine` prints of it", ["--copy", "1", "1"]),
     no_table(without_second(3, "far=2"), "1:1: device 1 of the array is missing: add what `mdadm --examine` prints of it", ["--copy", "1", "1"]),
-    no_table(members(4, level="raid10", layout="near=9"), "1:1: no layout of raid10 (near=9): make the text anew by `mdadm --examine`"),
+    no_table(members(4, level="raid10", layout="near=9"), "1:1: no layout of raid10 that is known: 265: start it by `mdadm --assemble --readonly`"),
     no_table(members(2, disk="sd,a"), "1:1: no name of a disk, give --path /dev/sd,a=DISK"),
     no_table(old(0, level="raid0", sizes="", chunk=CHUNK) + old(1, level="raid0", sizes="", chunk=CHUNK),
              "1:1: metadata 0.90 doesn't say how long a member is, give --size /dev/sda=SECTORS"),
@@ -249,9 +253,33 @@ UNFOLLOWED = [
     not_followed(members(4, level="raid5", layout="left-symmetric").split("/dev/sdd:")[0], "1 R /dev/md0 0 8\n1 R /dev/md0 48 64\n",
                  "1:1: device 3 of the array is missing: add what `mdadm --examine` prints of it", "1 R /dev/sda 2048 8\n"),
     not_followed(member(2, count=3, level="raid10", layout="near=2"), "1 W /dev/md0 0 8\n", "1:1: device 0 of the array is missing: add what `mdadm --examine` prints of it"),
-    not_followed(members(3, level="raid5", layout="left-sym"), "1 R /dev/md0 0 8\n", "1:1: no layout of raid5 that is known (left-sym): start it by `mdadm --assemble --readonly`"),
+    not_followed(members(3, level="raid5", layout="left-sym"), "1 R /dev/md0 0 8\n", "1:1: no layout of raid5 that is known: none: start it by `mdadm --assemble --readonly`"),
+    bad("md", ["--follow", "/dev/md0", "--copy", "9"], [members(3, level="raid5", layout="left-symmetric"), "1 R /dev/md0 0 8\n"],
+        "1:1: it has 1 copies, counted from 0: give a lower --copy"),
     not_followed(members(2), "1 R /dev/md0 0 8\n", "1:1: --follow isn't for raid0: make its table with --name"),
     not_followed(FAR, "1 R /dev/md0\n", "2:1: not a piece of an answer, give what `dmremap map` prints: 1 R /dev/md0"),
 ]
 
-ROWS = TABLES + REFUSED + FOLLOWED + UNFOLLOWED
+
+
+def images(count, level, **fields):
+    """Images of the members of an array, of 40 sectors of data from sector 16 on."""
+    return [physical_volumes.md_member(bytes(40 * 512), 16, level=level, count=count, role=role, **fields) for role in range(count)]
+
+
+TWO, THREE = ["--member", "1", "--member", "2"], ["--member", "1", "--member", "2", "--member", "3"]
+IMAGES = [
+    good("md", ["--name", "m", *TWO], images(2, 0), "m: 0 64 striped 2 16 1 16 2 16\n"),
+    good("md", ["--name", "m", *TWO, "--path", "1=sda"], [image[:1 << 13] for image in images(2, 0)], "m: 0 64 striped 2 16 sda 16 2 16\n"),
+    good("md", ["--name", "m", *TWO], [images(2, 1)[0], images(2, 1, events=5)[1]], "m: 0 40 linear 1 16\n", "left out: 2, which was away when others changed\n"),
+    good("md", ["--follow", "/dev/md0", *THREE], [*images(3, 5), "1 R /dev/md0 8 40\n"], "1 R 1 24 8\n1 R 2 16 16\n1 R 1 32 16\n"),
+    bad("md", ["--name", "m", "--member", "1"], images(2, 0)[:1], "--member: device 1 of the array is missing: add what `mdadm --examine` prints of it"),
+    bad("md", ["--name", "m", *TWO], [images(2, 0)[0], images(2, 0, array=b"another array of")[1]],
+        "--member: these are members of several arrays, or say different things of one: give those of one"),
+    bad("md", ["--name", "m", "--member", "1"], [bytes(1 << 16)], "1: it has no superblock of metadata 1.x, or several: give what `mdadm --examine` prints of it"),
+    bad("md", ["--name", "m", "--member", "1"], images(1, 0, features=0x200), "--member: it has a journal, which may hold newer bytes than its members: start it by "
+        "`mdadm --assemble --readonly`"),
+    ("md", ["--name", "m"], [], "refused\n", "dmremap-tools md: give EXAMINED, or the members with --member\n", 2),
+]
+
+ROWS = TABLES + REFUSED + FOLLOWED + UNFOLLOWED + IMAGES

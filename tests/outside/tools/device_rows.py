@@ -1,5 +1,6 @@
-"""Devices that are made of what other tools print: rows of the commands `thin` and `btrfs`."""
+"""Devices that are made of metadata, or of what other tools print: rows of the commands `thin` and `btrfs`."""
 
+import models
 import tool_calls
 
 
@@ -12,40 +13,35 @@ def bad(command, words, inputs, message):
     return tool_calls.bad(command, words + [str(it) for it in range(1, len(inputs) + 1)], inputs, message)
 
 
-POOL = """\
-<superblock uuid="" time="1" transaction="2" flags="0" version="2" data_block_size="128" nr_data_blocks="%s">
-  <def name="3">
-    <range_mapping origin_begin="30" data_begin="40" length="2" time="0"/>
-  </def>
-  <device dev_id="1" mapped_blocks="%s" transaction="0" creation_time="0" snap_time="1">
-    <range_mapping origin_begin="0" data_begin="100" length="9" time="0"/>
-    <range_mapping origin_begin="9" data_begin="109" length="4" time="1"/>
-    <single_mapping origin_block="20" data_block="12" time="0"/>
-  </device>
-  <device dev_id="2" mapped_blocks="3" transaction="0" creation_time="0" snap_time="1">
-    <ref name="3"/>
-    <single_mapping origin_block="20" data_block="13" time="0"/>
-  </device>
-</superblock>
-"""
+# Two devices of a pool: blocks of each, where they lie in its data, and in the lower bits of some a time.
+FIRST, SECOND = [(it, 100 + it << 24 | it // 9) for it in range(13)] + [(20, 12 << 24)], [(20, 13 << 24), (30, 40 << 24), (31, 41 << 24 | 1)]
 THIN = ["--data", "d", "--device", "1", "t"]
 TWO = ["--device", "2", "/dev/mapper/u", "3900"]
+HELD = "its pool holds no metadata for others: make it by `dmsetup message POOL 0 reserve_metadata_snap`"
+MEND = "mend a copy of the metadata by thin_repair or cache_repair"
 
 
-def pool(blocks="1000", mapped="14"):
-    return POOL % (blocks, mapped)
+def pool(blocks=1000, **held):
+    """The metadata of a pool, whose blocks have 128 sectors; what it holds for others has the two devices swapped."""
+    parts = [models.pool_superblock(128, blocks, **held), models.node(1, [(1, 3), (2, 4)]), models.node(2, []), models.node(3, FIRST), models.node(4, SECOND),
+             models.pool_superblock(128, blocks, number=5, root=6), models.node(6, [(1, 4), (2, 3)])]
+    return b"".join(parts)
 
 
-def thin(words, output, text=None):
-    return good("thin", words, [text or pool()], output)
+def damaged(content, at):
+    return content[:at] + bytes([content[at] ^ 1]) + content[at + 1:]
+
+
+def thin(words, output, metadata=None):
+    return good("thin", words, [metadata or pool()], output)
 
 
 def wrong(command, words, text, message):
     return command, words + ["1"], [text], "refused\n", "dmremap-tools %s: %s\n" % (command, message), 2
 
 
-def no_thin(words, message, text=None):
-    return bad("thin", words, [text or pool()], message)
+def no_thin(words, message, metadata=None):
+    return bad("thin", words, [metadata or pool()], message)
 
 
 POOLS = [
@@ -57,84 +53,39 @@ POOLS = [
          "t,,,ro,0 1664 linear d 12800,1664 896 linear o 1664,2560 128 linear d 1536,2688 12 linear o 2688\n"),
     thin(THIN + ["4000", "--part", "1600", "100"], "t,,,ro,0 1664 linear d 12800,1664 896 zero,2560 1440 error\n"),
     thin(THIN + ["4000", "--part", "2687", "2"], "t,,,ro,0 2560 error,2560 128 linear d 1536,2688 1312 zero\n"),
-    no_thin(["--data", "d", "--device", "3", "t", "8"], "1: it has no device 3: give a dev_id that it has"),
+    thin(THIN + ["3968", "--metadata-snap"], "t,,,ro,0 2560 zero,2560 128 linear d 1664,2688 1152 zero,3840 128 linear d 5120\n", pool(held=5)),
+    no_thin(THIN + ["4000", "--metadata-snap"], "1: " + HELD),
+    no_thin(["--data", "d", "--device", "3", "t", "8"], "t: the pool's metadata has no device 3: it was deleted from the pool, and `scan` lists what is left"),
     wrong("thin", THIN + ["x"], pool(), "--device: give a whole number below 2^64, and not 'x'"),
     wrong("thin", THIN + ["0"], pool(), "--device: give from 1 to 2^50 sectors, and not 0"),
     wrong("thin", THIN + ["4000", "--part", "4000", "8"], pool(), "--part: t has 4000 sectors, and the part begins at sector 4000: begin lower"),
     wrong("thin", THIN + ["4000", "--part", "0", "0"], pool(), "--part: give from 1 to 2^50 sectors, and not 0"),
     no_thin(["--data", "d,e", "--device", "1", "t", "8"], "--data: no name of a disk, give one without spaces, commas and semicolons: 'd,e'"),
     no_thin(["--data", "d", "--device", "1", "a b", "8"], "NAME: no name of a device, give it as dmsetup ls prints it: 'a b'"),
-    no_thin(THIN + ["8"], "1: it has 14 blocks and not 13, as it says, make the dump anew of repaired metadata: </device>", pool(mapped="13")),
-    no_thin(THIN + ["8"], "1: past the end of the data, of 110 blocks, make the dump anew of repaired metadata: <range_mapping origin_begin=\"9\" data_begin=\"109\" length=\"4\" time=\"1\">", pool("110")),
-    no_thin(THIN + ["8"], "1:14: not what thin_dump prints, or its end is missing, make the dump anew of repaired metadata: no element found: line 14, column 0", pool().replace("</superblock>\n", "")),
-    no_thin(THIN + ["8"], "1: not what thin_dump prints, make the dump anew of repaired metadata: <x>", "<x>\n"),
-    no_thin(THIN + ["8"], "1: not what thin_dump prints, make the dump anew of repaired metadata: <device>", "  <device dev_id=\"1\">\n"),
-    no_thin(THIN + ["8"], "1:15: not what thin_dump prints, or its end is missing, make the dump anew of repaired metadata: junk after document element: line 15, column 0", pool() + "<superblock>\n"),
-    no_thin(THIN + ["8"], "1: an element that isn't known, make the dump anew of repaired metadata: <snapshot>", pool().replace("  <def name=\"3\">", "<snapshot/><def name=\"3\">")),
-    no_thin(THIN + ["8"], "1: data_block is no whole number below 2^64, make the dump anew of repaired metadata: <single_mapping origin_block=\"20\" data_block=\"-1\" time=\"0\">", pool().replace('data_block="12"', 'data_block="-1"')),
-    no_thin(THIN + ["8"], "1: it doesn't say data_block, make the dump anew of repaired metadata: <single_mapping origin_block=\"20\" time=\"0\">", pool().replace('data_block="12" ', "")),
-    no_thin(THIN + ["4000"], "t: block 12 of a device is there twice: make the dump anew of repaired metadata", pool().replace('"20" data_block="12"', '"12" data_block="12"')),
-]
-# In any layout; and what no dump has.
-POOLS += [
-    thin(THIN + ["2700"], "t,,,ro,0 1664 linear d 12800,1664 896 zero,2560 128 linear d 1536,2688 12 zero\n",
-         '<?xml version="1.0"?>\n<!-- a pool -->' + pool().replace("\n", "").replace("/>", "\n\n />").replace('data_block="12"', "data_block='&#49;2'")),
-    no_thin(THIN + ["8"], "1: not what thin_dump prints, make the dump anew of repaired metadata: <!DOCTYPE>", '<!DOCTYPE a [<!ENTITY b "bb"><!ENTITY c "&b;&b;">]>\n' + pool()),
-    no_thin(THIN + ["8"], "1: not what thin_dump prints, make the dump anew of repaired metadata: 5 blocks", pool().replace("  <def", "  5 blocks <def")),
-    no_thin(THIN + ["8"], "1:1: not what thin_dump prints, or its end is missing, make the dump anew of repaired metadata: syntax error: line 1, column 0", "no such file\n"),
-    bad("thin", THIN + ["8"], [""], "1:1: not what thin_dump prints, or its end is missing, make the dump anew of repaired metadata: no element found: line 1, column 0"),
+    no_thin(THIN + ["1664"], "1: t: a block lies past the end of its pool: give images of one time", pool(112)),
+    *(no_thin(THIN + ["8"], "%s: block %d of its metadata is damaged: %s" % (where, number, MEND), damaged(pool(), number * 4096 + 100))
+      for where, number in (("1", 0), ("t", 1), ("1", 3))),
+    no_thin(THIN + ["8"], "1: block 3 of its metadata is past its end: " + MEND, pool()[:4 * 4096 - 512]),
+    no_thin(THIN + ["8"], "1: block 0 of its metadata is past its end: " + MEND, "<superblock>\n"),
     wrong("thin", THIN + ["8", "--cache", "c"], pool(), "give --data and --device, or --cache, --origin, --name and --sectors"),
     wrong("thin", ["--data", "d"], pool(), "give --data and --device, or --cache, --origin, --name and --sectors"),
 ]
-# Lists of blocks that refer to others.
-FIRST_LIST = '<def name="3">\n    <range_mapping origin_begin="30" data_begin="40" length="2" time="0"/>\n  </def>\n'
-NESTED = FIRST_LIST + '  <def name="4">\n    <single_mapping origin_block="21" data_block="14" time="0"/>\n    <ref name="3"/>\n  </def>\n  <def name="5">\n  </def>\n'
-WITH_NESTED = pool().replace(FIRST_LIST, NESTED)
-POOLS += [
-    thin(["--data", "d"] + TWO, "u,,,ro,0 2560 zero,2560 256 linear d 1664,2816 1024 zero,3840 60 linear d 5120\n",
-         WITH_NESTED.replace('3"/>\n    <single_mapping origin_block="20" data_block="13"', '4"/>\n    <ref name="5"/>\n    <ref name="5"/>\n'
-                             '    <single_mapping origin_block="20" data_block="13"').replace('mapped_blocks="3"', 'mapped_blocks="4"')),
-    no_thin(["--data", "d"] + TWO, "1: a list of blocks is in a device twice, make the dump anew of repaired metadata: </device>",
-            WITH_NESTED.replace('<ref name="3"/>\n    <single_mapping origin_block="20"', '<ref name="3"/>\n    <ref name="4"/>\n    <single_mapping origin_block="20"')),
-    no_thin(THIN + ["8"], "1: no list of this name comes before it, make the dump anew of repaired metadata: <ref name=\"6\">", pool().replace('<ref name="3"/>', '<ref name="6"/>')),
-    no_thin(THIN + ["8"], "1: no list of this name comes before it, make the dump anew of repaired metadata: <ref name=\"4\">", WITH_NESTED.replace('    <range_mapping origin_begin="30"', '    <ref name="4"/>\n    <range_mapping origin_begin="30"')),
-    no_thin(THIN + ["8"], "1: a list of this name is there already, make the dump anew of repaired metadata: <def name=\"3\">", WITH_NESTED.replace('<def name="4">', '<def name="3">')),
-]
 
-CACHE = """\
-<superblock uuid="" block_size="128" nr_cache_blocks="%s" policy="smq" hint_width="4">
-  <mappings>
-    <mapping cache_block="0" origin_block="3" dirty="true"/>
-    <mapping cache_block="1" origin_block="4" dirty="true"/>
-    <mapping cache_block="2" origin_block="5" dirty="false"/>
-    <mapping cache_block="9" origin_block="0" dirty="true"/>
-  </mappings>
-  <hints>
-    <hint cache_block="0" data="AAAAAA=="/>
-  </hints>
-</superblock>
-"""
 CACHED = ["--cache", "c", "--origin", "o", "--name", "d", "--sectors"]
+# The blocks of the origin that lie in the first three blocks of a cache and in the tenth, all but one of which are dirty.
+MAPPED = [3 << 16 | 3, 4 << 16 | 3, 5 << 16 | 1, *[0] * 6, 3]
+CACHE = models.cache_metadata(128, MAPPED + [0] * 54)
 CACHES = [
-    good("thin", CACHED + ["1000"], [CACHE % 64], "d,,,ro,0 128 linear c 1152,128 256 linear o 128,384 256 linear c 0,640 360 linear o 640\n"),
-    good("thin", CACHED + ["700", "--all"], [CACHE % 64], "d,,,ro,0 128 linear c 1152,128 256 linear o 128,384 316 linear c 0\n"),
-    wrong("thin", CACHED + ["1125899906842625"], CACHE % 64, "--sectors: give from 1 to 2^50 sectors, and not 1125899906842625"),
-    good("thin", CACHED + ["400", "--part", "0", "1"], [CACHE % 64], "d,,,ro,0 128 linear c 1152,128 272 error\n"),
-    bad("thin", CACHED + ["1000"], [CACHE % 9], "1: past the end of the cache, of 9 blocks, make the dump anew of repaired metadata: <mapping cache_block=\"9\" origin_block=\"0\" dirty=\"true\">"),
-    bad("thin", CACHED + ["1000"], [(CACHE % 64).replace('origin_block="4"', 'origin_block="3"')], "1: block 3 of the origin is there twice: make the dump anew of repaired metadata"),
-    bad("thin", CACHED + ["1000"], [(CACHE % 64).replace('cache_block="1"', 'cache_block="0"')], "1: block 0 of the cache is there twice: make the dump anew of repaired metadata"),
-    bad("thin", CACHED + ["1000"], [(CACHE % 64).replace('cache_block="2"', 'cache_block="0"')], "1: block 0 of the cache is there twice: make the dump anew of repaired metadata"),
-    bad("thin", CACHED + ["1000"], [(CACHE % 64).replace('origin_block="5"', 'origin_block="4"')], "1: block 4 of the origin is there twice: make the dump anew of repaired metadata"),
-    bad("thin", CACHED + ["1000"], [(CACHE % 64).replace('dirty="false"', 'dirty="True"')],
-        "1: `dirty` is neither true nor false, make the dump anew of repaired metadata: <mapping cache_block=\"2\" origin_block=\"5\" dirty=\"True\">"),
-    bad("thin", CACHED + ["1000", "--all"], [(CACHE % 64).replace(' dirty="false"', '')],
-        "1: `dirty` is neither true nor false, make the dump anew of repaired metadata: <mapping cache_block=\"2\" origin_block=\"5\">"),
-    bad("thin", CACHED + ["1000"], ["<superblock block_size=\"0\" nr_cache_blocks=\"1\">\n"],
-        "1: blocks of no sectors, make the dump anew of repaired metadata: <superblock block_size=\"0\" nr_cache_blocks=\"1\">"),
-    bad("thin", CACHED + ["1000"], ["<superblock block_size=\"1\" nr_cache_blocks=\"1\">\n"], "1:2: not what cache_dump prints, or its end is missing, make the dump anew of repaired metadata: no element found: line 2, column 0"),
-    bad("thin", CACHED + ["1000"], [(CACHE % 64).replace("hints", "nothing")], "1: an element that isn't known, make the dump anew of repaired metadata: <nothing>"),
-    wrong("thin", ["--cache", "c", "--origin", "o", "--name", "d"], CACHE % 64, "give --data and --device, or --cache, --origin, --name and --sectors"),
-    bad("thin", ["--cache", "c", "--origin", "o;", "--name", "d", "--sectors", "8"], [CACHE % 64], "--origin: no name of a disk, give one without spaces, commas and semicolons: 'o;'"),
+    good("thin", CACHED + ["1000"], [CACHE], "d,,,ro,0 128 linear c 1152,128 256 linear o 128,384 384 linear c 0,768 232 linear o 768\n"),
+    good("thin", CACHED + ["700"], [CACHE], "d,,,ro,0 128 linear c 1152,128 256 linear o 128,384 316 linear c 0\n"),
+    wrong("thin", CACHED + ["1125899906842625"], CACHE, "--sectors: give from 1 to 2^50 sectors, and not 1125899906842625"),
+    good("thin", CACHED + ["1000", "--part", "0", "1"], [CACHE], "d,,,ro,0 128 linear c 1152,128 872 error\n"),
+    *(bad("thin", CACHED + [length], [models.cache_metadata(128, mapped)], "d: the cache's metadata maps a block twice, or one that isn't there: run cache_check on a "
+          "copy of it") for length, mapped in (("640", MAPPED), ("1000", MAPPED[:2] * 2))),
+    bad("thin", CACHED + ["1000"], [damaged(CACHE, 8192 + 100)], "1: block 2 of its metadata is damaged: " + MEND),
+    bad("thin", CACHED + ["1000"], [models.cache_metadata(0, MAPPED)], "1: it has no superblock of a cache that is followed: run cache_check on a copy of it"),
+    wrong("thin", ["--cache", "c", "--origin", "o", "--name", "d"], CACHE, "give --data and --device, or --cache, --origin, --name and --sectors"),
+    bad("thin", ["--cache", "c", "--origin", "o;", "--name", "d", "--sectors", "8"], [CACHE], "--origin: no name of a disk, give one without spaces, commas and semicolons: 'o;'"),
 ]
 
 CHUNKS = """\

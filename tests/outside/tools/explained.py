@@ -45,6 +45,15 @@ class Explain:
         requests = "".join(it + "\n" for it in words if REQUEST.match(it)) or given
         return self._program.run(typed, given=requests, folder=self.folder)
 
+    def put(self, files):
+        """Makes files of a row."""
+        for name, content in files.items():
+            self._program.file("explained/" + name, content)
+
+    def help(self, message):
+        """What its help says of a message."""
+        return self._program.run(["help", "dmremap: " + message]).out.decode()
+
 
 def make_folder(program, top):
     """A folder with the files of the rows."""
@@ -59,52 +68,60 @@ def make_folder(program, top):
     with open(os.path.join(folder, "vg0.backup"), "rb") as it:
         content = it.read()
     program.file("explained/vg0.backup.gz", gzip.compress(content))
-    program.file("explained/wide.table", "a: 0 8 linear /dev/sda1 0\n".encode("utf-16"))
-    program.file("explained/raid.backup", content.replace(b'"striped"', b'"raid1"', 1))
     for name, (was, now) in explained_rows.CHANGED.items():
         program.file("explained/" + name, content.replace(was, now, 1))
     program.file("explained/cut.backup", content[:content.index(b"lv0")])
     return folder
 
 
-def check_mistakes(tally, explain, top):
-    """Each of the likely mistakes leads to its remedy, and to the row of the document."""
+def check_refusals(tally, explain, top):
+    """What is said of each refusal, what is marked, and the remedy; and that a row stands for each row of the document."""
     with open(os.path.join(top, "docs", "RECIPES.md"), encoding="utf-8") as it:
-        rows = {cause: (symptom, command) for symptom, cause, command in ROW.findall(it.read())}
-    tally.holds("the mistakes in the document", len(rows) > 10, "there are %d" % len(rows))
-    lost = set(rows) - {it[0] for it in explained_rows.MISTAKES}
-    tally.holds("rows of the document that are run", not lost, "not these: %s" % lost)
-    before = ""
-    for cause, words, given, remedy in explained_rows.MISTAKES:
-        got, said = explain.run(words, given), explain.said(words, given)
-        out = got.out.decode()
-        tally.holds("the remedy of %s" % cause, got.status == 0 and "  %s\n" % remedy in out, "status %s, %r, %r" % (got.status, got.err, out))
-        message = said.err.decode().split("\n")[0]
-        is_own = message.startswith("dmremap: ")
-        tally.holds("the message of %s" % cause, not is_own or out.startswith(message + "\n"), "%r isn't first in %r" % (message, out))
-        if cause in rows:
-            symptom, command = rows[cause]
-            shown = CODE.search(command)
-            command = before if command == "the same" else shown[1] or shown[2]
-            tally.holds("the row of %s" % cause, message == "dmremap: " + symptom and command in out, "%r, %r, %r" % (message, command, out))
-            before = command
+        shown = {(symptom, next(filter(None, CODE.search(command).groups()))) for symptom, _, command in ROW.findall(it.read())}
+    tally.holds("the mistakes in the document", len(shown) > 6, "they are %s" % shown)
+    words = set()
+    for row in explained_rows.rows():
+        explain.put(row.files)
+        got, said = explain.run(row.words, row.given), explain.said(row.words, row.given).err.decode()
+        first, *others = got.out.decode().splitlines()
+        found = marked_by(others), "".join(remedy_of(others).splitlines()[-1:]), why_of(others)
+        why = row.why.splitlines() if row.why else help_rows(explain, row.message) if row.why == "" else found[2]
+        is_first = row.message is None or row.message in first and (first in said.splitlines() or not said)
+        tally.holds("%s by %s" % (row.message, row), got.status == 0 and is_first and found == (row.marked, row.remedy, why),
+                    "dmremap says %r, and explain %s, %s" % (said, got.out.decode(), got.err))
+        words.add(re.sub(r"^request \d+: | at \d+$|^(source|disks|name|before): ", "", row.message or ""))
+        shown -= {it for it in shown if first == "dmremap: " + it[0] and it[1].replace("FILE", row.words[2]) in row.remedy}
+    tally.holds("rows of the document that are run", not shown, "not these: %s" % shown)
+    tally.holds("words with causes", explained_rows.WORDS <= words, "without: %s" % (explained_rows.WORDS - words))
 
 
-def check_words(tally, explain):
-    """Causes of each word of a message: what is said of them, and where."""
-    found = {}
-    for message, words, given, wanted in explained_rows.CAUSES:
-        got, said = explain.run(words, given), explain.said(words, given)
-        out, first = got.out.decode(), said.err.decode().rstrip("\n")
-        lost = [it for it in wanted if it not in out]
-        is_so = got.status == 0 and first == "dmremap: " + message and out.startswith(first + "\n") and not lost
-        tally.holds("%s by %s" % (message, words), is_so, "dmremap says %r; without %r, status %s: %s%s" % (first, lost, got.status, out, got.err.decode()))
-        word = re.sub(r"^request \d+: |^before: | at \d+$|^(source|disks|name): ", "", message)
-        found.setdefault(("request" if "request" in message else "name" if message.startswith("name") else "text", word), set()).add(tuple(words))
-    single = sorted(str(it) for it, causes in found.items() if len(causes) < 2 and it not in explained_rows.ONE_CAUSE)
-    tally.holds("words with two causes", not single, "with one: %s" % ", ".join(single))
-    lost = explained_rows.WORDS - set(found)
-    tally.holds("words with causes", not lost, "without: %s" % sorted(lost))
+def why_of(rows):
+    """The lines of an explanation that say why."""
+    return [it[5:] for it in part_of(rows, "why: ")]
+
+
+def remedy_of(rows):
+    """Its commands."""
+    return "\n".join(it[7:] for it in part_of(rows, "do:  "))
+
+
+def part_of(rows, lead):
+    """The lines from the one that begins with a lead on, as far as they are indented as it is."""
+    first = next((at for at, it in enumerate(rows) if it.startswith(lead)), len(rows))
+    return [rows[at] for at in range(first, len(rows)) if all(it.startswith("     ") for it in rows[first + 1:at + 1])]
+
+
+def marked_by(rows):
+    """What is underlined of a line, or None."""
+    mark = rows[2] if len(rows) > 2 and re.fullmatch(r" +\^+", rows[2]) else ""
+    return rows[1][mark.index("^"):len(mark)] if mark else None
+
+
+def help_rows(explain, message):
+    """What dmremap's help has below the form of a message."""
+    form = re.sub(r" at \d+$", " at (NUMBER|N|LINE)", re.sub(r"^request \d+", "request N", message))
+    entries = explain.help(message).split("\n\n")
+    return [row.strip() for it in entries if re.search("(?m)^dmremap: %s$" % form, it) for row in it.splitlines() if row.startswith(" ")]
 
 
 def check_ways(tally, explain):
@@ -208,8 +225,8 @@ def check_stores(tally, explain, program):
     got = explain.run(["--paths", "paths", *words])
     wanted = b"chunk 1001, taken\n", b"chunk 1000, not taken yet\n"
     tally.holds("ways from a store", got.status == 0 and not got.err and all(it in got.out for it in wanted), "status %s, %r, %r" % (got.status, got.err, got.out))
-    for listed, why in (("", "A part of its header or of its list lies on a disk that PATHS doesn't name.\n     Add the disk."),
-                        ("/dev/sda1 none\n", "can't be opened or read"), ("/dev/sdb sda1.img\n", "The stack has no disk of that name")):
+    for listed, why in (("", "A part of the store lies on a disk that PATHS doesn't name. Add the disk."),
+                        ("/dev/sda1 tables\n", "can't be opened or read"), ("/dev/sdb sda1.img\n", "The stack has no disk of that name")):
         program.file("explained/paths", listed)
         got = explain.run(["--paths", "paths", *words])
         tally.holds("a store by the paths %r" % listed, got.status == 0 and why in got.out.decode(), "status %s, %r, %r" % (got.status, got.err, got.out))
@@ -244,7 +261,7 @@ def check_ends(tally, explain, program):
 
 
 class Explained(Case, checks=[
-    check_mistakes, check_words, check_ways, check_causes, check_json, check_stacks, check_stores, check_ends,
+    check_refusals, check_ways, check_causes, check_json, check_stacks, check_stores, check_ends,
 ]):
     """Refusals and answers that are explained."""
 

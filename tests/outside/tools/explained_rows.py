@@ -1,201 +1,152 @@
-"""Rows for dmremap-tools explain: likely mistakes with their remedies, causes of each word of a message, ways, and errors."""
+"""Rows for dmremap-tools explain: refusals with the part of a line that is marked, and the remedy; paths of requests; and errors."""
 
-LIST = 'for it in /dev/sda1; do echo "$it $(blockdev --getsz "$it")"; done > disks'
+from collections import namedtuple
+
+LIST = '{ echo /dev/sda1 "$(blockdev --getsz /dev/sda1)"; } > disks'
 MACHINE = "dmremap-tools machine --disks disks ls.txt status.txt lsblk.txt concise.txt > tables"
-VG0 = "map", "lvm", "vg0.backup"
+GROUP, COPY, OTHER = "vgcfgbackup -f GROUP.backup GROUP", "dmremap-tools lvm2-text %s > %s.mended", "dmremap-tools metadata DISK > vg.backup"
+TABLES, COMPARE, TREE, END = "dmsetup table > tables", "dmsetup table a", "dmsetup ls --tree", "echo >> %s"
+NAMES, TAKE, LVM = "dmremap table lvm vg0.backup | cut -d: -f1 | uniq", "dmremap map table tables %s", "dmremap map lvm vg0.backup"
 TABLE = "a: 0 8 linear /dev/sda1 0\n"
 DEEP = "".join("d%d: 0 8 linear %s 0\n" % (it, "/dev/mapper/d%d" % (it + 1) if it < 33 else "/dev/sda1") for it in range(34))
 # The files of the rows.
 FILES = {
-    "tables": TABLE, "disks": "/dev/sda1 100\n", "one": "0 8 linear /dev/sda1 0\n", "dos": TABLE.replace("\n", "\r\n"),
-    "numbers": "vg0-lv0: 0 8 linear 8:1 2048\n", "short": "sda1 100\n", "status": "a: 0 8 linear \n", "report": '{\n  "report": [\n',
-    "stripes": "a: 0 8 striped\n",
-    "empty": "", "none": "No devices found\n", "ls": "vg0-lv0\t(253:0)\n", "lvs": "  LV   VG  Attr       LSize\n  lv0  vg0 -wi-a----- 1g\n",
-    "requests": "R a 0 8\n", "lv.requests": "R vg0-lv0 0 8\n", "raid.table": "a: 0 8 raid raid1 1 8 1 - -\n", "raid.concise": "a,,0,rw,0 8 raid raid1 1\n", "long": "#" * (1 << 20) + "\n\n",
-    "long.table": TABLE, "tab": "a:\t0 8 zero\n", "letter": "\u00e4: 0 8 zero\n", "comment": "# mine\n" + TABLE, "blank": TABLE + "\n" + TABLE,
-    "double": "a: 0 8  zero\n", "unended": "a: 0 8 zero\nb: 0 8 zero", "few": "a: 0 8\n", "alone": TABLE + "b: \n", "unit": "a: 0 8G zero\n", "sign": "a: -1 8 zero\n",
-    "zeros": "a: 00 8 zero\n", "typing": "a: 0 8 liner /dev/sda1 0\n", "bad.name": "a!: 0 8 zero\n", "bad.disk": "a: 0 8 linear sd,a 0\n",
-    "twice": "a: 0 8 zero\nb: 0 8 zero\na: 8 8 zero\n", "no.sectors": "a: 0 0 zero\n", "gap": "a: 0 8 zero\na: 9 8 zero\n", "late": "a: 8 8 zero\n",
-    "overlap": "a: 0 8 zero\na: 4 8 zero\n", "again": "a: 0 8 zero\na: 0 8 zero\n", "near": "a: 0 8 linear /dev/sda2 0\n",
-    "lost": "vg0-lv0: 0 8 linear /dev/mapper/vg0-lv1_real 0\nvg0-lv1-real: 0 8 zero\n", "lower": "a: 0 8 linear b 0\nb: 0 8 zero\n",
-    "self": "a: 0 8 linear /dev/mapper/a 0\n", "round": "a: 0 8 linear /dev/mapper/b 0\nb: 0 8 linear /dev/mapper/a 0\n", "deep": DEEP,
-    "deeper": DEEP.replace("linear", "striped 1 8"), "stripe": "a: 0 9 striped 2 8 /dev/sda1 0 /dev/sda1 50\n", "columns": "a: 0 8 striped 0 8\n",
-    "chunk0": "a: 0 8 striped 1 0 /dev/sda1 0\n", "range": "a: 0 8 linear /dev/sda1 96\n", "range.lower": "a: 0 16 linear /dev/mapper/b 0\nb: 0 8 zero\n",
-    "snap.chunk": "s: 0 8 snapshot /dev/sda1 cow P 3\n", "snap.long": "s: 0 200 snapshot /dev/sda1 cow P 8\n", "snap.disks": "/dev/sda1 100\ncow 64\n",
-    "store": "s: 0 100 snapshot /dev/sda1 /dev/mapper/z P 8\nz: 0 64 zero\n", "store.error": "s: 0 100 snapshot /dev/sda1 /dev/mapper/z P 8\nz: 0 64 error\n",
-    "wide": "a: 0 1125899906842625 zero\n", "places": "s: 0 100 snapshot /dev/sda1 cow P 1\n", "places.disks": "/dev/sda1 100\ncow 8388608\n",
-    "commas": "a,,0,rw\n", "semicolon": "a,,,rw,0 8 zero;\n", "newline": "a,,,rw,0 8 zero;\nb,,,rw,0 8 zero\n", "flags": "a,,0,rx,0 8 zero\n",
-    "disks.unit": "/dev/sda1 100G\n", "disks.hex": "/dev/sda1 0x10\n", "disks.three": "/dev/sda1 100 8:1\n", "disks.mapper": "/dev/mapper/a 8\n",
-    "disks.name": "sd,a 8\n", "disks.twice": "/dev/sda1 100\nb 8\n/dev/sda1 100\n", "disks.twins": "/dev/sda1 1\n/dev/sda1 100\n", "disks.none": "/dev/sda1 0\n",
-    "disks.zero": "b 8\n/dev/sda1 0\n", "disks.dos": "/dev/sda1 100\r\n", "disks.tab": "/dev/sda1\t100\n", "disks.unended": "/dev/sda1 100", "folder/file": "",
+    "tables": TABLE, "disks": "/dev/sda1 100\n", "folder/file": "", "requests": "R a 0 8\n", "lv.requests": "R vg0-lv0 0 8\n",
     "before.bad": "R a 0 8\nR b 0 8\n", "before.form": "R a 0\n", "stack": "a: 0 8 linear /dev/mapper/b 0\nb: 0 8 linear /dev/sda1 0\n",
-    "chunks.table": "s: 0 40000 snapshot base cow P 1\n", "chunks.disks": "base 40000\ncow 90000\n", "esc.table": "\x1b[2J: 0 8 zero\n",
+    "lost.paths": "/dev/sda1 disk2.img\n", "disk1.img": bytes(4096), "long.table": TABLE, "esc.table": "\x1b[2J: 0 8 zero\n",
+    "chunks.table": "s: 0 40000 snapshot base cow P 1\n", "chunks.disks": "base 40000\ncow 90000\n", "raid.table": "a: 0 8 raid raid1 1 8 1 - -\n",
     "random.disks": "sda 400\nsdb 400\ncow1 48\ncow2 64\ncow3 40\n",
     "errors": "e: 0 8 error\np: 0 32 snapshot base cow1 P 8\nk: 0 32 snapshot base cow2 K 8\nu: 0 32 snapshot /dev/mapper/x cow3 P 8\n"
               "x: 0 28 linear base 0\nx: 28 4 error\no: 0 32 snapshot-origin /dev/mapper/x\n",
     "errors.disks": "base 32\ncow1 32\ncow2 32\ncow3 64\n", "full": "W p 0 16\n", "lost.before": "W p 0 24\n", "full.k": "W k 0 16\n",
-    "lost.paths": "/dev/sda1 disk2.img\n", "disk1.img": bytes(4096), "disks.numbers": "8:1\n",
-    "images": "a: 0 8 linear disk1.img 0\n", "range.kernel": "a: 0 8 linear sda 96\n", "sda.disks": "sda 100\n", "kernel": "a: 0 8 linear sda 0\nb: 0 8 linear 8:1 0\n",
     "read-only": "a,,,rw,0 8 linear /dev/mapper/b 0;b,,,ro,0 8 linear /dev/sda1 0\n",
 }
 # Changes of vg0.backup.
 CHANGED = {
     "no.volume": (b'"pv0", 0', b'"pv9", 0'), "no.extents": (b"extent_count = 25", b"extent_count = 0"), "negative": (b"stripe_count = 1", b"stripe_count = -1"),
-    "past": (b'"pv0", 0', b'"pv0", 90000'),
-    "resized": (b"dev_size = 1050624", b"dev_size = 1048576"),
+    "past": (b'"pv0", 0', b'"pv0", 90000'), "resized": (b"dev_size = 1050624", b"dev_size = 1048576"), "raid": (b'"striped"', b'"raid1"'),
 }
 DISKS = {"sda": 400, "sdb": 400, "cow1": 48, "cow2": 64, "cow3": 40}
+# What is said of FILE, its content, perhaps with that of DISKS, what is marked, and the remedy.
+OF_FILE = [
+    ("text at 1", "a:\t0 8 zero\n", " ", "tr '\\t' ' ' < file > file.mended"), ("text at 1", "\u00e4: 0 8 zero\n", "\u00e4", ""),
+    ("text at 1", TABLE.replace("\n", "\r\n"), "\\r", "tr -d '\\r' < file > file.mended"), ("text at 1", "\ufeff" + TABLE, "\\ufeff", "tail -c +4 file > file.mended"),
+    ("syntax at 1", "# mine\n" + TABLE, "# mine", "sed '/^#/d' file > file.mended"), ("syntax at 2", TABLE + "\n" + TABLE, "", "sed '/^ *$/d' file > file.mended"),
+    ("syntax at 1", "a: 0 8  zero\n", "  ", "sed 's/^ *//; s/  */ /g' file > file.mended"), ("syntax at 2", "a: 0 8 zero\nb: 0 8 zero", "", END % "file"),
+    ("syntax at 1", "a: 0 8\n", "a: 0 8", ""), ("syntax at 2", TABLE + "b: \n", "b: ", "sed '2d' file > file.mended"),
+    ("syntax at 2", TABLE + "0 8 zero\n", "0", "sed '2s/^/NAME: /' file > file.mended"),
+    ("field at 1", "a: 0 8G zero\n", "8G", ""), ("field at 1", "a: -1 8 zero\n", "-1", ""), ("field at 1", "a: 00 8 zero\n", "00", ""),
+    ("field at 1", "a: 0 8 striped\n", "striped", TABLES), ("field at 1", "a: 0 8 linear \n", "linear", TABLES),
+    ("field at 1", "a: 0 8 striped 2 8 sda 0\n", "2 8 sda 0", COMPARE), ("field at 1", "a: 0 8 linear /dev/sda1 0k\n", "0k", ""),
+    ("field at 1", "a: 0 8 snapshot sda cow PO 8\n", "PO", ""), ("field at 1", "a: 0 8 snapshot sda cow P 8 1 x\n", "1 x", COMPARE),
+    ("field at 1", "a: 0 8 liner /dev/sda1 0\n", "liner", MACHINE), ("field at 1", "a: 0 8 raid raid1 1 8 1 - -\n", "raid", MACHINE),
+    ("name at 1", "a!: 0 8 zero\n", "a!", ""), ("name at 1", "a: 0 8 linear sd,a 0\n", "sd,a", ""), ("name at 1", "a: 0 8 linear /dev/mapper/b! 0\n", "/dev/mapper/b!", ""),
+    ("twice at 3", "a: 0 8 zero\nb: 0 8 zero\na: 8 8 zero\n", "a", COMPARE), ("empty at 1", "a: 0 0 zero\n", "0", COMPARE),
+    ("gap at 2", "a: 0 8 zero\na: 9 8 zero\n", "9", COMPARE), ("gap at 1", "a: 8 8 zero\n", "8", COMPARE),
+    ("overlap at 2", "a: 0 8 zero\na: 4 8 zero\n", "4", COMPARE), ("overlap at 2", "a: 0 8 zero\na: 0 8 zero\n", "0", COMPARE),
+    ("unknown at 1", "a: 0 8 linear /dev/sda2 0\n", "/dev/sda2", LIST.replace("sda1", "sda2")), ("unknown at 1", "a: 0 8 linear b 0\nb: 0 8 zero\n", "b", TREE),
+    ("unknown at 1", "a: 0 8 linear /dev/mapper/vg0-lv1_real 0\n", "/dev/mapper/vg0-lv1_real", TREE), ("unknown at 1", "vg0-lv0: 0 8 linear 8:1 2048\n", "8:1", MACHINE),
+    ("unknown at 1", (TABLE, "sda1 100\n"), "/dev/sda1", LIST), ("cycle at 1", "a: 0 8 linear /dev/mapper/a 0\n", "a: 0 8 linear /dev/mapper/a 0", TREE),
+    ("deep at 1", DEEP, "d0: 0 8 linear /dev/mapper/d1 0", ""), ("stripe at 1", "a: 0 8 striped 0 8\n", "0", COMPARE),
+    ("stripe at 1", "a: 0 9 striped 2 8 /dev/sda1 0 /dev/sda1 50\n", "9", COMPARE), ("stripe at 1", "a: 0 8 striped 1 0 /dev/sda1 0\n", "0", COMPARE),
+    ("range at 1", "a: 0 8 linear /dev/sda1 96\n", "/dev/sda1 96", "blockdev --getsz /dev/sda1"),
+    ("range at 1", "a: 0 16 linear /dev/mapper/b 0\nb: 0 8 zero\n", "/dev/mapper/b 0", "dmsetup table b"),
+    ("snapshot at 1", ("s: 0 8 snapshot /dev/sda1 cow P 3\n", "/dev/sda1 100\ncow 64\n"), "s: 0 8 snapshot /dev/sda1 cow P 3", ""),
+    ("store at 1", "s: 0 100 snapshot /dev/sda1 /dev/mapper/z P 8\nz: 0 64 zero\n", "s: 0 100 snapshot /dev/sda1 /dev/mapper/z P 8", ""),
+    ("limit at 1", "a: 0 1125899906842625 zero\n", "a: 0 1125899906842625 zero", ""), ("long", "#" * (1 << 20) + "\n\n", None, ""),
+]
+# The same of concise text.
+OF_CONCISE = [
+    ("syntax at 1", "a,,0,rw\n", "a,,0,rw", ""), ("syntax at 2", "a,,,rw,0 8 zero;\n", "", ""), ("field at 1", "a,,0,rw,0 8 raid raid1 1\n", "raid", MACHINE),
+    ("syntax at 2", "a,,,rw,0 8 zero;\nb,,,rw,0 8 zero\n", "\\nb,,,rw,0 8 zero", "tr -d '\\n' < file > file.mended"),
+    ("unknown at 2", "b,,,rw,0 8 zero;a,,,rw,0 8 zero,8 8 linear sda 0\n", "sda", LIST.replace("/dev/sda1", "sda", 1).replace("sda1", "sda")),
+]
+# The same of DISKS.
+OF_DISKS = [
+    ("text at 1", "/dev/sda1 100\r\n", "\\r", "tr -d '\\r' < list > list.mended"), ("syntax at 1", "/dev/sda1 100 8:1\n", "/dev/sda1 100 8:1", LIST),
+    ("syntax at 1", "/dev/sda1 100", "", END % "list"), ("field at 1", "/dev/sda1 100G\n", "100G", LIST), ("field at 1", "/dev/sda1 0x10\n", "0x10", LIST),
+    ("name at 1", "/dev/mapper/a 8\n", "/dev/mapper/a", ""), ("name at 1", "sd,a 8\n", "sd,a", ""), ("empty at 1", "/dev/sda1 0\n", "/dev/sda1 0", LIST),
+    ("twice at 3", "/dev/sda1 100\nb 8\n/dev/sda1 100\n", "/dev/sda1", LIST), ("long", "#" * (1 << 20) + "\n\n", None, ""),
+]
+# The same of metadata, by the name of its file.
+OF_GROUP = [
+    ("field at 20", "raid", 'type = "raid1"', COPY), ("syntax at 32", "vgm.backup", "read_ahead = -1 # None", COPY), ("extents at 6", "resized", "pv0 {", COPY),
+    ("extents at 17", "past", "segment1 {", OTHER), ("extents at 17", "no.extents", "segment1 {", OTHER), ("unknown at 17", "no.volume", "segment1 {", OTHER),
+    ("syntax at 21", "negative", "stripe_count = -1", OTHER), ("syntax at 14", "cut.backup", "", OTHER),
+]
+# The same of requests for vg0.backup.
+OF_REQUESTS = [
+    ("request 1: form", "r vg0-lv0 0 8\n", "r", "R vg0-lv0 0 8"), ("request 1: form", "R /dev/vg0/lv0 0 8\n", "/dev/vg0/lv0", "R vg0-lv0 0 8"),
+    ("request 1: form", "R vg0/lv0 0 8\n", "vg0/lv0", "R vg0-lv0 0 8"), ("request 1: form", "R  vg0-lv0 0 8\n", "R  vg0-lv0 0 8", "R vg0-lv0 0 8"),
+    ("request 1: form", "R vg0-lv0, 0, 8\n", "vg0-lv0,", "R vg0-lv0 0 8"),
+    ("request 1: form", "R vg0-lv0 0\n", "R vg0-lv0 0", ""), ("request 2: form", "R vg0-lv0 0 8\n\n", "", "grep '^[RW] ' REQUESTS > REQUESTS.mended"),
+    ("request 1: number", "R vg0-lv0 0 8k\n", "8k", ""), ("request 1: number", "R vg0-lv0 0 8\r\n", "8\\r", "tr -d '\\r' < REQUESTS > REQUESTS.mended"),
+    ("request 1: length", "R vg0-lv0 0 0\n", "0", ""), ("request 1: length", "R vg0-lv0 0 1048577\n", "1048577", "dmremap-tools cut < REQUESTS > REQUESTS.mended"),
+    ("request 1: unknown", "R lv0 0 8\n", "lv0", NAMES), ("request 1: long", "R " + "a" * 5000 + " 0 8\n", "R " + "a" * 88, ""),
+    ("request 2: unended", "R vg0-lv0 0 8\nR vg0", "R vg0", END % "REQUESTS"),
+]
+# A first line, words, what is marked, the remedy, and what is said in place of the help.
+OF_WORDS = [
+    ("source: read", "map table nowhere/tables disks", None, "", "nowhere/tables can't be read: No such file or directory (ENOENT)"),
+    ("source: read", "map table folder disks", None, "", "folder can't be read: Is a directory (EISDIR)"),
+    ("before: read", "map table tables disks --before nothing", None, "", "nothing can't be read: No such file or directory (ENOENT)"),
+    ("before: unknown at 2", "map table tables disks --before before.bad", "b", "dmremap table table tables disks | cut -d: -f1 | uniq", ""),
+    ("before: form at 1", "map table tables disks --before before.form", "R a 0", "", ""),
+    ("store vg0-snap: read", "map lvm vg0-snapshot.backup --paths lost.paths", None, "",
+     "the disk /dev/sda1: disk2.img can't be read: No such file or directory (ENOENT)"),
+    ("words: disks", "map table tables", None, LIST, ""), ("words: disks", "map lvm vg0.backup disks", None, LVM, ""),
+    ("words: disks", "map lvm vg0.backup lv.requests", None, LVM + " < lv.requests", ""),
+    ("words: disks", "map table vg0.backup", None, LVM, "vg0.backup is the metadata of a group"),
+    ("source: syntax at 1", "map table disks tables", None, TAKE % "disks", "disks is a list of disks"),
+    ("source: syntax at 1", "map table vg0.backup disks", None, LVM, "vg0.backup is the metadata of a group"),
+    ("source: syntax at 1", "map lvm tables", None, TAKE % "DISKS", "tables is table text"),
+    ("source: text at 1", "map lvm vg0.backup.gz", None, "gzip -dc vg0.backup.gz > vg0.backup.gz.mended", "vg0.backup.gz is compressed by gzip"),
+    ("source: text at 1", "map lvm image", None, "dmremap-tools metadata image > image.mended", "image is the image of a disk or another binary file"),
+    ("source: field at 1", "map lvm folder/file", None, "", "folder/file is empty"),
+    ("disks: syntax at 1", "map table tables requests", None, TAKE % "DISKS < requests", "requests is a list of requests"),
+    ("disks: syntax at 1", "map table tables lsblk.txt", None, LIST, "lsblk.txt is what `lsblk` prints"),
+    ("request 1: not top", "replay table stack disks R_b_0_8", "b", "dmremap map table stack disks", ""),
+    ("name: letter", "name /dev/vg0/lv0 x", None, "", ""), ("name: split", "splitname home", None, "", ""),
+    ("error: invalid value 'vg0.backup' for '<FORMAT>'", "map vg0.backup lvm", None, LVM, "[possible values: lvm, concise, table, images]"),
+    ("error: unrecognized subcommand 'lvm'", "lvm vg0.backup", None, LVM, None), ("error: unrecognized subcommand 'mpa'", "mpa lvm nothing", None, "", None),
+    ("error: unexpected argument 'requests' found", "map table tables disks requests", None, TAKE % "disks < requests", None),
+    ("nothing is refused", "map table tables disks", None, "dmremap-tools explain map table tables disks 'R a 0 8'", None),
+]
+# Contents of FILE that are no tables, what they are, and the remedy.
+OF_KINDS = [
+    ("0 8 linear /dev/sda1 0\n", "table text without names", "sed 's/^/NAME: /' file > file.mended"), ('{\n  "report": [\n', "JSON", GROUP),
+    (TABLE.encode("utf-16"), "UTF-16", "iconv -f UTF-16 -t UTF-8 file > file.mended"), ("No devices found\n", "what dmsetup prints of no device", TABLES),
+    ("vg0-lv0\t(253:0)\n", "what `dmsetup ls` prints", TABLES), ("  LV   VG  Attr       LSize\n  lv0  vg0 -wi-a----- 1g\n", "what `lvs`, `vgs` or `pvs` prints", GROUP),
+]
+# FILE that names disks in other ways, and the remedy where DISKS isn't one.
+OF_LISTS = [("a: 0 8 linear disk1.img 0\n", '{ echo disk1.img "$(expr $(stat -Lc %s disk1.img) / 512)"; } > disks'),
+            ("a: 0 8 linear sda 0\n", LIST.replace("/dev/sda1", "sda", 1).replace("sda1", "sda")), ("a: 0 8 linear sda 0\nb: 0 8 linear 8:1 0\n", MACHINE)]
+Row = namedtuple("Row", "message words given files marked remedy why")
 
-# A cause, the words of dmremap, its requests, and a line of the remedy.
-MISTAKES = [
-    ("FORMAT and FILE swapped", ["map", "vg0.backup", "lvm"], b"", "dmremap map lvm vg0.backup"),
-    ("no FORMAT", ["map", "vg0.backup"], b"", "dmremap map lvm vg0.backup"),
-    ("the command is missing", ["lvm", "vg0.backup"], b"", "dmremap map lvm vg0.backup"),
-    ("FILE and DISKS swapped", ["map", "table", "disks", "tables"], b"", "dmremap map table tables disks"),
-    ("lines without a name", ["map", "table", "one", "disks"], b"", "sed 's/^/NAME: /' one > tables"),
-    ("FILE compressed", ["map", "lvm", "vg0.backup.gz"], b"", "gzip -dc vg0.backup.gz > vg0.backup.gz.mended"),
-    ("UTF-16", ["map", "table", "wide.table", "disks"], b"", "iconv -f UTF-16 -t UTF-8 wide.table > wide.table.mended"),
-    ("lines end in CR LF", ["map", "table", "dos", "disks"], b"", "tr -d '\\r' < dos > dos.mended"),
-    ("no DISKS", ["map", "table", "tables"], b"", LIST),
-    ("DISKS printed by `lsblk`", ["map", "table", "tables", "lsblk.txt"], b"", LIST),
-    ("DISKS with metadata", ["map", "lvm", "vg0.backup", "disks"], b"", "dmremap map lvm vg0.backup"),
-    ("numbers such as 8:1", ["map", "table", "numbers", "disks"], b"", MACHINE),
-    ("numbers, and no DISKS", ["map", "table", "numbers"], b"", MACHINE),
-    ("`sda1` in DISKS, `/dev/sda1` in FILE", ["map", "table", "tables", "short"], b"", "sed 's:^sda1 :/dev/sda1 :' short > disks.mended"),
-    ("a raid or thin volume", ["map", "lvm", "raid.backup"], b"", "dmremap-tools lvm2-text raid.backup > raid.backup.mended"),
-    ("`read_ahead = -1`", ["map", "lvm", "vgm.backup"], b"", "dmremap-tools lvm2-text vgm.backup > vgm.backup.mended"),
-    ("a wrong path", ["map", "lvm", "vg0.bakup"], b"", "vg0.backup"),
-    ("a folder", ["map", "lvm", "folder"], b"", "folder/file"),
-    ("a volume without its group", [*VG0, "R lv0 0 8"], b"", "R vg0-lv0 0 8"),
-    ("a path in a request", [*VG0, "R /dev/vg0/lv0 0 8"], b"", "R vg0-lv0 0 8"),
-    ("a volume by group and name", [*VG0, "R vg0/lv0 0 8"], b"", "R vg0-lv0 0 8"),
-    ("requests as a third word", [*VG0, "lv.requests"], b"", "dmremap map lvm vg0.backup < lv.requests"),
-    ("requests as DISKS", ["map", "table", "tables", "requests"], b"", "dmremap map table tables disks < requests"),
-    ("requests as a fourth word", ["map", "table", "tables", "disks", "requests"], b"", "dmremap map table tables disks < requests"),
-    ("an image that isn't there", ["map", "lvm", "vg0-snapshot.backup", "--paths", "lost.paths", "R vg0-snap 8000 16"], b"", "disk1.img"),
-    ("the kernel's numbers without lengths", ["map", "table", "numbers", "disks.numbers"], b"",
-     """{ echo '8:1' "$(blockdev --getsz '/dev/block/8:1')"; } > disks"""),
-    ("the kernel's names without lengths", ["map", "table", "kernel", "disks.numbers"], b"",
-     """{ echo sda "$(blockdev --getsz /dev/sda)"; echo '8:1' "$(blockdev --getsz '/dev/block/8:1')"; } > disks"""),
-    ("images without lengths", ["map", "table", "images", "disks.numbers"], b"", """{ echo disk1.img "$(expr $(stat -Lc %s disk1.img) / 512)"; } > disks"""),
-    ("a disk in a request", ["map", "table", "tables", "disks", "R sda1 0 8"], b"", "dmremap-tools owner --help"),
-    ("another format", ["map", "table", "vg0.backup", "disks"], b"", "dmremap map lvm vg0.backup"),
-    ("table text as metadata", ["map", "lvm", "tables"], b"", "dmremap map table tables DISKS"),
-    ("what dmsetup status prints", ["map", "table", "status", "disks"], b"", "dmsetup table > tables"),
-    ("JSON of lvs", ["map", "lvm", "report"], b"", "vgcfgbackup -f GROUP.backup GROUP"),
-    ("what lvs prints", ["map", "lvm", "lvs"], b"", "vgcfgbackup -f GROUP.backup GROUP"),
-    ("an image", ["map", "lvm", "image"], b"", "dmremap-tools metadata image > vg.backup"),
-    ("what dmsetup ls prints", ["map", "table", "ls", "disks"], b"", "dmsetup table > tables"),
-    ("No devices found", ["map", "table", "none", "disks"], b"", "dmsetup table > tables"),
-]
 
-TAKE = "map", "table"
-# Others, of which only the remedies are typed.
-OTHERS = [
-    ["map", "table"], ["mpa", "lvm", "vg0.backup"], ["map", "tabel", "tables", "disks"], ["map", "tables", "disks"], ["map", "table", "tables/none", "disks"],
-    ["map", "table", "tables", "disks"], ["name", "/dev/vg0/lv0", "x"], ["name", "/dev/mapper/vg0-lv0", "x"], ["name", "vg0"], ["splitname", "home"],
-    [*TAKE, "kernel", "disks"], [*TAKE, "range.kernel", "sda.disks"], ["map", "lvm", "disks", "x"], ["map", "table", "disks", "disks"], ["map", "table", "hidden.table"],
-]
-# A message of dmremap, its words, requests, and what is said.
-CAUSES = [
-    ("source: read", [*TAKE, "nowhere/tables", "disks"], b"", ["ENOENT", "there is no folder nowhere"]),
-    ("source: read", [*TAKE, "folder", "disks"], b"", ["EISDIR"]),
-    ("disks: read", [*TAKE, "tables", "dsks"], b"", ["dsks can't be read", "  disks\n"]),
-    ("source: long", [*TAKE, "long", "disks"], b"", ["1,048,576 bytes"]),
-    ("disks: long", [*TAKE, "tables", "long"], b"", ["1,048,576 bytes"]),
-    ("source: text at 1", [*TAKE, "tab", "disks"], b"", ["a tab", "tab:1\n  a: 0 8 zero\n    ^\n", "tr '\\t' ' ' < tab"]),
-    ("source: text at 1", [*TAKE, "letter", "disks"], b"", ["isn't in ASCII"]),
-    ("disks: text at 1", [*TAKE, "tables", "disks.dos"], b"", ["CR LF", "tr -d '\\r' < disks.dos"]),
-    ("source: syntax at 1", [*TAKE, "comment", "disks"], b"", ["no comments", "sed '/^#/d' comment"]),
-    ("source: syntax at 2", [*TAKE, "blank", "disks"], b"", ["the line is empty"]),
-    ("source: syntax at 1", [*TAKE, "double", "disks"], b"", ["more spaces than one", "double:1\n  a: 0 8  zero\n        ^^\n"]),
-    ("source: syntax at 2", [*TAKE, "unended", "disks"], b"", ["end with a newline", "echo >> unended"]),
-    ("source: syntax at 1", [*TAKE, "few", "disks"], b"", ["words are missing"]),
-    ("source: syntax at 2", [*TAKE, "alone", "disks"], b"", ["has no table", "sed '2d' alone"]),
-    ("source: syntax at 1", ["map", "concise", "commas", "disks"], b"", ["has 3 commas"]),
-    ("source: syntax at 2", ["map", "concise", "semicolon", "disks"], b"", ["a semicolon stands at the end"]),
-    ("source: syntax at 2", ["map", "concise", "newline", "disks"], b"", ["a newline stands within"]),
-    ("disks: syntax at 1", [*TAKE, "tables", "disks.three"], b"", ["3 words, and not two"]),
-    ("disks: syntax at 1", [*TAKE, "tables", "disks.unended"], b"", ["end with a newline"]),
-    ("source: field at 1", [*TAKE, "unit", "disks"], b"", ["no unit", "unit:1\n  a: 0 8G zero\n       ^^\n"]),
-    ("source: field at 1", [*TAKE, "sign", "disks"], b"", ["no sign"]),
-    ("source: field at 1", [*TAKE, "zeros", "disks"], b"", ["no zeros in front"]),
-    ("source: field at 1", [*TAKE, "stripes", "disks"], b"",
-     ["the arguments of striped are missing", "         ^^^^^^^\n"]),
-    ("source: field at 1", [*TAKE, "typing", "disks"], b"", ["there is no target liner", "write linear"]),
-    ("source: field at 1", [*TAKE, "raid.table", "disks"], b"", ["raid is a target that dmremap doesn't follow", "raid.table:1", "       ^^^^\n"]),
-    ("source: field at 1", ["map", "concise", "raid.concise", "disks"], b"", ["raid is a target", "raid.concise, device 1\n", "           ^^^^\n"]),
-    ("disks: field at 1", [*TAKE, "tables", "disks.unit"], b"", ["no unit", "            ^^^^\n"]),
-    ("disks: field at 1", [*TAKE, "tables", "disks.hex"], b"", ["this is 16"]),
-    ("source: name at 1", [*TAKE, "bad.name", "disks"], b"", ["'!' can't be in the name of a device"]),
-    ("source: name at 1", [*TAKE, "bad.disk", "disks"], b"", ["can't be the name of a disk", "                ^^^^\n"]),
-    ("disks: name at 1", [*TAKE, "tables", "disks.mapper"], b"", ["isn't named below /dev/mapper/"]),
-    ("disks: name at 1", [*TAKE, "tables", "disks.name"], b"", ["can't be the name of a disk"]),
-    ("source: twice at 3", [*TAKE, "twice", "disks"], b"", ["is there before, at 1", "sed -n '1p;3p' twice"]),
-    ("disks: twice at 3", [*TAKE, "tables", "disks.twice"], b"", ["before, at line 1"]),
-    ("source: empty at 1", [*TAKE, "no.sectors", "disks"], b"", ["no sectors"]),
-    ("disks: empty at 1", [*TAKE, "tables", "disks.none"], b"", ["blockdev --getsz /dev/sda1"]),
-    ("source: gap at 2", [*TAKE, "gap", "disks"], b"", ["the line before ends at 8, and this one begins after that, at 9"]),
-    ("source: gap at 1", [*TAKE, "late", "disks"], b"", ["the first line of a device begins at 0"]),
-    ("source: overlap at 2", [*TAKE, "overlap", "disks"], b"", ["ends at 8, and this one begins before that, at 4"]),
-    ("source: overlap at 2", [*TAKE, "again", "disks"], b"", ["begins before that, at 0"]),
-    ("source: unknown at 1", [*TAKE, "near", "disks"], b"", ["near are: /dev/sda1", "near:1\n  a: 0 8 linear /dev/sda2 0\n                ^^^^^^^^^\n"]),
-    ("source: unknown at 1", [*TAKE, "lost", "disks"], b"", ["near are: vg0-lv1-real"]),
-    ("source: unknown at 1", [*TAKE, "lower", "disks"], b"", ["write /dev/mapper/b"]),
-    ("source: cycle at 1", [*TAKE, "self", "disks"], b"", ["a lies on a"]),
-    ("source: cycle at 1", [*TAKE, "round", "disks"], b"", ["a lies on b lies on a"]),
-    ("source: deep at 1", [*TAKE, "deep", "disks"], b"", ["more than 32 deep"]),
-    ("source: deep at 1", [*TAKE, "deeper", "disks"], b"", ["map in two runs"]),
-    ("source: stripe at 1", [*TAKE, "stripe", "disks"], b"", ["9, is no multiple of 2 columns of chunks of 8"]),
-    ("source: stripe at 1", [*TAKE, "columns", "disks"], b"", ["1 to 128 columns"]),
-    ("source: stripe at 1", [*TAKE, "chunk0", "disks"], b"", ["a chunk has 1 to"]),
-    ("source: range at 1", [*TAKE, "range", "disks"], b"", ["to sector 104 of /dev/sda1, which ends at 100", "                ^^^^^^^^^^^^\n"]),
-    ("source: range at 1", [*TAKE, "range.lower", "disks"], b"", ["to sector 16 of /dev/mapper/b, which ends at 8"]),
-    ("source: snapshot at 1", [*TAKE, "snap.chunk", "snap.disks"], b"", ["a kernel refuses this chunk"]),
-    ("source: snapshot at 1", [*TAKE, "snap.long", "snap.disks"], b"", ["longer than its origin"]),
-    ("source: store at 1", [*TAKE, "store", "disks"], b"", ["a store of zeros"]),
-    ("source: store at 1", [*TAKE, "store.error", "disks"], b"", ["put a disk in the place of what is lost"]),
-    ("source: limit at 1", [*TAKE, "wide", "disks"], b"", ["too large"]),
-    ("source: limit at 1", [*TAKE, "places", "places.disks"], b"", ["places for chunks"]),
-    ("source: field at 20", ["map", "lvm", "raid.backup"], b"", ["the volume lv0 has a segment of the type raid1", "can be mapped: lv-1"]),
-    ("source: extents at 17", ["map", "lvm", "past"], b"", ["the volume lv0", "take it anew"]),
-    ("source: extents at 17", ["map", "lvm", "no.extents"], b"", ["the volume lv0", "leave a gap"]),
-    ("source: extents at 6", ["map", "lvm", "resized"], b"", ["the physical volume pv0", "dmremap-tools lvm2-text resized > resized.mended", "can be mapped: lv0, lv-1"]),
-    ("source: unknown at 17", ["map", "lvm", "no.volume"], b"", ["the volume lv0", "or that of another physical volume"]),
-    ("source: syntax at 21", ["map", "lvm", "negative"], b"", ["stripe_count = -1", "in the volume lv0"]),
-    ("source: syntax at 14", ["map", "lvm", "cut.backup"], b"", ["breaks off", "dmremap-tools metadata DISK"]),
-    ("request 1: form", [*VG0, "r vg0-lv0 0 8"], b"", ["write R"]),
-    ("request 1: form", [*VG0], b"R vg0-lv0 0\n", ["there are 3 words"]),
-    ("request 2: form", [*VG0], b"R vg0-lv0 0 8\n\n", ["the line is empty", "requests:2"]),
-    ("request 1: number", [*VG0, "R vg0-lv0 0 8k"], b"", ["no unit", "dmremap-tools cut --bytes"]),
-    ("request 1: number", [*VG0], b"R vg0-lv0 0 8\r\n", ["CR LF"]),
-    ("request 1: length", [*VG0, "R vg0-lv0 0 0"], b"", ["one sector at least"]),
-    ("request 1: length", [*VG0, "R vg0-lv0 0 1048577"], b"", ["dmremap-tools cut"]),
-    ("request 1: unknown", [*VG0, "R vg0-lv9 0 8"], b"", ["near are: vg0-lv0"]),
-    ("request 1: unknown", [*TAKE, "tables", "disks"], b"R b 0 8\n", ["FILE has: a"]),
-    ("request 1: long", [*VG0], b"R " + b"a" * 5000 + b" 0 8\n", ["4096 bytes"]),
-    ("request 1: long", [*TAKE, "tables", "disks"], b"R a 0 " + b"8" * 5000 + b"\n", ["newline that is missing"]),
-    ("request 2: unended", [*VG0], b"R vg0-lv0 0 8\nR vg0", ["no newline"]),
-    ("request 1: unended", [*TAKE, "tables", "disks"], b"R a 0 8", ["echo >> REQUESTS"]),
-    ("request 1: not top", ["replay", "table", "stack", "disks", "R b 0 8"], b"", ["ask for one of these, or use map: a"]),
-    ("request 1: not top", ["replay", "table", "tables", "disks", "R b 0 8"], b"", ["FILE has"]),
-    ("before: unknown at 2", [*TAKE, "tables", "disks", "--before", "before.bad"], b"", ["before.bad:2\n"]),
-    ("before: form at 1", [*TAKE, "tables", "disks", "--before", "before.form"], b"", ["before.form:1\n", "there are 3 words"]),
-    ("before: read", [*TAKE, "tables", "disks", "--before", "nothing"], b"", ["nothing can't be read"]),
-    ("words: disks", [*TAKE, "tables"], b"", ["DISKS is missing"]),
-    ("name: letter", ["name", "/dev/vg0/lv0", "x"], b"", ["has the character '/'", "  dmremap name vg0 lv0\n"]),
-    ("name: letter", ["name", "vg0", "lv 0"], b"", ["has the character ' '"]),
-    ("name: empty", ["name", "", "lv0"], b"", ["a variable of the shell"]),
-    ("name: empty", ["name", "vg0", ""], b"", ["a part is empty"]),
-    ("name: long", ["name", "vg0", "a" * 130], b"", ["the name has 134 bytes"]),
-    ("name: long", ["name", "vg0", "a-" * 60], b"", ["the name has 184 bytes"]),
-    ("name: split", ["splitname", "home"], b"", ["0 single hyphens"]),
-    ("name: split", ["splitname", "/dev/mapper/vg0-lv0"], b"", ["  dmremap splitname vg0-lv0\n"]),
-]
+def rows():
+    """All of these."""
+    for form, of_form in ("table", OF_FILE), ("concise", OF_CONCISE):
+        for said, content, marked, remedy in of_form:
+            file, disks = content if isinstance(content, tuple) else (content, FILES["disks"])
+            yield Row("source: " + said, ["map", form, "file", "list"], "", {"file": file, "list": disks}, marked, remedy, "")
+    for said, content, marked, remedy in OF_DISKS:
+        yield Row("disks: " + said, ["map", "table", "tables", "list"], "", {"list": content}, marked, remedy, "")
+    for said, name, marked, remedy in OF_GROUP:
+        yield Row("source: " + said, ["map", "lvm", name], "", {}, marked, remedy % (name, name) if remedy == COPY else remedy, "")
+    for said, given, marked, remedy in OF_REQUESTS:
+        yield Row(said, ["map", "lvm", "vg0.backup"], given, {}, marked, remedy, "")
+    for said, words, marked, remedy, why in OF_WORDS:
+        yield Row(said, [it.replace("_", " ") for it in words.split()], "", {}, marked, remedy, why)
+    for content, kind, remedy in OF_KINDS:
+        yield Row(None, ["map", "table", "file", "disks"], "", {"file": content}, None, remedy, "file is " + kind)
+    for content, remedy in OF_LISTS:
+        yield Row("disks: syntax at 1", ["map", "table", "file", "list"], "", {"file": content, "list": "8:1\n"}, "8:1", remedy, "")
+
+
 # The words of messages about texts and about requests. Nobody has a trillion requests.
-TEXT_WORDS = ("read long text syntax field name twice empty gap overlap unknown cycle deep stripe range snapshot store extents limit")
-WORDS = {("text", it) for it in TEXT_WORDS.split()} | {("request", it) for it in ("form", "number", "length", "unknown", "long", "unended", "not top")}
-ONE_CAUSE = {("text", "form"), ("text", "words: disks")}
+TEXT_WORDS = "read long text syntax field name twice empty gap overlap unknown cycle deep stripe range snapshot store extents limit"
+WORDS = {*TEXT_WORDS.split(), "form", "number", "length", "unended", "not top"}
 
 REAL = "vg0-snap: 0 204800 snapshot /dev/mapper/vg0-lv0-real /dev/mapper/vg0-snap-cow P 8\n"
 # Words, and what is shown.

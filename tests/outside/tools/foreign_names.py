@@ -96,8 +96,7 @@ def check_paths(tally, pile):
         made = os.path.join(pile.folder, "made")
         is_said = "\n" not in name and "\udcff" not in name
         if tally.holds("tables of %r" % name, got.status == (0 if is_said else 1) and os.path.exists(os.path.join(made, "PATHS")) == is_said, "status %s, %r" % (got.status, got.err)) and is_said:
-            words = ["map", "table", *(os.path.join(made, part) for part in ("FILE", "DISKS")), "--paths", os.path.join(made, "PATHS")]
-            read = pile.program.run(words, given="R vg0-snap 0 8\n")
+            read = pile.program.run(["map", "images", os.path.join(made, "PATHS")], given="R vg0-snap 0 8\n")
             at = DATA + 3 * models.EXTENT, DATA + 10 * models.EXTENT + 8
             tally.same("a store in %r" % name, read, 0, "1 R disk0 %d 4\n1 R disk0 %d 4\n" % at)
         shutil.rmtree(made, ignore_errors=True)

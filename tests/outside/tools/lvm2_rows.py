@@ -92,7 +92,7 @@ RECORD = "left out: snapshot%d: the record of the snapshot %s"
 KEPT = "kept: %s, without its snapshot %s: on a machine, a write to it also copies what it overwrites, which the answers don't show"
 MIXED = ("left out: home: the snapshot %s is being merged into it, so that some of its sectors are older and some newer: go on when that is "
          "done (`lvs -o+copy_percent`)")
-UNREAD = "left out: %s: %s, which dmremap doesn't read; it says nothing of sectors"
+UNREAD = "left out: %s: %s, which dmremap doesn't read"
 HOME, LINES = plain("home", 4, 0), lines("home", 4, 0)
 RAID = other("r1", "raid1", "\t\t\t\tdevice_count = 1\n" + listed("raids", "r1_rmeta_0", "r1_rimage_0"))
 PARTS = [plain("r1_rimage_0", 4, 10, status='["READ", "WRITE"]'), plain("r1_rmeta_0", 1, 14, status='["READ", "WRITE"]')]
@@ -286,11 +286,11 @@ RAID_PARTS = [
         [gone(RAID), ('["READ"]\n\t\t\tsegment_count', '["READ", "WRITE"]\n\t\t\tsegment_count'), ("status = []", 'status = ["WRITE"]')],
         [R1, ('status = ["READ"]', WRITABLE % "r1_rimage_0"), ("status = []", WRITABLE % "r1_rmeta_0")], PART_LINES),
     row("a part whose status is no list", [RAID, ODD], [gone(RAID), ('status = "READ"', 'status = ["READ", "WRITE"]')],
-        [R1, ('status = "READ"', WRITABLE % "r1_rimage_0"), ('status = "READ"', "changed: status: one value in place of a list")],
+        [R1, ('status = "READ"', WRITABLE % "r1_rimage_0")],
         lines("r1_rimage_0", 4, 10)),
     row("a part whose status ends with a comma", [RAID, PART.replace('"READ"]', '"READ",]')],
         [gone(RAID), ('["READ",]\n\t\t\tsegment_count', '["READ", "WRITE"]\n\t\t\tsegment_count')],
-        [R1, ('status = ["READ",]', WRITABLE % "r1_rimage_0"), ('status = ["READ",]', "changed: status: a comma too many")],
+        [R1, ('status = ["READ",]', WRITABLE % "r1_rimage_0")],
         lines("r1_rimage_0", 4, 10)),
     row("a part whose right to write is locked", [RAID, LOCKED], [gone(RAID)], [R1], lines("r1_rmeta_0", 1, 14)),
 ]
@@ -310,93 +310,67 @@ def field(name, line, table=LINES):
     return row("a field " + name, (), (), (), table, TEXT.replace("\t\t\tsegment_count", "\t\t\t%s\n\t\t\tsegment_count" % line))
 
 
-def unread(line, why, key=None):
+def unread(line, number=None, key=None):
     """One that dmremap would stumble over."""
     name, text, _, _, table = field(line, line)
+    why = "the number " + number if number else "a key that is no word"
     key = key or line.split(" ")[0].split("=")[0]
-    return name, text, [("\t\t\t%s\n" % line, "\n" * (1 + line.count("\n")))], [(line.split("\n")[0], UNREAD % (key, why))], table
+    return name, text, [("\t\t\t%s\n" % line, "\n")], [(line, UNREAD % (key, why))], table
 
 
-def spelled(name, old, new, copy, messages, table=LINES):
-    """A text with something in other words, and what the copy has in its place."""
-    return row(name, (), [(new, copy)], messages, table, TEXT.replace(old, new))
+def spelled(name, old, new, changes=(), messages=(), table=LINES):
+    """A text with something in other words, which the copy has as dmremap reads it."""
+    return row(name, (), changes, messages, table, TEXT.replace(old, new))
 
 
 LANGUAGE = [
     field("with a list", 'tags = ["a", "b"]'),
     field("with a zero in front", "minor = 0007"),
     field("with an escape, a comment and a letter outside ASCII", 'x = "a \\" \\\\ { # \u00e9"'),
-    unread("read_ahead = -1\t# None", "a number with a sign"),
-    unread("x = +1", "a number with a sign"),
-    unread("x = [1, -2]", "a number with a sign"),
-    unread("x = .5", "a number with a fraction"),
-    unread("x=1.", "a number with a fraction"),
-    unread("creation_time = 18446744073709551615", "a number that is too large"),
-    unread("x = 00000000000000000001", "a number that is too large"),
-    unread("x = auto", "a string without double quotes"),
-    unread("x = @a", "a string without double quotes"),
-    unread("x = 'it\"s'", "a string without double quotes"),
-    unread('device_id = "a\\x20b"', "a backslash that stands for itself"),
-    unread('x = ["a", ]', "a comma too many or too few"),
-    unread('x = ["a" "b"]', "a comma too many or too few"),
-    unread("a:b = 1", "a key that is no word"),
-    unread('"x y" = 1', "a key that is no word", "x y"),
-    unread("-x = 1", "a key that is no word"),
-    unread('x = "a\nb"', "a string of several lines"),
-    spelled("a field behind another one", "pe_start", "x = 1 read_ahead = -1 pe_start", "x = 1  pe_start",
-            [("x = 1 ", UNREAD % ("read_ahead", "a number with a sign"))]),
-    spelled("two fields without a space", "version = 1\n", "version=1x=2\n", "version=1 x=2\n", [("version", "changed: a space is missing")]),
-    spelled("an octal number", "pe_start = 8\n", "pe_start = 010\n", "pe_start = 8\n",
-            [("pe_start", "changed: pe_start: lvm2 reads 010 as 8")]),
+    *(field("that is written as " + each, each) for each in (
+        "x = +1", "x = 00000000000000000001", "x = auto", "x = @a", "x = 'it\"s'", 'device_id = "a\\x20b"', 'x = ["a", ]', 'x = ["a" "b"]',
+        "x = 1 y = 2", "x=1y=2")),
+    unread("read_ahead = -1\t# None", "-1"),
+    unread("x = [1, -2]", "-2"),
+    unread("x = .5", ".5"),
+    unread("x=1.", "1."),
+    unread("creation_time = 18446744073709551615", "18446744073709551615"),
+    unread("a:b = 1"),
+    unread('"x y" = 1', key="x y"),
+    unread("-x = 1"),
+    spelled("a field behind another one", "pe_start", "x = 1 read_ahead = -1 pe_start", [("read_ahead = -1", "")],
+            [("x = 1 ", UNREAD % ("read_ahead", "the number -1"))]),
+    spelled("two fields without a space", "version = 1\n", "version=1x=2\n"),
     # C reads digits up to the first that is none of base 8.
-    spelled("an octal number with other digits", "pe_count = 200\n", "pe_count = 03109\n", "pe_count = 200\n",
-            [("pe_count", "changed: pe_count: lvm2 reads 03109 as 200")]),
-    spelled("a number with a plus", "pe_start = 8\n", "pe_start = +8\n", "pe_start = 8\n",
-            [("pe_start", "changed: pe_start: lvm2 reads +8 as 8")]),
-    spelled("a string in single quotes", '"/dev/sda"', "'/dev/sda'", '"/dev/sda"',
-            [("device", 'changed: device: written as "/dev/sda"')]),
-    spelled("a quote in single quotes", '"/dev/sda"', "'/dev/sd\"a'", '"/dev/sd\\"a"',
-            [("device", 'changed: device: written as "/dev/sd\\"a"')], LINES.replace(DISK, "pv0")),
-    spelled("a backslash that stands for itself", '"/dev/sda"', '"/dev/sd\\a"', '"/dev/sd\\\\a"',
-            [("device", 'changed: device: written as "/dev/sd\\\\a"')], LINES.replace(DISK, "pv0")),
-    spelled("a string over two lines", '"/dev/sda"', '"/dev/s\nda"', '"/dev/s\ufffdda"\n',
-            [("device", 'changed: device: written as "/dev/s\ufffdda"')], LINES.replace(DISK, "pv0")),
-    spelled("a word without quotes", '"striped"', "striped", '"striped"', [("type", 'changed: type: written as "striped"')]),
-    spelled("a type by its other name", '"striped"', '"linear"', '"striped"', [("type", "changed: type: linear is another name of striped")]),
-    spelled("one value in place of a list", 'status = ["READ", "WRITE", "VISIBLE"]', 'status = "WRITE"', 'status = ["WRITE"]',
-            [('status = "W', "changed: status: one value in place of a list")]),
-    spelled("a list of one value", '= "striped"', '= [ "striped" ]', '=  "striped" ', [("type", "changed: type: a list of one value")]),
-    spelled("a comma too many", '"pv0", 0\n\t\t\t\t]', '"pv0", 0,\n\t\t\t\t]', '"pv0", 0\n\t\t\t\t]',
-            [('"pv0"', "changed: stripes: a comma too many")]),
-    spelled("a comma that is missing", '"READ", "WRITE", "VISIBLE"', '"READ" "WRITE", "VISIBLE"', '"READ", "WRITE", "VISIBLE"',
-            [('status = ["READ" ', "changed: status: a comma is missing")]),
-    spelled("a key in quotes", "home {", '"home" {', "home {", [('"home" {', "changed: home: a key in quotes")]),
-    spelled("a field in quotes", "pe_start = 8", "'pe_start' = 8", "pe_start = 8", [("'pe_start'", "changed: pe_start: a key in quotes")]),
-    spelled("a field that is there twice", "\t\t\tpe_start = 8\n", "\t\t\tpe_start = 16\n\t\t\tpe_start = 8\n", "\n\t\t\tpe_start = 8\n",
+    spelled("an octal number with other digits", "pe_count = 200\n", "pe_count = 03109\n"),
+    spelled("a quote in single quotes", '"/dev/sda"', "'/dev/sd\"a'", table=LINES.replace(DISK, "pv0")),
+    spelled("a backslash that stands for itself", '"/dev/sda"', '"/dev/sd\\a"', table=LINES.replace(DISK, "pv0")),
+    spelled("a string over two lines", '"/dev/sda"', '"/dev/s\nda"', [('/dev/s\nda"', '/dev/s\ufffdda"\n')], table=LINES.replace(DISK, "pv0")),
+    spelled("a description of several lines", "version = 1\n", 'version = 1\ndescription = "a\n{ # b"\n', [('a\n{ # b"', 'a\ufffd{ # b"\n')]),
+    spelled("a word without quotes", '"striped"', "striped"),
+    spelled("a type by its other name", '"striped"', '"linear"', [('"linear"', '"striped"')]),
+    spelled("one value in place of a list", 'status = ["READ", "WRITE", "VISIBLE"]', 'status = "WRITE"'),
+    spelled("a list of one value", '= "striped"', '= [ "striped" ]'),
+    spelled("a comma that is missing", '"READ", "WRITE", "VISIBLE"', '"READ" "WRITE", "VISIBLE"'),
+    spelled("a field that is there twice", "\t\t\tpe_start = 8\n", "\t\t\tpe_start = 16\n\t\t\tpe_start = 8\n", [("pe_start = 16", "")],
             [("pe_start = 16", "left out: pe_start: it is there again in line %d, which counts" % (at("pe_start") + 1))]),
-    spelled("white space of other kinds", "pe_start = 8\n", "pe_start\v=\f8\n", "pe_start = 8\n",
-            [("pe_start", "changed: white space of another kind")] * 2),
-    spelled("a second group", "\t}\n}\n", "\t}\n}\nh { x = 1\n}\n", "\t}\n}\n\n\n",
+    spelled("a second group", "\t}\n}\n", "\t}\n}\nh { x = 1\n}\n", [("h { x = 1\n}", "\n")],
             [("h {", "left out: h: lvm2 reads one section of a text, the first")]),
-    spelled("a section with such a field", "\textent_size", "\tx { y {\n\tz = -1 } }\n\textent_size", "\n\n\textent_size",
-            [("x {", UNREAD % ("x", "a number with a sign"))]),
-    spelled("a description of several lines", "version = 1\n", 'version = 1\ndescription = "a\n{ # b"\n', "version = 1\n\n\n",
-            [("description", UNREAD % ("description", "a string of several lines"))]),
+    spelled("a section with such a field", "\textent_size", "\tx { y {\n\tz = -1 } }\n\textent_size", [("z = -1", "")],
+            [("z = -1", UNREAD % ("z", "the number -1"))]),
+    spelled("sections of many levels", "\textent_size", "\t" + "x { " * 15 + "y { } " + "} " * 15 + "\n\textent_size", [("y { } ", "")],
+            [("x { ", UNREAD % ("y", "more than 16 sections in each other"))]),
 ]
 
 # Bytes.
 
 BYTES = [
-    row("carriage returns", (), [(TEXT.replace("\n", "\r\n"), TEXT)],
-        [("contents", "changed: carriage returns are taken out of %d lines" % TEXT.count("\n"))], LINES, TEXT.replace("\n", "\r\n")),
-    row("a byte order mark", (), [("\ufeff", "")], [("\ufeffcontents", "changed: a byte order mark is taken out")], LINES, "\ufeff" + TEXT),
+    row("a byte order mark", (), [("\ufeff", "")], (), LINES, "\ufeff" + TEXT),
     row("a text from a metadata area, up to its NUL", (), [("\n\0rest {", "\n")], [("\0rest", "left out: the NUL here, and what comes after it")],
         LINES, TEXT + "\0rest {"),
-    row("bytes that are no UTF-8", (), [(b"sto\xe9 \xff", "sto\ufffd \ufffd"), (b"m \xe9", "m \ufffd")],
-        [("creation_host", "changed: bytes that are no UTF-8"), ("g {", "changed: bytes that are no UTF-8")], LINES,
+    row("bytes that are no UTF-8", (), [(b"sto\xe9 \xff", "sto\ufffd \ufffd")], (), LINES,
         TEXT.encode().replace(b'"m"', b'"sto\xe9 \xff"').replace(b"Linux m", b"Linux m \xe9")),
-    row("a disk whose name is no UTF-8", (), [(b"sd\xe9", "sd\ufffd")], [("device", "changed: bytes that are no UTF-8")],
-        LINES.replace(DISK, "pv0"), TEXT.encode().replace(b"/dev/sda", b"/dev/sd\xe9")),
+    row("a disk whose name is no UTF-8", (), [(b"sd\xe9", "sd\ufffd")], (), LINES.replace(DISK, "pv0"), TEXT.encode().replace(b"/dev/sda", b"/dev/sd\xe9")),
 ]
 
 ROWS = VOLUMES + SNAPSHOTS + PLACES + DISKS + RAID_PARTS + LANGUAGE + BYTES
@@ -435,6 +409,14 @@ def instead(name, old, new, message, line=0):
     return "the text of " + name, TEXT.replace(old, new), ":%d: %s" % (at(old.strip().split("\n")[0]) + line, message)
 
 
+def no_number(old, new, number, place):
+    """A number that dmremap needs and doesn't read: the field is left out, and the copy is refused at this line."""
+    key = old.split(" ")[0]
+    return "the text of " + new, TEXT.replace(old, new), (
+        ":%d: %s\n: dmremap refuses the copy, whose lines have the same numbers (dmremap: source: field at %d): take an older text, from "
+        "/etc/lvm/archive or by `metadata --list`, or leave this out by --only" % (at(key), UNREAD % (key, "the number " + number), place))
+
+
 REFUSED = [
     ("nothing", "", NO_GROUP),
     ("values alone", "contents = 1\n", NO_GROUP),
@@ -457,11 +439,8 @@ REFUSED = [
             "logical_volumes is there twice, first in line %d: put the two together" % at("logical"), 2),
     instead("a value and a section of one key", "\t\t\tsegment1", "\t\t\tsegment1 = 1\n\t\t\tsegment1",
             "segment1 is there twice, first in line %d: put the two together" % at("segment1"), 1),
-    instead("a number below 0 that counts", "pe_start = 8", "pe_start = -8", "pe_start can't have this number, take the text anew, from /etc/lvm/backup: -8"),
-    instead("a number with a fraction that counts", "version = 1", "version = 1.0", "version can't have this number, take the text anew, from /etc/lvm/backup: 1.0"),
-    instead("a number out of range that counts", "pe_start = 8", "pe_start = 9223372036854775808",
-            "pe_start can't have this number, take the text anew, from /etc/lvm/backup: 9223372036854775808"),
-    instead("a sign without digits", "pe_start = 8", "pe_start = -", "pe_start can't have this number, take the text anew, from /etc/lvm/backup: -"),
+    *(no_number("pe_start = 8", "pe_start = " + number, number, at("pv0")) for number in ("-8", "9223372036854775808", "-")),
+    no_number("version = 1", "version = 1.0", "1.0", 1),
     ("a segment too many", TEXT.replace("segment_count = 1", "segment_count = 2"), 
      ":%d: home: segment_count isn't the number of its segments, 1: take the text anew, from /etc/lvm/backup" % at("home")),
     instead("a volume with a space in its name", "home {", '"my home" {', "no name that lvm2 gives, take the text anew, from /etc/lvm/backup: my home"),

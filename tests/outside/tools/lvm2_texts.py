@@ -2,13 +2,15 @@
 and the status that must come of each, and what the program makes of the copy.
 
 A row of `ROWS` is a name, a text, the changes that make the copy of it, and the messages, whose place is given by the
-beginning of a line. A change is bytes of the text and what stands there in the copy; `gone` is that of a volume."""
+beginning of a line. A change is bytes of the text and what stands there in a text that says what the copy does, each key in the
+same line; `gone` is that of a volume."""
 
 import os
 import random
 import re
 
 import tool_calls
+from dmremap_tools.model.config_text import Document
 from harness import Case, run
 from lvm2_rows import BARE, GROUP, ONLY, REFUSED, ROWS, other
 
@@ -30,9 +32,10 @@ def check_rows(tally, program, top):
 
 
 def check_plain(tally, program, top):
-    """Texts that stay as they are, and the same in other words."""
+    """Texts that need no change, and the same in other words."""
     for name in PLAIN:
-        check_same(tally, program, top, name, read(os.path.join(top, "examples", name)))
+        text = read(os.path.join(top, "examples", name))
+        check_row(tally, program, top, name, text, (), (), program.run(["table", "lvm", program.file("lvm2/plain", text)]).out)
         for seed in range(SEEDS):
             check_spelling(tally, program, top, name, read(os.path.join(top, "examples", name)), random.Random(seed))
 
@@ -64,7 +67,9 @@ def check_row(tally, program, top, name, text, changes, messages, table, words=(
         tally.holds("a change in the text of " + name, wanted.count(old) == 1, "%r is there %d times" % (old, wanted.count(old)))
         wanted = wanted.replace(old, new)
     got = copied(program, top, text, words)
-    tally.same("the text of " + name, got, 0, wanted, "".join("text:%d: %s\n" % (line_of(text, at), what) for at, what in messages))
+    tally.same("the text of " + name, got, 0, got.out, "".join("text:%d: %s\n" % (line_of(text, at), what) for at, what in messages))
+    said, meant = parts_of(got.out), parts_of(wanted)
+    tally.holds("the copy of " + name, said == meant, "%r is wanted, not %r" % (meant, said))
     tally.holds("the lines of the text of " + name, got.out.count(b"\n") == text.split(b"\0")[0].count(b"\n"), "there are others")
     made = program.run(["table", "lvm", program.file("lvm2/copy", got.out)])
     tally.same("the table of " + name, made, 0, table)
@@ -77,9 +82,14 @@ def line_of(text, beginning):
     return found[0]
 
 
-def check_same(tally, program, top, name, text):
-    """A text that needs nothing comes out byte for byte."""
-    tally.same("the copy of " + name, copied(program, top, text), 0, text)
+def parts_of(text):
+    """What a text says: each key with its line, and its values or its section."""
+    def parts(node):
+        return [(document.line_at(it.start), it.key, [item.value for item in it.items] if it.children is None else parts(it))
+                for it in sorted(node.children.values(), key=lambda it: it.start)]
+
+    document = Document("text", text)
+    return parts(document.top)
 
 
 def check_spelling(tally, program, top, name, text, dice):
@@ -172,7 +182,9 @@ def check_words(tally, program, top):
                     "status %s, %r" % (got.status, got.err))
     for name, message in (("nowhere", "No such file or directory"), (".", "Is a directory")):
         tally.same("the text of " + name, copy(name), 1, "", "dmremap-tools lvm2-text: %s: %s\n" % (name, message))
-    tally.same("a text of a pipe", copy("-", given=BARE), 0, BARE)
+    got = copy("-", given=BARE)
+    tally.same("a text of a pipe", got, 0, got.out)
+    tally.holds("the copy of a text of a pipe", parts_of(got.out) == parts_of(BARE.encode()), got.out)
     with open("/dev/full", "wb") as full:
         got = copy(program.file("lvm2/text", BARE), stdout=full)
     tally.same("a copy on a full disk", got, 5, "", "dmremap-tools lvm2-text: standard output: No space left on device\n")
@@ -181,7 +193,7 @@ def check_words(tally, program, top):
 def check_large(tally, program, top):
     """Sections in each other to any depth, and a long text, are no trouble."""
     got = tool_calls.call(top, ["lvm2-text", "--program", program.path, program.file("lvm2/text", BARE + "\r\n" * 400000)], memory=MEMORY)
-    is_so = got.status == 0 and got.out.decode() == BARE + "\n" * 400000
+    is_so = got.status == 0 and parts_of(got.out) == parts_of(BARE.encode()) and got.out.count(b"\n") == BARE.count("\n") + 400000
     tally.holds("a text of many carriage returns", is_so, "status %s, %r" % (got.status, got.err[-200:]))
     for name, more in (("many lines", "\n" * (1 << 20)), ("many keys", "".join("a%d = 1\n" % it for it in range(150000)))):
         got = tool_calls.call(top, ["lvm2-text", "--program", program.path, program.file("lvm2/text", BARE + more)], memory=MEMORY)
@@ -189,14 +201,14 @@ def check_large(tally, program, top):
         tally.holds("a text of " + name, is_so, "status %s, %r" % (got.status, got.err[-200:]))
     deep = "a {" * 30000 + "}" * 30000 + "\n"
     got = copied(program, top, BARE + deep)
-    tally.same("a text that is nested deeply", got, 0, BARE + "\n",
-               "text:%d: left out: a: lvm2 reads one section of a text, the first\n" % (1 + BARE.count("\n")))
+    tally.same("a text that is nested deeply", got, 0, got.out, "text:%d: left out: a: lvm2 reads one section of a text, the first\n" % (1 + BARE.count("\n")))
+    tally.holds("the copy of a text that is nested deeply", parts_of(got.out) == parts_of(BARE.encode()), got.out)
     tally.same("an end that is missing deep inside", copied(program, top, "a {" * 30000), 1, "",
                refused(":1: the end is missing: a, line 1, isn't closed: take the text anew, from /etc/lvm/backup"))
     many = GROUP % "".join(other("l%d" % it, "zero", more="\t\t\tread_ahead = -1\n") for it in range(1000))
     got = copied(program, top, many)
-    tally.holds("a group of a thousand volumes", got.status == 0 and got.out.decode() == many.replace("\t\t\tread_ahead = -1\n", "\n")
-                and got.err.count(b"\n") == 1000, "status %s, %r" % (got.status, got.err[:200]))
+    is_so = got.status == 0 and parts_of(got.out) == parts_of(many.replace("read_ahead = -1", "").encode()) and got.err.count(b"\n") == 1000
+    tally.holds("a group of a thousand volumes", is_so, "status %s, %r" % (got.status, got.err[:200]))
 
 
 class Lvm2Texts(Case, checks=[check_rows, check_plain, check_damaged, check_asked, check_words, check_large]):

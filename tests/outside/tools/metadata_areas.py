@@ -3,7 +3,6 @@ easily taken wrong, over each length of one, and over each bit that may have bee
 
 import contextlib
 import importlib
-import io
 import os
 
 import tool_calls
@@ -21,8 +20,7 @@ SECOND = 65536
 TEXT = b'vg0 {\nid = "AAAAAA"\nseqno = 7\n}\ncontents = "x"\n\0'
 NEWER = TEXT.replace(b"7", b"10")
 SEARCHED = "metadata areas were looked for in the first and last 4 MiB\n"
-NOT_FOUND = ", and no metadata area is in the first or last 4 MiB"
-FROM_FIRST = ": take the physical volume from its first byte on, or " + OTHER[2:]
+NOTHING, UNLABELLED = "no physical volume is found", "there is no label in the first four sectors"
 USAGE = "usage: dmremap-tools metadata [-h] [--list | --seqno N | --at BYTE]"
 SAID = "dmremap-tools metadata: "
 
@@ -80,7 +78,8 @@ def check_rings(command, group):
     whole = text_of_area(group, b"CCCCCC", 3)
     for size in (SECTOR + len(whole), SIZE, 1 << 21):
         for offset in (SECTOR, size - 1, size - len(whole)):
-            command.takes("one at %d of an area of %d bytes" % (offset, size), volume((FIRST, area(whole, offset, size=size))), whole)
+            head = volume((FIRST, area(whole, offset, size=size)), length=FIRST + size // SECTOR * SECTOR + SECTOR)
+            command.takes("one at %d of an area of %d bytes" % (offset, size), head, whole)
 
 
 def check_flips(tally, group):
@@ -109,14 +108,12 @@ def flipped(head, place, bit):
 
 def text_in(head):
     """The text of a head, or None where it is refused."""
-    disk_image, chosen_part, valid_text, refusal = (importlib.import_module("dmremap_tools." + it) for it in (
-        "base.disk_image", "metadata.chosen_part", "metadata.valid_text", "base.refusal"))
-    try:
-        with unsaid():
-            image, = chosen_part.chosen_parts(disk_image.Image(io.BytesIO(head), "head"))
-            return valid_text.valid_text(image, valid_text.areas_of(image))
-    except refusal.Refusal:
-        return None
+    device, metadata, refusal = (importlib.import_module("dmremap_tools." + it) for it in ("model.device", "metadata.metadata", "base.refusal"))
+    with contextlib.suppress(refusal.Refusal), unsaid():
+        sectors = len(head) // SECTOR * SECTOR
+        volume = metadata.volume_of(device.Known("head", sectors, lambda start, size: bytes(head[start:start + size])))
+        return volume and metadata.valid_text(volume).content
+    return None
 
 
 @contextlib.contextmanager
@@ -134,9 +131,8 @@ def check_lengths(tally, group):
     """An image that ends anywhere is refused in words, with and without its label, or the text is right."""
     whole = text_of_area(group, b"CCCCCC", 3)
     head = volume((FIRST, area(whole)))
-    table = gpt((34, 63))
-    for name, image, at in (("a head", head, FIRST + SECTOR + len(whole)), ("one without a label", with_bytes(head, SECTOR, bytes(SECTOR)),
-                            FIRST + SECTOR + len(whole)), ("a disk with a GPT", table, len(table) + 1)):
+    at = -(-(FIRST + SECTOR + len(whole)) // SECTOR) * SECTOR
+    for name, image in (("a head", head), ("one without a label", with_bytes(head, SECTOR, bytes(SECTOR)))):
         found = [text_in(image[:length]) for length in range(len(image))]
         wrong = [length for length, it in enumerate(found) if it != (whole[:-1] if length >= at else None)]
         tally.holds("each length of " + name, not wrong, "other answers for the lengths %s" % wrong[:5])
@@ -160,10 +156,9 @@ OTHER_GROUP = TEXT.replace(b"AAAAAA", b"BBBBBB")
 SUMMARY = "vg0 seqno %d, volumes: none\n"
 OLDER = (ONE + "its text is older: " + SUMMARY % 7).join(["passed over: ", "head: taken: the metadata area at byte 65536: " + SUMMARY % 10])
 BOTH_TOLD = "head: " + ONE + SUMMARY % 7 + "head: the metadata area at byte 65536: " + SUMMARY % 7
-LABELLED = "; the label of one that begins at byte %d is sound: give it as IMAGE?offset=%d"
 
 REFUSED = [
-    ("zeros", bytes(8192), "there is no label in the first four sectors" + NOT_FOUND + FROM_FIRST),
+    ("zeros", bytes(8192), NOTHING + OTHER),
     ("no group", volume((FIRST, area(b"")), is_used=False), "the physical volume belongs to no group: see what is left of older texts with --list"),
     # Labels of version 1 don't say whether the volume belongs to a group.
     ("no text, and a label of version 1", volume((FIRST, area(b"")), is_used=False, version=1), ONE + "it has no text" + LISTED),
@@ -189,46 +184,37 @@ REFUSED = [
      ONE + "the image ends before it does: take more of the disk"),
     ("an image that ends in the header", ONE_AREA[:FIRST + 10],
      ONE + "the image ends before it does: take more of the disk"),
-    ("an image that ends in the label", ONE_AREA[:SECTOR + 100], "the label in sector 1 is cut off" + NOT_FOUND + FROM_FIRST),
+    ("an image that ends in the label", ONE_AREA[:SECTOR + 100], NOTHING + OTHER),
     ("two areas of different groups", volume((FIRST, area(TEXT)), (SECOND, area(OTHER_GROUP, start=SECOND))), BOTH_TOLD,
      "the metadata areas at byte 4096 and 65536 have texts of different groups" + OTHER),
     ("two texts with one seqno", volume((FIRST, area(TEXT)), (SECOND, area(TEXT.replace(b"}", b"x = 1\n}"), start=SECOND))), BOTH_TOLD,
      "the metadata areas at byte 4096 and 65536 have different texts with one seqno" + OTHER),
     ("two areas that are damaged", with_flip(with_flip(TWO_AREAS, FIRST + 40), SECOND + SECTOR),
      ONE + "the sum of its header is wrong; the metadata area at byte 65536: the sum of its text is wrong" + LISTED),
-    ("neither label nor header", with_flip(NO_LABEL, FIRST + 40), "there is no label in the first four sectors; " + ONE
-     + "the sum of its header is wrong" + NOT_FOUND + FROM_FIRST),
-    ("a volume without its first sector", ONE_AREA[SECTOR:], "the label in sector 0 says that it belongs in sector 1; "
-     "the metadata area at byte 3584 belongs at byte 4096, so the image lacks its first 512 bytes" + NOT_FOUND + FROM_FIRST),
-    ("a volume behind other sectors", bytes(8 * SECTOR) + ONE_AREA, "there is no label in the first four sectors; the metadata area "
-     "at byte 8192 belongs at byte 4096, so a physical volume begins at byte 4096 (sector 8)" + NOT_FOUND + LABELLED % (4096, 4096)),
-    ("five areas without a label", b"".join([bytes(SIZE)] + [area(TEXT, start=(1 + it) * SIZE) for it in range(5)]),
-     "more than 4 metadata areas are where they say that they begin" + OTHER),
-    ("many areas that are damaged", (bytes(4) + MAGIC).ljust(SECTOR, b"\0") * 20, "there is no label in the first four sectors; "
-     + "; ".join("the metadata area at byte %d: the sum of its header is wrong" % (it * SECTOR) for it in range(15)) + "; .." + NOT_FOUND + FROM_FIRST),
-    ("an image in another format", b"QFI\xfb" + bytes(8186), "there is no label in the first four sectors" + NOT_FOUND
-     + ": it is an image of qcow2: convert it with qemu-img convert -O raw"),
-    ("an image of VMDK", b"KDMV" + bytes(8188), "there is no label in the first four sectors" + NOT_FOUND
-     + ": it is an image of VMDK: convert it with qemu-img convert -O raw"),
-    ("an image that is compressed", b"\x28\xb5\x2f\xfd" + bytes(8188), "there is no label in the first four sectors" + NOT_FOUND
-     + ": it is compressed (zstd): unpack it"),
-    ("an encrypted disk", b"LUKS\xba\xbe" + bytes(8186), "there is no label in the first four sectors" + NOT_FOUND
-     + ": it is encrypted with LUKS: open it with cryptsetup, and take what is opened"),
+    ("neither label nor header", with_flip(NO_LABEL, FIRST + 40), UNLABELLED + OTHER),
+    ("a volume without its first sector", ONE_AREA[SECTOR:], "the label in sector 0 says that it belongs in sector 1" + OTHER),
+    ("many areas that are damaged", (bytes(4) + MAGIC).ljust(SECTOR, b"\0") * 20, UNLABELLED + OTHER),
+    ("an image that ends after the text", ONE_AREA[:FIRST + SECTOR + len(TEXT)], ONE + "the image ends before it does: take more of the disk"),
+    ("an image in another format", b"QFI\xfb" + bytes(8186), "it is an image of qcow2: convert it with qemu-img convert -O raw"),
+    ("an image of VMDK", b"KDMV" + bytes(8188), "it is an image of VMDK: convert it with qemu-img convert -O raw"),
+    ("an image that is compressed", b"\x28\xb5\x2f\xfd" + bytes(8188), "it is compressed (zstd): unpack it"),
+    ("an encrypted disk", b"LUKS\xba\xbe" + bytes(8186), NOTHING
+     + " (head: its header of LUKS is damaged: restore it in a copy by `cryptsetup luksHeaderRestore`)" + OTHER),
 ]
 
 TAKEN = [
     ("a sound volume", ONE_AREA, TEXT, ""),
     ("a label in the fourth sector", with_bytes(NO_LABEL, 3 * SECTOR, label([(FIRST, SIZE)], 3)), TEXT, ""),
     ("a damaged label before a sound one", with_flip(with_bytes(ONE_AREA, 3 * SECTOR, label([(FIRST, SIZE)], 3)), SECTOR + 50), TEXT, ""),
-    ("an image that ends after the text", ONE_AREA[:FIRST + SECTOR + len(TEXT)], TEXT, ""),
-    ("one without a label", NO_LABEL, TEXT, "there is no label in the first four sectors: " + SEARCHED),
+    ("a volume behind other sectors", bytes(8 * SECTOR) + ONE_AREA, TEXT, ""),
+    ("five areas without a label", b"".join([bytes(SIZE)] + [area(TEXT, start=(1 + it) * SIZE) for it in range(5)]), TEXT, UNLABELLED + ": " + SEARCHED),
+    ("one without a label", NO_LABEL, TEXT, UNLABELLED + ": " + SEARCHED),
     ("one whose label's sum is wrong", with_flip(ONE_AREA, SECTOR + 50), TEXT, "the label in sector 1 has a wrong sum: " + SEARCHED),
     ("one whose label is for another sector", with_flip(ONE_AREA, SECTOR + 8), TEXT,
      "the label in sector 1 says that it belongs in sector 0: " + SEARCHED),
-    ("one whose label isn't called so", with_flip(ONE_AREA, SECTOR), TEXT, "there is no label in the first four sectors: " + SEARCHED),
+    ("one whose label isn't called so", with_flip(ONE_AREA, SECTOR), TEXT, UNLABELLED + ": " + SEARCHED),
     ("one with a volume of a guest on it", NO_LABEL.ljust(1 << 20, b"\0") + volume((FIRST, area(OTHER_GROUP))), TEXT,
-     "there is no label in the first four sectors; the metadata area at byte 1052672 belongs at byte 4096, so a physical volume "
-     "begins at byte 1048576 (sector 2048): " + SEARCHED),
+     UNLABELLED + ": " + SEARCHED),
     ("two areas", TWO_AREAS, NEWER, OLDER),
     ("two areas, of which the first is damaged", with_flip(TWO_AREAS, FIRST + SECTOR), NEWER,
      "passed over: the metadata area at byte 4096: the sum of its text is wrong\n"),
@@ -240,11 +226,11 @@ TAKEN = [
      "passed over: the metadata area at byte 65536: the image ends before it does\n"),
     ("two areas with one text of different times", volume((FIRST, area(TEXT)), (SECOND, area(TEXT.replace(b"x", b"y"), start=SECOND))),
      TEXT, ""),
-    ("two areas without a label", with_bytes(TWO_AREAS, SECTOR, bytes(SECTOR)), NEWER, "there is no label in the first four sectors: "
+    ("two areas without a label", with_bytes(TWO_AREAS, SECTOR, bytes(SECTOR)), NEWER, UNLABELLED + ": "
      + SEARCHED + "head: " + OLDER),
     # The last bytes of a large image are searched too.
     ("a second area at the end, without a label", with_bytes(volume((9 << 20, area(TEXT, start=9 << 20))), SECTOR, bytes(SECTOR)),
-     TEXT, "there is no label in the first four sectors: " + SEARCHED),
+     TEXT, UNLABELLED + ": " + SEARCHED),
 ]
 
 
@@ -261,11 +247,10 @@ def check_disks(command):
         command.refuses(name, disk, message)
     for name, disk, start, text in PARTITIONS:
         command.takes(name, disk, text, "", ("head?offset=%d" % (start * SECTOR),))
-    for name, disk, told in WHOLE:
-        command.takes(name, disk, TEXT, "the image of a whole disk (%s read\n" % told)
+    for name, disk in WHOLE:
+        command.takes(name, disk, TEXT)
     for words in ("--list",), ("--seqno", "7"), ("--at", "4608"):
-        command.refuses("one of two volumes", TWO_VOLUMES, "it has several physical volumes: take one, as HEAD?offset=BYTES", (*words, "head"),
-                        told="head: the image of a whole disk (GPT), whose partitions 1, 2 are physical volumes: these are read\n")
+        command.refuses("one of two volumes", TWO_VOLUMES, "it has several physical volumes: take one, as HEAD?offset=BYTES", (*words, "head"))
 
 
 def disk_of(head, *parts):
@@ -285,31 +270,27 @@ GPT_DISK = disk_of(gpt((64, 71), None, (128, 255)), (128, ONE_AREA))
 LARGE_SECTORS = disk_of(gpt((16, 31), sector=4096), (128, ONE_AREA))
 BOTH = disk_of(mbr((0x83, 64, 8)), (1, ONE_AREA[SECTOR:]))
 DAMAGED_GPT = "both copies of its partition table (GPT) are damaged: repair it in a copy with gdisk, or cut the partition out with dd"
-LACKS = "the image of a whole disk (%s), which ends before its partitions do (%s): take more of the disk"
+WHOLE_DISK = "the image of a whole disk, which ends before its partition table (GPT) does: take more of the disk"
 
 DISKS = [
-    ("a disk without a physical volume", disk_of(mbr((0x83, 64, 8)), (72, b"")),
-     "the image of a whole disk (MBR), none of whose partitions (1) has a sound label: give the partition that it is, as IMAGE?offset=BYTES"),
-    ("the beginning of a disk", MBR_DISK[:100 * SECTOR], LACKS % ("MBR", "1 from sector 64 on, 2 from sector 128 on")),
-    ("the beginning of a disk with a GPT", GPT_DISK[:50 * SECTOR], LACKS % ("GPT", "1 from sector 64 on, 3 from sector 128 on")),
-    ("a disk whose GPT isn't all there", GPT_DISK[:20 * SECTOR],
-     "the image of a whole disk, which ends before its partition table (GPT) does: take more of the disk"),
-    ("a GPT with a damaged header", with_flip(GPT_DISK, SECTOR + 72), DAMAGED_GPT + LABELLED % (65536, 65536)),
-    ("a GPT with a damaged entry", with_flip(GPT_DISK, 2 * SECTOR + 32), DAMAGED_GPT + LABELLED % (65536, 65536)),
-    ("a GPT whose header is gone", with_bytes(GPT_DISK, SECTOR, bytes(SECTOR)), DAMAGED_GPT + LABELLED % (65536, 65536)),
-    ("a partition table beside a label", BOTH, "there are both a partition table (MBR) and the label of a physical volume, which lvm2 "
-     "doesn't take then: IMAGE?offset=BYTES takes a partition, and IMAGE?offset=0 the disk itself"),
+    ("a disk without a physical volume", disk_of(mbr((0x83, 64, 8)), (72, b"")), NOTHING + OTHER),
+    ("the beginning of a disk", MBR_DISK[:100 * SECTOR], NOTHING + OTHER),
+    ("the beginning of a disk with a GPT", GPT_DISK[:50 * SECTOR], NOTHING + OTHER),
+    ("a disk whose GPT isn't all there", GPT_DISK[:20 * SECTOR], "%s (%s)%s" % (NOTHING, WHOLE_DISK, OTHER)),
+    ("a GPT with a damaged header", with_flip(GPT_DISK, SECTOR + 72), "%s (%s)%s" % (NOTHING, DAMAGED_GPT, OTHER)),
+    ("a GPT with a damaged entry", with_flip(GPT_DISK, 2 * SECTOR + 32), "%s (%s)%s" % (NOTHING, DAMAGED_GPT, OTHER)),
+    ("a GPT whose header is gone", with_bytes(GPT_DISK, SECTOR, bytes(SECTOR)), "%s (%s)%s" % (NOTHING, DAMAGED_GPT, OTHER)),
 ]
 
-IS_ONE, ARE_SEVERAL = "%s), whose partition %d is a physical volume: that is", "%s), whose partitions %s are physical volumes: these are"
 TWO_VOLUMES = disk_of(gpt((64, 127), (128, 255)), (64, ONE_AREA), (128, ONE_AREA))
 WHOLE = [
-    ("a disk with an MBR", MBR_DISK, IS_ONE % ("MBR", 2)),
-    ("a disk with logical partitions", LOGICAL_DISK, IS_ONE % ("MBR", 6)),
-    ("a disk with a GPT", GPT_DISK, IS_ONE % ("GPT", 3)),
-    ("a disk with sectors of 4096 bytes", LARGE_SECTORS, IS_ONE % ("GPT", 1)),
-    ("a disk with two physical volumes", TWO_VOLUMES, ARE_SEVERAL % ("GPT", "1, 2")),
-    ("the beginning of a disk with a physical volume", disk_of(gpt((64, 127), (128, 255)), (64, ONE_AREA))[:128 * SECTOR], IS_ONE % ("GPT", 1)),
+    ("a disk with an MBR", MBR_DISK),
+    ("a disk with logical partitions", LOGICAL_DISK),
+    ("a disk with a GPT", GPT_DISK),
+    ("a disk with sectors of 4096 bytes", LARGE_SECTORS),
+    ("a disk with two physical volumes", TWO_VOLUMES),
+    ("a partition table beside a label", BOTH),
+    ("the beginning of a disk with a physical volume", disk_of(gpt((64, 127), (128, 255)), (64, ONE_AREA))[:128 * SECTOR]),
 ]
 
 PARTITIONS = [
@@ -324,45 +305,39 @@ PARTITIONS = [
 
 def check_places(command):
     """Volumes that begin elsewhere, by a label, a partition table's second copy, or an array's superblock."""
-    for name, disk, words, told in PLACES:
-        command.program.file("head", disk)
-        command.tally.same("the text of " + name, command.answer(words or ["head"]), 0, TEXT[:-1], told)
+    for name, disk, words in PLACES:
+        command.takes(name, disk, TEXT, words=words or ["head"])
     for name, disk, words, message in NO_PLACES:
         command.refuses(name, disk, message, words or ["head"])
 
 
-BACKUP = "head: the first copy of the partition table (GPT) is damaged: its backup at the end is read\n"
 WITH_BACKUP = with_backup(GPT_DISK.ljust(256 * SECTOR, b"\0"), (64, 71), None, (128, 255))
 LARGE_WITH_BACKUP = with_backup(LARGE_SECTORS.ljust(256 * SECTOR, b"\0"), (16, 31), sector=4096)
-ARRAY = "head: a member of an md array, whose data begins at sector %d: that is read as the physical volume\n"
 FAR = bytes(5 << 20) + ONE_AREA + bytes(5 << 20)
 PLACES = [
-    ("a volume that begins elsewhere", FAR, ["head?offset=%d" % (5 << 20)], ""),
-    ("a GPT whose header is damaged", with_flip(WITH_BACKUP, SECTOR + 72), [], BACKUP + "head: the image of a whole disk (%s read\n" % (IS_ONE % ("GPT", 3))),
-    ("a GPT whose entries are damaged", with_flip(WITH_BACKUP, 2 * SECTOR + 32), [], BACKUP + "head: the image of a whole disk (%s read\n" % (IS_ONE % ("GPT", 3))),
-    ("a GPT whose beginning is gone", bytes(34 * SECTOR) + WITH_BACKUP[34 * SECTOR:], [], BACKUP + "head: the image of a whole disk (%s read\n" % (IS_ONE % ("GPT", 3))),
-    ("a GPT of large sectors whose beginning is gone", bytes(34 * SECTOR) + LARGE_WITH_BACKUP[34 * SECTOR:], [], BACKUP + "head: the image of a whole disk (%s read\n" % (IS_ONE % ("GPT", 1))),
+    ("a volume that begins elsewhere", FAR, ["head?offset=%d" % (5 << 20)]),
+    ("a label in the middle of an image", FAR, []),
+    ("two labels", FAR + FAR, []),
+    ("a GPT whose header is damaged", with_flip(WITH_BACKUP, SECTOR + 72), []),
+    ("a GPT whose entries are damaged", with_flip(WITH_BACKUP, 2 * SECTOR + 32), []),
+    ("a GPT whose beginning is gone", bytes(34 * SECTOR) + WITH_BACKUP[34 * SECTOR:], []),
+    ("a GPT of large sectors whose beginning is gone", bytes(34 * SECTOR) + LARGE_WITH_BACKUP[34 * SECTOR:], []),
     # A volume on the whole disk goes before what is left of a table.
-    ("a volume before a GPT that was", with_backup(ONE_AREA.ljust(256 * SECTOR, b"\0"), (128, 255)), [], ""),
-    ("a member of an array, version 1.1", md_member(ONE_AREA, 16), [], ARRAY % 16),
-    ("a member of an array, version 1.2", md_member(ONE_AREA, 2048, 4096), [], ARRAY % 2048),
-    ("a member of an array in a partition", disk_of(mbr((0xFD, 128, 256)), (128, md_member(ONE_AREA, 16))), ["head?offset=65536"], ARRAY % 16),
-    ("a member of an array on a whole disk", disk_of(mbr((0xFD, 128, 256)), (128, md_member(ONE_AREA, 16))), [],
-     "head: the image of a whole disk (%s read\n" % (IS_ONE % ("MBR", 1)) + ARRAY % 16),
+    ("a volume before a GPT that was", with_backup(ONE_AREA.ljust(256 * SECTOR, b"\0"), (128, 255)), []),
+    ("a member of an array, version 1.1", md_member(ONE_AREA, 16), []),
+    ("a member of an array, version 1.2", md_member(ONE_AREA, 2048, 4096), []),
+    ("a member of an array in a partition", disk_of(mbr((0xFD, 128, 256)), (128, md_member(ONE_AREA, 16))), ["head?offset=65536"]),
+    ("a member of an array on a whole disk", disk_of(mbr((0xFD, 128, 256)), (128, md_member(ONE_AREA, 16))), []),
 ]
+OF_ARRAY = "md:" + b"an array of disks"[:16].hex()
 NO_PLACES = [
-    ("a label in the middle of an image", FAR, [], "there is no label in the first four sectors" + NOT_FOUND + LABELLED % (5 << 20, 5 << 20)),
-    ("two labels", FAR + FAR, [], "there is no label in the first four sectors" + NOT_FOUND
-     + "; labels of some that begin at the bytes %d, %d are sound: give one as IMAGE?offset=BYTES" % (5 << 20, len(FAR) + (5 << 20))),
-    # Where an area belongs is said of the whole image.
-    ("a start before the volume", bytes(16 * SECTOR) + ONE_AREA, ["head?offset=4096"], "there is no label in the first four sectors; the metadata area "
-     "at byte 8192 belongs at byte 4096, so a physical volume begins at byte 8192 (sector 16)" + NOT_FOUND + LABELLED % (8192, 8192)),
-    ("a partition before the volume", disk_of(mbr((0x8E, 64, 256)), (72, ONE_AREA)), ["head?offset=32768"], "there is no label in the first four sectors; the "
-     "metadata area at byte 8192 belongs at byte 4096, so a physical volume begins at byte 36864 (sector 72)" + NOT_FOUND + LABELLED % (36864, 36864)),
+    ("a start before the volume", bytes(16 * SECTOR) + ONE_AREA, ["head?offset=4096"], NOTHING + OTHER),
+    ("a partition before the volume", disk_of(mbr((0x8E, 64, 256)), (72, ONE_AREA)), ["head?offset=32768"], NOTHING + OTHER),
     ("a start after the end", ONE_AREA, ["head?offset=1048576"], "it ends before byte 1048576: give a lower offset, or more of the disk"),
     ("a GPT whose copies are both damaged", with_flip(with_flip(WITH_BACKUP, SECTOR + 72), len(WITH_BACKUP) - SECTOR + 72), [],
-     DAMAGED_GPT + LABELLED % (65536, 65536)),
-    ("a member of an array without a volume", md_member(bytes(8192), 16), [], "there is no label in the first four sectors" + NOT_FOUND + FROM_FIRST),
+     "%s (%s)%s" % (NOTHING, DAMAGED_GPT, OTHER)),
+    ("a member of an array without a volume", md_member(bytes(8192), 16), [], "%s (%s: member 1 of %s is missing, and nothing else has its bytes: give its image)%s"
+     % (NOTHING, OF_ARRAY, OF_ARRAY, OTHER)),
 ]
 
 
@@ -380,15 +355,15 @@ def check_heads(command):
     command.tally.same("heads with an escape", command.answer(["a", "d"]), 1, "", said + "d: vg0 seqno 6, volumes: e\\x1b, root\n" + differ % "a")
     # A whole disk among them, and one with volumes of two groups.
     command.program.file("disk", MBR_DISK)
-    command.tally.same("a disk and a volume", command.answer(["disk", "b"]), 0, TEXT[:-1], "disk: the image of a whole disk (%s read\n" % (IS_ONE % ("MBR", 2)))
+    command.tally.same("a disk and a volume", command.answer(["disk", "b"]), 0, TEXT[:-1])
     command.program.file("disk", disk_of(gpt((64, 127), (128, 255)), (64, ONE_AREA), (128, volume((FIRST, area(apart))))))
-    command.tally.same("volumes that differ", command.answer(["disk"]), 1, "", "disk: the image of a whole disk (%s read\n" % (ARE_SEVERAL % ("GPT", "1, 2"))
-                       + "disk from sector 64 on: vg0 seqno 7, volumes: none\ndisk from sector 128 on: vg0 seqno 6, volumes: home, root\n" + differ % "disk")
+    command.tally.same("volumes that differ", command.answer(["disk"]), 1, "",
+                       "disk:1: vg0 seqno 7, volumes: none\ndisk:2: vg0 seqno 6, volumes: home, root\n" + differ % "disk:1")
 
 
 def check_files(tally, program, command):
     """What can't be read: one line, status 1, and nothing of Python."""
-    for name, message in (("nowhere", "No such file or directory"), (".", "Is a directory")):
+    for name, message in (("nowhere", "No such file or directory"), (".", "neither a file nor a disk: give an image of the disk")):
         for words in ([], ["--list"]):
             tally.same("%s of %s" % (words, name), command.run(*words, name), 1, "", SAID + "%s: %s\n" % (name, message))
     program.file("head", "")
@@ -396,10 +371,13 @@ def check_files(tally, program, command):
     program.file("head", with_flip(ONE_AREA, FIRST + SECTOR))
     tally.same("a damaged text, as from a shell", command.run("head"), 1, "", SAID + "head: " + ONE + "the sum of its text is wrong" + LISTED + "\n")
     program.file("head", ONE_AREA)
-    found = refusal_of(command.path)
-    tally.holds("the text of an unreadable file", found == command.path + ": Permission denied", "it is refused with %r" % found)
+    os.chmod(command.path, 0)
+    with as_nobody():
+        got = command.answer(["head"])
+    os.chmod(command.path, 0o644)
+    tally.same("the text of an unreadable file", got, 1, "", SAID + "head: Permission denied\n")
     tally.same("the text of a pipe", command.run("-", given=ONE_AREA), 1, "",
-               SAID + "standard input: no file or disk, of which each byte can be read: write what comes to a file\n")
+               SAID + "/dev/stdin: neither a file nor a disk: give an image of the disk\n")
     with open(command.path, "rb") as given:
         tally.same("the text of standard input", command.run("-", stdin=given), 0, TEXT[:-1])
     with open("/dev/full", "wb") as full:
@@ -415,21 +393,16 @@ def check_files(tally, program, command):
     tally.same("the list of two heads", got, 2, "", SAID + "--list, --seqno and --at take one HEAD\n")
 
 
-def refusal_of(path):
-    """Why a file that nobody may read is refused. As root reads every file, this is asked as somebody else."""
-    disk_image, refusal = (importlib.import_module("dmremap_tools.base." + it) for it in ("disk_image", "refusal"))
-    os.chmod(path, 0)
+@contextlib.contextmanager
+def as_nobody():
+    """As root reads every file, what is within is done as somebody else."""
     user = os.geteuid()
     if user == 0:
         os.seteuid(NOBODY)
     try:
-        disk_image.open_image(path)
-    except refusal.Refusal as refused:
-        return str(refused)
+        yield
     finally:
         os.seteuid(user)
-        os.chmod(path, 0o644)
-    return None
 
 
 def check_texts(tally, command, group):

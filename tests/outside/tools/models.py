@@ -639,10 +639,11 @@ def node(number, pairs, is_leaf=True):
     return block(number, 121107, head + keys + struct.pack("<%dQ" % len(pairs), *(value for _, value in pairs)))
 
 
-def pool_superblock(chunk):
-    """The superblock of a thin pool, whose tree of devices is in block 1, and that of their details in block 2."""
-    fields = 0, 0, b"", 27022010, 2, 0, 1, 0, b"", b"", 1, 2, chunk, 8, 8, 0, 0, 0
-    return block(0, 160774, struct.pack("<LQ16sQLLQQ128s128sQQLLQLLL", *fields)[:4092])
+def pool_superblock(chunk, blocks=0, held=0, number=0, root=1):
+    """The superblock of a thin pool with so many blocks of data, whose tree of devices is in block 1, and that of their details in
+    block 2; or a copy of it in another block, which is held."""
+    fields = 0, 0, b"", 27022010, 2, 0, 1, held, struct.pack("<Q", blocks), b"", root, 2, chunk, 8, 8, 0, 0, 0
+    return block(number, 160774, struct.pack("<LQ16sQLLQQ128s128sQQLLQLLL", *fields)[:4092])
 
 
 def cache_metadata(chunk, entries):
@@ -847,10 +848,11 @@ def check_files(tally, pile):
     pile.put("two", disk("b", B, known))
     got = pile.call("tables", "vg-0", "one", "two", "--to", "made")
     made = os.path.join(pile.folder, "made")
-    tally.holds("tables", got.status == 0 and got.out.decode() == "dmremap map table made/FILE made/DISKS\n", "status %s, %r %r" % (got.status, got.out, got.err))
+    tally.same("tables of a plain group", got, 0, "dmremap map images made/PATHS\n", "dmremap reads the text of vg-0 in its images\n")
+    tally.holds("what is written of it", os.listdir(made) == ["PATHS"], os.listdir(made))
     with open(os.path.join(made, "PATHS"), encoding="utf-8") as listed:
         paths = dict(line.rstrip("\n").split(" ", 1) for line in listed)
-    answers = pile.program.run(["map", "table", os.path.join(made, "FILE"), os.path.join(made, "DISKS")], given="R vg--0-home 0 56\nR vg--0-wide--one 0 64\n")
+    answers = pile.program.run(["map", "images", os.path.join(made, "PATHS")], given="R vg--0-home 0 56\nR vg--0-wide--one 0 64\n")
     read = {1: b"", 2: b""}
     for line in answers.out.decode().splitlines():
         number, _, name, start, count = line.split()

@@ -15,14 +15,8 @@ from harness import Case
 VERBS = ("activate|add|ask|assemble|begin|compare|dump|end|give|install|leave|look|make|mend|name|put|read|repair|restore|run|save|say|"
          "see|take|trace|try|unpack|use|write")
 STEP = re.compile(r"`|(?<![\w-])--[a-z]|;|(?:^|[:,.(] )(?:or )?(?:%s)\b" % VERBS, re.I)
-# Where the elements of dumps are.
-ELEMENTS = "dmremap_tools.machines.thin"
 METHOD = re.compile(r"_?refuse(?:_line|_where)?|refused")
 EXCEPTIONS = {
-    "there are both a partition table ({}) and the label of a physical volume, which lvm2 doesn't take then: IMAGE?offset=BYTES "
-    "takes a partition, and IMAGE?offset=0 the disk itself",
-    # Where a label is, or what else to try.
-    "{}, and no metadata area is in the first or last {} MiB{}",
     # What is wrong with a leg, to which is added which disks to give.
     "it has no superblock of dm-raid", "its superblock is of another array, or of another place in it",
 }
@@ -109,7 +103,7 @@ def check_messages(tally, top):
     adding = {(module, function) for module, _, function, _, _, texts in found if texts and all(map(STEP.search, texts))}
     met = set()
     for module, line, _, called, of, texts in found:
-        is_added = (ELEMENTS if of == "element" else module, called) in adding
+        is_added = (module, called) in adding
         for text in texts:
             met |= {text} & EXCEPTIONS
             is_told = is_added or STEP.search(text) or not re.search("[A-Za-z]", text) or text in EXCEPTIONS

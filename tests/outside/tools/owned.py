@@ -12,6 +12,7 @@ import models
 import physical_volumes
 import tool_calls
 from dmremap_tools.base import disk_image, signatures
+from dmremap_tools.model.device import Image, Lenient
 from harness import Case
 from models import (A, B, DATA, EXTENT, MIB, SECTOR, content_of, disk, empty_pile, extents_of, linear, member, named, text,
                     volume, xor)
@@ -248,9 +249,7 @@ def check_own_signatures(tally, pile):
 def kinds_in(pile, image):
     """What the signatures are of that are looked for in an image without wipefs."""
     pile.put("sda", bytes(image))
-    path = os.path.join(pile.folder, "sda")
-    with open(path, "rb") as file:
-        return [each.kind for each in signatures.signatures_in(disk_image.Image(file, path))]
+    return [each.kind for each in signatures.signatures_in(Lenient(Image(os.path.join(pile.folder, "sda"))))]
 
 
 def check_lengths(tally, pile):
@@ -328,10 +327,8 @@ def check_kinds(tally, pile):
         image = bytearray(MIB)
         for at, content in places:
             image[at:at + len(content)] = content
-        path = os.path.join(pile.folder, "sda")
         pile.put("sda", bytes(image))
-        with open(path, "rb") as file:
-            found = disk_image.file_system_of(disk_image.Image(file, path))
+        found = disk_image.file_system_of(Lenient(Image(os.path.join(pile.folder, "sda"))))
         tally.holds(name, found == wanted, found)
     for name, at, content in (("Sun", 508, b"\xda\xbe"), ("SGI", 0, b"\x0b\xe5\xa9\x41"), ("Apple", 512, b"PM\0\0"), ("BSD", 512, b"WEV\x82")):
         image = bytearray(MIB)

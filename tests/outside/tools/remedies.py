@@ -1,11 +1,8 @@
-"""Every command that dmremap-tools explain prints as a remedy is typed, with what it needs of a machine put in its place: it ends with
-status 0. A request that it prints is asked, and a file that it names is there."""
+"""Every command that dmremap-tools explain or dmremap help prints as a remedy is typed, with what it needs of a machine put in its
+place: it ends with status 0. A request that explain prints is asked."""
 
 import ast
-import contextlib
-import errno
 import glob
-import importlib
 import os
 import re
 import shutil
@@ -22,35 +19,31 @@ MACHINE = {
     "blockdev": '[ "$1 $#" = "--getsz 2" ] && case $2 in /dev/?*|DISK) echo 100;; *) exit 1;; esac',
     "dmsetup": 'case $* in ls|status) cat "$SAMPLES/$1.txt";; "table --concise") cat "$SAMPLES/concise.txt";; "ls --tree"|table|"table "*) cat tables;; *) exit 1;; esac',
     "lsblk": '[ "$*" = "-brno MAJ:MIN,SIZE,KNAME,PKNAME" ] && cat "$SAMPLES/lsblk.txt"',
+    "lvs": '[ "$*" = -a ]',
     "vgcfgbackup": '[ "$1 $2 $3" = "-f GROUP.backup GROUP" ] && echo > "$2"',
-    "sudo": 'exec "$@"',
 }
 # What stands in a command for what only the user knows.
-NAMED = {"REQUESTS": "R a 0 8\n", "DISKS": "/dev/sda1 100\n", "FILE": "a: 0 8 linear /dev/sda1 0\n", "hidden.table": "a: 0 8 zero\n"}
+NAMED = {"REQUESTS": "R a 0 8\n", "DISKS": "/dev/sda1 100\n", "FILE": "a: 0 8 linear /dev/sda1 0\n"}
 REQUEST = re.compile("[RW] .*")
-# What of a group can't be mapped, and why.
-REASON = re.compile(r"\S+: .*|\.\.")
 # A command as it stands in the sources, and what is put into it.
-COMMAND, PUT = re.compile("  [a-z].*"), re.compile(r"%[sd]|FORMAT FILE|FILE|DISKS|NUMBER")
-# This one says what is wrong with a file that can't be read, and so fails.
-FAILS = "cat tables/none > /dev/null"
-
-
-@contextlib.contextmanager
-def hidden():
-    """Lets nobody read a file of this name, not even root."""
-    texts = importlib.import_module("dmremap_tools.explaining.texts")
-
-    def opened(path, *words):
-        if path == "hidden.table":
-            raise PermissionError(errno.EACCES, os.strerror(errno.EACCES))
-        return open(path, *words)
-
-    texts.open = opened
-    try:
-        yield
-    finally:
-        del texts.open
+COMMAND, PUT = re.compile("  [a-z].*"), re.compile(r"%[sd]|NUMBER")
+# What help prints as a command, and what is typed for it, with what only the user knows.
+OF_HELP = {
+    "cat FILE > /dev/null": "cat FILE > /dev/null",
+    "dmremap check": "dmremap check table FILE DISKS",
+    "dmremap name": "dmremap name VG LV",
+    "dmremap table": "dmremap table table FILE DISKS",
+    "dmremap-tools cut": "dmremap-tools cut < REQUESTS",
+    "dmremap-tools lvm2-text": "dmremap-tools lvm2-text vgm.backup > copy.backup",
+    "dmremap-tools machine": "dmsetup ls > ls.txt; dmsetup status > status.txt; dmsetup table --concise > concise.txt; "
+                             "dmremap-tools machine --disks new.disks ls.txt status.txt lsblk.txt concise.txt > new.tables",
+    "dmsetup table": "dmsetup table > new.tables",
+    "dmsetup table DEVICE": "dmsetup table DEVICE > one",
+    "lvs -a": "lvs -a",
+    "tr -d '\\r'": "tr -d '\\r' < FILE > without",
+    "ulimit -s": "ulimit -s",
+}
+PROGRAMS = re.compile(r"`((?:%s)\b[^`]*)`" % "|".join(sorted({it.split(" ")[0] for it in OF_HELP})))
 
 
 def put_machine(program, top):
@@ -58,8 +51,9 @@ def put_machine(program, top):
     for name, script in MACHINE.items():
         os.chmod(program.file("machine/" + name, "#!/bin/sh\nSAMPLES=%s\n%s\n" % (samples(top), script)), 0o755)
     folder = os.path.join(program.folder, "machine")
-    os.symlink(program.path, os.path.join(folder, "dmremap"))
-    os.symlink(os.path.join(top, "dmremap-tools"), os.path.join(folder, "dmremap-tools"))
+    for name, path in (("dmremap", program.path), ("dmremap-tools", os.path.join(top, "dmremap-tools"))):
+        if not os.path.lexists(os.path.join(folder, name)):
+            os.symlink(path, os.path.join(folder, name))
     return folder
 
 
@@ -73,36 +67,26 @@ def put_files(program, top):
     return folder
 
 
-def remedies_in(out):
-    """The lines of what is to be done that are no sentences."""
-    rows = out.split("\n")
-    first = next((at for at, row in enumerate(rows) if row.startswith("do:  ")), len(rows))
-    return [row[7:] for row in rows[first:] if row[5:7] == "  "]
-
-
 def check_typed(tally, program, top):
     """Those of all rows, in a folder that is as new for each."""
     machine, typed = put_machine(program, top), set()
     environment = dict(os.environ, PATH=machine + os.pathsep + os.environ["PATH"])
-    rows = [(words, given) for _, words, given, _ in explained_rows.MISTAKES]
-    rows += [(words, given) for _, words, given, _ in explained_rows.CAUSES] + [(words, b"") for words in explained_rows.OTHERS]
     one = explained.Explain(program, top, put_files(program, top))
-    for words, given in rows:
-        with hidden():
-            found = remedies_in(one.run(words, given).out.decode())
+    for words, given, files in (row[1:4] for row in explained_rows.rows()):
         commands = []
-        for remedy in found:
+        one.put(files)
+        for remedy in explained.remedy_of(one.run(words, given).out.decode().splitlines()).splitlines():
             if REQUEST.fullmatch(remedy):
                 got = program.run([it for it in words if not explained.REQUEST.match(it)], given=remedy + "\n", folder=one.folder)
                 tally.holds("the request %s" % remedy, got.status == 0, got.err)
-            elif not os.path.exists(os.path.join(one.folder, remedy)) and not REASON.fullmatch(remedy):
+            else:
                 commands.append(remedy)
         if typed.issuperset(commands):
             continue
         typed.update(commands)
         got = run(["bash", "-ec", "".join(it + "\n" for it in commands)], folder=one.folder, env=environment)
         put_files(program, top)
-        tally.holds("what is typed after %s" % words, (got.status == 0) == (FAILS not in commands), "%s: status %s, %s" % (commands, got.status, got.err))
+        tally.holds("what is typed after %s" % words, got.status == 0, "%s: status %s, %s" % (commands, got.status, got.err))
     lost = [form for form in forms_in(top) if not any(form.match("  " + it) for it in typed)]
     tally.holds("commands that are typed", not lost, "not these: %s" % lost)
 
@@ -115,5 +99,19 @@ def forms_in(top):
                 yield re.compile(".*".join(map(re.escape, PUT.split(node.value))))
 
 
-class Remedies(Case, checks=[check_typed]):
-    """The remedies that explain prints."""
+def check_help(tally, program, top):
+    """Those of all entries of help."""
+    environment = dict(os.environ, PATH=put_machine(program, top) + os.pathsep + os.environ["PATH"])
+    words = re.search(r"help knows:\n((?:  .*\n)+)", program.run(["help", "no: such: word"]).err.decode())[1].replace("\n", " ").split(",")
+    said = "".join(program.run(["help", it.strip()]).out.decode() for it in words)
+    said += "".join(program.run(["help", it + ": name"]).out.decode() for it in ("source", "paths"))
+    found = set(PROGRAMS.findall(said))
+    tally.holds("commands that help prints", found == set(OF_HELP), "there are %s" % sorted(found ^ set(OF_HELP)))
+    folder = put_files(program, top)
+    for command in OF_HELP.values():
+        got = run(["bash", "-ec", command], folder=folder, env=environment)
+        tally.holds("what help has typed: %s" % command, got.status == 0, "status %s, %s" % (got.status, got.err))
+
+
+class Remedies(Case, checks=[check_typed, check_help]):
+    """The remedies that explain and help print."""

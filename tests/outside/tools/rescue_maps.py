@@ -159,7 +159,7 @@ def check_tables(tally, pile):
     pile.put("out.map", rescue(64, (10, 2)))
     words = ["table", "out.t", "out.d", "--map", "sda=out.map"]
     got = pile.call("save", "v", "out", *words)
-    tally.same("a volume of a disk with a gap", got, 1, "", "dmremap-tools save: v: sda lacks its bytes 5120 to 6143, as its map says; give --resume MAP to save the rest: the map says "
+    tally.same("a volume of a disk with a gap", got, 1, "", "dmremap-tools save: v: sda lacks its bytes 5120 to 6143, as its map says; or give --resume MAP to save the rest: the map says "
                "then what is missing\n")
     got = pile.call("save", "v", "out", *words, "--allow-missing")
     with open(os.path.join(pile.folder, "out"), "rb") as saved:

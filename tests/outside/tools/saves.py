@@ -77,14 +77,15 @@ class Disks:
 
 
 LOST = "%d sectors of the file from %d on can't be read\n"
+FAILS, CUT = "reads fail there, as the tables say", "%s ends at byte %d"
 
 
 def check_volumes(tally, program, top):
     """A whole volume, of which a line is an error; and once more without that line. What isn't all there is refused, unless it may
     have gaps."""
     disks = Disks(program)
-    refused(tally, top, disks, "an error", "its sectors from 32 on fail to be read, as the tables say")
-    tally.same("a volume that may have gaps", disks.save(top, "gaps", "--allow-missing"), 0, "", LOST % (8, 32))
+    refused(tally, top, disks, "an error", FAILS)
+    tally.same("a volume that may have gaps", disks.save(top, "gaps", "--allow-missing"), 0, "", "v: %s\n" % FAILS + LOST % (8, 32))
     tally.holds("what it has", read(disks.target("gaps")) == disks.volume(), "it is another")
     program.file("save/table", TABLE.replace("error", "zero"))
     tally.same("a volume without an error", disks.save(top, "sound"), 0)
@@ -93,14 +94,14 @@ def check_volumes(tally, program, top):
         tally.same("a volume of which a sector can't be read", disks.save(top, "damaged"), 4, "", LOST % (1, 7) + LOST % (1, 43))
     with open(disks.paths["b"], "r+b") as file:
         file.truncate(36 * SECTOR)
-    refused(tally, top, disks, "a short disk", disks.paths["b"] + ": it ends before sector 40")
+    refused(tally, top, disks, "a short disk", CUT % (disks.paths["b"], 36 * SECTOR))
     os.unlink(disks.paths["b"])
     refused(tally, top, disks, "a missing disk", disks.paths["b"] + ": No such file or directory")
 
 
 def refused(tally, top, disks, name, why):
     """What isn't all there is refused, and there is no file."""
-    tally.same("a volume with " + name, disks.save(top, "refused"), 1, "", "dmremap-tools save: v: %s; give --resume MAP to save the rest: the map says then "
+    tally.same("a volume with " + name, disks.save(top, "refused"), 1, "", "dmremap-tools save: v: %s; or give --resume MAP to save the rest: the map says then "
                "what is missing\n" % why)
     tally.holds("what that leaves", not os.path.exists(disks.target("refused")), "it is there")
 
@@ -131,10 +132,11 @@ def check_gaps(tally, program, top):
     os.rename(disks.paths["c"], disks.paths["c"] + ".away")
     with open(disks.paths["b"], "r+b") as file:
         file.truncate(36 * SECTOR)
-    missing = "missing: c: No such file or directory\n"
+    gone = "%s: No such file or directory" % disks.paths["c"]
+    missing, why = "missing: c: %s\n" % gone, "v: %s\n" % FAILS
     with unreadable(range(9, 10)):
         got = disks.save(top, "begun", "--resume", disks.target("map"))
-    tally.same("a volume with gaps", got, 4, "", LOST % (1, 1) + missing + LOST % (20, 28))
+    tally.same("a volume with gaps", got, 4, "", why + LOST % (1, 1) + missing + LOST % (20, 28))
     areas = [(0, 1, "+"), (1, 1, "-"), (2, 26, "+"), (28, 12, "-"), (40, 8, "?")]
     text = "".join("0x%08X  0x%08X  %s\n" % (SECTOR * at, SECTOR * count, it) for at, count, it in areas)
     # What can't be read has no id: of sectors in which ids are, and of a disk that isn't there.
@@ -201,8 +203,7 @@ def check_whole_disks(tally, program, top):
         words = [program.file("save/table", "v: 0 8 linear p 0\n"), program.file("save/disks", "p %d\n" % size)]
         listed = program.file("save/paths", "p %s\n" % path)
         got = tool_calls.call(top, ["save", "--program", program.path, "--paths", listed, "v", target, "table", *words])
-        told = path + ": the first copy of the partition table (GPT) is damaged: its backup at the end is read\n" if image is end else ""
-        tally.same("saving from " + name, got, 1 if kind else 0, "", told + WHOLE % (path, kind, size) if kind else "")
+        tally.same("saving from " + name, got, 1 if kind else 0, "", WHOLE % (path, kind, size) if kind else "")
         if not kind and tally.holds("a file from " + name, os.path.exists(target), "it isn't there"):
             tally.holds("what is saved from " + name, read(target) == image[:8 * SECTOR], "it is another")
             os.unlink(target)
@@ -220,8 +221,8 @@ IDENTITIES = [it.ljust(32, b"x") for it in (b"first", b"other")]
 OWN, OTHER = ("%s-xxxx-xxxx-xxxx-xxxx-xxxx-xxxxxx" % it for it in ("firstx", "otherx"))
 OF_VOLUME = OF_PARTITION.replace("device =", 'id = "%s"\n\t\t\tdevice =' % OWN)
 PHYSICAL, BESIDE = (physical_volumes.volume(length=56 * SECTOR, identity=it) for it in IDENTITIES)
-BOTH = "there are both a partition table (MBR) and the label of a physical volume, which lvm2 doesn't take then: IMAGE?offset=BYTES takes a partition, " \
-       "and IMAGE?offset=0 the disk itself"
+BOTH = "the disk has a partition table (MBR) as well, which was made later, so that others may have written there: to take it as it was, take the table out " \
+       "of a copy (dd if=/dev/zero of=COPY count=1 conv=notrunc)"
 UNLABELLED = "the image of a whole disk (GPT), none of whose partitions (1) has a sound label: give the partition that it is, as IMAGE?offset=BYTES"
 
 
@@ -232,17 +233,15 @@ def check_labels(tally, program, top):
     below, above = (mbr + it[SECTOR:40 * SECTOR] for it in (BESIDE, PHYSICAL))
     plain = bytes(range(256)) * 112
     for name, image, begin, what in (
-            ("both", below + PHYSICAL, None, BOTH), ("a partition beside a label", below + PHYSICAL, 40, None),
+            ("both", above + BESIDE, None, BOTH), ("a partition beside a label", below + PHYSICAL, 40, None),
             ("a label beside a partition", above + BESIDE, 0, None),
             ("another label", below + PHYSICAL, 0, "it isn't p, whose id is %s, but has the id %s: give the path of that" % (OWN, OTHER)),
             ("no label", gpt + plain, None, UNLABELLED), ("a partition without a label", gpt + plain, 40, None),
             ("a label elsewhere", gpt + plain + bytes(8 * SECTOR) + PHYSICAL, None,
-             UNLABELLED + "; the label of one that begins at byte 53248 is sound: give it as IMAGE?offset=53248"),
+             UNLABELLED),
             ("a volume elsewhere", gpt + plain + bytes(8 * SECTOR) + PHYSICAL, 104, None),
-            ("two labels elsewhere", gpt + plain + bytes(8 * SECTOR) + PHYSICAL + BESIDE, None,
-             UNLABELLED + "; labels of some that begin at the bytes 53248, 81920 are sound: give one as IMAGE?offset=BYTES"),
             ("the head of a disk", physical_volumes.mbr((0x83, 8, 8), (0x8E, 400, 56)) + bytes(99 * SECTOR), None,
-             "the image of a whole disk (MBR), which ends before its partitions do (1 from sector 8 on, 2 from sector 400 on): take more of the disk")):
+             UNLABELLED.replace("GPT", "MBR").replace("1", "1, 2"))):
         path, target = program.file("save/disk", image), os.path.join(program.folder, "save", "of label")
         listed = program.file("save/paths", "p %s%s\n" % (path, "" if begin is None else "?offset=%d" % (begin * SECTOR)))
         source = program.file("save/source", OF_VOLUME)
@@ -251,12 +250,12 @@ def check_labels(tally, program, top):
         if not what and tally.holds("a file by labels, " + name, os.path.exists(target), "it isn't there"):
             tally.holds("what is saved by labels, " + name, read(target) == image[begin * SECTOR:(begin + 8) * SECTOR], "it is another")
             os.unlink(target)
-    for figures, told in ((18, path + ": it ends before sector 8"), (19, "%s?offset=%s: No such file or directory" % (path, "9" * 19))):
+    for figures, told in ((18, path + " ends at byte 0"), (19, "%s?offset=%s: No such file or directory" % (path, "9" * 19))):
         target = os.path.join(program.folder, "save", "far %d" % figures)
         words = [program.file("save/table", "v: 0 8 linear p 0\n"), program.file("save/disks", "p 64\n")]
         listed = program.file("save/paths", "p %s?offset=%s\n" % (path, "9" * figures))
         got = tool_calls.call(top, ["save", "--program", program.path, "--paths", listed, "v", target, "table", *words])
-        tally.same("saving from a place of %d figures" % figures, got, 1, "", "dmremap-tools save: v: %s; give --resume MAP to save the rest: the map says "
+        tally.same("saving from a place of %d figures" % figures, got, 1, "", "dmremap-tools save: v: %s; or give --resume MAP to save the rest: the map says "
                    "then what is missing\n" % told)
 
 
@@ -288,7 +287,8 @@ def check_odd_file(tally, program, top):
     sectors, ids = said_of(disks, top, *words[1:])
     words += ["--resume", disks.target("odd.map")]
     os.rename(disks.paths["c"], disks.paths["c"] + ".away")
-    tally.same("an odd file without a disk", disks.save(top, *words), 4, "", "missing: c: No such file or directory\n" + LOST % (5, 5))
+    gone = "%s: No such file or directory\n" % disks.paths["c"]
+    tally.same("an odd file without a disk", disks.save(top, *words), 4, "", "v: %smissing: c: %s" % (gone, gone) + LOST % (5, 5))
     text = "0x%08X  0x%08X  +\n0x%08X  0x%08X  ?\n" % (0, 5 * SECTOR, 5 * SECTOR, 5001 - 5 * SECTOR)
     tally.holds("its map", read(disks.target("odd.map")).decode() == MAP % (sectors, re.sub("c:[0-9a-f]+", "c:?", ids), 5 * SECTOR, "?") + text, read(disks.target("odd.map")))
     os.rename(disks.paths["c"] + ".away", disks.paths["c"])
@@ -347,7 +347,7 @@ def check_refusals(tally, program, top):
     program.file("save/path", "a %s\n" % packed)
     program.file("save/table", TABLE.replace("error", "zero"))
     got = tool_calls.call(top, ["save", "--program", program.path, "--paths", disks.target("path"), "v", disks.target("new"), *disks.source])
-    tally.holds("an image that is compressed", got.status == 1 and b"packed: it is compressed (xz): unpack it; give --resume" in got.err, "status %s, %r" % (got.status, got.err))
+    tally.holds("an image that is compressed", got.status == 1 and b"packed: it is compressed (xz): unpack it; or give --resume" in got.err, "status %s, %r" % (got.status, got.err))
     listed = program.file("save/path", "a x\n/dev/b y\n")
     got = tool_calls.call(top, ["save", "--program", program.path, "--paths", listed, "v", disks.target("new"), *disks.source])
     tally.same("a path of no disk", got, 1, "", said % "%s: no disk is called /dev/b: give a name that the tables have" % listed)
@@ -364,10 +364,10 @@ def check_refusals(tally, program, top):
     tally.holds("what is behind the link", not os.path.exists(disks.target("behind")), "it was made")
     got = tool_calls.call(top, ["save", *disks.words, "w", disks.target("new"), *disks.source])
     tally.same("saving no device", got, 1, "", said % "%s: no device w: `dmremap table` prints their names" % disks.source[1])
-    dies = program.file("save/dies", '#!/bin/sh\n[ "$1" = map ] && { %s "$@" | head -n 2; kill -9 $$; }\nexec %s "$@"\n' % (program.path, program.path))
+    dies = program.file("save/dies", '#!/bin/sh\n[ "$1" = map ] && kill -9 $$\nexec %s "$@"\n' % program.path)
     os.chmod(dies, 0o755)
     got = tool_calls.call(top, ["save", "--program", dies, *disks.words[2:], "v", disks.target("new"), *disks.source])
-    tally.same("saving by a dmremap that dies", got, 5, "", said % "%s: it was ended by signal 9" % dies)
+    tally.same("saving by a dmremap that dies", got, 1, "", said % "%s: no answer (status -9): see what `dmremap-tools explain` says" % dies)
     tally.holds("what that leaves", not os.path.exists(disks.target("new")), "it is there")
     for more in (["-"], ["new", "--resume", "-"]):
         got = tool_calls.call(top, ["save", *disks.words, "v", *more[:1], *disks.source, *more[1:]], folder=os.path.dirname(disks.target("new")))
@@ -421,7 +421,7 @@ def check_outputs(tally, program, top):
 
 SLOW = """#!/bin/sh
 [ "$1" = map ] || exec %s "$@"
-%s "$@" | { head -n 2; echo >> "$0.begun"; exec sleep 60 2> /dev/null; }
+%s "$@" | { head -n 1; head -n 1 > /dev/null; echo >> "$0.begun"; exec sleep 60 2> /dev/null; }
 """
 
 

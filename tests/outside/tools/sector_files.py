@@ -208,7 +208,7 @@ def read(path):
 
 def check_xfs(tally, program, top):
     """An XFS file system: its files, the files of its inodes, and data whose inode is lost. btrfs is named."""
-    image = program.file("btrfs.img", bytes(65536 + 64) + b"_BHRfS_M")
+    image = program.file("btrfs.img", bytes(65536 + 64) + b"_BHRfS_M" + bytes(440))
     got = files(program, top, [(0, 1)], image)
     tally.same("files of btrfs", got, 1, "", "dmremap-tools lost: %s: it is btrfs, whose files have no places: see "
                "`btrfs inspect-internal logical-resolve`\n" % image)

@@ -151,8 +151,8 @@ def check_not_read(case):
     case.put("n", BELOW + SNAPSHOTS[0].replace(" P ", " N "))
     for name, words, source, why in (
             ("one that is invalid", ["--paths", "invalid.img.paths"], SOURCE, INVALID), ("one whose disk isn't here", [], SOURCE, NOT_HERE),
-            ("one whose disk is a pipe", ["--paths", "pipe.paths"], SOURCE, "pipe: neither a file nor a disk: give the path of one"),
-            ("one whose disk is a device of zeros", ["--paths", "zero.paths"], SOURCE, "/dev/zero: neither a file nor a disk: give the path of one"),
+            ("one whose disk is a pipe", ["--paths", "pipe.paths"], SOURCE, "pipe: neither a file nor a disk: give an image of the disk"),
+            ("one whose disk is a device of zeros", ["--paths", "zero.paths"], SOURCE, "/dev/zero: neither a file nor a disk: give an image of the disk"),
             ("one that isn't persistent", PATHS, ["table", "n", "disks"], "the store of s1: it isn't persistent, so no disk says what is in it; --fresh takes it as new")):
         for command, more, given in (("save", ["s1", "out", *source], ""), ("extents", ["s1", *source], ""), ("dd", source, "R s1 0 8\n")):
             got = case.call(command, *words, *more, given=given)

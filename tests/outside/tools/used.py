@@ -53,8 +53,8 @@ class Stores:
     def same(self, name, out, err=TOLD, words=PATHS, source=("table", "table", "disks"), device="s"):
         self.tally.same("used: " + name, self.call(words, source, device), 0, out, err)
 
-    def refused(self, name, why, words=PATHS, source=("table", "table", "disks"), device="s"):
-        self.tally.same("used: " + name, self.call(words, source, device), 1, "", "%s extents: %s\n" % (TOOL, why))
+    def refused(self, name, why, words=PATHS, source=("table", "table", "disks"), device="s", told=""):
+        self.tally.same("used: " + name, self.call(words, source, device), 1, "", "%s%s extents: %s\n" % (told, TOOL, why))
 
 
 def check_states(case):
@@ -114,7 +114,7 @@ def check_refused(case):
     os.mkfifo(os.path.join(case.folder, "pipe"))
     for path in "pipe", "/dev/zero":
         case.put("away", "cow %s\n" % path)
-        case.refused("a store in " + path, path + ": neither a file nor a disk: give the path of one", ["--paths", "away"])
+        case.refused("a store in " + path, path + ": neither a file nor a disk: give an image of the disk", ["--paths", "away"])
     case.put("away", "cow image?offset=100\n")
     case.refused("a place within a sector", "--paths: cow begins at byte 100, within a sector: give a multiple of 512", ["--paths", "away"])
     case.put("away", "cows image\n")
@@ -124,86 +124,10 @@ def check_refused(case):
     case.refused("a path that isn't UTF-8", "%s: dmremap: paths: text at 1" % case.program.path, ["--paths", "away"])
 
 
-# Tables that dmremap refuses: the last line but those of what lies below, the place and what a kernel does.
-LOST = "put a disk in the place of what is lost: in FILE write `linear lost 0` for `error`, and in DISKS `lost` with that line's length"
-ON = "a kernel keeps a store on %s, and dmremap doesn't: put a disk of its length in its place, and name an image of what it holds by --paths: %s"
-UNREADABLE = "a kernel refuses a store whose list fails to be read, and takes one of which other chunks are lost: %s: %s"
-SHORTER = "a kernel takes it, though it is shorter than its origin, and dmremap doesn't"
-UNLOADED = [
-    ("kind PO", "s: 0 64 snapshot base cow PO 8", 1, "a kernel lets reads of kind PO go on when the store is full, and dmremap has no such kind; write P, "
-     "whose stores are the same: 0 64 snapshot base cow PO 8"),
-    ("kind p", "s: 0 64 snapshot base cow p 8", 1, "a kernel takes this kind for P, and dmremap doesn't: write P: 0 64 snapshot base cow p 8"),
-    ("kind n", "s: 0 64 snapshot base cow n 8", 1, "a kernel takes this kind for N, and dmremap doesn't: write N: 0 64 snapshot base cow n 8"),
-    ("kind NO", "s: 0 64 snapshot base cow NO 8", 1, "a kernel takes this kind for N, and dmremap doesn't: write N: 0 64 snapshot base cow NO 8"),
-    ("another kind", "s: 0 64 snapshot base cow Persistent 8", 1, "a kernel refuses this kind of store: write that which `dmsetup table` has: 0 64 snapshot base cow Persistent 8"),
-    ("features", "s: 0 64 snapshot base cow P 8 1 discard_zeroes_cow", 1, "a kernel takes features of a snapshot, which change discards alone, and dmremap "
-     "takes none: let the line end after the chunk: 0 64 snapshot base cow P 8 1 discard_zeroes_cow"),
-    ("a merge", "s: 0 64 snapshot-merge base cow P 8", 1, "a kernel writes this snapshot back to its origin as it goes, which dmremap can't follow: take the tables when it is done: "
-     "0 64 snapshot-merge base cow P 8"),
-    ("a chunk of 0", "s: 0 64 snapshot base cow P 0", 1, "a kernel takes a chunk of 0 for 32 sectors: write 32: 0 64 snapshot base cow P 0"),
-    ("a chunk of 3", "s: 0 64 snapshot base cow P 3", 1, "a kernel refuses this chunk: write that which `dmsetup table` has: 0 64 snapshot base cow P 3"),
-    ("a chunk of 2048", "s: 0 64 snapshot base cow P 2048", 1, "a kernel takes this chunk, and dmremap none of more than 1024 sectors: read it through a kernel: 0 64 snapshot base cow P 2048"),
-    ("a chunk of 4096", "s: 0 64 snapshot base cow P 4096", 1, "a kernel takes this chunk, and dmremap none of more than 1024 sectors: read it through a kernel: 0 64 snapshot base cow P 4096"),
-    ("a chunk of 2 GiB", "s: 0 64 snapshot base cow P 4194304", 1, "a kernel refuses this chunk: write that which `dmsetup table` has: 0 64 snapshot base cow P 4194304"),
-    ("a short one", "s: 0 32 snapshot base cow P 8", 1, SHORTER + ": put a linear device of its length on the origin, and name that as the origin: 0 32 snapshot base cow P 8"),
-    ("a short one of a device", "b: 0 60 linear base 0\ns: 0 32 snapshot /dev/mapper/b cow P 8", 2,
-     SHORTER + ": put a linear device of its length on the origin, and name that as the origin: 0 32 snapshot /dev/mapper/b cow P 8"),
-    ("a long one", "s: 0 65 snapshot base cow P 8", 1, "a kernel refuses it, as it is longer than its origin: see what `dmsetup table` has: 0 65 snapshot base cow P 8"),
-    ("a short origin", "o: 0 32 snapshot-origin base", 1,
-     SHORTER + ": put a linear device of its length on the origin, and name that as the origin: 0 32 snapshot-origin base"),
-    ("a long origin", "o: 0 65 snapshot-origin base", 1, "a kernel refuses it, as it is longer than its origin: see what `dmsetup table` has: 0 65 snapshot-origin base"),
-    ("other lines", "s: 0 64 snapshot base cow P 8\ns: 64 8 zero", 1, "a kernel takes it beside other lines, and dmremap doesn't: give it a device of its own, "
-     "and write a linear line to that here: 0 64 snapshot base cow P 8"),
-    ("a store of zeros", "z: 0 64 zero\ns: 0 64 snapshot base /dev/mapper/z P 8", 2, "a kernel takes a store of zeros, which keeps nothing, so that it is fresh each "
-     "time: put a disk in its place, and give --fresh: 0 64 snapshot base /dev/mapper/z P 8"),
-    ("a store that fails", "z: 0 64 error\ns: 0 64 snapshot base /dev/mapper/z P 8", 2, UNREADABLE % (LOST, "0 64 snapshot base /dev/mapper/z P 8")),
-    ("a store that fails further down", "y: 0 8 linear cow 0\ny: 8 8 error\nz: 0 16 striped 1 8 /dev/mapper/y 0\ns: 0 64 snapshot base /dev/mapper/z P 8", 4,
-     UNREADABLE % (LOST, "0 64 snapshot base /dev/mapper/z P 8")),
-    ("a store on a snapshot", "t: 0 64 snapshot base cow P 8\ns: 0 64 snapshot base /dev/mapper/t P 8", 2, ON % ("a snapshot", "0 64 snapshot base /dev/mapper/t P 8")),
-    ("a store on an origin", "t: 0 160 snapshot-origin cow\ns: 0 64 snapshot base /dev/mapper/t P 8", 2, "a kernel keeps a store on an origin, and first copies what "
-     "it writes there to the snapshots of that: name what the origin is of, which reads the same: 0 64 snapshot base /dev/mapper/t P 8"),
-    ("a store on another target", "c: 0 160 crypt aes - 0 cow 0\ns: 0 64 snapshot base /dev/mapper/c P 8", 1, ON % ("a device of crypt", "0 160 crypt aes - 0 cow 0")),
-    ("a store above another target", "c: 0 160 raid raid1 1 8\nl: 0 160 linear /dev/mapper/c 0\ns: 0 64 snapshot base /dev/mapper/l P 8", 1,
-     ON % ("a device of raid", "0 160 raid raid1 1 8")),
-    ("too many places", "s: 0 64 snapshot base large P 1", 1, "a kernel takes stores of any length, and dmremap counts 4194304 places for chunks in all: put a linear "
-     "device on the store, as long as what `dmsetup status` says is in use of it, and name that as the store: 0 64 snapshot base large P 1"),
-]
-# Edits of a group, line by line, and the same.
-COPY = "; dmremap-tools lvm2-text makes a copy without it"
-RECORDS = [
-    ("a merge", [(45, "cow_store", "merging_store")], 39, "a kernel writes this snapshot back to its origin as it goes, which dmremap can't follow: take the tables when it is done" + COPY),
-    ("a chunk of 4096", [(43, "8", "4096")], 39, "a kernel takes this chunk, and dmremap none of more than 1024 sectors: read it through a kernel"),
-    ("a short one", [(41, "25", "24")], 39, SHORTER + COPY),
-    ("a long one", [(41, "25", "26")], 39, "a kernel refuses it, as it is longer than its origin: see what `dmsetup table` has"),
-    ("a store of zeros", [(31, "striped", "zero")], 39, "a kernel takes a store of zeros, which keeps nothing, and refuses one whose list fails to be read" + COPY),
-    ("a store that fails", [(31, "striped", "error")], 39, "a kernel takes a store of zeros, which keeps nothing, and refuses one whose list fails to be read" + COPY),
-    ("too many places", [(8, "1050624", "999999999"), (10, "128", "9000"), (30, "2", "8000")], 39,
-     "a kernel takes stores of any length, and dmremap counts 4194304 places for chunks in all" + COPY),
-    ("a store on another type", [(31, "striped", "raid1")], 31, "dmremap can't follow what stands there" + COPY),
-    ("a negative number", [(4, "8192", "8192 read_ahead = -1")], 4, "dmremap can't follow what stands there" + COPY),
-    ("a store that is the origin", [(45, "snap", "lv0")], 39, "lvm2 writes no such record of a snapshot: take an older text, from /etc/lvm/archive"),
-    ("no chunk", [(43, "chunk_size = 8", "")], 39, "lvm2 writes no such record of a snapshot: take an older text, from /etc/lvm/archive"),
-]
-
-
 def check_unloaded(case):
-    """Snapshots and stores that dmremap loads no stack with."""
-    case.put("large.disks", DISKS + "large 4325379\n")
-    for name, table, line, why in UNLOADED:
-        case.put("unloaded", table + "\n")
-        case.refused(name, "unloaded:%d: %s" % (line, why), source=("table", "unloaded", "large.disks"))
-    case.put("unloaded", "c,,,ro,0 160 linear cow 0;s,,,rw,0 64 snapshot base /dev/mapper/c P 8\n")
-    case.refused("a store that is read-only", "unloaded:2: a kernel takes a store that is read-only, and writes to it all the same, with a warning in its log: write rw: "
-                 "0 64 snapshot base /dev/mapper/c P 8", source=("concise", "unloaded", "disks"))
-    with open(os.path.join(case.top, "examples", "vg0-snapshot.backup"), encoding="ascii") as it:
-        lines = it.read().split("\n")
-    for name, edits, line, why in RECORDS:
-        changed = list(lines)
-        for number, old, new in edits:
-            changed[number - 1] = changed[number - 1].replace(old, new)
-        case.put("unloaded", "\n".join(changed))
-        case.refused("a group with " + name, "unloaded:%d: %s" % (line, why), ["--fresh"], ("lvm", "unloaded"), "vg0-snap")
-    # The ways out that these name.
+    """Snapshots and stores that dmremap loads no stack with: what it says is told; and others that do what was meant."""
+    case.put("unloaded", "s: 0 32 snapshot base cow P 8\n")
+    case.refused("a short one", "%s: it ends with status 1: see what it said" % case.program.path, source=("table", "unloaded", "disks"), told="dmremap: source: snapshot at 1\n")
     case.put("loaded.disks", DISKS + "longer 80\nlarge 4325379\n")
     for name, table, origin, kept in (("a short one", "b: 0 64 linear longer 0\ns: 0 64 snapshot /dev/mapper/b cow P 8\n", "longer", "cow"),
                                       ("other lines", "s: 0 64 snapshot base cow P 8\nu: 0 64 linear /dev/mapper/s 0\nu: 64 8 zero\n", "base", "cow"),
@@ -211,7 +135,7 @@ def check_unloaded(case):
                                       ("too many places", "z: 0 160 linear large 0\ns: 0 64 snapshot base /dev/mapper/z P 8\n", "base", "large")):
         case.put("loaded", table)
         case.put("kept", kept + " image\n")
-        case.same("the way out of " + name, USED.replace("base", origin).replace("cow", kept), words=["--paths", "kept"], source=("table", "loaded", "loaded.disks"))
+        case.same("in place of " + name, USED.replace("base", origin).replace("cow", kept), words=["--paths", "kept"], source=("table", "loaded", "loaded.disks"))
 
 
 def check_places(case):
@@ -251,7 +175,6 @@ def check_places(case):
         it.write(store([(1001, 2), (7, 3)], chunks=2048))
     case.put("group.paths", "/dev/sda1 whole.img\n")
     got = case.call(["--paths", "group.paths"], ("lvm", "group.ids"), "vg0-snap")
-    told = "whole.img: the image of a whole disk (GPT), whose partition 1 is a physical volume: that is read\n" + told
     case.tally.holds("used: a group on a partition", got.status == 0 and got.out.decode().startswith(extents) and got.err.decode() == told, "%r, %r" % (got.out[:200], got.err))
     case.refused("a group without ids on a partition", "whole.img: the image of a whole disk (GPT), and /dev/sda1 has 1050624 sectors: give the "
                  "partition that it is, as IMAGE?offset=BYTES", ["--paths", "group.paths"], ("lvm", "group"), "vg0-snap")

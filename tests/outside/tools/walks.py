@@ -1,7 +1,6 @@
 """From images of disks alone to metadata, tables, a file's bytes and a lost file's name: over the samples of the tutorial, and
 over a file system that is made here."""
 
-import importlib
 import os
 import random
 import shutil
@@ -209,7 +208,7 @@ def check_walk(tally, program, top, dice):
     tool("save", "--paths", "paths", "vg-home", "again", "lvm", "vg.backup")
     tally.holds("a volume out of its group", read(os.path.join(folder, "again")) == bytes(wanted), "it is another")
     # Nor will a member of an array, unless it has all of it.
-    for level, status, told in ((1, 0, "member: a member of an md array, whose data begins at sector 16: that is read as the physical volume\n"),
+    for level, status, told in ((1, 0, ""),
                                 (5, 1, "dmremap-tools save: member: a member of an md array that isn't raid1, so that no member has all of a physical volume: "
                                        "give the images of all members to `save GROUP/VOLUME OUT IMAGE..`, which puts it together\n")):
         program.file("walk/member", md_member(b, 16, 4096, level))
@@ -218,20 +217,12 @@ def check_walk(tally, program, top, dice):
         got = tool_calls.call(top, ["save", "--program", program.path, "--paths", "members", "vg-home", "of%d" % level, "lvm", "vg.backup"], folder=folder)
         tally.same("a volume of a member of raid%d" % level, got, status, "", told)
     tally.holds("what it has", read(os.path.join(folder, "of1")) == bytes(wanted), "it is another")
-    # A label that can't be read says nothing, nor does an image without anything.
+    # An image without anything says nothing.
     program.file("walk/empty", "")
     program.file("walk/lacking", "".join("%s %s\n" % it for it in zip(HINTS, ("a.img", "empty", "c.img"))))
     got = tool_calls.call(top, ["save", "--program", program.path, "--paths", "lacking", "vg-home", "gaps", "lvm", "vg.backup"], folder=folder)
-    is_told = b"nothing says which disk it is: empty: it is empty: give the image of a disk\n" in got.err and b"vg-home: empty: it ends before sector " in got.err
-    is_refused = got.status == 1 and is_told and not os.path.exists(os.path.join(folder, "gaps"))
+    is_refused = got.status == 1 and b"vg-home: empty ends at byte 0; or give" in got.err and not os.path.exists(os.path.join(folder, "gaps"))
     tally.holds("a volume of a disk without an image", is_refused, "%s, %r" % (got.status, got.err))
-    disk_image = importlib.import_module("dmremap_tools.base.disk_image")
-    plain = disk_image.Image.read
-    disk_image.Image.read = lambda image, at, count: unreadable(image) if image.path == "b.img" else plain(image, at, count)
-    got = tool_calls.call(top, ["save", "--program", program.path, "--paths", "paths", "vg-home", "third", "lvm", "vg.backup"], folder=folder)
-    disk_image.Image.read = plain
-    is_told = b"nothing says which disk it is: b.img: byte 0 and those after it can't be read (Input/output error): take an image of it by ddrescue\n" in got.err
-    tally.holds("a volume of a disk without a label", got.status == 0 and is_told and read(os.path.join(folder, "third")) == bytes(wanted), "%r" % got.err)
     program.file("walk/exchanged", "".join("%s %s\n" % it for it in zip(HINTS, NAMES[1:])))
     got = tool_calls.call(top, ["save", "--program", program.path, "--paths", "exchanged", "vg-home", "other", "lvm", "vg.backup"], folder=folder)
     tally.same("a volume out of other images", got, 1, "", "dmremap-tools save: b.img: it isn't /dev/sda1, whose id is %s, but has the id %s: give the path of that\n" % (dashed(IDS[0]), dashed(IDS[1])))
@@ -242,11 +233,6 @@ def check_walk(tally, program, top, dice):
     tally.holds("the files that are lost", lacking and lacking <= named, "%s are not named" % sorted(lacking - named))
     kept = {"/" + name for name in files} - named
     tally.holds("the files that are whole", kept and not kept & lacking, "of %s some are not" % sorted(kept))
-
-
-def unreadable(image):
-    """What a read of an image with a bad first sector raises."""
-    raise importlib.import_module("dmremap_tools.base.disk_image").Unreadable(image.path, "byte 0 and those after it can't be read (Input/output error): take an image of it by ddrescue")
 
 
 def dumped(folder, name):

@@ -15,7 +15,7 @@ order of DISKS; disks that it lacks are refused, and so are pieces past their en
 --plot draws a field for each disk: to the right the numbers of the requests, or with --times their times; upwards the sectors.
 Reads are blue and writes red, the more the darker.
 
---compare says whether a trace of the disks has what was answered. LOWER has lines `R DISK START SECTORS` or `W ..`, with the
+--compare checks whether a trace of the disks has what was answered. LOWER has lines `R DISK START SECTORS` or `W ..`, with the
 names of the answers, as `trace --lower` prints them. If they differ, lines follow, and the status is 1:
 
     untraced WHAT DISK START SECTORS TIMES      answered so many times more often than it is in LOWER

@@ -1,14 +1,12 @@
 """The image of a disk, or the disk itself, as bytes at their places."""
 
 import contextlib
-import errno
 import os
 import stat
 import struct
-from typing import BinaryIO, Optional
+from typing import BinaryIO, Optional, Protocol
 
-from dmremap_tools.base import streams, written
-from dmremap_tools.base.paths import Place
+from dmremap_tools.base import streams
 from dmremap_tools.base.refusal import Refusal
 
 # What the images of virtual machines begin with that aren't the bytes of a disk in their order.
@@ -51,42 +49,15 @@ UNMOUNTED = ("luks", "bitlocker", "swap", "lvm2", "zfs", "bcache")
 WITHOUT_JOURNAL = {"ext3": ",noload", "ext4": ",noload", "xfs": ",norecovery"}
 
 
-class Unreadable(Refusal):
-    """An image, or bytes of it, can't be read."""
+class Readable(Protocol):
+    """Bytes at their places, as readers of labels and tables take them; messages call them `path`."""
 
-
-class Image:
-    """A file or a disk from a byte `base` on, up to its end or for `size` bytes."""
-
-    def __init__(self, file: BinaryIO, path: str, base: int = 0, size: Optional[int] = None) -> None:
-        self.file, self.path, self.base = file, path, base
-        there = max(0, length_of(file, path) - base)
-        self.size = there if size is None else min(there, size)
+    path: str
+    size: int
 
     def read(self, at: int, count: int) -> bytes:
-        """The bytes from `at` on, fewer where the image ends. Whoever asks sees to it that they aren't too many."""
-        content, size = b"", min(count, self.size - at)
-        try:
-            self.file.seek(self.base + at if size > 0 else 0)
-            while len(content) < size:
-                part = self.file.read(size - len(content))
-                if not part:
-                    break
-                content += part
-        except OSError as fault:
-            raise Unreadable(self.path, f"byte {self.base + at + len(content)} and those after it can't be read "
-                             f"({streams.why(fault)}): take an image of it by ddrescue")
-        return content
-
-    def next_data(self, at: int) -> int:
-        """The next byte from `at` on that isn't in a hole of a file, where the file system tells of holes."""
-        try:
-            return os.lseek(self.file.fileno(), self.base + at, os.SEEK_DATA) - self.base
-        except OSError as fault:
-            return self.size if fault.errno == errno.ENXIO else at
-
-    def part(self, start: int, size: int) -> "Image":
-        return Image(self.file, self.path, self.base + start, size)
+        """The bytes from `at` on, fewer where they end or can't be read. Whoever asks takes care that they aren't too
+        many."""
 
 
 def length_of(file: BinaryIO, path: str) -> int:
@@ -96,41 +67,13 @@ def length_of(file: BinaryIO, path: str) -> int:
         raise Refusal(path, "no file or disk, of which each byte can be read: write what comes to a file")
 
 
-def open_image(path: str) -> Image:
-    """The image of this path, which isn't empty; of standard input for `-`."""
-    name = streams.name_of(path)
-    try:
-        # One who writes to a pipe of this name isn't waited for.
-        descriptor = streams.take_input() if path == "-" else os.open(path, os.O_RDONLY | os.O_NONBLOCK)
-        file = open(descriptor, "rb", buffering=0, closefd=path != "-")
-    except OSError as fault:
-        raise Unreadable(name, streams.why(fault))
-    written.note_input(file.fileno())
-    image = Image(file, name)
-    if not image.size:
-        raise Unreadable(name, "it is empty: give the image of a disk")
-    return image
-
-
-def raw_image(path: str) -> Image:
-    """The same, unless it begins as a file does that has no bytes of a disk in their order."""
-    image = open_image(path)
-    check_form(image.file.fileno(), image.path)
-    return image
-
-
-def image_at(place: Place) -> Image:
-    image = raw_image(place.path)
-    return image.part(place.start, image.size) if place.start else image
-
-
-def check_form(descriptor: int, path: str) -> None:
-    # What can't be read there is met later.
+def form_of(descriptor: int) -> str:
+    """What is said of a file that begins as one does that has no bytes of a disk in their order, or nothing. What can't
+    be read there is met later."""
     with contextlib.suppress(OSError):
         is_file = stat.S_ISREG(os.fstat(descriptor).st_mode)
-        why = other_form(os.pread(descriptor, LONGEST_MAGIC, 0)) if is_file else ""
-        if why:
-            raise Refusal(path, why)
+        return other_form(os.pread(descriptor, LONGEST_MAGIC, 0)) if is_file else ""
+    return ""
 
 
 def other_form(beginning: bytes) -> str:
@@ -142,7 +85,7 @@ def other_form(beginning: bytes) -> str:
     return form and f"it is an image of {form}: convert it with qemu-img convert -O raw"
 
 
-def file_system_of(image: Image) -> Optional[str]:
+def file_system_of(image: Readable) -> Optional[str]:
     """What begins an image, or None where nothing known does or its first bytes aren't there."""
     head = image.read(0, READ)
     if len(head) < min(READ, image.size):
@@ -174,7 +117,7 @@ def mount_command(system: Optional[str], path: str, folder: str) -> Optional[str
     return f"mount -o ro,loop{WITHOUT_JOURNAL.get(system, '')} {path} {folder}"
 
 
-def other_table_of(image: Image) -> Optional[str]:
+def other_table_of(image: Readable) -> Optional[str]:
     """The kind of partition table that a disk has which isn't followed, or None."""
     head = image.read(0, 2 * 512)
     return next((name for name, at, content in OTHER_TABLES if head.startswith(content, at)), None)

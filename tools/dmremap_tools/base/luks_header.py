@@ -7,7 +7,7 @@ from collections import namedtuple
 from typing import List, NamedTuple, Optional
 
 from dmremap_tools.base import luks_text, numbers, streams
-from dmremap_tools.base.disk_image import Image
+from dmremap_tools.base.disk_image import Readable
 from dmremap_tools.base.numbers import SECTOR
 
 MAGIC, SECOND_MAGIC = b"LUKS\xba\xbe", b"SKUL\xba\xbe"
@@ -39,7 +39,7 @@ Header = NamedTuple("Header", [("place", int), ("size", int), ("sequence", int),
 Container = namedtuple("Container", "version identity start length header fault", defaults=("", None, None, 0, None))
 
 
-def container_in(image: Image) -> Optional[Container]:
+def container_in(image: Readable) -> Optional[Container]:
     """The container that an image is, by its first header or by the second alone, or None."""
     head, headers = image.read(0, BINARY), headers_in(image)
     is_first, version = head.startswith(MAGIC), int.from_bytes(head[6:8], "big")
@@ -60,18 +60,14 @@ def container_in(image: Image) -> Optional[Container]:
     return None if found.start is None else found._replace(fault=SECOND_ALONE)
 
 
-def headers_in(image: Image) -> List[Header]:
+def headers_in(image: Readable) -> List[Header]:
     """The sound headers of version 2. The first says where the second is; if it is damaged, that is looked for."""
     first = _header_at(image, 0)
     second = next(filter(None, (_header_at(image, it) for it in ([first.size] if first else SIZES))), None)
     return [it for it in (first, second) if it]
 
 
-def is_container(image: Image) -> bool:
-    return image.read(0, len(MAGIC)) == MAGIC
-
-
-def _header_at(image: Image, place: int) -> Optional[Header]:
+def _header_at(image: Readable, place: int) -> Optional[Header]:
     head = image.read(place, BINARY)
     if len(head) < BINARY:
         return None

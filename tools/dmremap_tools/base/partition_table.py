@@ -6,7 +6,7 @@ import zlib
 from collections import namedtuple
 from typing import List, NamedTuple, Optional
 
-from dmremap_tools.base.disk_image import Image
+from dmremap_tools.base.disk_image import Readable
 from dmremap_tools.base.numbers import SECTOR
 from dmremap_tools.base.refusal import Refusal
 
@@ -38,7 +38,7 @@ class DamagedTable(Refusal):
     """There is a GPT, of which no copy is sound."""
 
 
-def table_of(image: Image, sector: int = SECTOR) -> Optional[Table]:
+def table_of(image: Readable, sector: int = SECTOR) -> Optional[Table]:
     """The partition table of a disk, or None where it has none. As with Linux, an MBR that doesn't say that there is a
     GPT goes before what is left of one. It counts in sectors of so many bytes; where a GPT lies says that."""
     entries = _entries_in(image.read(0, SECTOR))
@@ -57,13 +57,13 @@ def table_of(image: Image, sector: int = SECTOR) -> Optional[Table]:
     return table
 
 
-def backup_of(image: Image) -> Optional[Table]:
+def backup_of(image: Readable) -> Optional[Table]:
     """The second copy of a GPT, which lies in the last sectors of a disk, or None where it isn't sound."""
     places = ((image.size // it * it - it, it) for it in GPT_SECTORS)
     return next(filter(None, (_gpt_at(image, place, it, "backup") for place, it in places if place > it)), None)
 
 
-def _gpt_at(image: Image, place: int, sector: int, copy: str) -> Optional[Table]:
+def _gpt_at(image: Readable, place: int, sector: int, copy: str) -> Optional[Table]:
     """The GPT whose header is at this byte, or None where it or its entries aren't sound."""
     cut_off = Refusal(image.path, "the image of a whole disk, which ends before its partition table (GPT) does: "
                       "take more of the disk")
@@ -90,7 +90,7 @@ def _gpt_at(image: Image, place: int, sector: int, copy: str) -> Optional[Table]
     return Table("GPT", copy, sector, partitions, taken, None, (max(other, belongs) + 1) * sector)
 
 
-def _mbr_of(image: Image, entries: List[Entry], size: int) -> Table:
+def _mbr_of(image: Readable, entries: List[Entry], size: int) -> Table:
     """The partitions of an MBR, whatever their type, and those inside all of its extended ones, as far as the image
     goes. All of them count in sectors of so many bytes. What a table inside says of partitions counts from itself, and
     what it says of the next table from the first. As with Linux, its third and fourth entry count only inside of the

@@ -64,16 +64,6 @@ class Answers(streams.Lines):
     def __iter__(self) -> Iterator[Piece]:
         return map(_piece, filter(None, map(self._fields, super().__iter__())))
 
-    def in_columns(self) -> Iterator[Moves]:
-        """The pieces, many at once, in their order, without what copies and fills write."""
-        for text in self.blocks():
-            if _MOVES.fullmatch(text):
-                yield _columns(text)
-            else:
-                found = map(_piece, filter(None, map(self._fields, self.again())))
-                rows = ((it.request, it.what, it.disk, it.start, it.count) for it in found)
-                yield Moves(*map(list, zip(*rows)))
-
     def by_blocks(self) -> Iterator[Block]:
         """The pieces, many at once. Refuses those that are out of order."""
         last = 0

@@ -8,7 +8,7 @@ import struct
 from typing import Callable, Dict, Iterator, List, NamedTuple, Tuple
 
 from dmremap_tools.base import program
-from dmremap_tools.base.disk_image import BCACHE, BCACHE_AT, BCACHE_SECTOR, ZFS_AT, ZFS_MAGIC, Image
+from dmremap_tools.base.disk_image import BCACHE, BCACHE_AT, BCACHE_SECTOR, ZFS_AT, ZFS_MAGIC, Readable
 from dmremap_tools.base.numbers import SECTOR
 from dmremap_tools.base.refusal import Refusal
 
@@ -57,7 +57,7 @@ def is_foreign(kind: str) -> bool:
     return kind in OTHERS or kind.endswith(MEMBER) and kind != FOLLOWED
 
 
-def signatures_in(image: Image) -> List[Signature]:
+def signatures_in(image: Readable) -> List[Signature]:
     """The signatures that are looked for here."""
     places = ((kind, magic, at if at >= 0 else image.size // SECTOR * SECTOR + at) for kind, magic, places in KNOWN
               for at in places)

@@ -1,33 +1,33 @@
-"""Says why dmremap refuses something, or how an answer comes about.
+"""Shows where dmremap refuses something and what mends it, or how an answer comes about.
 
-Takes the words of dmremap as they were typed, such as `map FORMAT FILE [DISKS]`, with requests as words or on standard input,
-unless that is a terminal. If dmremap refuses them, prints its message, the place as a compiler shows it, what is wrong there,
-and the command or the edit that mends it. The status is 0 then, too, because that is what was asked for. It looks at what a
-file really is, at names that are near to one that isn't there, and at what the system says of a file that can't be read. If it
-finds no cause, it explains the message as the manual does.
+Takes the words of dmremap as they were typed, such as `map FORMAT FILE [DISKS]`, with requests as words or on standard
+input, unless that is a terminal. If dmremap refuses them, prints its message, the place as a compiler shows it, what
+`dmremap help` says of the message or what a file really is, and a command that mends it, if there is one. The status is
+0 then, too, because that is what was asked for.
 
-If dmremap answers, prints the way of each request, level by level: below a device its line, and then the disks and devices
-below with their sectors, for a snapshot also whether its chunk was taken, and for an error its cause. Each level is an answer
-of dmremap about a stack in which what lies below is disks. Together they have to be its answer about the whole: if they aren't,
-the command fails. Requests of --before come first, and each request is in the state that those before it left. With --paths,
-snapshots start from what their stores hold.
+If dmremap answers, prints the way of each request, level by level: below a device its line, and then the disks and
+devices below with their sectors, for a snapshot also whether its chunk was taken, and for an error its cause. Each
+level is an answer of dmremap about a stack in which what lies below is disks. Together they have to be its answer about
+the whole: if they aren't, the command fails. Requests of --before come first, and each request is in the state that
+those before it left. With --paths, snapshots start from what their stores hold.
 
-With --json, prints an object for each refusal or request. Refuses more than 16 requests, and one whose way has more than 4096
-pieces.
+With --json, prints an object for each refusal or request. Refuses more than 16 requests, and one whose way has more
+than 4096 pieces.
 """
 
 import argparse
 import json
 import os
+import shlex
 import tempfile
 from typing import Iterable
 
 from dmremap_tools.base import paths, program, streams
 from dmremap_tools.base.refusal import Refusal
-from dmremap_tools.explaining import asked
-from dmremap_tools.explaining.texts import Finding, shell
-from dmremap_tools.explaining.refusals import Told
-from dmremap_tools.explaining.ways import Levels, Way
+from dmremap_tools.explaining import typed_words
+from dmremap_tools.explaining.input_files import Explanation
+from dmremap_tools.explaining.refusals import CopiedCommand, explain_words
+from dmremap_tools.explaining.request_path import LevelQueries, RequestPath
 from dmremap_tools.layers import stack
 from dmremap_tools.model import mapping
 
@@ -47,45 +47,34 @@ def add_words(parser: argparse.ArgumentParser) -> None:
 
 def run(words: argparse.Namespace) -> None:
     with tempfile.TemporaryDirectory(prefix="dmremap-tools-") as folder:
-        for number, found in enumerate(_explained(words, folder)):
-            streams.out.write(json.dumps(found.record()) + "\n" if words.json else "\n" * bool(number) + str(found))
+        for number, found in enumerate(_explanations(words, folder)):
+            streams.out.write(json.dumps(found.as_json()) + "\n" if words.json else "\n" * bool(number) + str(found))
 
 
-def _explained(words: argparse.Namespace, folder: str) -> "Iterable[Finding | Way]":
-    one = program.dmremap(words.program)
-    if words.words[0] in asked.OF_NAMES:
-        return [asked.why_names(one, words.words)]
-    typed = asked.typed(words.words)
-    if isinstance(typed, Finding):
-        return [typed]
+def _explanations(words: argparse.Namespace, folder: str) -> "Iterable[Explanation | RequestPath]":
+    """What is printed, one by one: an explanation of a refusal, or the path of each request."""
+    one, rest = program.dmremap(words.program), words.words
+    rest = rest[os.path.basename(rest[0]) == "dmremap" and len(rest) > 1:]
+    typed = typed_words.command_of(rest)
+    if typed is None:
+        return [explain_words(one, rest)]
     mapping.Child.program = words.program
-    told = Told(one, typed, words.before, words.paths, folder)
+    copied = CopiedCommand(one, typed, words.before, words.paths, folder)
     # What is loaded is looked at first, so that no request is waited for where it is refused.
-    message, requests = told.ask(b""), "".join(it + "\n" for it in typed.requests).encode("utf-8", "surrogateescape")
+    requests = "".join(it + "\n" for it in typed.requests).encode("utf-8", "surrogateescape")
+    message = copied.message_about(b"")
     if not message and not requests and typed.command in ("map", "replay") and not os.isatty(0):
-        requests = _standard_input()
-    message = message or told.ask(requests)
+        requests = streams.read_bytes("-", MOST_BYTES)
+    message = message or copied.message_about(requests)
     if message:
-        return [told.why(message, requests)]
-    loaded = stack.load(one, told.given, folder)
+        return [copied.explain(message, requests)]
+    loaded = stack.load(one, copied.given, folder)
     rows = requests.decode("ascii").splitlines() if typed.command == "map" else []
     if len(rows) > MOST_REQUESTS:
-        raise Refusal("the requests", "there are %d: give at most %d, and those before them by --before" % (
-            len(rows), MOST_REQUESTS))
+        why = f"there are {len(rows)}: give at most {MOST_REQUESTS}, and those before them by --before"
+        raise Refusal("the requests", why)
     if rows:
-        return Levels(told, loaded, folder).ways(rows)
-    names = [it.name for it in loaded.devices]
-    command = " ".join(["dmremap-tools explain map", *map(shell, typed.given.words())])
-    return [Finding("nothing is refused: dmremap loads %d device%s" % (len(names), "s" * (len(names) != 1)),
-                    ["for the way of a request, add it:", "  %s 'R %s 0 8'" % (command, (names or ["NAME"])[0])])]
-
-
-def _standard_input() -> bytes:
-    """What standard input brings, to the byte."""
-    content = bytearray()
-    for chunk in streams.chunks("-"):
-        content += chunk
-        if len(content) > MOST_BYTES:
-            why = "it has more than %d bytes: give the requests around the one that is refused" % MOST_BYTES
-            raise Refusal("standard input", why)
-    return bytes(content)
+        return LevelQueries(copied, loaded, folder).request_paths(rows)
+    device = next((it.name for it in loaded.devices), "NAME")
+    command = "  dmremap-tools explain map %s 'R %s 0 8'" % (" ".join(map(shlex.quote, typed.given.words())), device)
+    return [Explanation("nothing is refused; this shows the path of a request:", command)]

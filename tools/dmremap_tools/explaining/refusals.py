@@ -1,322 +1,184 @@
-"""Why dmremap refuses what it is given: it is asked about copies of the files, and its message says where to look. Of a
-request a word is meant, and of the metadata of a group a field, without which some of its volumes may be mapped."""
+"""Explains a refusal. dmremap is asked about copies of the files; its message leads to the place, to what `dmremap
+help` says of the message or to what a file really is, and to one remedy."""
 
-import difflib
 import os
 import pathlib
 import re
-from typing import Callable, Dict, List, Optional
+import shlex
+from typing import Dict, List, Optional, Tuple
 
-from dmremap_tools.base import names, paths, program
-from dmremap_tools.base.config_text import Document, shown
+from dmremap_tools.base import names, paths, program, streams
 from dmremap_tools.base.given import Given, put
 from dmremap_tools.base.refusal import Refusal
-from dmremap_tools.base.requests import MOST
-from dmremap_tools.explaining import table_texts, texts
-from dmremap_tools.explaining.asked import Typed, general, line
-from dmremap_tools.explaining.texts import HOW_MANY, Finding, Place, Text, shell, why_no_device, why_no_number
-from dmremap_tools.layers import refused, stack
+from dmremap_tools.explaining import input_files, remedies, table_lines, typed_words
+from dmremap_tools.explaining.input_files import Explanation, InputText, Marked, TextPlace
 from dmremap_tools.metadata import lvm2_text
-from dmremap_tools.metadata.volume_group import TYPES
+from dmremap_tools.model.config_text import Document
 
 ABOUT_TEXT = re.compile(r"dmremap: (source|disks): (\w+)(?: at ([0-9]+))?")
 ABOUT_REQUEST = re.compile(r"dmremap: request ([0-9]+): (.+)")
-UNREAD_STORE = re.compile("dmremap: store .+: read")
 ABOUT_EARLIER = re.compile(r"dmremap: before: (.+) at ([0-9]+)")
-# What refused.told knows of a kernel, which says more than the words of a line.
-OF_SNAPSHOTS = ("field", "snapshot", "store", "limit")
-REQUEST = "a request is R or W, a device, a first sector and a number of sectors, with single spaces"
-# What makes a plain copy of requests.
-COPY = "  %s REQUESTS > plain"
-CRLF = Finding("the line ends in CR LF", [COPY % r"tr -d '\r' <"])
-WHOLE = [HOW_MANY + "; of bytes, this makes requests:", COPY % "dmremap-tools cut --bytes <"]
-NONE = Finding("a request has one sector at least", ["take it out, or give a length"])
-MANY = Finding("a request has %d sectors at most" % MOST,
-               ["cut it into several:", "  dmremap-tools cut < REQUESTS > short"])
-UNENDED = Finding("the last line has no newline, so it may be cut off",
-                  ["if it is whole, end it:", "  echo >> REQUESTS"])
-LONG = Finding("the line has more than 4096 bytes", ["look for a newline that is missing"])
-OPERATIONS = ("R", "W")
-OLDER = ["the text is damaged, or was changed by hand: take it anew, or an older one from /etc/lvm/archive,",
-         "or that of another physical volume:", "  dmremap-tools metadata DISK > vg.backup"]
-MOST_NAMED = 12
-# What is wrong by the word, where the field itself doesn't say more.
-SAID = {
-    "field": "this field has a value of another kind than it may have, or the section lacks one",
-    "extents": "these extents don't fit: they leave a gap, pass the end of their physical volume, or are those of another segment",
-    "snapshot": "dmremap can't follow this snapshot", "store": "dmremap can't follow the store of this snapshot",
-    "limit": "a count or a number is larger than dmremap takes", "name": "the name of a device would be longer than 127 characters",
-    "twice": "this key is there twice", "empty": "it has no sectors", "text": "a byte that is no UTF-8, or no text",
-    "syntax": "here the text isn't what lvm2 writes: a sign, a string or a key is missing, or there is one too many",
-    "unknown": "the group has no physical volume, or no volume, of this name",
-}
+UNREAD_STORE, OPERATIONS = re.compile("dmremap: store .+: read"), ("R", "W")
+# What is wrong with a file as a whole, or nothing; the place of what is refused; and the remedy, or nothing.
+FileFault = Tuple[str, Optional[TextPlace], str]
 
 
-class Told:
-    """A command that dmremap, which is `asked`, is told, with copies of its files: what it loads, and if map is told,
-    earlier requests and PATHS. `words` are those of what it loads, and of PATHS."""
+class CopiedCommand:
+    """A command as it was typed, and the words by which the program `asked` gets copies of its files: `words` name what
+    it loads, with PATHS; `earlier` and `listed` are the copies of earlier requests and of PATHS, which only map
+    takes."""
 
-    def __init__(self, asked: str, typed: Typed, before: Optional[str], listed: Optional[str], folder: str) -> None:
+    def __init__(self, asked: str, typed: typed_words.TypedCommand, before: Optional[str], listed: Optional[str],
+                 folder: str) -> None:
         self.asked, self.typed, self._folder = asked, typed, folder
-        self._texts: Dict[str, Text] = {}
+        self._texts: Dict[str, InputText] = {}
         form, file, disks = typed.given
-        self.given = Given(form, self._copied("source", file), self._copied("disks", disks))
-        copies = self._copied("before", before), self._copied("paths", listed)
+        self.given = Given(form, self._copy_input("source", file), self._copy_input("disks", disks))
+        copies = self._copy_input("before", before), self._copy_input("paths", listed)
         self.earlier, self.listed = copies if typed.command == "map" else (None, None)
         self.words = self.given.words() + (["--paths", self.listed] if self.listed else [])
 
-    def _copied(self, part: str, path: Optional[str]) -> Optional[str]:
-        """Reads a file, if it is given; where its copy is."""
-        text = self._texts[part] = texts.read(path)
+    def _copy_input(self, part: str, path: Optional[str]) -> Optional[str]:
+        """Reads a file, if one is given. Returns the path of its copy, which isn't made of one that can't be read."""
+        text = self._texts[part] = input_files.read_input(path)
         copy = os.path.join(self._folder, part)
         if path is not None and not text.fault:
             put(copy, [text.decoded()])
         return None if path is None else copy
 
-    def ask(self, requests: bytes) -> str:
-        """What dmremap says of it and of some requests on standard error."""
+    def message_about(self, requests: bytes) -> str:
+        """What dmremap says on standard error when it gets these requests."""
         given = os.path.join(self._folder, "requests")
         put(given, [requests.decode("utf-8", "surrogateescape")])
         words = [self.asked, self.typed.command, *self.words, *(["--before", self.earlier] if self.earlier else [])]
         with open(given, "rb") as it:
             return program.ask_quietly(words, given=it.fileno())[1].rstrip("\n")
 
-    def why(self, message: str, requests: bytes) -> Finding:
-        """Why it says that, with the files by their paths in commands."""
-        found, given = self._why(message, requests), self.typed.given
-        typed = {"FORMAT FILE": " ".join(map(shell, given.words())), "FILE": shell(given.file),
-                 "DISKS": "DISKS" if given.disks is None else shell(given.disks)}
-        form = re.compile(r"(?<=[ /])(%s)(?=[ ,]|$)" % "|".join(typed))
-        do = [form.sub(lambda it: typed[it[1]], row) if row.startswith("  ") else row for row in found.do]
-        return found._replace(do=do, message=message)
-
-    def _why(self, message: str, requests: bytes) -> Finding:
+    def explain(self, message: str, requests: bytes) -> Explanation:
+        """Explains what dmremap said of these requests."""
         about, request, earlier = (it.fullmatch(message) for it in (ABOUT_TEXT, ABOUT_REQUEST, ABOUT_EARLIER))
+        why, place, remedy = "", None, ""
         if about:
-            return self._why_text(about[1], about[2], int(about[3] or 0), message)
-        if message == "dmremap: words: disks":
-            return self._why_disks_or_none()
-        if request:
-            return self._why_request(request[2], int(request[1]), Text("requests", requests))
-        if earlier:
-            return self._why_request(earlier[1], int(earlier[2]), self._texts["before"])
-        found = self._texts["paths"].fault or self._texts["before"].fault
-        if UNREAD_STORE.fullmatch(message):
-            found = found or self._why_unread()
-        return found or general(self.asked, message)
+            why, place, remedy = self._fault_of_file(*about.groups())
+        elif message == "dmremap: words: disks":
+            why, _, remedy = self._fault_of_file("source", "", None)
+            if not why:
+                listed = table_lines.disks_command(self._texts["source"])
+                remedy = self._fitting_command() or (listed if self.typed.given.disks is None else "")
+        elif request:
+            place, remedy = self._mark_in_request(request[2], int(request[1]), InputText("REQUESTS", requests))
+        elif earlier:
+            place, remedy = self._mark_in_request(earlier[1], int(earlier[2]), self._texts["before"])
+        else:
+            why = self._texts["paths"].fault or self._texts["before"].fault
+            why = why or (self._unread_disk() if UNREAD_STORE.fullmatch(message) else "")
+        why = why or help_of(self.asked, message) or "dmremap fails with this message"
+        return Explanation(why, remedy, place, message)
 
-    def _why_unread(self) -> Optional[Finding]:
-        """The first disk of PATHS that can't be read where that says. Nobody is waited for who writes to a pipe."""
+    def _unread_disk(self) -> str:
+        """Names the first disk whose file in PATHS can't be read. Pipes are left out, as opening one waits for a
+        writer."""
         for disk, place in paths.places(self.listed, are_apart=False).items():
-            fault = None if pathlib.Path(place.path).is_fifo() else texts.read(place.path).fault
+            fault = "" if pathlib.Path(place.path).is_fifo() else input_files.read_input(place.path).fault
             if fault:
-                return fault._replace(why="the disk %s: %s" % (disk, fault.why))
-        return None
+                return "the disk %s: %s" % (disk, fault)
+        return ""
 
-    def _why_text(self, part: str, word: str, number: int, message: str) -> Finding:
-        text = self._texts[part]
-        found = text.fault or self._why_kind(part, text) or self._why_word(part, word, number, text, message)
-        places = text.places(self.typed.given.form if part == "source" else "table")
-        place = next((it for it in places if it.number == number), None)
-        return found or general(self.asked, message)._replace(place=place)
-
-    def _why_kind(self, part: str, text: Text) -> Optional[Finding]:
-        """What a file is that isn't what it stands for."""
-        kind, (wanted, file, disks) = text.kind, self.typed.given
-        converted = text.unpacked(text.name)
-        right = [texts.DISKS, texts.EMPTY] if part == "disks" else [texts.KIND_OF[wanted]]
-        if converted or kind in (texts.UNKNOWN, *right):
-            return converted
-        form = texts.FORM_OF.get(self._texts["disks"].kind)
-        if form and self._texts["source"].kind == texts.DISKS:
-            return Finding("FILE and DISKS stand the wrong way round: %s is %s" % (file, texts.DISKS),
-                           [line(self.typed.command, form, disks, file)])
-        if part == "disks":
-            do = ["a line is DISK LEN; make the list, as root:", table_texts.list_of(self._named())]
-            if kind == texts.REQUESTS:
-                do += ["and give the requests on standard input:", line(self.typed.command, wanted, file, "disks", disks)]
-            return Finding("%s is %s, and no list of disks" % (text.name, kind), do)
-        if kind not in texts.FORM_OF:
-            return texts.OF[kind]._replace(why="%s %s" % (text.name, texts.OF[kind].why))
-        form = texts.FORM_OF[kind]
-        return Finding("%s is %s, and the format %s is another" % (text.name, kind, wanted),
-                       [line(self.typed.command, form, file, disks or "DISKS")])
-
-    def _named(self) -> List[str]:
-        """The disks that FILE names, if it has tables."""
-        file = self._texts["source"]
-        return table_texts.disks_named(file) if file.kind in (texts.TABLE, texts.CONCISE) else []
-
-    def _is_loaded(self, copy: bytes) -> bool:
-        path = os.path.join(self._folder, "copy")
-        put(path, [copy.decode("utf-8", "surrogateescape")])
-        return not program.ask_quietly([self.asked, "check", "lvm", path])[1]
-
-    def _why_word(self, part: str, word: str, number: int, text: Text, message: str) -> Optional[Finding]:
-        """What is wrong at a place of a text of the right form. What a kernel does with a snapshot says more."""
-        form, disks, known = self.typed.given.form, self._texts["disks"], ""
-        if part == "disks":
-            return table_texts.why_disks(word, number, text, self._texts["source"])
-        if word == "long":
-            return None
-        if word in OF_SNAPSHOTS:
-            known = refused.told(form, text, disks, message + "\n")
+    def _fault_of_file(self, part: str, word: str, number: Optional[str]) -> FileFault:
+        """What is wrong with FILE (`source`) or DISKS (`disks`), which is refused by a word, perhaps at a line. No
+        place is looked for in a file that can't be read or is of another kind."""
+        text, file, form = self._texts[part], self._texts["source"], self.typed.given.form
+        if text.fault:
+            return text.fault, None, ""
+        kind, is_disks = text.kind, part == "disks"
+        is_right = kind in (remedies.DISKS, remedies.EMPTY) if is_disks else remedies.FORM_OF.get(kind) == form
+        if not is_right and kind != remedies.UNKNOWN:
+            is_unlisted = is_disks and kind != remedies.REQUESTS
+            converted = remedies.as_typed(remedies.OF_KIND.get(kind, ""), text.path)
+            remedy = table_lines.disks_command(file) if is_unlisted else self._fitting_command() or converted
+            return "%s is %s" % (text.name, kind), None, remedy
+        if number is None:
+            return "", None, ""
+        if is_disks:
+            return ("", *table_lines.mark_in_disks(word, int(number), text, file))
         if form == "lvm":
-            found = why_group(word, number, text, self._is_loaded)
-            is_more = known not in ("", refused.OTHER_COPY, refused.ODD_RECORD)
-            return found._replace(why=known.replace(refused.COPY, "")) if is_more else found
-        why, _, do = known.rpartition(": ")[0].partition(": ")
-        if why:
-            do = do or "put a disk of its length in the place of this device"
-            return Finding(why, [do], text.place(number, form))
-        return table_texts.why(word, number, form, text, disks)
+            return ("", *self._mark_in_group(int(number)))
+        return ("", *table_lines.mark_in_file(word, int(number), form, file, self._texts["disks"]))
 
-    def _why_disks_or_none(self) -> Finding:
-        """DISKS is there with metadata, or isn't there."""
-        (wanted, file, disks), source, named = self.typed.given, self._texts["source"], self._named()
-        kind = source.kind
-        found = source.fault or (None if kind in texts.FORM_OF else self._why_kind("source", source))
-        if found:
-            return found
-        form = texts.FORM_OF.get(kind, wanted)
-        again = line(self.typed.command, form, file, "disks" if disks is None else disks)
-        if form == "lvm" and disks is None:
-            return Finding("%s is %s, which needs no DISKS, with another format" % (file, kind), [again])
-        if form == "lvm":
-            requests = disks if self._texts["disks"].kind == texts.REQUESTS else None
-            return Finding("the physical volumes of metadata are the disks, so there is no DISKS with lvm",
-                           ["requests are read from standard input:"] * bool(requests)
-                           + [line(self.typed.command, form, file, requests=requests)])
-        if disks is not None:
-            return Finding("%s is %s, and the format lvm is another" % (file, kind), [again])
-        why = "DISKS is missing: the list of the disks with their lengths"
-        if any(map(texts.NUMBERED.fullmatch, named)):
-            do = ["as root, this makes both for a whole machine:", *texts.GET_MACHINE]
-            return Finding(why + "; FILE names the kernel's numbers", do)
-        return Finding(why, ["make it, as root:", table_texts.list_of(named), "and give it:", again])
+    def _fitting_command(self) -> str:
+        """The command that fits what FILE and DISKS are, or nothing if it is the typed one, or that with DISKS."""
+        words = [self.typed.command, *self.typed.given.words()]
+        fitting = typed_words.fitting_command(words)
+        return "" if fitting in map(remedies.dmremap_command, (words, [*words, "DISKS"])) else fitting
 
-    def _why_request(self, word: str, number: int, requests: Text) -> Finding:
-        converted = requests.unpacked("the file with the requests", COPY)
-        if converted:
-            return converted
+    def _mark_in_group(self, number: int) -> Marked:
+        """A line of metadata, with the command for a copy that dmremap loads, or for the metadata of another physical
+        volume; with none if no volume can be mapped."""
+        file, path = self._texts["source"], os.path.join(self._folder, "copy")
+        place = file.place(number)
+        place = place._replace(first=len(place.text) - len(place.text.lstrip()))
         try:
-            loaded = stack.load(self.asked, self.given, self._folder)
-        except Refusal:
-            return general(self.asked, "dmremap: request %d: %s" % (number, word))
-        return why_request(word, requests.place(number), loaded)
-
-
-def why_request(word: str, place: Place, loaded: stack.Stack) -> Finding:
-    """Why a line with a request for a device of a stack is refused."""
-    words, at = place.text.split(" "), None
-    if word == "form":
-        found = _why_request_form(place.text, words, loaded)
-        at = int(words[0] in OPERATIONS) if len(words) == 4 else None
-    elif word == "number":
-        at, what = (2, "the first sector") if why_no_number(words[2]) else (3, "the number of sectors")
-        found = Finding("%s, where %s stands" % (why_no_number(words[at]), what), WHOLE)
-        found = CRLF if words[at].endswith("\r") else found
-    elif word == "length":
-        found, at = NONE if words[3] == "0" else MANY, 3
-    elif word in ("unknown", "not top"):
-        found, at = _why_device(words, loaded), 1
-    else:
-        found = UNENDED if word == "unended" else LONG
-    return found._replace(place=place._replace(end=max(1, place.end)) if at is None else place.of_words(words, at))
-
-
-def _why_request_form(row: str, words: List[str], loaded: stack.Stack) -> Finding:
-    if not row.strip() or row.startswith("#"):
-        return Finding("the line is a comment" if row.startswith("#") else "the line is empty",
-                       ["take such lines out:", COPY % "grep '^[RW] '"])
-    if row.endswith("\r"):
-        return CRLF
-    if re.search(r"  |\t|^ | $", row):
-        return Finding("there are tabs, or more spaces than one", [REQUEST + ":", "  " + " ".join(row.split())])
-    is_clear = words[0] in ("r", "w", "read", "write", "READ", "WRITE")
-    if len(words) != 4 and not is_clear:
-        return Finding("there are %d words, and not four" % len(words), [REQUEST])
-    if words[0] not in OPERATIONS:
-        return Finding("%s is no operation" % words[0], ["write %s" % words[0][0].upper() if is_clear else REQUEST])
-    name = names.of_path(words[1] if words[1].startswith("/") else "/dev/" + words[1])
-    if name != words[1] and any(it.name == name for it in loaded.devices):
-        return Finding("a device is given by its name, without a path",
-                       ["write %s:" % name, "  " + " ".join([words[0], name, *words[2:]])])
-    named = ["for /dev/VG/LV, this prints the name:", "  dmremap name VG LV"]
-    return Finding(why_no_device(words[1]) or "this is no name of a device",
-                   named if words[1].startswith("/dev/") else [REQUEST])
-
-
-def _why_device(words: List[str], loaded: stack.Stack) -> Finding:
-    name, devices = words[1], [it.name for it in loaded.devices]
-    if name in devices:
-        lowers = {it for device in loaded.devices for it in device.lowers()}
-        tops = [it for it in devices if names.MAPPER + it not in lowers]
-        return Finding("another device lies on %s, and a replay asks only for those that none lies on" % name,
-                       ["ask for one of these, or use map: " + ", ".join(tops[:8])])
-    if name in loaded.sizes or "/dev/" + name in loaded.sizes:
-        return Finding("%s is a disk, and requests are for devices" % name,
-                       ["ask for a device of FILE: " + ", ".join(devices[:8]), "or, of what lies on sectors of a disk:",
-                        "  dmremap-tools owner --help"])
-    volumes = [it for it in devices if it.endswith("-" + name.replace("-", "--"))]
-    near = volumes or difflib.get_close_matches(name, devices, 3)
-    do = ["FILE has: " + ", ".join(devices[:8]) + ", .." * (len(devices) > 8)]
-    if near:
-        do = ["near are: " + ", ".join(near[:8]), "  " + " ".join([words[0], near[0], *words[2:]])]
-    group = "" if "-" in name or not near else "; a volume's device has the name of its group in front"
-    return Finding("FILE has no device %s%s" % (name, group),
-                   do + ["all of them:", "  dmremap table FORMAT FILE | cut -d: -f1 | uniq"])
-
-
-def why_group(word: str, number: int, file: Text, is_loaded: Callable[[bytes], bool]) -> Finding:
-    """Why the metadata is refused at a line. A copy without what is refused is only offered if dmremap loads it."""
-    place, fault = file.place(number), SAID.get(word, "dmremap refuses what stands here")
-    try:
-        document = Document(file.name, file.content)
-    except Refusal as refusal:
-        last = file.place(min(number, len(list(file.places()))))
-        return Finding("%s; here the text breaks off, or isn't that of lvm2" % refusal.why, OLDER, last)
-    kind = re.match(r'\s*type\s*=\s*("([^"]*)")', place.text)
-    place, owner = place._replace(first=len(place.text) - len(place.text.lstrip())), _owner(document, number)
-    if word == "field" and kind and kind[2].encode("utf-8", "surrogateescape") not in TYPES:
-        place = place._replace(first=kind.start(1), end=kind.end(1))
-        fault = "%s has a segment of the type %s, which dmremap doesn't follow" % (owner or "a volume", kind[2])
-    elif owner:
-        fault = "%s, in %s" % (fault, owner)
-    return Finding(fault, _remedy_of_group(file, document, is_loaded), place)
-
-
-def _owner(document: Document, number: int) -> str:
-    """The volume or the physical volume that a line is of."""
-    group = next(iter(document.top.sections()), None)
-    for part in group.sections() if group else ():
-        for node in part.sections() if part.key in (b"logical_volumes", b"physical_volumes") else ():
-            if document.line_at(node.start) <= number <= document.line_at(node.end - 1):
-                return "the %svolume %s" % ("physical " * (part.key == b"physical_volumes"), shown(node.key))
-    return ""
-
-
-def _remedy_of_group(file: Text, document: Document, is_loaded: Callable[[bytes], bool]) -> List[str]:
-    """What mends it, and what can be mapped then."""
-    copy = lvm2_text.Copy(document)
-    try:
-        group = lvm2_text.group_of(copy)
-        group.judge()
-        records = {it.volume.name for it in group.records}
-        volumes = [it for it in group.volumes.values() if it.name not in records]
-        kept = [shown(it.name) for it in volumes if not it.why]
-        left = ["  %s: %s" % it for it in {shown(it.name): it.why for it in volumes if it.why}.items()]
-        if kept:
+            copy = lvm2_text.Copy(Document(file.name, streams.begun(file.name, file.content)))
+            group = lvm2_text.group_of(copy)
+            group.judge()
+            if group.volumes and all(it.why for it in group.volumes.values()):
+                return place, ""
             lvm2_text.drop_volumes(copy, group)
             lvm2_text.mend_group(copy, group)
-        made = copy.content(file.content)
-    except Refusal as refusal:
-        return ["lvm2-text can't mend it: %s" % refusal.why, *OLDER]
-    reasons = left[:MOST_NAMED] + ["  .."] * (len(left) > MOST_NAMED)
-    if left and not kept:
-        return ["none of its volumes can be mapped:", *reasons]
-    if not is_loaded(made):
-        return OLDER
-    mapped = ", ".join(kept[:MOST_NAMED]) + ", .." * (len(kept) > MOST_NAMED)
-    return [file.changed("dmremap-tools lvm2-text"), "makes a copy, of which these can be mapped: " + mapped,
-            *["and these can't:"] * bool(left), *reasons]
+            put(path, [copy.content(file.content).decode("utf-8", "surrogateescape")])
+            is_loaded = not program.ask_quietly([self.asked, "check", "lvm", path])[1]
+        except Refusal:
+            is_loaded = False
+        return place, remedies.as_typed("dmremap-tools lvm2-text", file.path) if is_loaded else remedies.OTHER_GROUP
+
+    def _mark_in_request(self, word: str, number: int, requests: InputText) -> Marked:
+        """The word of a request that is refused, or its whole line, and the remedy."""
+        place, given, by = requests.place(number), self.typed.given.words(), ""
+        row, words = place.text, place.text.split(" ")
+        at = {"length": 3, "unknown": 1, "not top": 1}.get(word)
+        if word == "form" and len(words) == 4:
+            at = int(words[0] in OPERATIONS)
+        if word == "number":
+            at = 3 if table_lines.NUMBER.fullmatch(words[2]) else 2
+        place = place._replace(end=max(1, place.end)) if at is None else place.of_words(words, at)
+        if row.endswith("\r"):
+            by = remedies.NO_RETURNS
+        elif word == "form":
+            by = remedies.REQUESTS_ALONE if not row.strip() or row.startswith("#") else _plain_request(row.replace(",", " ").split())
+        elif word == "length" and words[3] != "0":
+            by = remedies.CUT
+        elif word == "unended":
+            by = remedies.END_LINE % shlex.quote(requests.path)
+        elif word == "unknown":
+            by = remedies.dmremap_command(["table", *given]) + remedies.NAMES_ALONE
+        elif word == "not top":
+            by = remedies.dmremap_command(["map", *given])
+        return place, remedies.as_typed(by, requests.path)
+
+
+def _plain_request(words: List[str]) -> str:
+    """The request that four words mean, whose device may be given by its path, or nothing."""
+    if len(words) != 4 or words[0][0].upper() not in OPERATIONS:
+        return ""
+    path = words[1] if words[1].startswith("/") else "/dev/" + words[1]
+    name = names.of_path(path) if "/" in words[1] else words[1]
+    return "" if "/" in name else "  " + " ".join([words[0][0].upper(), name, *words[2:]])
+
+
+def explain_words(asked: str, words: List[str]) -> Explanation:
+    """Explains what dmremap says of words that load no FILE, or that it doesn't take. It gets them as they are."""
+    printed, said = program.ask_quietly([asked, *words])
+    if not said:
+        return Explanation("nothing is refused: dmremap prints\n" + printed)
+    message, *others = said.split("\n\n")[0].splitlines()
+    why = help_of(asked, message) or "\n".join(map(str.strip, others))
+    return Explanation(why, typed_words.fitting_command(words), None, message)
+
+
+def help_of(asked: str, message: str) -> str:
+    """What `dmremap help` says of a message, line by line, or nothing. Of the entries for its word those count whose
+    forms begin like the message."""
+    begin = " ".join(message.split()[:2])
+    entries = program.ask_quietly([asked, "help", message])[0].split("\n\n")
+    found = [it.splitlines() for it in entries if ("\n" + it).find("\n" + begin) >= 0]
+    return "\n".join(row.strip() for rows in found for row in rows if row.startswith(" "))

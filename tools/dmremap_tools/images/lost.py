@@ -1,7 +1,7 @@
-"""Says which files of a volume are hit by sectors that are missing or can't be read.
+"""Lists the files of a volume that missing or unreadable sectors hit.
 
 Takes GROUP/VOLUME and images, as `save` does. With --map IMAGE=MAP, for each image that has one, the areas that a map of
-ddrescue doesn't list as finished are missing, too. Only the length says whether a map is that of its image: one of another
+ddrescue doesn't list as finished are missing, too. Only the length shows whether a map is that of its image: one of another
 length is refused. What another member of an array or another leg has isn't lost. Prints a line for each file: how many of its
 sectors are lost, and its path. `folder` stands before a folder, whose files may be lost whole. The last line says how many
 sectors are lost in all. In place of a path, a line may have

@@ -7,10 +7,10 @@ the bytes of the volume, with holes where it reads as zeros. Without a map, OUT 
 Refuses a volume if something of it is missing, and leaves no OUT. With --resume or --allow-missing, these sectors are reported
 and become holes. Sectors that can't be read are reported and become holes in any case. The status is 4 then, or 0 with
 --allow-missing. --resume MAP writes these areas as a map of ddrescue; if MAP is there already, a run that was broken off goes
-on. MAP says which volume it is of, and no other one goes on by it. Give the maps of images each time.
+on. MAP names its volume, and no other one continues by it. Give the maps of images each time.
 
 With --map IMAGE=MAP, for each image that has one, the areas that a map of ddrescue doesn't list as finished aren't there. What
-another member of an array or another leg has is taken from that. Only the length says whether a map is that of its image.
+another member of an array or another leg has is taken from that. Only the length shows whether a map is that of its image.
 
 Also takes VOLUME TARGET FORMAT FILE [DISKS], with FORMAT, FILE and DISKS as for `dmremap map`. The disks that they name are
 read at their names, or where --paths says. (If an image is called as a format is, write ./table.) With --extents, the output of
@@ -21,13 +21,15 @@ If a disk has errors, read it into an image with ddrescue first, and give its ma
 `mount -o ro,loop`, with `noload` for ext3 and ext4 and `norecovery` for XFS; to take a file, `debugfs -R 'dump /FILE OUT' OUT`.
 """
 
+import tempfile
 from argparse import ArgumentParser, Namespace
 from typing import Iterator, Optional, Tuple
 
-from dmremap_tools.answers import save as by_tables
 from dmremap_tools.answers.saved import PARTLY, SavedMap, Source, head_of, put_together
 from dmremap_tools.base import given, names, quoting, streams
+from dmremap_tools.base.numbers import SECTOR
 from dmremap_tools.base.refusal import INCOMPLETE, Refusal, WrongWords
+from dmremap_tools.images.save_by_tables import target_of
 from dmremap_tools.layers import stack
 from dmremap_tools.layouts import rescue_map
 from dmremap_tools.model.device import Extent, joined, lacking
@@ -57,19 +59,20 @@ def run(words: Namespace) -> Optional[int]:
         raise WrongWords("--map IMAGE=MAP is the map of ddrescue of an image: give the one that save writes as --resume", USAGE)
     if form in given.FORMATS and 1 <= len(others) <= 2:
         words.form, words.file, words.disks = form, others[0], others[1] if len(others) == 2 else None
-        is_partly = by_tables.run(words)
+        with tempfile.TemporaryDirectory(prefix="dmremap-tools-") as folder:
+            is_partly = copy(words, target_of(words, folder))
     else:
         for option in ("extents", "paths", "ls", "fresh"):
             if getattr(words, option):
                 raise WrongWords(f"--{option} is for FORMAT FILE [DISKS]: leave it out", USAGE)
-        is_partly = copy(words)
+        unread = rescue_map.unread_in(words, words.images)
+        is_partly = copy(words, Pile(words.images, words.program, unread).target(words.volume))
     return INCOMPLETE if is_partly and not words.allow_missing else None
 
 
-def copy(words: Namespace) -> bool:
-    """Copies what is asked for, and says whether something is missing."""
-    target = Pile(words.images, words.program, rescue_map.unread_in(words, words.images)).target(words.volume)
-    why = target.device.lack(0, target.size)
+def copy(words: Namespace, target: Target) -> bool:
+    """Copies a volume, and says whether something is missing; which is refused unless words say otherwise."""
+    why = target.device.lack(0, sectors_of(target))
     if why and not (words.resume or words.allow_missing):
         raise Refusal(quoting.shown(target.name), f"{why}; or {PARTLY}")
     if why:
@@ -77,8 +80,13 @@ def copy(words: Namespace) -> bool:
     source = Source(target.name, target.ids or [head_of(target.device)], len(words.map))
     saved = SavedMap(words.resume, source, target.size, [(0, target.size)])
     if saved.has_more_maps:
-        saved.check_finished(lacking(target.device, target.size))
+        saved.check_finished(lacking(target.device, sectors_of(target)))
     return put_together(words.target, saved, extents_of(target, saved))
+
+
+def sectors_of(target: Target) -> int:
+    """The bytes of the sectors that it takes; a file may end within the last one."""
+    return -(-target.size // SECTOR) * SECTOR
 
 
 def extents_of(target: Target, saved: SavedMap) -> Iterator[Tuple[int, Extent]]:

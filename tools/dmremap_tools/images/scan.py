@@ -1,4 +1,4 @@
-"""Says what a pile of images holds: partition tables, md arrays, LUKS containers, volume groups and their volumes.
+"""Lists what a pile of images holds: partition tables, md arrays, LUKS containers, volume groups and their volumes.
 
 Takes images, files or block devices, in any order. Nothing is written to them. Prints a tree. Each image is read where labels
 and superblocks lie, and as a whole if nothing sound is there. Something foreign or damaged gets a line, and hides nothing else.

@@ -1,24 +1,27 @@
-"""Writes FILE, DISKS and PATHS of a group, by which dmremap itself answers for its volumes.
+"""Writes PATHS of a group, or FILE, DISKS and PATHS, by which dmremap itself answers for its volumes.
 
-Takes GROUP, a name or an id, images, which are searched as by `scan`, and a folder for the three files, none of which may be
-there yet. FILE is table text: the volumes under the names that lvm2 gives them, snapshots over their origins and stores, and
-the md arrays that they lie on. DISKS lists the images, and PATHS says where they are; an image whose path no line of PATHS can
-say is refused. With --map IMAGE=MAP, what a map of ddrescue doesn't list as finished isn't there: of copies one that is whole is
-taken, and what a volume lacks is reported. Prints the command line that uses them. A
-volume that a layer computes, such as a thin one or one with parity, has no table. It is reported; `save` and `serve` read it.
+Takes GROUP, a name or an id, images, which are searched as by `scan`, and a folder for the files, none of which may be there
+yet. PATHS lists the images. It is written alone if dmremap takes the whole group from these images. Otherwise FILE is table
+text: the volumes under lvm2's names, snapshots over their origins and stores, and the md arrays below. Prints the command line.
+
+With --map IMAGE=MAP, what a map of ddrescue doesn't list as finished isn't there: of copies one that is whole is taken, and
+what a volume lacks is reported. A volume that a layer computes, such as a thin one or one with parity, has no table. It is
+reported; `save` and `serve` read it.
 """
 
 import os
 import shlex
+import tempfile
 from argparse import ArgumentParser, Namespace
-from typing import Dict, Tuple, Union
+from typing import Dict, List, Optional, Tuple, Union
 
-from dmremap_tools.base import names, program, quoting, streams, tables
+from dmremap_tools.base import names, paths, program, quoting, streams, tables
+from dmremap_tools.base.given import put
 from dmremap_tools.base.numbers import SECTOR
 from dmremap_tools.base.program import NoProgram
 from dmremap_tools.base.refusal import Refusal
 from dmremap_tools.layouts import rescue_map
-from dmremap_tools.model.device import Copies, Device, Image, Part
+from dmremap_tools.model.device import Copies, Device, Image, Part, whole_run
 from dmremap_tools.model.layout import Layout
 from dmremap_tools.model.mapping import FILES, Mapped, Tables
 from dmremap_tools.model.pile import Pile
@@ -44,19 +47,22 @@ def run(words: Namespace) -> None:
     if group.doubt:
         raise Refusal(quoting.shown(words.group), group.doubt)
     made = GroupTables(group.side)
+    is_whole = not words.map
     for volume in (volume for volume in group.volumes if volume.side is group.side and not volume.is_removed):
         try:
             made.devices.update(made.volume(volume.key))
             why = volume.why()
             if why:
                 streams.tell(f"{quoting.shown(volume.name)}: {why}")
+                is_whole = False
         except NoProgram:
             raise
         except Refusal as refusal:
             streams.tell(f"left out: {quoting.shown(volume.name)}: {refusal.why}")
+            is_whole = False
     if not made.devices:
         raise Refusal(quoting.shown(words.group), "none of its volumes has a table: `save` and `serve` give those that are computed")
-    made.put(words.to)
+    made.put(words.to, program.dmremap(words.program) if is_whole else None)
 
 
 class GroupTables(Tables):
@@ -135,8 +141,8 @@ class GroupTables(Tables):
         found.update(self._renamed(device.source, device.key, called))
         return names.MAPPER + called, start // SECTOR
 
-    def put(self, folder: str) -> None:
-        """Writes the three files, and prints how they are used."""
+    def put(self, folder: str, asked: Optional[str]) -> None:
+        """Writes the three files, or PATHS alone if the dmremap that is asked takes these images, and prints how they are used."""
         try:
             os.makedirs(folder, exist_ok=True)
         except OSError as fault:
@@ -144,16 +150,44 @@ class GroupTables(Tables):
         for path in (os.path.join(folder, name) for name in FILES):
             if os.path.lexists(path):
                 raise Refusal(quoting.shown(path), "it is there already: give another folder, or remove it first")
-        places = {name: os.path.abspath(image.path) for name, image in self.disks.items()}
-        for path in places.values():
-            if quoting.is_odd(path):
-                raise Refusal(quoting.shown(path), "it is no UTF-8, as PATHS has to be: give the image another name, or a "
-                              "link to it")
-        file, disks, paths = map(shlex.quote, self.write(folder, places))
+        heads = self._heads()
+        if asked and heads and is_taken(asked, heads):
+            listed = os.path.join(folder, FILES[-1])
+            put(listed, heads)
+            streams.tell(f"dmremap reads the text of {quoting.shown(self._layout.name)} in its images")
+            streams.out.write(f"dmremap map images {shlex.quote(listed)}\n")
+            return
+        places = {name: absolute(image) for name, image in self.disks.items()}
+        file, disks, listed = map(shlex.quote, self.write(folder, places))
         has_snapshots = any(line.target == "snapshot" for line in self.lines())
-        streams.out.write(f"dmremap map table {file} {disks}" + f" --paths {paths}" * has_snapshots + "\n")
+        streams.out.write(f"dmremap map table {file} {disks}" + f" --paths {listed}" * has_snapshots + "\n")
+
+    def _heads(self) -> List[str]:
+        """The lines of PATHS by which the heads of all physical volumes are read, or none if one is no part of an image."""
+        found: List[str] = []
+        for number, device in enumerate(self._layout.physical.values()):
+            run = whole_run(device)
+            if not run:
+                return []
+            found.append(paths.line(f"disk{number}", absolute(run[0]), run[1]))
+        return found
 
     def _name_of(self, *parts: Union[bytes, str]) -> str:
         """The name that lvm2 gives a device: each hyphen of a part is doubled."""
         words = (part if isinstance(part, str) else part.decode("utf-8", "replace") for part in parts)
         return "-".join(word.replace("-", "--") for word in (self._layout.name, *words))
+
+
+def absolute(image: Image) -> str:
+    """The path of an image for PATHS."""
+    path = os.path.abspath(image.path)
+    if quoting.is_odd(path):
+        raise Refusal(quoting.shown(path), "it is no UTF-8, as PATHS has to be: give the image another name, or a link to it")
+    return path
+
+
+def is_taken(asked: str, heads: List[str]) -> bool:
+    """Whether dmremap takes a group from these images by their heads."""
+    with tempfile.NamedTemporaryFile(prefix="dmremap-tools-") as listed:
+        put(listed.name, heads)
+        return program.ask([asked, "check", "images", listed.name])[2] == 0

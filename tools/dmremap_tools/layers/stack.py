@@ -7,12 +7,10 @@ import os
 import stat
 from typing import Dict, Iterable, Iterator, List, NamedTuple, Optional, Set, Tuple
 
-from dmremap_tools.base import disk_image, names, paths, program, quoting, store_places, streams, tables, written
+from dmremap_tools.base import names, paths, program, quoting, store_places, streams, tables
 from dmremap_tools.base.given import Given, put
 from dmremap_tools.base.refusal import Refusal
-from dmremap_tools.explaining import texts
-from dmremap_tools.layers import refused
-from dmremap_tools.machines.placed import by_ids, disks_of
+from dmremap_tools.model.placed import by_ids, disks_of, image_of
 
 NEXT = "--paths says where disks are, and --fresh takes every snapshot as new"
 INVALID = ("it is invalid, as it was full once: what the origin overwrote since is lost, and nothing of the snapshot is read; --fresh "
@@ -65,14 +63,10 @@ Started = NamedTuple("Started", [("words", List[str]), ("loaded", Stack), ("plac
 
 
 def load(asked: str, given: Given, folder: str) -> Stack:
-    """Loads a stack. A snapshot or a store that dmremap refuses is refused with what a kernel does with it."""
+    """Loads a stack. What dmremap says of one that it refuses is told."""
     copy, text = given.copied(folder), os.path.join(folder, "given.concise")
     printed, said, status = program.ask([asked, "concise", *copy.words()])
     if status:
-        name = streams.name_of(given.file)
-        why = refused.told(copy.form, texts.read(copy.file)._replace(path=name), texts.read(copy.disks), said)
-        if why:
-            raise Refusal("%s:%s" % (name, said.split()[-1]), why)
         if said:
             streams.tell(said.rstrip("\n"))
         program.fail(asked, status)
@@ -93,7 +87,7 @@ def start(words: argparse.Namespace, source: Given, devices: Optional[Iterable[s
     asked, places = program.dmremap(words.program), paths.places(words.paths)
     loaded = load(asked, source, folder)
     paths.check_known(words.paths, places, loaded.sizes)
-    places = by_ids(loaded.group, places, loaded.sizes)
+    places = by_ids(loaded.group, places, loaded.sizes, asked)
     part = loaded if devices is None else loaded.part(devices)
     command = [asked, "map", *part.write(folder)]
     snapshots = [] if words.fresh else [it for it in part.devices if it.lines[0].target == "snapshot"]
@@ -123,24 +117,8 @@ def rows_of(places: Dict[str, paths.Place]) -> Iterator[str]:
     """PATHS, with these disks."""
     for disk, place in places.items():
         row = paths.line(disk, place.path, place.start)
-        descriptor = opened(place.path)
-        if stat.S_ISBLK(os.fstat(descriptor).st_mode):
+        image_of(place.path)
+        if stat.S_ISBLK(os.stat(place.path).st_mode):
             streams.tell(f"{quoting.shown(place.path)} is a block device: if a snapshot on it is in use, suspend it first, or give an "
                          "image that was read with O_DIRECT, as `dd iflag=direct` does")
-        os.close(descriptor)
         yield row
-
-
-def opened(path: str) -> int:
-    """The descriptor of a disk or an image of one, which has its bytes in their order."""
-    try:
-        descriptor = os.open(path, os.O_RDONLY | os.O_NONBLOCK)
-    except OSError as fault:
-        raise Refusal(quoting.shown(path), streams.why(fault))
-    kind = os.fstat(descriptor).st_mode
-    if not stat.S_ISREG(kind) and not stat.S_ISBLK(kind):
-        os.close(descriptor)
-        raise Refusal(quoting.shown(path), "neither a file nor a disk: give the path of one")
-    written.note_input(descriptor)
-    disk_image.check_form(descriptor, quoting.shown(path))
-    return descriptor

@@ -1,4 +1,4 @@
-"""Says where a whole device lies, through all levels.
+"""Lists where a whole device lies, through all levels.
 
 Takes VOLUME, and FORMAT, FILE and DISKS as `dmremap map` does. Prints a line for each extent: the sector of the device, the
 number of sectors, and the disk with the sector there, `zero` or `error`. For a snapshot it reads the store, on disks at their

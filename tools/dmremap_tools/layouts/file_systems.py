@@ -7,7 +7,6 @@ line of another inode. What is told here is only what was asked for, and leads t
 """
 
 import bisect
-import contextlib
 import itertools
 import os
 import re
@@ -19,7 +18,8 @@ from dmremap_tools.base import paths, program, quoting, streams
 from dmremap_tools.base.disk_image import EXT_AT, EXT_MAGIC
 from dmremap_tools.base.numbers import SECTOR
 from dmremap_tools.base.refusal import Refusal
-from dmremap_tools.layers.stack import opened
+from dmremap_tools.model.device import Lenient
+from dmremap_tools.model.placed import image_of
 
 MOST_BLOCKS = MOST_INODES = 1000000
 MOST_COMPLAINTS = 3
@@ -226,13 +226,9 @@ class XfsSystem(FileSystem):
 
 def system_in(place: paths.Place, volume: str, runs: Sequence[Run]) -> FileSystem:
     """The file system in an image of a volume, with the files that have these runs of sectors looked up."""
-    descriptor, at = opened(place.path), place.start
+    disk, at = Lenient(image_of(place.path)), place.start
     image = place.path + f"?offset={at}" * bool(at)
-    found = {}
-    for kind, (start, magic) in MAGICS.items():
-        with contextlib.suppress(OSError):
-            found[kind] = os.pread(descriptor, len(magic), at + start) == magic
-    os.close(descriptor)
+    found = {kind: disk.read(at + start, len(magic)) == magic for kind, (start, magic) in MAGICS.items()}
     if "?" in place.path:
         raise Refusal(quoting.shown(image), "debugfs takes what follows a `?` in a path as an option: give the file another name")
     if found.get("btrfs"):

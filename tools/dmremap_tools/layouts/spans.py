@@ -1,14 +1,13 @@
-"""Says what lies where: each range of a disk or a device that a line of a stack uses.
+"""Lists what lies where: each range of a disk or a device that a line of a stack uses.
 
 Takes DISKS, FILE, which is table text or concise text of a stack that dmremap loads, and perhaps the metadata of volume groups.
 Prints a line for each range, sorted: what it lies on, the first sector, the sector after the last, the device whose line it is,
-where that line begins on the device, and as what it is used. A line with `end` says where a disk or a device ends.
+where that line begins on the device, and as what it is used. A line with `end` is the end of a disk or a device.
 
 A snapshot uses all of its origin, as `origin`, and all of its store. With metadata, what a physical volume has before its
 extents, its label and an area for the metadata, is `label+metadata` of its group. What it has after them, where a second area
 may lie, and the extents of volumes without a line, such as inactive ones, are `allocated`. With --paths the disks are read:
-labels tell which physical volume is which. Partition tables, partitions without a line, headers and data of LUKS, labels and
-areas of LVM, and superblocks and data of members of md arrays are `allocated` as well.
+labels tell which physical volume is which, and who has sectors that no line has, as `owner` says, is `allocated`, too.
 
 With --free, lines `unnamed` stand between: sectors that no line names. They needn't be free: a file system may lie there
 without a device, or a partition table, swap space, or a volume that isn't active or was left out. --clashes prints, in place of
@@ -18,20 +17,22 @@ multiple of 2048 sectors, which is 1 MiB, or of --to SECTORS.
 """
 
 import heapq
+import re
 from argparse import ArgumentParser, Namespace
-from typing import Callable, Collection, Dict, Iterable, Iterator, List, NamedTuple, Optional, Sequence, Tuple
+from typing import Callable, Collection, Dict, Iterable, Iterator, List, NamedTuple, Optional, Sequence
 
-from dmremap_tools.base import (
-    config_text, disk_image, luks_header, names, numbers, partition_table, paths, quoting, streams, tables)
-from dmremap_tools.base.disk_image import Image
+from dmremap_tools.base import names, numbers, paths, quoting, streams, tables
 from dmremap_tools.base.numbers import SECTOR
 from dmremap_tools.base.refusal import Refusal, WrongWords
 from dmremap_tools.layouts.tree import devices_in
-from dmremap_tools.machines.placed import groups_in
-from dmremap_tools.metadata.chosen_part import check_places, found_table, volume_label
-from dmremap_tools.metadata.volume_group import Group
-from dmremap_tools.model import md_superblock
-from dmremap_tools.model.physical_volume import Label, label_of
+from dmremap_tools.model import config_text
+from dmremap_tools.model.device import Device, Lenient, Part
+from dmremap_tools.model.image_owners import Owners
+from dmremap_tools.model.owners import Ground, ways
+from dmremap_tools.model.physical_volume import label_of
+from dmremap_tools.model.pile import Pile
+from dmremap_tools.model.placed import begins_in, check_places, groups_in, image_at, pile_at
+from dmremap_tools.model.volume_group import Group
 
 EXAMPLE = "dmremap-tools spans stack.disks stack.table > spans"
 
@@ -43,20 +44,13 @@ MEET = {ORIGIN: (OTHER,), SERVES: (SERVES, OTHER), OTHER: (ORIGIN, SERVES, OTHER
 # How many clashes are printed: nested ranges have as many as their number squared.
 MOST = 1000000
 LINE = "%s %d %d %s %s %s\n"
-# Images of disks and devices by their names in tables.
-Images = Dict[str, Image]
 # A range of sectors of a disk or a device: whose line uses it, where that begins on its device, and as what.
 Span = NamedTuple("Span", [("on", str), ("first", int), ("end", int), ("device", str), ("start", str), ("kind", str)])
 # The kind of what is taken; `device` says what it is. What it is taken of is said where it is known.
 ALLOCATED = "allocated"
-OF_LVM, OF_LUKS, OF_MD = "-of-LVM", "-of-LUKS", "-of-md"
-PARTITION, MEMBER, CONTAINER, DAMAGED = "partition-", "member-of-", "container" + OF_LUKS, "damaged-"
-# What holds something else, which may be named as well.
-OUTER = (PARTITION, MEMBER, CONTAINER)
-# What a GPT takes at the beginning of a disk, and a header of LUKS with its keys, as they are made, if none is sound.
-GPT_SECTORS, LUKS_SECTORS, SUPERBLOCK_SECTORS = 34, 32768, 8
-# The first sector of what is taken, the one after its last, and what it is.
-Head = Tuple[int, int, str]
+# What the names of those begin with that aren't known to have sectors, and of those that say what others have.
+NOBODY = ("nobody", "unknown: ", "free in ")
+HEAD = re.compile("GPT|MBR|backup of |label of |metadata area of |superblock of |LUKS[0-9] header")
 
 
 def add_words(parser: ArgumentParser) -> None:
@@ -88,8 +82,11 @@ def run(words: Namespace) -> None:
             spans.append(Span(lower, first, end, device.name, str(line.start), kind))
     if not sizes:
         streams.tell("no disk and no device came")
-    images = images_of(paths.places(words.paths), ends, devices)
-    labels = {on: volume_label(image) for on, image in images.items()}
+    places = {disk: place for disk, place in paths.places(words.paths).items() if disk in ends}
+    pile = pile_at(place.path for place in places.values())
+    check_places(places, pile)
+    on_images = {disk: device for disk, place in places.items() for device in [device_at(pile, place)] if device}
+    labels = {on: label_of(Lenient(device))[0] for on, device in on_images.items()}
     labelled = {label.identity: on for on, label in labels.items() if label}
     described = set()
 
@@ -105,16 +102,11 @@ def run(words: Namespace) -> None:
 
     for path in words.metadata:
         spans += spans_of_groups(path, {it.name for it in devices}, place_of)
-    for on, image in images.items():
-        for first, end, what in heads_of(image):
-            end = min(end, sizes[on])
-            # What metadata tells of, and partitions in which something lies, are told already.
-            if what.startswith(OUTER):
-                is_told = any(it.on == on and it.first < end and first < it.end for it in spans)
-            else:
-                is_told = what.endswith(OF_LVM) and on in described
-            if first < end and not is_told:
-                spans.append(Span(on, first, end, what, "-", ALLOCATED))
+    owners, of_lines = Owners(pile), list(spans)
+    for on, image in on_images.items():
+        if on not in described:
+            end, lines = min(sizes[on], image.size // SECTOR), [it for it in of_lines if it.on == on]
+            spans += (span._replace(on=on) for span in spans_of_owners(owners.on(image), end, lines))
     ends = {on: sizes[on] for on in [*ends, *(it.on for it in spans)]}
     spans = sorted(spans + [Span(on, end, end, "-", "-", END) for on, end in ends.items()])
     if words.clashes:
@@ -167,24 +159,25 @@ def with_free(spans: List[Span]) -> Iterator[str]:
             yield LINE % span
 
 
-def images_of(places: Dict[str, paths.Place], disks: Iterable[str], devices: Sequence[tables.Device]) -> Images:
-    """The images of disks, each by its name, and those of the first lines of devices on them by their paths."""
-    check_places(places)
-    images = {disk: disk_image.image_at(places[disk]) for disk in disks if disk in places}
-    known = {names.MAPPER + it.name: it for it in devices}
-    found = [(it.name, part_of(it.lines[0], 0, it.lines[0].length, known, images)) for it in devices]
-    return {**images, **{names.MAPPER + name: image for name, image in found if image}}
+def device_at(pile: Pile, place: paths.Place) -> Optional[Device]:
+    """What begins at a place in an image of a pile, as the image or a partition; None where the image isn't there."""
+    image = image_at(pile, place.path)
+    devices = (spot.device for spot in pile.spots() if image and place.start in begins_in(pile, spot.device, image))
+    rest = Part(image.name, image, place.start, max(0, image.size - place.start)) if image else None
+    return next(devices, rest)
 
 
-def part_of(line: tables.Line, first: int, count: int, devices: Dict[str, tables.Device], images: Images
-            ) -> Optional[Image]:
-    """Some sectors of a first line, if it is linear and they lie on an image, perhaps through other such lines."""
-    if line.target != "linear" or first + count > line.length:
-        return None
-    lower, start = line.words[0], int(line.words[1]) + first
-    if lower in images:
-        return images[lower].part(start * SECTOR, count * SECTOR)
-    return part_of(devices[lower].lines[0], start, count, devices, images) if lower in devices else None
+def spans_of_owners(ground: Ground, end: int, lines: Sequence[Span]) -> Iterator[Span]:
+    """Who has the sectors of a device up to an end, with their own sectors, as `owner` says it, where that is known.
+    What lies in something else is told only where no line has sectors of that."""
+    found = [(way, [step for step in way.steps if not step[0].startswith(NOBODY)]) for way in ways(ground, 0, end)]
+    for way, steps in found:
+        is_within = any(it.first < way.first + way.count and way.first < it.end for it in lines)
+        is_head = len(steps) == 1 and HEAD.match(steps[0][0])
+        if steps and (is_head or not is_within):
+            name, sector = steps[-1]
+            device = word_of(name.replace(" ", "-").encode("utf-8", "surrogateescape"))
+            yield Span("", way.first, way.first + way.count, device, "-" if sector is None else str(sector), ALLOCATED)
 
 
 def spans_of_groups(path: str, named: Collection[str], place_of: Callable[[str, str, Optional[bytes]], str]) -> Iterator[Span]:
@@ -223,69 +216,3 @@ def own(text: str, group: Group, node: config_text.Node) -> List[Span]:
 def word_of(content: bytes) -> str:
     """Bytes of the metadata as a word of a line."""
     return quoting.escaped(content.decode("utf-8", "surrogateescape")).replace(" ", "\\x20")
-
-
-def heads_of(image: Image) -> Iterator[Head]:
-    """What is taken of an image. What is damaged is told as that."""
-    members = md_superblock.superblocks(image)
-    found = [it for member in members for it in member_heads(image, member)]
-    for at in md_superblock.damaged(image):
-        found.append((at // SECTOR, at // SECTOR + SUPERBLOCK_SECTORS, DAMAGED + "superblock" + OF_MD))
-    if all(it.start for it in members):
-        found += contents_of(image, volume_label(image), image.size)
-    # What has no sectors, or would begin after the end of an image that is cut, isn't there.
-    yield from (it for it in found or table_heads(image) if it[0] < it[1])
-
-
-def member_heads(image: Image, member: md_superblock.Superblock) -> Iterator[Head]:
-    """A member of an array: its data, what that holds if it is all of the array's, and the rest, the array's own."""
-    end = member.start + member.length
-    yield 0, member.start, "superblock" + OF_MD
-    yield end, image.size // SECTOR, "superblock" + OF_MD
-    yield member.start, end, MEMBER + md_superblock.level_name(member).replace(" ", "-")
-    if md_superblock.has_all(member) and not member.start:
-        data = image.part(0, member.length * SECTOR)
-        yield from contents_of(data, label_of(data)[0], member.length * SECTOR) or table_heads(data)
-
-
-def contents_of(image: Image, label: Optional[Label], size: int) -> List[Head]:
-    """What begins an image of so many bytes, unless it is a partition table: a label of LVM, and the metadata areas that it
-    lists, or a container of LUKS."""
-    if not label:
-        return list(container_heads(image, size))
-    areas = [(start // SECTOR, -(-(start + size) // SECTOR), "area" + OF_LVM) for start, size in label.areas
-             if start + size <= label.size]
-    return [(label.sector, label.sector + 1, "label" + OF_LVM), *areas]
-
-
-def container_heads(image: Image, size: int) -> Iterator[Head]:
-    """A header of LUKS with its keys, and the data, where that is on the same disk. Of a header whose first copy is
-    lost only the second is told, as another system may have written over it."""
-    if not luks_header.is_container(image):
-        for header in luks_header.headers_in(image):
-            yield header.place // SECTOR, (header.place + header.size) // SECTOR, "second-header" + OF_LUKS
-        return
-    container = luks_header.container_in(image)
-    if container.start is None:
-        yield 0, min(LUKS_SECTORS, size // SECTOR), DAMAGED + "header" + OF_LUKS
-        return
-    yield 0, max(container.header, container.start), "header" + OF_LUKS
-    if container.start >= container.header:
-        end = size // SECTOR if container.length is None else container.start + container.length
-        yield container.start, end, CONTAINER
-
-
-def table_heads(image: Image) -> Iterator[Head]:
-    """A partition table, with the tables of extended partitions or the second copy of a GPT, and the partitions."""
-    try:
-        table = found_table(image)
-    except Refusal as fault:
-        # No copy is sound, or it ends after the image does.
-        yield 0, GPT_SECTORS, DAMAGED * isinstance(fault, partition_table.DamagedTable) + "GPT"
-        return
-    if not table:
-        return
-    for start, end in table.taken:
-        yield start // SECTOR, min(end, image.size) // SECTOR, table.kind
-    for number, start, size in table.partitions:
-        yield start // SECTOR, (start + size) // SECTOR, "%s%d" % (PARTITION, number)

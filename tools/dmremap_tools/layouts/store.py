@@ -1,4 +1,4 @@
-"""Says whether the stores of snapshots can be full, and which request makes each snapshot invalid.
+"""Tells whether the stores of snapshots can be full, and which request makes each snapshot invalid.
 
 Takes FORMAT, FILE and DISKS, as `dmremap map` does. Prints a line for each snapshot: how many chunks it has, for how many its
 store has places, and whether that can be too few. A kernel may have one place less, so make a store a chunk larger.

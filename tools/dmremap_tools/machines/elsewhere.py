@@ -21,7 +21,7 @@ from typing import Dict, List, Optional
 from dmremap_tools.base import names, numbers, paths, quoting, streams, tables
 from dmremap_tools.base.refusal import Refusal, WrongWords
 from dmremap_tools.layers.stack import Stack
-from dmremap_tools.metadata.chosen_part import check_places
+from dmremap_tools.model.placed import check_places, pile_at
 
 EXAMPLE = "dmremap concise lvm vg0.backup | dmremap-tools elsewhere --paths paths.txt > here.concise"
 PATH = re.compile(r"/[^,;\\\s]*")
@@ -41,7 +41,7 @@ def run(words: argparse.Namespace) -> None:
         raise WrongWords("the following arguments are required: --paths")
     path_of = paths.read(words.paths, PATH) if words.paths is not None else None
     places = {name: paths.place_of(path) for name, path in (path_of or {}).items()}
-    check_places(places)
+    check_places(places, pile_at(place.path for place in places.values()))
     devices, is_concise = tables.read(words.file)
     name = streams.name_of(words.file)
     if not devices:

@@ -20,12 +20,12 @@ which answers end. These are
 
     devices of other targets, such as thin, raid, mirror, cache, multipath, verity, integrity and snapshot-merge;
     those without a table, or with a name that dmremap doesn't take (`dmsetup rename` gives another);
-    those that aren't as long as lsblk says, or go past the end of what lies below, or lie on a disk without a length;
+    those that aren't as long as in lsblk's output, or go past the end of what lies below, or lie on a disk without a length;
     snapshots whose status isn't as `16/1048576 16`, with two equal figures, so that their stores have copies, unless --store
     names them: `dmremap map --paths` reads these stores;
     those of kind PO or with features, not as long as their origin, or with a store that is read-only or not plain.
 
-If a snapshot is left out, its origin stays, and a message says that copies for this snapshot are missing in answers.
+If a snapshot is left out, its origin stays, and a message warns that answers lack copies for this snapshot.
 
 With --only, which may be given several times, FILE has that device and all that it stands on.
 
@@ -36,11 +36,13 @@ import argparse
 import re
 from typing import Dict, Iterable, List, Optional, Set, Tuple
 
-from dmremap_tools.base import disk_image, names, numbers, paths, quoting, streams, tables
+from dmremap_tools.base import names, numbers, paths, quoting, streams, tables
+from dmremap_tools.base.partition_table import Partition, backup_of, table_of
 from dmremap_tools.base.refusal import Refusal, WrongWords
 from dmremap_tools.base.store_places import MOST, MOST_IN_CHUNK, places
-from dmremap_tools.machines.placed import partitioned, sectors_at
-from dmremap_tools.metadata.chosen_part import GIVE
+from dmremap_tools.model.device import Image, Lenient
+from dmremap_tools.model.physical_volume import label_of
+from dmremap_tools.model.placed import GIVE, check_places, image_of, label_at, pile_at
 
 EXAMPLE = "dmremap-tools machine --disks disks ls.txt status.txt lsblk.txt concise.txt > tables"
 
@@ -272,14 +274,15 @@ def lengths_of(words: argparse.Namespace) -> Tuple[Dict[str, Optional[int]], Dic
     numbers_of, sector = {path: number for number, path in of.items()}, words.sector_size or numbers.SECTOR
     for name, path in (paths.read(words.paths) if words.paths is not None else {}).items():
         number, place = numbers_of.get(name, name), paths.place_of(path)
-        known, length = sizes.get(number), sectors_at(place, sector)
+        image = image_of(place.path)
+        kind, partitions = partitions_of(image, sector)
+        known, length = sizes.get(number), sectors_at(place, image, partitions)
         sizes[number] = length
         if place.is_said and known not in (None, length):
             raise Refusal(quoting.shown(path), "lsblk says that %s has %d sectors, and there it has %d: give its own image"
                           % (quoting.shown(number), known, length))
         if place.is_said or length == known:
             continue
-        kind, partitions = partitioned(disk_image.raw_image(place.path), sector)
         major, _, minor = number.partition(":")
         is_of_sd = major in SD_MAJORS and minor.isdecimal()
         is_disk = is_of_sd and int(minor) % 16 == 0
@@ -290,6 +293,31 @@ def lengths_of(words: argparse.Namespace) -> Tuple[Dict[str, Optional[int]], Dic
             raise Refusal(quoting.shown(path), f"the image of a whole disk ({kind}), and {quoting.shown(number)} "
                           f"{'is' if is_partition else 'may be'} a partition: {GIVE}")
     return sizes, of
+
+
+def partitions_of(image: Image, sector: int) -> Tuple[str, List[Partition]]:
+    """What the partition table of an image is called, or nothing, and its partitions, as far as they can be read; an
+    MBR counts in sectors of so many bytes. What is left of a GPT isn't the table of a physical volume."""
+    disk = Lenient(image)
+    try:
+        table = table_of(disk, sector) or (backup_of(disk) if label_of(disk)[0] is None else None)
+    except Refusal:
+        return "GPT", []
+    return (table.kind, table.partitions) if table else ("", [])
+
+
+def sectors_at(place: paths.Place, image: Image, partitions: List[Partition]) -> int:
+    """The sectors of an image, or of the partition or the physical volume in it that begins at a place. Refuses a place
+    at which neither does."""
+    if not place.start:
+        return image.size // numbers.SECTOR
+    check_places({"": place}, pile_at([place.path]))
+    label = label_at(image, place.start)
+    sizes = [each.size for each in partitions if each.start == place.start] + ([label.size] if label else [])
+    if not sizes:
+        raise Refusal(image.name, f"neither a partition nor a physical volume begins at byte {place.start}: see `scan` "
+                      "for where some do")
+    return sizes[0] // numbers.SECTOR
 
 
 def say_left_out(stack: Stack, kept: List[Found], disks: Dict[str, Optional[int]]) -> None:

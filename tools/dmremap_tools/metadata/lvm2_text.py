@@ -3,235 +3,119 @@
 Takes TEXT, as `vgcfgbackup` writes it or a metadata area has it, which dmremap refuses as `field`, `syntax`, `extents`,
 `snapshot`, `store` or `limit`: one raid, mirror, cache or thin volume is enough, or one disk after `pvresize`.
 
-Prints the text without what dmremap can't follow. Each line keeps its number, and a text that needs no change comes out as it
-is. Whatever is left out or changed is reported with its line. Left out are
+Prints the text without what dmremap can't follow, and without comments, as dmremap reads it; each key keeps the number
+of its line. Reported with their lines are a disk that is made longer or gets a name, as its extents need it, parts of
+raid volumes that are made writable, and what is left out:
 
     volumes of other types than striped, linear, zero and error, and what lies on them or is a snapshot of them;
     volumes on another volume, as while they are moved; stripes that don't divide one; names that no device can have;
-    snapshots that aren't as long as their origin, or whose store has zero or error or is left out, or has more places for
-    chunks than dmremap counts in all: the origin stays, and a message says what answers lack;
+    snapshots that aren't as long as their origin, or whose store has zero or error or is left out, or has more places
+    for chunks than dmremap counts in all: the origin stays, and a message says what answers lack;
     snapshots that are being merged, with their origin: it reads as the snapshot does, from what is left in the store;
-    fields that don't matter, with negative numbers, fractions, words without quotes or several lines.
+    fields with negative numbers, fractions, or keys that are no words.
 
-Changed are a disk that is shorter than its extents, as after pvresize, one without a name or a length, parts of raid volumes
-that are read-only, and what lvm2 reads and dmremap doesn't: octal numbers, single quotes, `linear`, a string in place of a
-list, commas too many or too few, fields that are there twice, other white space, bytes that aren't UTF-8.
+The parts of a volume that is left out stay, under the names that they have in the kernel: `r1_rimage_0` is one half of
+the mirror `r1`, and `pool_tdata` has the data of a thin pool. For a cached volume, the cache may have newer data than
+`home_corig`. With --only, which may be given several times, the copy has that volume, its origin if it is a snapshot,
+and the disks that they lie on.
 
-The parts of a volume that is left out stay, under the names that they have in the kernel: `r1_rimage_0` is one half of the
-mirror `r1`, and `pool_tdata` has the data of a thin pool. For a cached volume, the cache may have newer data than `home_corig`.
-
-With --only, which may be given several times, the copy has that volume, its origin if it is a snapshot, and the disks that they
-lie on.
-
-Refuses a text of which no volume would be left, one that isn't the metadata of a group, forms that lvm2 never writes, a damaged
-text whose copy dmremap refuses when it is asked, and one of more than 8 MiB, or of more than 150,000 keys and values. Nothing
-about the copy is proved. The text can't say whether it is the newest; `dmsetup table` shows whether a machine's devices are
-those of the text.
+Refuses a text of which no volume would be left, one that isn't the metadata of a group, forms that lvm2 never writes, a
+damaged text whose copy dmremap refuses when it is asked, and one of more than 8 MiB, or of more than 150,000 keys and
+values. Nothing about the copy is proved. The text can't say whether it is the newest; `dmsetup table` shows whether a
+machine's devices are those of the text.
 """
 
 import argparse
 import os
 import re
 import tempfile
-from typing import Collection, Dict, Iterator, List, NamedTuple, Optional, Set, Tuple
+from typing import Dict, Iterator, List, Optional, Set, Tuple
 
 from dmremap_tools.base import program, quoting, streams
-from dmremap_tools.base.config_text import ANEW, Document, Item, Node, shown
 from dmremap_tools.base.refusal import Refusal
-from dmremap_tools.metadata.volume_group import LINEAR, NOT_ASKED, STRIPED, Group, Volume
+from dmremap_tools.model.config_text import ANEW, Document, Item, Node, shown
+from dmremap_tools.model.volume_group import LINEAR, NOT_ASKED, STRIPED, Group, Volume
 
 EXAMPLE = "dmremap-tools lvm2-text vgm.backup > copy.backup && dmremap table lvm copy.backup"
 # How many bytes of a text are taken, and dmremap takes of the copy.
 MOST_TEXT, MOST_COPY = 8 << 20, 1 << 20
 ADVICE = "take an older text, from /etc/lvm/archive or by `metadata --list`, or leave this out by --only"
-
-# What dmremap takes for a key, and for a number or a string, and how many sections it takes inside each other.
-WORD = re.compile(rb"[A-Za-z0-9_+.][A-Za-z0-9_+.-]*")
-PLAIN = re.compile(rb'0|[1-9][0-9]{0,18}|"(?:[^"\\\n]|\\["\\])*"')
-LEVELS = 16
-# The fields that have a list; others have one value.
+# What dmremap takes for a key, and how many sections it takes inside each other.
+WORD, LEVELS = re.compile(rb"[A-Za-z0-9_+.][A-Za-z0-9_+.-]*"), 16
+# The fields that have a list, of which others with one value have none.
 LISTS = {b"status", b"flags", b"stripes"}
-# Two bytes that are of one word for dmremap.
-WITHIN_WORD = re.compile(rb"[A-Za-z0-9_+.-]{2}")
-BLANK = b" \t\v\f\r"
-# What stands behind a section or a field in its line, up to the end of that.
-REST_OF_LINE = re.compile(rb"[ \t\v\f\r]*(?:#[^\n]*)?(?=\n)")
-# Carriage returns at the end of a line, and white space that dmremap doesn't take for such outside of comments.
-AT_END, OTHER = re.compile(rb"\r+(?=\n|\Z)"), re.compile(rb"(#[^\n]*)|[\r\v\f]")
 # A byte that is no UTF-8, as Python reads it, and what is written for it and for a newline in a string.
 UNREADABLE, UNKNOWN = re.compile("[\udc80-\udcff]"), "\ufffd"
-# What dmremap reads of a section: fields, and sections by their keys, with None for any. It passes over the rest.
-Form = NamedTuple("Form", [("fields", Collection[bytes]), ("sections", Dict[Optional[bytes], "Form"])])
-SEGMENT = Form({b"stripes", b"start_extent", b"extent_count", b"type", b"stripe_count", b"stripe_size", b"chunk_size",
-                b"origin", b"cow_store"}, {})
-VOLUMES = Form((), {None: Form({b"status", b"flags", b"segment_count"}, {None: SEGMENT})})
-PHYSICALS = Form((), {None: Form({b"device", b"dev_size", b"pe_start", b"pe_count"}, {})})
-GROUP = Form({b"extent_size"}, {b"physical_volumes": PHYSICALS, b"logical_volumes": VOLUMES})
-TOP = Form({b"contents", b"version"}, {None: GROUP})
 
 
 class Copy:
-    """What is written in the place of tokens of a text, which of its parts are left out, and what is said of that."""
+    """A text that is written anew: which of its parts are left out, and what is said of them and of changes."""
 
     def __init__(self, document: Document) -> None:
         self.document = document
         self.left_out: Set[Node] = set()
         self._said: List[Tuple[int, str]] = []
-        # What is written for the tokens that begin at these bytes, and what behind them.
-        self._written: Dict[int, bytes] = {}
-        self._behind: Dict[int, bytes] = {}
-        # For each line whether carriage returns are taken out of it.
-        self._returned = bytearray(document.content.count(b"\n") + 2)
 
     def say(self, at: int, what: str) -> None:
+        """Keeps a message about the line that has a byte."""
         self._said.append((self.document.line_at(at), what))
 
     def drop(self, node: Node, why: str) -> None:
+        """Leaves out a part, and says why."""
         self.left_out.add(node)
         self.say(node.start, f"left out: {shown(node.key)}: {why}")
 
+    def change_value(self, node: Node, value: bytes, why: str) -> None:
+        """Gives a field this value, as it is written, and says why."""
+        node.items = [Item(value, node.start)]
+        self.say(node.start, f"changed: {shown(node.key)}: {why}")
+
     def tell(self) -> None:
-        path, said = self.document.path, sorted(self._said, key=lambda it: it[0])
-        streams.tell(*(f"{path}:{line}: {what}" for line, what in said))
-
-    def put(self, at: int, content: bytes, key: bytes, why: str) -> None:
-        """Writes this for the token that begins at a byte, and says why."""
-        self._written[at] = content
-        self.say_changed(at, key, why)
-
-    def put_behind(self, at: int, content: bytes) -> None:
-        self._behind[at] = self._behind.get(at, b"") + content
-
-    def say_changed(self, at: int, key: bytes, why: str) -> None:
-        self.say(at, f"changed: {shown(key)}: {why}")
-
-    def mend(self, section: Node, form: Form) -> None:
-        """Mends what dmremap reads of a section, and leaves out what it can't pass over."""
-        for node in (section.children or {}).values():
-            inner = form.sections.get(node.key) or form.sections.get(None)
-            if node in self.left_out:
-                continue
-            if inner if node.children is not None else node.key in form.fields:
-                if not WORD.fullmatch(node.key):
-                    raise self.document.refused(node.start, f"no name that lvm2 gives, {ANEW}: {shown(node.key)}")
-                if not self._is_word(node):
-                    self.put(node.start, node.key, node.key, "a key in quotes")
-                self._mend_values(node)
-                self.mend(node, inner)
-            else:
-                fault = next(self._faults_of(node), None)
-                if fault:
-                    self.drop(node, f"{fault}, which dmremap doesn't read; it says nothing of sectors")
-
-    def _is_word(self, node: Node) -> bool:
-        """Whether its key is written as one, which has no quotes."""
-        return bool(WORD.fullmatch(self.document.content, node.start, node.start + len(node.key)))
-
-    def _mend_values(self, node: Node) -> None:
-        """Writes the values of a field as dmremap reads them: numbers in decimal digits, strings in double quotes."""
-        items, key = node.items, node.key
-        for text, start, value in ((it.text, it.start, it.value) for it in items):
-            if isinstance(value, bytes):
-                content = b'"%s"' % re.sub(rb'(["\\])', rb"\\\1", value).replace(b"\n", UNKNOWN.encode())
-                why = f"written as {shown(content)}"
-            elif value is None or value < 0:
-                raise self.document.refused(start, f"{shown(key)} can't have this number, {ANEW}: {shown(text)}")
-            else:
-                content, why = b"%d" % value, f"lvm2 reads {shown(text)} as {value}"
-            if not PLAIN.fullmatch(text):
-                self.put(start, content + b"\n" * text.count(b"\n"), key, why)
-        if items and not node.is_list and key in LISTS:
-            self._written[node.value_at] = b"[" + self._written.get(node.value_at, items[0].text)
-            self.put_behind(node.value_at, b"]")
-            self.say_changed(node.start, key, "one value in place of a list")
-        elif node.is_list and key not in LISTS and len(items) == 1:
-            self._written.update({node.value_at: b"", node.end - 1: b""})
-            self.say_changed(node.start, key, "a list of one value")
-        for item in items if node.is_list else ():
-            if item is items[-1] and item.comma >= 0:
-                self._written[item.comma] = b""
-                self.say_changed(item.start, key, "a comma too many")
-            elif item is not items[-1] and item.comma < 0:
-                self.put_behind(item.start, b",")
-                self.say_changed(item.start, key, "a comma is missing")
-
-    def _faults_of(self, node: Node) -> Iterator[str]:
-        """Why dmremap can't pass over a field or a section. Asked for the first, it goes no deeper than LEVELS."""
-        if node.children is not None and node.level > LEVELS:
-            yield f"more than {LEVELS} sections in each other"
-        if not self._is_word(node):
-            yield "a key that is no word"
-        for item in node.items:
-            yield from unreadable(item)
-            if node.is_list and (item.comma >= 0) != (item is not node.items[-1]):
-                yield "a comma too many or too few"
-        for child in reversed(list((node.children or {}).values())):
-            yield from self._faults_of(child)
+        """Tells what was said, in the order of the lines."""
+        said = sorted(self._said, key=lambda it: it[0])
+        streams.tell(*(f"{self.document.path}:{line}: {what}" for line, what in said))
 
     def content(self, given: bytes) -> bytes:
-        """The copy of what was given, with white space as dmremap reads it. Says what it lacks of that."""
-        content, made = self.document.content, []
-        if given.startswith(streams.MARK):
-            self.say(0, "changed: a byte order mark is taken out")
+        """The copy of what was given, in which each key has the line that it had, and U+FFFD stands for what is no
+        UTF-8."""
+        content, made, end = self.document.content, [], 0
         if b"\0" in given:
             self.say(len(content), "left out: the NUL here, and what comes after it")
-        ends, gone, end, spaces, last = {it.start: it.end for it in self.left_out}, 0, 0, [], b""
-        for text, start in self.document.tokens():
-            if start < gone:
-                continue
-            between = content[end:start]
-            if start in ends:
-                # With it go its indentation and a comment behind it. Newlines stay.
-                gone, before = ends[start], between.rstrip(BLANK)
-                begins_line = before.endswith(b"\n") or not (before or end)
-                rest = REST_OF_LINE.match(content, gone) if begins_line else None
-                spaces += [before if begins_line else between, b"\n" * content.count(b"\n", start, gone)]
-                end = rest.end() if rest else gone
-                continue
-            spaces.append(between)
-            new, end = self._written.get(start, text) + self._behind.get(start, b""), start + len(text)
-            if text and not new:
-                continue
-            if last and not between and WITHIN_WORD.match(content, start - 1):
-                self.say(start, "changed: a space is missing")
-            space = self._plain_space(b"".join(spaces), start)
-            if not space and WITHIN_WORD.match(last[-1:] + new[:1]):
-                space = b" "
-            piece, count = UNREADABLE.subn(UNKNOWN, (space + new).decode("utf-8", "surrogateescape"))
-            if count:
-                self.say(start, "changed: bytes that are no UTF-8")
-            made.append(piece)
-            spaces, last = [], new
-        if any(self._returned):
-            what = f"changed: carriage returns are taken out of {sum(self._returned)} lines"
-            self._said.append((self._returned.index(1), what))
-        return "".join(made).encode()
+        for at, text in [*self._kept_parts(self.document.top), (len(content), b"")]:
+            made += [b"\n" * content.count(b"\n", end, at) or b" " * bool(made), text]
+            end = at
+        return UNREADABLE.sub(UNKNOWN, b"".join(made).decode("utf-8", "surrogateescape")).encode()
 
-    def _plain_space(self, space: bytes, start: int) -> bytes:
-        """The white space before the token that begins at a byte, as dmremap reads it."""
-        if not space.strip(b" \t\n"):
-            return space
-        if b"\r" in space:
-            first = self.document.line_at(start) - space.count(b"\n")
-            for line, part in enumerate(space.split(b"\n"), first):
-                self._returned[line] |= b"\r" in part
-        elif any(not match[1] for match in OTHER.finditer(space)):
-            self.say(start, "changed: white space of another kind")
-        return OTHER.sub(lambda match: match[1] or b" ", AT_END.sub(b"", space))
+    def _kept_parts(self, section: Node) -> Iterator[Tuple[int, bytes]]:
+        """What is written of a section, with the bytes of the text in whose lines it stands. What dmremap can't read
+        is left out: where it needs that, it refuses the copy."""
+        for node in sorted((section.children or {}).values(), key=lambda it: it.start):
+            number = next((item.text for item in node.items if plain_value(item) is None), None)
+            if node in self.left_out:
+                continue
+            if node.children is not None and not WORD.fullmatch(node.key):
+                raise self.document.refused(node.start, f"no name that lvm2 gives, {ANEW}: {shown(node.key)}")
+            if number or not WORD.fullmatch(node.key):
+                what = f"the number {shown(number)}" if number else "a key that is no word"
+                self.drop(node, what + ", which dmremap doesn't read")
+            elif node.children is not None and node.level > LEVELS:
+                self.drop(node, f"more than {LEVELS} sections in each other, which dmremap doesn't read")
+            elif node.children is None:
+                values = [plain_value(item) or b"" for item in node.items]
+                is_list = len(values) != 1 or node.key in LISTS
+                yield node.start, node.key + b" = " + (b"[" + b", ".join(values) + b"]" if is_list else values[0])
+            else:
+                yield node.start, node.key + b" {"
+                yield from self._kept_parts(node)
+                yield node.end - 1, b"}"
 
 
-def unreadable(item: Item) -> Iterator[str]:
-    """Why dmremap doesn't read a value that it would pass over, if it doesn't."""
-    text = item.text
-    if isinstance(item.value, bytes):
-        if text[:1] != b'"':
-            yield "a string without double quotes"
-        elif not PLAIN.fullmatch(text):
-            yield "a string of several lines" if b"\n" in text else "a backslash that stands for itself"
-    elif not text.isdigit():
-        yield "a number with a fraction" if b"." in text else "a number with a sign"
-    elif len(text) > 19 or int(text) >= 1 << 63:
-        yield "a number that is too large"
+def plain_value(item: Item) -> Optional[bytes]:
+    """A value as dmremap reads it, or None for a number that it doesn't."""
+    value = item.value
+    if isinstance(value, bytes):
+        return b'"%s"' % re.sub(rb'(["\\])', rb"\\\1", value).replace(b"\n", UNKNOWN.encode())
+    return None if value is None or value < 0 else b"%d" % value
 
 
 def add_words(parser: argparse.ArgumentParser) -> None:
@@ -273,7 +157,7 @@ def run(words: argparse.Namespace) -> None:
     if said:
         raise Refusal(path, "dmremap refuses the copy, whose lines have the same numbers "
                       f"({quoting.shown(said.strip())}): {ADVICE}")
-    streams.out.write(made.decode("utf-8", "surrogateescape"))
+    streams.out.write(made.decode())
 
 
 def group_of(copy: Copy) -> Group:
@@ -329,29 +213,28 @@ def _leave_physicals(copy: Copy, group: Group) -> None:
 
 
 def mend_group(copy: Copy, group: Group) -> None:
-    """Mends what dmremap reads of the text, and leaves out what it would stumble over."""
-    raids = [it for volume in group.volumes.values() for it in volume.segments if (it.kind or b"").startswith(b"raid")]
-    # These lists have the data of a raid volume, with what says how that is kept before each part of it.
-    parts = {name for it in raids for key in (b"raids", b"raid0_lvs") for name in it.node.values(key)}
+    """Changes what dmremap would refuse of a group, or read in another way than lvm2."""
     staying = [it for it in group.volumes.values() if not it.why]
+    segments = [it for volume in group.volumes.values() for it in volume.segments]
+    # These lists have the data of a raid volume, with what says how that is kept before each part of it.
+    parts = {name for it in segments if (it.kind or b"").startswith(b"raid")
+             for key in (b"raids", b"raid0_lvs") for name in it.node.values(key)}
     for volume in (it for it in staying if it.name in parts):
         _mend_part(copy, volume)
-    copy.mend(copy.document.top, TOP)
     for node in group.physicals.values():
         _mend_physical(copy, group, node)
-    for segment in (it for volume in staying for it in volume.segments if it.kind == LINEAR):
-        kind = segment.node.child(b"type")
-        copy.put(kind.items[0].start, b'"%s"' % STRIPED, kind.key, "linear is another name of striped")
+    for kind in (it.node.child(b"type") for volume in staying for it in volume.segments if it.kind == LINEAR):
+        kind.items = [Item(b'"%s"' % STRIPED, kind.start)]
 
 
 def _mend_part(copy: Copy, volume: Volume) -> None:
     """lvm2 loads all parts of raid volumes as writable, whatever their status is."""
     status, words = volume.node.child(b"status"), [*volume.node.values(b"status"), *volume.node.values(b"flags")]
     if status and status.children is None and b"WRITE" not in words and b"WRITE_LOCKED" not in words:
-        at, more = (status.items[-1].start, b', "WRITE"') if status.items else (status.value_at, b'"WRITE"')
-        copy.put_behind(at, more)
+        before = status.items
         why = f"{shown(volume.name)} is part of a raid volume, which lvm2 loads as writable"
-        copy.say_changed(status.start, status.key, why)
+        copy.change_value(status, b'"WRITE"', why)
+        status.items = before + status.items
 
 
 def _mend_physical(copy: Copy, group: Group, node: Node) -> None:
@@ -368,8 +251,7 @@ def _mend_physical(copy: Copy, group: Group, node: Node) -> None:
     missing = (b"device", b'""', "so that the disk has this name"), (b"dev_size", b"%d" % least, f"and {long}")
     for key, value, why in missing:
         if node.child(key) is None:
-            copy.put_behind(node.value_at, b" %s = %s" % (key, value))
-            copy.say_changed(node.start, key, f"{name} has none, {why}")
+            node.children[key] = Node(key, node.value_at, node.value_at, node.level + 1)
+            copy.change_value(node.children[key], value, f"{name} has none, {why}")
     if size is not None and size < least:
-        at = node.child(b"dev_size").items[0].start
-        copy.put(at, b"%d" % least, b"dev_size", f"{name} {long}, and not {size}")
+        copy.change_value(node.child(b"dev_size"), b"%d" % least, f"{name} {long}, and not {size}")

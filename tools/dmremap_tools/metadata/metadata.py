@@ -1,10 +1,10 @@
 """Prints the metadata text of the group that a physical volume of LVM2 belongs to.
 
-Takes HEAD, the physical volume, or an image of its beginning, such as its first MiB, or of the whole disk, of which each
-partition with a sound label is taken. HEAD?offset=BYTES is what begins there in it: a partition, or a volume that begins
-elsewhere. In a member of an md array the volume is found behind the superblock (1.1 or 1.2), unless a newer member is given as
-well. Several physical volumes have to agree. `dd if=/dev/sda1 of=head.img bs=1M count=1` makes an image of the beginning; with
-lvm2, `pvck --dump metadata -f TEXT head.img` does the same as this command.
+Takes HEAD, the physical volume, or an image of its beginning, such as its first MiB, or of the whole disk, which is
+searched as by `scan`: each physical volume in it is taken, in a partition, in a member of an md array, or anywhere if
+nothing else is found. HEAD?offset=BYTES is what begins there in it. Several physical volumes have to agree. `dd
+if=/dev/sda1 of=head.img bs=1M count=1` makes an image of the beginning; with lvm2, `pvck --dump metadata -f TEXT head.img`
+does the same as this command.
 
 Prints the valid text. The label says where the metadata areas are, and the header of an area which of its texts is valid. Each
 of the three has a checksum. If the first area is damaged, the second is taken, if there is one. If both are sound, the text
@@ -12,8 +12,7 @@ with the higher seqno is taken; two groups, or two texts with one number, are re
 volume of the group, or a text in /etc/lvm/backup. --list prints what is left of older texts: the place of each in HEAD, its
 group, the group's id, the seqno and the time; `cut` is a text whose end isn't there. --seqno and --at print one of these.
 
-Without a sound label, areas are looked for in the first and the last 4 MiB, and then labels in the whole image. If the first
-copy of a GPT is damaged, the second one is read.
+Without a sound label, areas are looked for in the first and the last 4 MiB, and then labels in the whole image.
 
 Refuses whatever no checksum confirms, and a volume that belongs to no group. If texts differ, each is reported with its
 volumes. A text that lvm2 was about to make the valid one isn't taken; lvm2 doesn't take it either. Older texts have no
@@ -23,17 +22,23 @@ numbers. No checksum tells whether another physical volume has a later text, or 
 
 import argparse
 import os
-from typing import List
+from typing import List, Optional
 
-from dmremap_tools.base import numbers, quoting, streams
-from dmremap_tools.base.disk_image import Image, open_image
-from dmremap_tools.base.paths import Place, place_of
+from dmremap_tools.base import numbers, paths, quoting, streams
+from dmremap_tools.base.numbers import SECTOR
 from dmremap_tools.base.refusal import Refusal, WrongWords
-from dmremap_tools.metadata.chosen_part import check_newest, chosen_parts, taken_from_array
-from dmremap_tools.metadata.valid_text import areas_of, older_text, texts_in, valid_text
-from dmremap_tools.model.physical_volume import text_of
+from dmremap_tools.model import md_superblock
+from dmremap_tools.model.device import Device, Image, Lenient, Part
+from dmremap_tools.model.physical_volume import (EMPTY, MISSING, SEARCHED, Area, PhysicalVolume, Text,
+                                                 leftover_in, texts_of_ring, volume_in)
+from dmremap_tools.model.pile import Pile, place_of
+from dmremap_tools.model.placed import image_of
 
 EXAMPLE = "dmremap-tools metadata vg0-head.img > vg0.backup && dmremap table lvm vg0.backup"
+OTHER = "try another physical volume of the group, or a file in /etc/lvm/backup"
+OLDER = "see what is left of older texts with --list"
+# How much of an image is looked through for older texts where it isn't known where the areas are.
+HEAD = 1 << 20
 
 
 def add_words(parser: argparse.ArgumentParser) -> None:
@@ -49,40 +54,121 @@ def run(words: argparse.Namespace) -> None:
     is_of_one = words.list or words.seqno is not None or words.at is not None
     if len(words.heads) > 1 and is_of_one:
         raise WrongWords("--list, --seqno and --at take one HEAD")
-    places = [place_of(path) for path in words.heads]
+    places = [paths.place_of("/dev/stdin" if path == "-" else path) for path in words.heads]
     for path, place in zip(words.heads, places):
         if place.is_said and os.path.lexists(path):
-            raise Refusal(quoting.shown(path), f"a file is called so, and here it means a byte of {quoting.shown(place.path)}: give "
-                          "the file another name, or a link to it")
-    check_newest(place.path for place in places)
-    images = [it for place in places for it in _volumes_in(place)]
-    if len(images) > 1 and is_of_one:
-        raise Refusal(images[0].path, "it has several physical volumes: take one, as HEAD?offset=BYTES")
+            raise Refusal(quoting.shown(path), f"a file is called so, and here it means a byte of "
+                          f"{quoting.shown(place.path)}: give the file another name, or a link to it")
+    # What is no image of a disk is refused by its path.
+    images = [image_of(place.path) for place in places]
+    pile = Pile([place.path for place in dict.fromkeys(places) if not place.is_said], None)
+    volumes = [*pile.volumes, *(leftover.unlabelled() for leftover in pile.leftovers)]
+    if not volumes:
+        pile.search()
+        volumes += pile.volumes
+    parts = [spot.device for spot in pile.spots() if spot.image] if not volumes else []
+    parts += [part_at(image, place.start) for place, image in zip(places, images) if place.is_said]
+    volumes += filter(None, map(volume_of, parts))
+    if len(volumes) > 1 and is_of_one:
+        raise Refusal(images[0].name, "it has several physical volumes: take one, as HEAD?offset=BYTES")
+    if not volumes and not is_of_one:
+        why = next((f" ({table.fault})" for table in pile.tables.values() if table.fault), pile.unread_notes())
+        raise Refusal(images[0].name, f"no physical volume is found{why}: {OTHER}")
     if words.list:
-        for text in texts_in(images[0]):
+        for text in texts_in(images[0], volumes):
             time = (text.said_time() or b"cut").decode("utf-8", "surrogateescape")
             line = f"{text.at} {text.group} {text.identity} seqno {text.seqno} - {time}"
             streams.out.write(quoting.escaped(line) + "\n")
         return
-    content = older_text(images[0], words.seqno, words.at) if is_of_one else _first_if_equal(images)
+    content = older_text(images[0], volumes, words.seqno, words.at) if is_of_one else first_if_equal(volumes)
     streams.out.write(content.decode("utf-8", "surrogateescape"))
 
 
-def _volumes_in(place: Place) -> List[Image]:
-    disk = open_image(place.path)
-    if place.start >= disk.size:
-        raise Refusal(disk.path, f"it ends before byte {place.start}: give a lower offset, or more of the disk")
-    parts = [disk.part(place.start, disk.size)] if place.is_said else chosen_parts(disk)
-    return [taken_from_array(it) for it in parts]
+def part_at(image: Image, start: int) -> Device:
+    """What begins at a byte of an image. Refuses a byte behind its end."""
+    if start >= image.bytes:
+        raise Refusal(image.name, f"it ends before byte {start}: give a lower offset, or more of the disk")
+    return Part(image.name, image, start, max(0, image.size - start))
 
 
-def _first_if_equal(images: List[Image]) -> bytes:
-    """The first of the valid texts of these volumes, which are one but for their times."""
-    texts = [text_of(valid_text(it, areas_of(it))) for it in images]
+def volume_of(device: Device) -> Optional[PhysicalVolume]:
+    """The physical volume that a device is, or that is in it as a member of an array; what is left of one, or None."""
+    members = md_superblock.found_in(device)[0]
+    datas = [Part(device.name, device, it.start * SECTOR, it.length * SECTOR) for it in members]
+    found, left = next(filter(None, map(volume_in, [device, *datas])), None), leftover_in(device, True)
+    return found or (left.unlabelled() if left else None)
+
+
+def first_if_equal(volumes: List[PhysicalVolume]) -> bytes:
+    """The first of the valid texts of these volumes. Refuses texts that differ in more than their times."""
+    texts = [valid_text(volume) for volume in volumes]
     if len({it.body() for it in texts}) > 1:
-        for image, text in zip(images, texts):
-            where = f" from sector {image.base // numbers.SECTOR} on" if image.base else ""
-            streams.tell(f"{image.path}{where}: {text.summary()}")
-        raise Refusal(images[0].path, "the texts differ: "
+        for volume, text in zip(volumes, texts):
+            streams.tell(f"{volume.place}: {text.summary()}")
+        raise Refusal(volumes[0].place, "the texts differ: "
                       "look at what each has, and take the volume that is right alone")
     return texts[0].content
+
+
+def valid_text(volume: PhysicalVolume) -> Text:
+    """The sound text with the highest number. Refuses texts of different groups, and different ones of that number."""
+    areas, label = volume.areas, volume.label
+    if not areas:
+        why = next(iter(volume.faults), "this physical volume keeps no metadata")
+        raise Refusal(volume.place, f"{why}: {OTHER}")
+    if volume.faults and label.sector < 0:
+        streams.tell(f"{volume.place}: {volume.faults[0]}: metadata areas were looked for in the first and last "
+                     f"{SEARCHED >> 20} MiB")
+    if label.is_used is False and all(it.fault in (EMPTY, MISSING) for it in areas):
+        raise Refusal(volume.place, f"the physical volume belongs to no group: {OLDER}")
+    sound = [it for it in areas if it.text]
+    if not sound:
+        why = "; ".join(f"{areas_in_words([it])}: {it.fault}" for it in areas)
+        is_cut = any(it.fault == MISSING for it in areas)
+        raise Refusal(volume.place, f"{why}: " + ("take more of the disk" if is_cut else f"{OTHER}, or {OLDER}"))
+    newest = [it for it in sound if it.text.seqno == max(each.text.seqno for each in sound)]
+    are_of_one = len(sound) == 1 or sound[0].text.group and len({it.text.identity for it in sound}) == 1
+    if not are_of_one or len({it.text.body() for it in newest}) > 1:
+        for area in sound:
+            streams.tell(f"{volume.place}: {areas_in_words([area])}: {area.text.summary()}")
+        why = "have different texts with one seqno" if are_of_one else "have texts of different groups"
+        raise Refusal(volume.place, f"{areas_in_words(sound)} {why}: {OTHER}")
+    for area in areas:
+        if area.fault:
+            streams.tell(f"{volume.place}: passed over: {areas_in_words([area])}: {area.fault}")
+        elif area not in newest:
+            older = area.text.summary()
+            streams.tell(f"{volume.place}: passed over: {areas_in_words([area])}: its text is older: {older}")
+            streams.tell(f"{volume.place}: taken: {areas_in_words(newest[:1])}: {newest[0].text.summary()}")
+    return newest[0].text
+
+
+def areas_in_words(areas: List[Area]) -> str:
+    """What areas are called in messages, by the bytes at which they begin."""
+    return f"the metadata area{'s' * (len(areas) > 1)} at byte {' and '.join(str(it.start) for it in areas)}"
+
+
+def texts_in(image: Image, volumes: List[PhysicalVolume]) -> List[Text]:
+    """The older texts of a physical volume, or at the beginning of an image where none is known, each with its byte in
+    the image. Refuses an image without any."""
+    texts = [it._replace(at=place_of(volume.device) + it.at) for volume in volumes for it in volume.texts]
+    texts = texts or texts_of_ring(0, Lenient(image).read(0, HEAD), False)
+    if not texts:
+        raise Refusal(image.name, "there is no text of a group: "
+                      "take another physical volume, or a file in /etc/lvm/archive")
+    return texts
+
+
+def older_text(image: Image, volumes: List[PhysicalVolume], seqno: int, at: Optional[int]) -> bytes:
+    """The older text with this number, or the one at a byte. Refuses one that is cut, and several of one number."""
+    texts = [it for it in texts_in(image, volumes) if (it.seqno == seqno if at is None else it.at == at)]
+    which, there = (f"with the seqno {seqno}", "those there are") if at is None else ("at that place", "the places")
+    if not texts:
+        raise Refusal(image.name, f"there is no text {which}: see {there} with --list")
+    whole = {it.content for it in (texts if at is None else texts[:1]) if it.said_time()}
+    if not whole:
+        raise Refusal(image.name, f"the text {which} is cut: see with --list which are whole")
+    if len(whole) > 1:
+        places = quoting.some([str(it.at) for it in texts])
+        raise Refusal(image.name, f"there are several texts {which}, at the bytes {places}: take one with --at BYTE")
+    return whole.pop()

@@ -257,16 +257,12 @@ class Image(Device):
             if not self.identity:
                 raise Refusal(name, "neither a file nor a disk: give an image of the disk")
             written.note_input(descriptor)
-            self._file = disk_image.Image(open(descriptor, "rb", buffering=0), name)
+            self._file = open(descriptor, "rb", buffering=0)
         except OSError as fault:
             raise Refusal(name, streams.why(fault))
-        self.bytes, self.other_form = self._file.size, ""
+        self.bytes, self.other_form = disk_image.length_of(self._file, name), disk_image.form_of(descriptor)
         super().__init__(name, self.bytes // SECTOR * SECTOR)
         self._unread = [(*run, Unread(self, run)) for run in unread]
-        try:
-            disk_image.check_form(descriptor, name)
-        except Refusal as refusal:
-            self.other_form = refusal.why
 
     def ended(self) -> str:
         return f"{self.name} ends at byte {self.bytes}: give an image of the whole disk"
@@ -280,13 +276,13 @@ class Image(Device):
     def fill(self, start: int, views: Sequence[memoryview]) -> bool:
         """Reads the bytes from one on into places, and says whether all of them could be read."""
         try:
-            return os.preadv(self._file.file.fileno(), views, start) == sum(map(len, views))
+            return os.preadv(self._file.fileno(), views, start) == sum(map(len, views))
         except OSError:
             return False
 
     def load(self, start: int, size: int) -> bytes:
         try:
-            content = os.pread(self._file.file.fileno(), size, start)
+            content = os.pread(self._file.fileno(), size, start)
         except OSError as fault:
             raise Gap(self.name, f"byte {start} and those after it can't be read ({streams.why(fault)}): take an image "
                       "of it by ddrescue")
@@ -299,8 +295,8 @@ class Image(Device):
         """The sectors of these bytes that aren't in holes, where the file system tells of holes, as runs of bytes."""
         while start < end:
             try:
-                begin = self._file.file.seek(start, os.SEEK_DATA)
-                stop = self._file.file.seek(begin, os.SEEK_HOLE)
+                begin = self._file.seek(start, os.SEEK_DATA)
+                stop = self._file.seek(begin, os.SEEK_HOLE)
             except OSError as fault:
                 if fault.errno != errno.ENXIO:
                     yield start, end
@@ -311,12 +307,11 @@ class Image(Device):
             start = stop
 
 
-class Lenient(disk_image.Image):
+class Lenient:
     """A device as the readers of labels and tables take an image: fewer bytes where it ends or lacks some."""
 
     def __init__(self, device: Device) -> None:
-        self._device = device
-        self.path, self.size, self.base = device.name, device.size, 0
+        self._device, self.path, self.size = device, device.name, device.size
 
     def read(self, at: int, count: int) -> bytes:
         """The bytes that are there, up to the first sector that isn't."""
@@ -324,8 +319,20 @@ class Lenient(disk_image.Image):
         return b"".join(content for _, content, _ in itertools.takewhile(lambda block: block[2], blocks))
 
     def next_data(self, at: int) -> int:
+        """The next byte from `at` on that isn't in a hole of an image."""
         runs = self._device.runs(at, self.size) if isinstance(self._device, Image) else iter([(at, self.size)])
         return next((begin for begin, _ in runs), self.size)
+
+
+def whole_run(device: Device) -> Optional[Tuple[Image, int, int]]:
+    """The image in which all bytes of a device lie in a row, the byte at which they begin there, and how many there are; None
+    where something lies between."""
+    start, size = 0, device.size
+    while isinstance(device, Part) and not device.holes:
+        start += device.start
+        device = device.lower
+        size = min(size, device.size - start)
+    return (device, start, size) if isinstance(device, Image) and device.is_whole else None
 
 
 def cut(runs: Sequence[AnyRun], start: int, end: int) -> Iterator[Tuple[int, int, Optional[AnyRun]]]:

@@ -5,10 +5,10 @@ import functools
 import re
 from typing import Callable, Iterable, Iterator, List, NamedTuple, Optional, Sequence, Set, Tuple
 
-from dmremap_tools.base.config_text import shown
 from dmremap_tools.base.disk_image import file_system_of
 from dmremap_tools.base.numbers import SECTOR
 from dmremap_tools.base.refusal import Refusal
+from dmremap_tools.model.config_text import shown
 from dmremap_tools.model.device import Device, Doubt, Lenient, Missing
 from dmremap_tools.model.layout import Layout
 from dmremap_tools.model.mapping import INVALID_SNAPSHOT, NoProgram, Tables

@@ -10,9 +10,9 @@ from typing import Any, Iterator, NamedTuple, Optional, Set, Tuple
 
 from dmremap_tools.base.numbers import SECTOR
 from dmremap_tools.base.refusal import Refusal
-from dmremap_tools.metadata.volume_group import Segment
 from dmremap_tools.model.device import Device, Gap, Known, Overlaid, sorted_entries
 from dmremap_tools.model.pools import sum_of
+from dmremap_tools.model.volume_group import Segment
 
 # Magic, version, integrity_tag_size, journal_sections, provided_data_sectors, flags, log2_sectors_per_block and salt.
 INTEGRITY, INTEGRITY_MAGIC = struct.Struct("<8sBxHLQLB19x16s"), b"integrt\0"

@@ -6,14 +6,14 @@ import itertools
 from typing import Callable, Dict, Iterator, List, NoReturn, Optional, Set, Tuple
 
 from dmremap_tools.base import names, tables
-from dmremap_tools.base.config_text import Node, shown
 from dmremap_tools.base.numbers import SECTOR
 from dmremap_tools.base.refusal import Refusal
-from dmremap_tools.metadata.volume_group import Group, Record, Segment, Volume
 from dmremap_tools.model import integrity, pools, raid_volume
+from dmremap_tools.model.config_text import Node, shown
 from dmremap_tools.model.device import Device, Extent, Missing
 from dmremap_tools.model.mapping import Mapped, NoProgram, Tables, snapshot_of
 from dmremap_tools.model.physical_volume import Text
+from dmremap_tools.model.volume_group import Group, Record, Segment, Volume
 
 # The most sectors of an extent, and extents of a volume: more than lvm2 makes.
 MOST_EXTENT, MOST_EXTENTS = 1 << 34, 1 << 32

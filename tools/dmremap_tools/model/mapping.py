@@ -13,19 +13,21 @@ import weakref
 from typing import Any, Callable, Dict, Iterator, List, NamedTuple, NoReturn, Optional, Sequence, Tuple
 
 from dmremap_tools.base import names, numbers, paths, program, quoting, store_places, tables
-from dmremap_tools.base.config_text import shown
 from dmremap_tools.base.given import put
 from dmremap_tools.base.numbers import SECTOR
 from dmremap_tools.base.program import NoProgram
 from dmremap_tools.base.refusal import Refusal
-from dmremap_tools.metadata.volume_group import Record
-from dmremap_tools.model.device import ZEROS, Device, Extent, Gap, Lenient, Missing
+from dmremap_tools.model.config_text import shown
+from dmremap_tools.model.device import ZEROS, Device, Extent, Gap, Image, Lenient, Missing, whole_run
+from dmremap_tools.model.volume_group import Record
 
 # Sectors that one request asks for, and answers to these that are kept.
 WINDOW, MOST_WINDOWS = 1 << 15, 20
 # Devices that are loaded together, of which the program takes 1,024 with what they lie on, and programs that run.
 MOST_DEVICES, MOST_CHILDREN = 400, 16
-ANSWER = re.compile(r"([0-9]+) (?:R ([^ ]+) ([0-9]+)|(zero|error)) ([0-9]+)\n")
+ANSWER = re.compile(r"^([0-9]+) (?:R ([^ \n]+) ([0-9]+)|(zero|error)) ([0-9]+)$", re.M)
+# Bytes of an answer that are taken at a time.
+MOST_READ = 1 << 20
 READ, ZERO = "R", "zero"
 FILES = ("FILE", "DISKS", "PATHS")
 FAILS = "reads fail there, as the tables say"
@@ -59,6 +61,10 @@ class Tables:
         name = self._names.setdefault(device, f"d{next(DISKS)}")
         self.disks[name] = device
         return name
+
+    @functools.lru_cache(None)
+    def whole_run(self, name: str) -> Optional[Tuple[Image, int, int]]:
+        return whole_run(self.disks[name])
 
     def add(self, name: str, lines: Sequence[tables.Line]) -> None:
         self.devices[name] = tables.Device(name)
@@ -116,9 +122,23 @@ class Tables:
     def _child(self, *wanted: str) -> Any:
         """The program that knows some devices, or why it can't; that is kept, too, and isn't tried again."""
         try:
-            return Child(self.closure(wanted))
+            return self.closure(wanted)._started()
         except Refusal as refusal:
             return refusal
+
+    def _started(self) -> "Child":
+        """The program with all of these tables, and with copies of what the stores say."""
+        asked = program.dmremap(Child.program)
+        with tempfile.TemporaryDirectory(prefix="dmremap-tools-") as folder:
+            copies = {name: os.path.join(folder, name) for name in self.stores}
+            for name, path in copies.items():
+                self.stores[name](path)
+            file, disks, listed = self.write(folder, copies)
+            words = [asked, "map", "table", file, disks] + ["--paths", listed] * bool(copies)
+            chunks = store_places.chunks_in(words, self.devices.values()) if copies else {}
+            child = Child(words, next(iter(self.devices)))
+            child.chunks = chunks
+            return child
 
     def write(self, folder: str, files: Dict[str, str]) -> List[str]:
         """Writes FILE, DISKS, and PATHS with these files; the paths of the three. A disk that is too short gets as many
@@ -134,28 +154,42 @@ class Tables:
         return written
 
 
+class LoadedTables(Tables):
+    """Tables that somebody gave, which one program has loaded, by these words; and the devices of their disks."""
+
+    def __init__(self, devices: Sequence[tables.Device], disks: Dict[str, Device], words: Sequence[str]) -> None:
+        super().__init__()
+        self.devices.update((device.name, device) for device in devices)
+        self.disks.update(disks)
+        self._words = words
+
+    def child_of(self, name: str) -> "Child":
+        return self._child()
+
+    @functools.lru_cache(1)
+    def _child(self) -> "Child":
+        return Child(self._words, next(iter(self.devices)))
+
+
 class Child:
     """The program, which knows devices of tables. It answers each request before it takes the next."""
 
     # The one that is asked, if it is given.
     program: Optional[str] = None
+    # How many chunks are in the store of each snapshot, or None where it is invalid.
+    chunks: Dict[str, Optional[int]] = {}
 
-    def __init__(self, source: Tables) -> None:
-        self._name, self._number, self._said = program.dmremap(Child.program), 0, tempfile.TemporaryFile()
-        with tempfile.TemporaryDirectory(prefix="dmremap-tools-") as folder:
-            copies = {name: os.path.join(folder, name) for name in source.stores}
-            for name, path in copies.items():
-                source.stores[name](path)
-            file, disks, listed = source.write(folder, copies)
-            words = [self._name, "map", "table", file, disks] + ["--paths", listed] * bool(copies)
-            self.chunks = store_places.chunks_in(words, source.devices.values()) if source.stores else {}
-            try:
-                self._child = program.start(words, stdin=subprocess.PIPE, stdout=subprocess.PIPE, stderr=self._said)
-            except Refusal as refusal:
-                raise NoProgram(refusal.where, f"{refusal.why}: {ASKED}")
-            # It ends once nobody may ask it any more.
-            weakref.finalize(self, self._child.kill)
-            self.ask(next(iter(source.devices)), 0, 1)
+    def __init__(self, words: Sequence[str], name: str) -> None:
+        """Starts it with these words, of which the first is its path, and asks for the first sector of a device. Raises
+        NoProgram where there is none, and what it says where it refuses its tables."""
+        self._name, self._number, self._said = words[0], 0, tempfile.TemporaryFile()
+        try:
+            self._child = program.start(words, stdin=subprocess.PIPE, stdout=subprocess.PIPE, stderr=self._said)
+        except Refusal as refusal:
+            raise NoProgram(refusal.where, f"{refusal.why}: {ASKED}")
+        # It ends once nobody may ask it any more.
+        weakref.finalize(self, self._child.kill)
+        self.ask(name, 0, 1)
 
     def ask(self, name: str, first: int, count: int) -> List[Piece]:
         """The answer to one request, which has its number."""
@@ -166,13 +200,17 @@ class Child:
             self._fail()
         self._number += 1
         found: List[Piece] = []
+        text = b""
         while count > 0:
-            match = ANSWER.fullmatch(self._child.stdout.readline().decode())
-            if not match or int(match[1]) != self._number:
+            more = self._child.stdout.read1(MOST_READ)
+            whole, newline, text = (text + more).rpartition(b"\n")
+            rows = ANSWER.findall(whole.decode())
+            if not more or {row[0] for row in rows} - {str(self._number)} or len(rows) != whole.count(b"\n") + len(newline):
                 self._fail()
-            found.append(Piece(match[4] or READ, match[2], int(match[3] or 0), int(match[5])))
-            count -= found[-1].count
-        if count:
+            pieces = [Piece(what or READ, disk, int(start or 0), int(length)) for _, disk, start, what, length in rows]
+            found += pieces
+            count -= sum(piece.count for piece in pieces)
+        if count or text:
             self._fail()
         return found
 
@@ -223,8 +261,12 @@ class Mapped(Device):
             for what, disk, place, count in self.source.window(self.key, at):
                 begin, stop = max(first, at), min(end, at + count)
                 if begin < stop and what == READ:
-                    place += begin - at
-                    yield from self.source.disks[disk].extents(place * SECTOR, (stop - begin) * SECTOR)
+                    where, length = (place + begin - at) * SECTOR, (stop - begin) * SECTOR
+                    run = self.source.whole_run(disk)
+                    if run and where + length <= run[2]:
+                        yield Extent(run[0], run[1] + where, length)
+                    else:
+                        yield from self.source.disks[disk].extents(where, length)
                 elif begin < stop:
                     yield Extent(ZEROS if what == ZERO else Missing(FAILS), 0, (stop - begin) * SECTOR)
                 at += count

@@ -1,9 +1,9 @@
 """md arrays: which members count, and the bytes of the array, also where members are missing."""
 
 import functools
-from typing import Dict, Iterable, Iterator, List, Optional, Sequence, Tuple
+from typing import Dict, Iterable, Iterator, List, NoReturn, Optional, Sequence, Tuple
 
-from dmremap_tools.base import quoting
+from dmremap_tools.base import quoting, tables
 from dmremap_tools.base.numbers import SECTOR
 from dmremap_tools.base.refusal import Refusal
 from dmremap_tools.model import md_chunks, md_superblock
@@ -14,7 +14,7 @@ from dmremap_tools.model.md_superblock import Member, level_name
 
 # Sectors of a chunk, and members of an array that is followed.
 MOST_CHUNK, MOST_MEMBERS = 1 << 21, 384
-START = "assemble it with mdadm --readonly"
+START = "start it by `mdadm --assemble --readonly`"
 NO_CHUNK = "its members have no whole chunk: " + START
 NO_RULE = "no rule is known for parity of the layout {}: give the missing member"
 NONE_IN_SYNC = "of its members only {} is here, which is a spare, or was being filled: give the other members"
@@ -29,16 +29,21 @@ NOT_ALL = md_superblock.RECOVERING | md_superblock.REPLACEMENT | md_superblock.F
 
 def put_together(members: Sequence[Member]) -> "Array":
     """The array of some members. Where two sides of it ran apart, its bytes are those that are the same on both."""
-    first, *others = map(Array, sides_of(members))
+    sides = list(sides_of(members))
+    first, *others = map(Array, sides)
     if not others:
         return first
-    sides = [" and ".join(each.device.name for each in side.members) for side in (first, *others)]
-    why, devices = Doubt(APART.format(" or ".join(sides))), [side.device for side in (first, *others)]
+    why, devices = Doubt(apart(sides)), [side.device for side in (first, *others)]
     first.device, first.apart = Agreed(first.label, devices, why) if all(devices) else None, why
     first.why = None if first.device else why
     for side in others:
         first.members, first.stale = [*first.members, *side.members], [*first.stale, *side.members]
     return first
+
+
+def apart(sides: Iterable[Sequence[Member]]) -> str:
+    """What is said of an array whose sides ran apart."""
+    return APART.format(" or ".join(" and ".join(each.device.name for each in side) for side in sides))
 
 
 def sides_of(members: Sequence[Member]) -> Iterator[List[Member]]:
@@ -57,7 +62,7 @@ def lacks(member: Member, other: Member) -> bool:
     return mine.role is not None and number < len(mine.roles) and mine.roles[number] >= md_superblock.NO_PLACE
 
 
-class Array(md_chunks.Members):
+class Array(md_chunks.Shape):
     """An array of members with one id, by their superblocks, the freshest first. `device` has its bytes, unless `why`
     says why nobody can say them; `apart` says that they ran apart from others."""
 
@@ -66,7 +71,7 @@ class Array(md_chunks.Members):
         self.best = self.members[0]
         superblock, level = self.best.superblock, level_name(self.best.superblock)
         layout, chunk = superblock.layout, superblock.chunk
-        copies = md_chunks.Copies(layout & 0xFF, layout >> 8 & 0xFF, bool(layout >> 16 & 1))
+        copies = md_chunks.CopyLayout(layout & 0xFF, layout >> 8 & 0xFF, bool(layout >> 16 & 1))
         named = md_chunks.LAYOUTS.get(level, {}).get(layout, "")
         used = superblock.used // chunk if chunk else 0
         super().__init__(level, superblock.places, named, chunk, used, *[copies] * (level == "raid10"))
@@ -81,9 +86,6 @@ class Array(md_chunks.Members):
         try:
             self._take()
             self._check()
-            resync = min(member.superblock.resync for member in self.by_role.values())
-            self._dirty = [(begin * SECTOR, end * SECTOR) for begin, end in md_superblock.unsynced(self.best, resync)]
-            self._data = [self._data_of(role) for role in range(self.count)]
             self.device = self._made()
         except Refusal as refusal:
             self.why = refusal.why
@@ -131,7 +133,11 @@ class Array(md_chunks.Members):
         if not self.by_role:
             self.refuse(NONE_IN_SYNC.format(quoting.some([member.device.name for member in self.members], " and ")))
 
+    def refuse(self, why: str) -> NoReturn:
+        raise Refusal(self.label, why)
+
     def _check(self) -> None:
+        """Refuses what isn't followed."""
         superblock, copies = self.best.superblock, self.copies.near * self.copies.far
         if superblock.level not in md_superblock.NAMES:
             self.refuse(f"an md array of {superblock.level}, which nothing here follows: {START}")
@@ -151,8 +157,11 @@ class Array(md_chunks.Members):
         if self.level in (*md_chunks.PARITY, "raid10") and not self.sectors:
             self.refuse(NO_CHUNK)
 
-    def _made(self) -> Device:
-        size = self.best.superblock.used * SECTOR
+    def _made(self) -> Optional[Device]:
+        """The bytes of the array, by what its members are known to have."""
+        size, resync = self.best.superblock.used * SECTOR, min(each.superblock.resync for each in self.by_role.values())
+        self._dirty = md_superblock.unsynced(self.best, resync)
+        self._data = [self._data_of(role) for role in range(self.count)]
         if self.level == "raid1":
             # The freshest first, as one event less is let pass. Where they aren't in step, the first one's bytes count.
             order = sorted(self.by_role, key=lambda role: (role != self.source(range(self.count)),
@@ -206,13 +215,50 @@ class Array(md_chunks.Members):
         return Part(name, member.device, first, length, joint(runs), why)
 
     def spot(self, role: int, row: int = 0) -> List[str]:
+        """A member's disk, and a sector of its data, as words of a line."""
         return [self.tables.disk(self._data[role]), str(row)]
 
     def whole(self, role: int) -> int:
+        """The sectors of a member of linear or raid0 that make whole chunks; one that is missing is refused."""
         if role not in self.by_role:
             self.refuse(f"member {role} of {self.label} is missing, and nothing else has its bytes: give its image")
         length = self.by_role[role].superblock.length
         return length - length % (self.chunk or 1)
+
+    def lines(self, copies: Sequence[int] = (0,)) -> Iterator[tables.Line]:
+        """The lines of raid4 and raid10, of the first of these copies that is there for each column; of linear, member
+        after member; and of raid0, rows over all members, then rows over those that are longer, and so on."""
+        if self.level in ("raid4", "raid10"):
+            columns = [[self.place(it, copy) for copy in copies] for it in range(self.data // self.copies.near)]
+            found = [next((it for it in column if it[0] in self.by_role), column[0]) for column in columns]
+            if self.sectors:
+                yield self.striped(0, self.sectors, [role for role, _ in found], found[0][1] * self.chunk)
+            return
+        size = {role: self.whole(role) for role in range(self.count)}
+        row = start = 0
+        if self.level == "linear":
+            for role in size:
+                yield tables.Line(start, size[role], "linear", self.spot(role))
+                start += size[role]
+            return
+        for end in sorted(set(size.values()) - {0}):
+            longer = [role for role in size if size[role] > row]
+            if row and self.layout not in ("original", "alternate") and len(longer) > 1:
+                self.refuse("members of several lengths, and no layout that is said: write it by `mdadm --assemble "
+                            "--update=layout-original`, or -alternate for one that was written to since Linux 3.14")
+            # The original layout goes on with the number of the chunk in the array.
+            turn = start // self.chunk % len(longer) if self.layout == "original" else 0
+            yield self.striped(start, (end - row) * len(longer), longer[turn:] + longer[:turn], row)
+            start, row = start + (end - row) * len(longer), end
+
+    def striped(self, start: int, length: int, roles: Sequence[int], row: int) -> tables.Line:
+        """A line of whole rows over the members of these roles."""
+        spots = [word for role in roles for word in self.spot(role, row)]
+        if len(roles) == 1:
+            return tables.Line(start, length, "linear", spots)
+        if len(roles) > tables.MOST_COLUMNS:
+            self.refuse(f"more than {tables.MOST_COLUMNS} columns, which dmremap doesn't take: {START}")
+        return tables.Line(start, length, "striped", [str(len(roles)), str(self.chunk), *spots])
 
 
 class CopiedChunks(Device):

@@ -1,20 +1,17 @@
-"""Where an md array keeps its chunks: the role and the row of each, the lines of a table where one can say it, and the
-data of rows with parity. A member of these that is missing is computed from the others: P is the sum of a row's data, Q
-the sum of g^d D_d in GF(2^8) with the polynomial 0x11d and g = 2."""
+"""Where an md array keeps its chunks: the role and the row of each, and the data of rows with parity. A member of these
+that is missing is computed from the others: P is the sum of a row's data, Q the sum of g^d D_d in GF(2^8) with the
+polynomial 0x11d and g = 2."""
 
 import bisect
 import functools
 import itertools
-from typing import Any, Dict, Iterator, List, NamedTuple, NoReturn, Optional, Sequence, Tuple
+from typing import Dict, Iterator, List, NamedTuple, Optional, Sequence, Tuple
 
-from dmremap_tools.base import quoting, tables
+from dmremap_tools.base import quoting
 from dmremap_tools.base.numbers import SECTOR
-from dmremap_tools.base.refusal import Refusal
 from dmremap_tools.model import device
 from dmremap_tools.model.device import ALL, Device, Extent, Gap, Run, blocks_of, lacking
 
-# What to do about an array that no table says.
-START = "start it by `mdadm --assemble --readonly`"
 # How many chunks of a row are parity.
 PARITY = {"raid4": 1, "raid5": 1, "raid6": 2}
 # The layouts of each level by their numbers. Those that end in -6 have the second parity on the last device.
@@ -27,7 +24,7 @@ LAYOUTS: Dict[str, Dict[int, str]] = {
 POLYNOMIAL = 0x11D
 UNCLEAN = "the array wasn't shut down cleanly, so that its parity may be old: give the missing member"
 # The layout of raid10: how many near copies, how many far ones, and whether these lie in the next row.
-Copies = NamedTuple("Copies", [("near", int), ("far", int), ("is_offset", bool)])
+CopyLayout = NamedTuple("CopyLayout", [("near", int), ("far", int), ("is_offset", bool)])
 # The roles of a row: those of its data in their order, of P, and in raid6 of Q, and which power of g each has there.
 Row = NamedTuple("Row", [("data", List[int]), ("parity", int), ("syndrome", Optional[int]), ("powers", Dict[int, int])])
 
@@ -37,7 +34,7 @@ class Shape:
     each member."""
 
     def __init__(self, level: str, count: int, layout: str, chunk: int, chunks: int = 0,
-                 copies: Copies = Copies(1, 1, False)) -> None:
+                 copies: CopyLayout = CopyLayout(1, 1, False)) -> None:
         self.level, self.count, self.layout, self.chunk, self.chunks = level, count, layout, chunk, chunks
         self.copies, self.data = copies, count - PARITY.get(level, 0)
         self.is_known = level not in ("raid5", "raid6") or layout in LAYOUTS[level].values()
@@ -49,14 +46,11 @@ class Shape:
         return self.chunks // far * self.data // near * self.chunk
 
     @property
-    def period(self) -> Tuple[int, int]:
-        """After how many chunks their places come again, and how many sectors later on each member."""
+    def is_tabled(self) -> bool:
+        """Whether a table can say where its chunks lie."""
         near, far, is_offset = self.copies
-        if self.level == "raid10":
-            return self.count, near * (far if is_offset else 1) * self.chunk
-        # Layouts that end in -6 come again after one row less.
-        rows = self.count - self.layout.endswith("-6")
-        return rows * self.data, rows * self.chunk
+        is_odd = self.count % near or far > 1 and (near > 1 or is_offset)
+        return self.level not in ("raid5", "raid6") and not is_odd
 
     def place(self, number: int, copy: int = 0) -> Tuple[int, int]:
         """The role and the row of a chunk. In raid10 the far copies of each near one have consecutive numbers."""
@@ -108,66 +102,6 @@ def role_of(level: str, layout: str, count: int, row: int, column: int) -> int:
         return (parity + parities + column) % count
     # Of two of which the first is on the last device the second is on the first one.
     return column + (1 if parity + parities > count else parities * (column >= parity))
-
-
-class Members(Shape):
-    """An array whose members are looked at, by the roles of those that are there, and what messages call it."""
-
-    label: str
-    by_role: Dict[int, Any]
-
-    def refuse(self, why: str) -> NoReturn:
-        raise Refusal(self.label, why)
-
-    def whole(self, role: int) -> int:
-        """The sectors of a member of linear or raid0 that make whole chunks."""
-        raise NotImplementedError
-
-    def spot(self, role: int, row: int = 0) -> List[str]:
-        """A member's disk, and a sector of its data, as words of a line."""
-        raise NotImplementedError
-
-    @property
-    def is_tabled(self) -> bool:
-        """Whether a table can say where its chunks lie."""
-        near, far, is_offset = self.copies
-        is_odd = self.count % near or far > 1 and (near > 1 or is_offset)
-        return self.level not in ("raid5", "raid6") and not is_odd
-
-    def lines(self, copies: Sequence[int] = (0,)) -> Iterator[tables.Line]:
-        """The lines of raid4 and raid10, of the first of these copies that is there for each column; of linear, member
-        after member; and of raid0, rows over all members, then rows over those that are longer, and so on."""
-        if self.level in ("raid4", "raid10"):
-            columns = [[self.place(it, copy) for copy in copies] for it in range(self.data // self.copies.near)]
-            found = [next((it for it in column if it[0] in self.by_role), column[0]) for column in columns]
-            if self.sectors:
-                yield self.striped(0, self.sectors, [role for role, _ in found], found[0][1] * self.chunk)
-            return
-        size = {role: self.whole(role) for role in range(self.count)}
-        row = start = 0
-        if self.level == "linear":
-            for role in size:
-                yield tables.Line(start, size[role], "linear", self.spot(role))
-                start += size[role]
-            return
-        for end in sorted(set(size.values()) - {0}):
-            longer = [role for role in size if size[role] > row]
-            if row and self.layout not in ("original", "alternate") and len(longer) > 1:
-                self.refuse("members of several lengths, and no layout that is said: write it by `mdadm --assemble "
-                            "--update=layout-original`, or -alternate for one that was written to since Linux 3.14")
-            # The original layout goes on with the number of the chunk in the array.
-            turn = start // self.chunk % len(longer) if self.layout == "original" else 0
-            yield self.striped(start, (end - row) * len(longer), longer[turn:] + longer[:turn], row)
-            start, row = start + (end - row) * len(longer), end
-
-    def striped(self, start: int, length: int, roles: Sequence[int], row: int) -> tables.Line:
-        """A line of whole rows over the members of these roles."""
-        spots = [word for role in roles for word in self.spot(role, row)]
-        if len(roles) == 1:
-            return tables.Line(start, length, "linear", spots)
-        if len(roles) > tables.MOST_COLUMNS:
-            self.refuse(f"more than {tables.MOST_COLUMNS} columns, which dmremap doesn't take: {START}")
-        return tables.Line(start, length, "striped", [str(len(roles)), str(self.chunk), *spots])
 
 
 class Rows(Device):

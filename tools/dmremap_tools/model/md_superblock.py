@@ -1,16 +1,14 @@
 """The superblocks of members of md arrays, as linux/raid/md_p.h has them: metadata 0.90, and 1.0 to 1.2. Nothing of one
 is believed that its sum doesn't confirm, or that says that it lies elsewhere."""
 
-import functools
 import itertools
 import struct
 from typing import Iterator, List, NamedTuple, Optional, Sequence, Tuple
 
-from dmremap_tools.base import partition_table, streams
-from dmremap_tools.base.disk_image import Image, Unreadable
+from dmremap_tools.base import partition_table
 from dmremap_tools.base.numbers import SECTOR
 from dmremap_tools.base.refusal import Refusal
-from dmremap_tools.model.device import Device, Lenient
+from dmremap_tools.model.device import Device, Lenient, Run, joint
 
 MAGIC = 0xA92B4EFC
 LINEAR, STRIPED, MIRRORED = -1, 0, 1
@@ -63,16 +61,6 @@ def has_all(superblock: Superblock) -> bool:
     return superblock.level == MIRRORED or superblock.places == 1 and superblock.level in (LINEAR, STRIPED)
 
 
-def superblocks(image: Image, size: Optional[int] = None) -> List[Superblock]:
-    """The sound superblocks of a member, which has so many bytes, or those that the image has."""
-    return [found for _, _, found in _found(image, image.size if size is None else size) if found]
-
-
-def damaged(image: Image, size: Optional[int] = None) -> List[int]:
-    """The bytes at which something begins as a superblock does, and isn't sound."""
-    return [at for at, _, found in _found(image, image.size if size is None else size) if not found]
-
-
 def found_in(device: Device) -> Tuple[List[Superblock], List[Tuple[int, bytes]]]:
     """The sound superblocks of a device; and where something begins as one and isn't sound, with the id of its array."""
     found = list(_found(Lenient(device), device.size))
@@ -89,26 +77,30 @@ def outermost(found: Sequence[Superblock], size: int) -> List[Superblock]:
             if last is None or each is last or each.version in AT_END or (each.start + each.length) * SECTOR > last.at]
 
 
-def unsynced(member: Member, resync: int) -> List[Tuple[int, int]]:
-    """The runs of sectors of an array whose copies or parity may be older than its data, by how far the last resync
-    came: what the member's bitmap says was being written, or all from there on. In raid10 they are the array's sectors,
-    in other levels those of each member's data."""
-    superblock = member.superblock
+def unsynced(member: Member, resync: int) -> List[Run]:
+    """The runs of bytes of an array whose copies or parity may be older than its data, by the sector up to which the
+    last resync came: what the member's bitmap marks, or all from there on. In raid10 they are the array's bytes, in
+    other levels those of each member's data."""
+    superblock, first, marked = member.superblock, resync * SECTOR, None
     if resync == CLEAN:
         return []
     if superblock.features & BITMAP:
-        at = superblock.at + superblock.bitmap * SECTOR
-        content = Lenient(member.device).read(at, BITMAP_FORM.size).ljust(BITMAP_FORM.size, b"\0")
-        magic, array, events, sectors, state, chunk = BITMAP_FORM.unpack(content)
-        is_sound = (magic, array) == (BITMAP_MAGIC, superblock.array) and not state & BITMAP_STALE
-        each = chunk // SECTOR if is_sound and events >= superblock.events else 0
-        count = -(-sectors // each) if each else 0
-        bits = Lenient(member.device).read(at + BITS_AT, -(-count // 8)) if 0 < count <= MOST_BITS else b""
-        if count and len(bits) >= -(-count // 8):
-            dirty = (place for place in range(count) if bits[place // 8] >> place % 8 & 1)
-            runs = ((max(place * each, resync), (place + 1) * each) for place in dirty)
-            return [run for run in runs if run[0] < run[1]]
-    return [(resync, CLEAN)]
+        marked = marked_in(member.device, superblock.at + superblock.bitmap * SECTOR, superblock)
+    runs = [(0, CLEAN * SECTOR)] if marked is None else marked
+    return [(max(begin, first), end) for begin, end in runs if end > first]
+
+
+def marked_in(device: Device, at: int, superblock: Optional[Superblock] = None) -> Optional[List[Run]]:
+    """The runs of bytes that the bitmap at a byte marks as being written, or None where no bitmap is whole, or it is
+    older than a superblock, or another array's."""
+    content = Lenient(device).read(at, BITMAP_FORM.size).ljust(BITMAP_FORM.size, b"\0")
+    magic, array, events, sectors, state, chunk = BITMAP_FORM.unpack(content)
+    is_its = not superblock or array == superblock.array and events >= superblock.events and not state & BITMAP_STALE
+    count = -(-sectors * SECTOR // chunk) if magic == BITMAP_MAGIC and is_its and chunk else 0
+    bits = Lenient(device).read(at + BITS_AT, -(-count // 8)) if count <= MOST_BITS else b""
+    if not count or len(bits) < -(-count // 8):
+        return None
+    return joint((bit * chunk, (bit + 1) * chunk) for bit in range(count) if bits[bit // 8] >> bit % 8 & 1)
 
 
 def bad_blocks(member: Member) -> List[Tuple[int, int]]:
@@ -121,34 +113,19 @@ def bad_blocks(member: Member) -> List[Tuple[int, int]]:
     return [((entry >> 10) << shift, (entry & 0x3FF) << shift) for entry, in used]
 
 
-def _found(image: Image, size: int) -> Iterator[Tuple[int, bytes, Optional[Superblock]]]:
+def _found(image: Lenient, size: int) -> Iterator[Tuple[int, bytes, Optional[Superblock]]]:
     """Each place at which a superblock begins, what is there, and the superblock, if it is sound."""
     sectors = size // SECTOR
     for version, sector in (("1.0", (sectors - 16) & ~7), ("1.1", 0), ("1.2", 8)):
-        content = _read(image, sector * SECTOR) if sector >= 0 else b""
+        content = image.read(sector * SECTOR, MOST_BYTES) if sector >= 0 else b""
         is_one = content[:8] == struct.pack("<LL", MAGIC, 1)
         if is_one and not (version == "1.0" and _is_of_partition(image, content, sector)):
             yield sector * SECTOR, content, _first_version(content, version, sector)
     at = size // OLD_ROOM * OLD_ROOM - OLD_ROOM
-    content = _read(image, at) if at >= 0 else b""
+    content = image.read(at, MOST_BYTES) if at >= 0 else b""
     for order in "<>":
         if content[:8] == struct.pack(order + "LL", MAGIC, 0):
             yield at, content, _old_version(content, order, at)
-
-
-def _read(image: Image, at: int) -> bytes:
-    """What may be a superblock. Where it can't be read, a disk that fails is none the less looked into."""
-    try:
-        return image.read(at, MOST_BYTES)
-    except Unreadable:
-        _tell_unread(image.path, image.base + at)
-        return b""
-
-
-@functools.lru_cache(maxsize=None)
-def _tell_unread(path: str, at: int) -> None:
-    """Tells once that it can't be read."""
-    streams.tell(f"{path}: byte {at} can't be read, where the superblock of an md array may be")
 
 
 def _sum(content: bytes, order: str) -> int:
@@ -157,7 +134,7 @@ def _sum(content: bytes, order: str) -> int:
     return (total & 0xFFFFFFFF) + (total >> 32) & 0xFFFFFFFF
 
 
-def _is_of_partition(image: Image, content: bytes, sector: int) -> bool:
+def _is_of_partition(image: Lenient, content: bytes, sector: int) -> bool:
     """Whether a superblock of version 1.0 at the end of a disk is that of a partition, by where it says that it lies."""
     begin = (sector - (_summed(content) or sector)) * SECTOR
     try:

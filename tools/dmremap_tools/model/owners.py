@@ -9,16 +9,16 @@ from bisect import bisect_right
 from collections import namedtuple
 from typing import Callable, Dict, Iterable, Iterator, List, NamedTuple, Optional, Sequence, Tuple
 
-from dmremap_tools.base.config_text import shown
 from dmremap_tools.base.numbers import SECTOR
 from dmremap_tools.base.refusal import Refusal
-from dmremap_tools.metadata.volume_group import Segment
+from dmremap_tools.model.config_text import shown
 from dmremap_tools.model.device import ALL, ZEROS, Device, Gap, blocks_of, holder, joined
 from dmremap_tools.model.groups import REMOVED, Group
 from dmremap_tools.model.layout import LOWER, Layout
 from dmremap_tools.model.mapping import INVALID_SNAPSHOT, NoProgram
 from dmremap_tools.model.physical_volume import PhysicalVolume
 from dmremap_tools.model.raid_volume import numbers_in
+from dmremap_tools.model.volume_group import Segment
 
 # How many things may lie on each other, and how many ways up there are beside some for each sector.
 DEEPEST, MOST_WAYS, MOST_OF_SECTOR = 40, 4096, 8

@@ -14,10 +14,10 @@ import struct
 import zlib
 from typing import Dict, Iterator, List, NamedTuple, Optional, Set, Tuple
 
-from dmremap_tools.base import disk_image, quoting, streams
-from dmremap_tools.base.config_text import Document, Node, shown
+from dmremap_tools.base import quoting, streams
 from dmremap_tools.base.numbers import SECTOR
 from dmremap_tools.base.refusal import Refusal
+from dmremap_tools.model.config_text import Document, Node, shown
 from dmremap_tools.model.device import ALL, Device, Image, Lenient, Part, Run
 
 LABEL, TYPE, LABEL_SECTORS = b"LABELONE", b"LVM2 001", 4
@@ -159,7 +159,7 @@ def checksum(content: bytes) -> int:
     return zlib.crc32(content, INITIAL ^ 0xFFFFFFFF) ^ 0xFFFFFFFF
 
 
-def label_of(image: disk_image.Image) -> Tuple[Optional[Label], List[str]]:
+def label_of(image: Lenient) -> Tuple[Optional[Label], List[str]]:
     """The first sound label, or None, and what is wrong with those before it."""
     faults: List[str] = []
     for place in range(LABEL_SECTORS):
@@ -195,7 +195,7 @@ def _label_in(sector: bytes, place: int) -> Label:
     return Label(place, b"-".join(letters), size, areas[:MOST_AREAS], bool(flags & IN_USE) if version >= 2 else None)
 
 
-def area_at(image: disk_image.Image, start: int, size: int, end: int) -> Area:
+def area_at(image: Lenient, start: int, size: int, end: int) -> Area:
     """The area at this place, of at most so many bytes, with its valid text, or with what is wrong with it. The volume
     ends at `end`."""
     header = image.read(start, SECTOR)
@@ -232,7 +232,7 @@ def header_fault(header: bytes, start: int) -> Optional[str]:
     return None if belongs == start else f"its header says that it begins at byte {belongs}"
 
 
-def search(image: disk_image.Image) -> List[Tuple[int, int, int, Optional[str]]]:
+def search(image: Lenient) -> List[Tuple[int, int, int, Optional[str]]]:
     """What looks like the header of an area and is there to its end, in the first and the last bytes: where it is,
     where it says that its area begins, how many bytes that has, and what else is wrong with the header."""
     headers = set()
@@ -246,14 +246,14 @@ def search(image: disk_image.Image) -> List[Tuple[int, int, int, Optional[str]]]
     return sorted(headers)
 
 
-def older_texts(image: disk_image.Image) -> List[Text]:
+def older_texts(image: Lenient) -> List[Text]:
     """The texts in all areas, by the label, or else by their headers: those in force, older ones, and what is left of
     some."""
     label, texts = label_of(image)[0], []
     found = [] if label else search(image)
     places = label.areas if label else [(at, size) for at, belongs, size, fault in found if at == belongs and not fault]
     for start, size in [it for it in places if SECTOR < it[1] <= MOST_AREA][:MOST_AREAS]:
-        texts += texts_of_ring(image.base + start + SECTOR, image.read(start + SECTOR, size - SECTOR))
+        texts += texts_of_ring(start + SECTOR, image.read(start + SECTOR, size - SECTOR))
     return texts
 
 
@@ -273,8 +273,8 @@ class PhysicalVolume:
         self.current: List[Text] = []
         self.unread: List[bytes] = []
         self.told: Dict[bytes, bytes] = {}
-        for at, size in label.areas:
-            _, text, fault, told = area_at(self._image, at, size, label.size)
+        self.areas = [area_at(self._image, at, size, label.size) for at, size in label.areas]
+        for at, text, fault, told in self.areas:
             if text and not text.group:
                 fault = "its text doesn't begin as that of a group"
             elif text and text.fault():
@@ -317,10 +317,17 @@ class Leftover(NamedTuple):
         last = max((text for text in self.texts if text.said_time()), key=lambda text: text.seqno, default=None)
         return f"{self.fault}: `metadata` prints a text of {last.group} (seqno {last.seqno})" if last else self.fault
 
+    def unlabelled(self, size: int = ALL) -> PhysicalVolume:
+        """A physical volume of at most so many bytes with these areas and texts, of which nothing says what it is; its
+        first fault is that."""
+        found = PhysicalVolume(self.device, Label(-1, b"", size, self.areas, True), 0)
+        found.texts, found.faults = self.texts, [self.fault, *found.faults]
+        return found
+
     def volume(self) -> Optional[PhysicalVolume]:
         """The physical volume that it is, if its current text has one disk, or one with the id that is left in the label,
         which is as long as this, and nobody wrote anything else where the label was."""
-        found, image = PhysicalVolume(self.device, Label(-1, b"", self.device.size, self.areas, True), 0), Lenient(self.device)
+        found, image = self.unlabelled(self.device.size), Lenient(self.device)
         if len({text.key() for text in found.current}) != 1:
             return None
         nodes = {node.value(b"id", bytes): node for node in found.current[0].node().sections_in(b"physical_volumes")}
@@ -332,7 +339,7 @@ class Leftover(NamedTuple):
         before = image.read(0, min(start * SECTOR, SEARCHED, *(begin for begin, _ in self.areas)))
         if not node or size * SECTOR != self.device.size or any(before) and not label_of(image)[1]:
             return None
-        found.identity = (node.value(b"id", bytes) or b"").decode("ascii", "replace")
+        found.identity, found.faults = (node.value(b"id", bytes) or b"").decode("ascii", "replace"), found.faults[1:]
         return found
 
 
@@ -362,7 +369,7 @@ def volumes_within(image: Image) -> List[PhysicalVolume]:
     return list(filter(None, (volume_in(part, part.start) for part in parts)))
 
 
-def volumes_begin(image: disk_image.Image) -> Iterator[int]:
+def volumes_begin(image: Lenient) -> Iterator[int]:
     """The bytes at which physical volumes begin, by all sound labels in an image, each of which says its sector."""
     at = image.next_data(0)
     while at < image.size:
@@ -373,7 +380,7 @@ def volumes_begin(image: disk_image.Image) -> Iterator[int]:
             sector = window[place:place + SECTOR]
             belongs = int.from_bytes(sector[8:16], "little")
             begin = at + place - belongs * SECTOR
-            is_placed = place % SECTOR == 0 and belongs < LABEL_SECTORS and image.base + begin >= 0
+            is_placed = place % SECTOR == 0 and belongs < LABEL_SECTORS and begin >= 0
             if is_placed and not label_fault(sector, belongs):
                 yield begin
         at = image.next_data(at + WINDOW)

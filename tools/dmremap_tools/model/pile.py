@@ -9,8 +9,8 @@ from dmremap_tools.base.numbers import SECTOR
 from dmremap_tools.base.partition_table import Table, backup_of, table_of
 from dmremap_tools.base.program import NoProgram
 from dmremap_tools.base.refusal import Refusal
-from dmremap_tools.model import mapping, md_superblock, physical_volume
 from dmremap_tools.base.signatures import Signature
+from dmremap_tools.model import mapping, md_superblock, physical_volume
 from dmremap_tools.model.device import Device, Doubt, Image, Lenient, Part, Run
 from dmremap_tools.model.groups import REMOVED, Group, Texts, Volume, same_id
 from dmremap_tools.model.md_array import Array, put_together
@@ -90,6 +90,9 @@ class Pile:
         self.volumes: List[PhysicalVolume] = []
         self.leftovers: List[Leftover] = []
         self.groups: List[Group] = []
+        # All members, also those of which no array is put together; and what seems to be one by a damaged superblock.
+        self.members: List[Member] = []
+        self.damaged: List[Spot] = []
         self._members: Dict[bytes, List[Member]] = {}
         # Members with damaged superblocks, and the ids that these give their arrays.
         self._damaged: List[Tuple[Spot, bytes]] = []
@@ -214,6 +217,7 @@ class Pile:
         if not owners and not damaged:
             self._look_into(spot, table)
         for superblock in owners:
+            self.members.append(Member(device, superblock))
             if superblock.version == OLD:
                 self._say(spot, "md member", OLD_MEMBER)
             else:
@@ -221,6 +225,7 @@ class Pile:
             if len(owners) > 1:
                 self._questions[device] = Doubt(TWO_OWNERS.format(device.name))
         if damaged and not owners:
+            self.damaged.append(spot)
             if any(identity for _, identity in damaged):
                 self._damaged.append((spot, damaged[-1][1]))
             self._say(spot, "md member", DAMAGED.format(damaged[-1][0]))
@@ -353,7 +358,7 @@ class Pile:
         self.containers = [each for each in self.containers if is_elsewhere(each[0].device)]
         self._damaged = [each for each in self._damaged if is_elsewhere(each[0].device)]
         self.spot_of = {other: spot for other, spot in self.spot_of.items() if is_elsewhere(other)}
-        for members in self._members.values():
+        for members in [self.members, *self._members.values()]:
             members[:] = [member for member in members if is_elsewhere(member.device)]
 
     def _is_bare(self, array: Array) -> bool:
@@ -414,13 +419,13 @@ class Pile:
         shown, (group_name, slash, volume_name) = quoting.shown(name), name.rpartition("/")
         groups, which = self._called(group_name) if slash else self.groups, quoting.shown(group_name)
         if slash and not groups:
-            raise Refusal(shown, f"no group is called {which}{self._unread_notes()}: {SCAN}")
+            raise Refusal(shown, f"no group is called {which}{self.unread_notes()}: {SCAN}")
         found = [(group, volume) for group in groups for volume in [group.volume(volume_name)] if volume]
         found = [each for each in found if each[0].state != REMOVED and not each[1].is_removed] or found
         if not found and slash:
             raise Refusal(shown, f"the group {which} has no such volume: {SCAN}")
         if not found:
-            raise Refusal(shown, f"no group has such a volume{self._unread_notes()}: {SCAN}")
+            raise Refusal(shown, f"no group has such a volume{self.unread_notes()}: {SCAN}")
         if len({group.identity for group, _ in found}) > 1:
             said = [f"{group.identity}/{quoting.shown(volume_name)} (on {', '.join(map(quoting.shown, group.places))})"
                     for group, _ in found]
@@ -430,7 +435,7 @@ class Pile:
     def _called(self, name: str) -> List[Group]:
         return [group for group in self.groups if name == group.name or same_id(name, group.identity)]
 
-    def _unread_notes(self) -> str:
+    def unread_notes(self) -> str:
         """What of a pile can't be read, in which something may be that isn't found."""
         notes = [(array.label, array.note) for array in self.arrays if array.note]
         notes += [(found.spot.path, found.note) for found in self.found if found.note not in ("", NOTHING)]
@@ -442,7 +447,7 @@ class Pile:
         self.search()
         found = self._called(name)
         if not found:
-            raise Refusal(quoting.shown(name), f"no group is called so{self._unread_notes()}: {SCAN}")
+            raise Refusal(quoting.shown(name), f"no group is called so{self.unread_notes()}: {SCAN}")
         return found
 
 

@@ -8,11 +8,11 @@ import struct
 from collections import namedtuple
 from typing import Any, Iterator, Optional, Tuple
 
-from dmremap_tools.base.config_text import shown
 from dmremap_tools.base.numbers import SECTOR
 from dmremap_tools.base.refusal import Refusal
-from dmremap_tools.metadata.volume_group import Segment
+from dmremap_tools.model.config_text import shown
 from dmremap_tools.model.device import ZEROS, Device, Entry, Gap, Overlaid, Part, Run, sorted_entries
+from dmremap_tools.model.volume_group import Segment
 
 BLOCK, WORD = 4096, 8
 # struct node_header and struct array_block, and what the sum of a block of each kind is changed by.
@@ -21,12 +21,13 @@ ARRAY, ARRAY_SUM = struct.Struct("<LLLLQ"), 595846735
 # The most levels of a tree: with the fewest children a node may have, more don't fit into a device.
 MOST_LEVELS, MOST_KEPT, ALL_KEYS = 16, 512, (0, 1 << 64)
 POLYNOMIAL, VERSIONS = 0x82F63B78, (1, 2)
-# The superblock of a pool or a cache: `trans_id` means something in a pool's, and `cache_blocks` in a cache's.
-Superblock = namedtuple("Superblock", "magic version trans_id mapping_root data_block_size metadata_block_size "
-                        "cache_blocks incompat_flags")
+# The superblock of a pool or a cache: `trans_id`, `held_root` (where a copy of it is kept) and `data_blocks` mean
+# something in a pool's, and `cache_blocks` in a cache's.
+PoolSuperblock = namedtuple("PoolSuperblock", "magic version trans_id held_root data_blocks mapping_root "
+                            "data_block_size metadata_block_size cache_blocks incompat_flags")
 # For each kind where it has these fields, what its sum is changed by, its magic, and words for messages.
-THIN = (struct.Struct("<32xQL4xQ264xQ8xLL8xL4xL"), 160774, 27022010, "a thin pool", "pool", "thin_check", "pool")
-CACHE = (struct.Struct("<32xQL4xQ136xQ32xLLL8xL"), 9031977, 0o6142003, "a cache", "cache", "cache_check", "volume")
+THIN = (struct.Struct("<32xQL4xQQQ248xQ8xLL8xL4xL"), 160774, 27022010, "a thin pool", "thin_check", "pool")
+CACHE = (struct.Struct("<32xQL4xQQQ120xQ32xLLL8xL"), 9031977, 0o6142003, "a cache", "cache_check", "volume")
 # A mapping of a pool is a block of it, and in the lower bits a time; one of a cache is a block of the origin, and
 # flags.
 TIME_BITS, FLAG_BITS, VALID = 24, 16, 1
@@ -83,18 +84,23 @@ def array_values(device: Device, root: int) -> Iterator[int]:
         yield from struct.unpack_from(f"<{count}Q", content, ARRAY.size)
 
 
-def superblock_of(name: str, meta: Device, kind: Tuple[Any, ...], settings: Segment) -> Superblock:
-    """The superblock in the metadata of a volume's pool or cache, whose blocks are as long as a segment says."""
-    form, changed, magic, what, short, tool, owner = kind
-    found = Superblock(*form.unpack_from(checked(meta, 0, changed)))
+def superblock_of(meta: Device, kind: Tuple[Any, ...], block: int = 0) -> PoolSuperblock:
+    """The superblock in the metadata of a pool or a cache, or its copy in another block; a Gap where it isn't
+    followed."""
+    form, changed, magic, what, tool, owner = kind
+    found = PoolSuperblock(*form.unpack_from(checked(meta, block, changed)))
     is_known = found.magic == magic and found.version in VERSIONS and found.metadata_block_size * SECTOR == BLOCK
     if not is_known or not found.data_block_size:
         raise Gap(meta.name, f"it has no superblock of {what} that is followed: run {tool} on a copy of it")
     if found.incompat_flags:
         raise Gap(meta.name, f"its superblock has features that aren't followed: activate the {owner} with lvm2")
-    if found.data_block_size != settings.node.value(b"chunk_size", int):
-        raise Refusal(name, f"the {short}'s metadata has other blocks than the text: {ONE_TIME}")
     return found
+
+
+def check_blocks(name: str, superblock: PoolSuperblock, settings: Segment, short: str) -> None:
+    """Refuses metadata whose blocks aren't as long as a segment says."""
+    if superblock.data_block_size != settings.node.value(b"chunk_size", int):
+        raise Refusal(name, f"the {short}'s metadata has other blocks than the text: {ONE_TIME}")
 
 
 def damage(device: Device, what: str) -> Gap:
@@ -143,13 +149,21 @@ def thin_of(layout: Any, name: str, segment: Segment, size: int) -> Device:
     meta, data = (layout.lower(pool.segments[0], key) for key in (b"metadata", b"pool"))
     if not meta or not data:
         raise Refusal(name, f"the text doesn't say where the pool {shown(pool.name)} is: activate it with lvm2")
-    superblock = superblock_of(name, meta, THIN, pool.segments[0])
+    superblock = superblock_of(meta, THIN)
+    check_blocks(name, superblock, pool.segments[0], "pool")
     told, here = pool.segments[0].node.value(b"transaction_id", int), superblock.trans_id
     if told is not None and abs(told - here) > 1:
         raise Refusal(name, f"the pool's metadata has the transaction {here}, and the text {told}: {ONE_TIME}")
-    root = next(entries_of(meta, superblock.mapping_root, (device, device + 1)), None)
+    # What nobody wrote reads as zeros.
+    return thin_device(name, meta, superblock, device, ZEROS, data, size)
+
+
+def thin_device(name: str, meta: Device, superblock: PoolSuperblock, number: int, lower: Device, data: Device,
+                size: int) -> Device:
+    """The device of this number in a pool: blocks of the pool's data over so many bytes of what is read elsewhere."""
+    root = next(entries_of(meta, superblock.mapping_root, (number, number + 1)), None)
     if root is None:
-        raise Refusal(name, f"the pool's metadata has no device {device}: it was deleted from the pool, and `scan` "
+        raise Refusal(name, f"the pool's metadata has no device {number}: it was deleted from the pool, and `scan` "
                       "lists what is left")
     if root.why:
         raise Refusal(name, root.why)
@@ -160,8 +174,7 @@ def thin_of(layout: Any, name: str, segment: Segment, size: int) -> Device:
         for key, stop, value, why in entries_of(meta, root.value, (first, end)):
             place = value >> TIME_BITS
             yield Entry(key, stop, place, why or (past if (place + 1) * block > data.size else None))
-    # What nobody wrote reads as zeros.
-    return Overlaid(name, ZEROS, data, block, entries, size)
+    return Overlaid(name, lower, data, block, entries, size)
 
 
 def cached_of(layout: Any, name: str, segment: Segment, size: int) -> Device:
@@ -176,7 +189,14 @@ def cached_of(layout: Any, name: str, segment: Segment, size: int) -> Device:
     mode = segment.node.value(b"cache_mode", bytes) or settings.node.value(b"cache_mode", bytes)
     if mode not in (None, *MODES):
         raise Refusal(name, f"a cache of the mode {mode!r} isn't followed: activate it with lvm2")
-    superblock = superblock_of(name, meta, CACHE, settings)
+    superblock = superblock_of(meta, CACHE)
+    check_blocks(name, superblock, settings, "cache")
+    return cached_device(name, meta, superblock, layout.plain(origin), data, size)
+
+
+def cached_device(name: str, meta: Device, superblock: PoolSuperblock, origin: Device, data: Device,
+                  size: int) -> Device:
+    """So many bytes of an origin with the blocks of its cache that are mapped over them."""
     block = superblock.data_block_size * SECTOR
     if superblock.cache_blocks * block > data.size:
         raise Refusal(name, f"the cache's metadata counts more blocks than the cache has: {ONE_TIME}")
@@ -184,7 +204,7 @@ def cached_of(layout: Any, name: str, segment: Segment, size: int) -> Device:
     pairs = sorted((value >> FLAG_BITS, place) for place, value in enumerate(values) if value & VALID)
     if any(one[0] == other[0] for one, other in zip(pairs, pairs[1:])) or pairs and pairs[-1][0] * block >= size:
         raise Refusal(name, ODD_CACHE)
-    return Overlaid(name, layout.plain(origin), data, block, sorted_entries(pairs), size)
+    return Overlaid(name, origin, data, block, sorted_entries(pairs), size)
 
 
 def cache_of(layout: Any, segment: Segment, pool: bytes) -> Tuple[Optional[Device], Optional[Device], Segment]:

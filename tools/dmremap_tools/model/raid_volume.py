@@ -7,19 +7,20 @@ from collections import namedtuple
 from typing import Any, Callable, Dict, List, Optional, Sequence, Tuple
 
 from dmremap_tools.base import tables
-from dmremap_tools.base.config_text import shown
 from dmremap_tools.base.numbers import SECTOR
 from dmremap_tools.base.refusal import Refusal
-from dmremap_tools.metadata.volume_group import Segment
-from dmremap_tools.model.device import ALL, Copies, Device, Gap, Missing, Part, Run
+from dmremap_tools.model.config_text import shown
+from dmremap_tools.model.device import ALL, Copies, Device, Gap, Missing, Part
 from dmremap_tools.model.mapping import Mapped, Tables
 from dmremap_tools.model.md_chunks import LAYOUTS, PARITY, Rows, Shape
+from dmremap_tools.model.md_superblock import CLEAN, marked_in
+from dmremap_tools.model.volume_group import Segment
 
 FORM, MAGIC, V190 = struct.Struct("<4L4Q4LQ12xl8xQ40xL"), 0x64526D44, 1
-Superblock = namedtuple("Superblock", "magic compat_features num_devices array_position events failed_devices "
-                        "disk_recovery_offset array_resync_offset level layout stripe_sectors flags reshape_position "
-                        "delta_disks data_offset incompat_features")
-CLEAN, MOST_LEGS = (1 << 64) - 1, 64
+LegSuperblock = namedtuple("LegSuperblock", "magic compat_features num_devices array_position events failed_devices "
+                           "disk_recovery_offset array_resync_offset level layout stripe_sectors flags "
+                           "reshape_position delta_disks data_offset incompat_features")
+MOST_LEGS = 64
 # The level and the layout of md that the superblocks of each type of segment have; that of raid10 counts near copies, too.
 NEAR = 1 << 8
 KINDS: Dict[bytes, Tuple[str, int]] = {
@@ -29,9 +30,8 @@ KINDS: Dict[bytes, Tuple[str, int]] = {
     b"raid6": ("raid6", 8), b"raid6_zr": ("raid6", 8), b"raid6_nr": ("raid6", 9), b"raid6_nc": ("raid6", 10),
     b"raid6_n_6": ("raid6", 5), b"raid6_ls_6": ("raid6", 18), b"raid6_rs_6": ("raid6", 19), b"raid6_la_6": ("raid6", 16),
     b"raid6_ra_6": ("raid6", 17)}
-# The bitmap of what is being written (bitmap_super_t of the kernel's md-bitmap.h): its sync_size in sectors, and its
-# chunksize.
-BITMAP, BITMAP_MAGIC, BITMAP_AT, BITS_AT = struct.Struct("<4s36xQ4xL"), b"bitm", 4096, 256
+# Where the bitmap of what is being written lies in the volume of a superblock.
+BITMAP_AT = 4096
 NEXT, OTHERS = "activate it with lvm2", "give the disks of the other legs"
 NEWER = "{}, so that nothing tells whether that leg is newer: leave its disk out to take the other one"
 APART = ("{} and {} were written apart from each other, as one says that the other failed, which says nothing of that: "
@@ -53,7 +53,7 @@ class Legs:
         # The superblocks say whether a reshape goes on, of which the type has a word.
         self._level, self._form = KINDS[(segment.kind or b"").partition(b"+")[0]]
         self._pairs = pairs_of(name, segment)
-        self._found: Dict[int, Superblock] = {}
+        self._found: Dict[int, LegSuperblock] = {}
         self._missing: Dict[int, str] = {}
         self._faults: Dict[int, str] = {}
         for leg, (meta, _) in enumerate(self._pairs):
@@ -90,9 +90,9 @@ class Legs:
         device: Device = self._layout.plain(name)
         return device
 
-    def _superblock_of(self, meta: Device, leg: int) -> Superblock:
+    def _superblock_of(self, meta: Device, leg: int) -> LegSuperblock:
         """The superblock that a leg of this number has; a Gap where it has none."""
-        found = Superblock(*FORM.unpack(meta.read(0, FORM.size)))
+        found = LegSuperblock(*FORM.unpack(meta.read(0, FORM.size)))
         if found.magic != MAGIC:
             raise Gap(meta.name, "it has no superblock of dm-raid")
         if found.compat_features & V190 and (found.flags or found.reshape_position != CLEAN or found.delta_disks):
@@ -160,7 +160,8 @@ class Legs:
         doubtful = [(found.array_resync_offset * SECTOR, ALL)]
         if found.array_resync_offset == CLEAN:
             was_out = gone and all(self._failed(best, leg) or self._is_rebuilt(leg) for leg in gone)
-            doubtful = [] if was_out else dirty_runs(self._plain(self._pairs[best][0]))
+            marked = [] if was_out else marked_in(self._plain(self._pairs[best][0]), BITMAP_AT)
+            doubtful = [(0, ALL)] if marked is None else marked
         shape = Shape(self._level, len(legs), LAYOUTS[self._level][found.layout], self._chunk)
         self._check_even(shape.data, size)
         return Rows(self._name, shape, legs, size, doubtful)
@@ -189,19 +190,6 @@ def pairs_of(name: str, segment: Segment) -> List[Tuple[bytes, bytes]]:
     if not 1 < len(pairs) <= MOST_LEGS or len(pairs) != told:
         raise Refusal(name, f"its text doesn't say its legs: {NEXT}")
     return pairs
-
-
-def dirty_runs(meta: Device) -> List[Run]:
-    """The runs of bytes of each leg that were being written last, as the bitmap says; all where there is none."""
-    magic, sync_size, chunk = BITMAP.unpack(meta.read(BITMAP_AT, BITMAP.size))
-    count = -(-sync_size * SECTOR // chunk) if chunk else 0
-    if magic != BITMAP_MAGIC or not 0 < count <= meta.size * 8:
-        return [(0, ALL)]
-    bits, runs = meta.read(BITMAP_AT + BITS_AT, -(-count // 8)), []  # type: bytes, List[Run]
-    for bit in (bit for bit in range(count) if bits[bit // 8] >> bit % 8 & 1):
-        begin = runs.pop()[0] if runs and runs[-1][1] == bit * chunk else bit * chunk
-        runs.append((begin, (bit + 1) * chunk))
-    return runs
 
 
 def numbers_in(segment: Segment, legs: int) -> Optional[Callable[[int, int], Optional[int]]]:

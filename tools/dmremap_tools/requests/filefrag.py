@@ -12,8 +12,8 @@ and small ones that are kept in their inode.
 
 With --device, prints the file as a device of that name, such as an image on a volume as a disk: table text, whose lines lie on
 VOLUME, or on the disk that --on names. Where the file has no place, the line is `zero`. The last sector is whole. With
---debugfs, --size says how many bytes the file has, as `debugfs -R 'stat /FILE' IMAGE` prints. A file of more lines than dmremap
-takes is refused, unless --part says which of its sectors are wanted.
+--debugfs, --size gives the bytes of the file, as `debugfs -R 'stat /FILE' IMAGE` prints. A file of more lines than dmremap
+takes is refused, unless --part names the sectors that are wanted.
 
 Two things don't show in the text: the numbers of `filefrag -X` are hexadecimal and may look decimal, and a file in the realtime
 part of XFS has its extents on another device.

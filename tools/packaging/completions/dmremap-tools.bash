@@ -19,7 +19,7 @@ _dmremap_tools() {
             cut) offered="--help --bytes --ls" ;;
             machine) offered="--help --disks --only --store --paths --sector-size" ;;
             elsewhere) offered="--help --paths --prefix --missing --losetup" ;;
-            thin) offered="--help --data --device --external --cache --origin --name --sectors --all --part" ;;
+            thin) offered="--help --data --device --external --metadata-snap --cache --origin --name --sectors --part" ;;
             btrfs) offered="--help --name --device --copy --part" ;;
             metadata) offered="--help --list --seqno --at" ;;
             lvm2-text) offered="--help --only --program" ;;
@@ -30,7 +30,7 @@ _dmremap_tools() {
             extents) offered="--help --ls --program --paths --fresh" ;;
             store) offered="--help --requests --size --chunk --kind --program --paths --fresh" ;;
             picture) offered="--help --scale" ;;
-            md) offered="--help --name --follow --copy --path --size" ;;
+            md) offered="--help --name --follow --member --copy --path --size" ;;
             explain) offered="--help --program --paths --json --before --status" ;;
         esac
     fi

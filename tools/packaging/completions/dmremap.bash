@@ -2,7 +2,7 @@
 # it to ~/.local/share/bash-completion/completions/dmremap.
 
 _dmremap() {
-    local commands="map table concise check replay name splitname help" formats="lvm concise table"
+    local commands="map table concise check replay name splitname help" formats="lvm concise table images"
     local word=${COMP_WORDS[COMP_CWORD]} offered="" files=false it
     # The words before this one that are no options, whether options may still follow, and whether the next word
     # is the value of one.

@@ -27,7 +27,7 @@ use Rattle.dm_stack.specs.declared.lines.resolved_line.ResolvedSnapshot.{Resolve
 use Rattle.dm_stack.specs.lines.Below.{Below, Lies, IsZero, IsError, below, below_line, below_plain, below_target, resolved_line, resolved_target, found_at, holds, line_of}
 use Rattle.dm_stack.specs.lines.Over.{resolved_snapshot}
 use Rattle.dm_stack.specs.checks.Soundness.{IsSound, faults_by_id, depth_of}
-use Rattle.dm_stack.proofs.Passes.{all_parts, passes_all}
+use Rattle.dm_stack.proofs.Passes.{passes_all}
 use Rattle.dm_stack.proofs.SoundLines.{found}
 use Rattle.dm_map.specs.pieces.Units.{Zeros, Drops, Fails}
 use Rattle.dm_map.specs.walk.Serving.{serve}
@@ -38,8 +38,8 @@ use Rattle.dm_map.specs.walk.Reads.{by_below, read_below, read_unit}
 use Rattle.dm_map.specs.walk.Homes.{AreHomesFreeOfLevels, home_to, nowhere}
 use Rattle.dm_map.specs.walk.Mapping.{write_line, write_target, write_step, IsFreeOfLevels}
 use Rattle.dm_map.proofs.walk.Rows.{and_then_at}
-use Rattle.dm_stack.proofs.StripeLemmas.{at_index}
 use Rattle.dm_map.proofs.walk.Spans.{plain_span, span_index}
+use Rattle.dm_table.proofs.Lists.{all_parts, at_index}
 
 -- What lies below a device is among what it names
 

@@ -27,10 +27,10 @@ use Rattle.dm_map.specs.state.State.{State, taken_at}
 use Rattle.dm_map.specs.walk.Stretch.{ground_unit}
 use Rattle.dm_map.specs.pieces.Units.{BlockUnit, ReadOf, units_in}
 use Rattle.dm_stack.proofs.LegLemmas.{plain_inside}
-use Rattle.dm_stack.proofs.StripeLemmas.{at_index}
 use Rattle.dm_stack.proofs.InStack.{device_there}
 use Rattle.dm_map.proofs.walk.Spans.{below_is, plain_span, span_index}
 use Rattle.dm_map.proofs.walk.UnitRows.{row_same}
+use Rattle.dm_table.proofs.Lists.{at_index}
 
 -- What lies below a sector of a store
 

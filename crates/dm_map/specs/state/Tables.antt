@@ -1,11 +1,11 @@
 -- Tables of taken chunks, one for each device of a stack, as a state.
-use Rattle.std.specs.Prelude.{ℕ, ◌≡◌, Bool, false, List, Option, Some, None, length, map, nat_lt, slice_get}
+use Rattle.std.specs.Prelude.{ℕ, ◌≡◌, ◌+◌, ◌-◌, ◌/◌, Bool, false, List, Option, Some, None, length, map, nat_lt, slice_get}
 use Rattle.std.specs.Option.{option_and_then}
 use Rattle.dm_stack.specs.declared.lines.resolved_line.ResolvedOrigin.{ResolvedOrigin}
 use Rattle.dm_stack.specs.declared.lines.resolved_line.ResolvedSnapshot.{ResolvedSnapshot}
 use Rattle.dm_stack.specs.declared.lines.resolved_line.ResolvedTarget.{ResolvedTarget}
 use Rattle.dm_stack.specs.declared.lines.resolved_line.ResolvedTarget.TheVariants as found
-use Rattle.dm_stack.specs.Description.{Description}
+use Rattle.dm_stack.specs.Description.{Description, device_len}
 use Rattle.dm_stack.specs.lines.Below.{found_at}
 use Rattle.dm_map.specs.state.Snapshots.{has_place}
 use Rattle.dm_map.specs.state.State.{State}
@@ -40,6 +40,10 @@ room_of stack None number = false
 -- the store of a device's snapshot has room for the chunk with this number
 abbrev pub has_room : Description → (device number : ℕ) → Bool
 has_room stack device number = room_of stack (snapshot_at stack device) number
+
+-- how many chunks the device of a snapshot has: the last may be shorter
+abbrev pub chunk_count : Description → ResolvedSnapshot → (device : ℕ) → ℕ
+chunk_count stack snapshot device = (device_len stack device - 1) / snapshot.chunk + 1
 
 -- the tables of a stack: one for each device, with the places that its store has
 pub record AreTables {T : Type 0} (places : T → ℕ) (stack : Description) (tables : List T) : Type 0 where

@@ -2,11 +2,11 @@
 //!
 //! All memory for taken chunks is reserved here, before the first request.
 
-ghost use Rattle.std.specs.Prelude.{◌≡◌, ℕ, ◌+◌, ◌<◌, ◌≤◌, length, nat_lt, replicate, IfOk};
+ghost use Rattle.std.specs.Prelude.{◌≡◌, ℕ, ◌+◌, ◌<◌, ◌≤◌, length, nat_lt, replicate, IfOk, IfSome};
 ghost use Rattle.std.specs.List.{All};
 ghost use Rattle.dm_stack.specs.checks.Snapshots.{snapshots};
 ghost use Rattle.dm_map.specs.state.State.{none_taken, start_state};
-ghost use Rattle.dm_map.specs.state.Tables.{AreTables, has_room, state_of};
+ghost use Rattle.dm_map.specs.state.Tables.{AreTables, chunk_count, has_room, snapshot_at, state_of};
 
 use crate::state::taken::Taken;
 use crate::state::walker::lower_len;
@@ -34,7 +34,8 @@ pub(crate) fn empty_tables<T: Taken>(
     let count = looker.snapshots().len();
     for next in 0..count {
         let device = looker.snapshots()[next];
-        let table = T::with_places(alloc, places_of(looker, device))?;
+        let (places, chunks) = room_of(looker, device);
+        let table = T::for_chunks(alloc, places, chunks)?;
         tables[device.index()] = table;
     }
     Ok(Reserved::from_vec(tables))
@@ -54,10 +55,13 @@ fn tables_without_places<T: Taken>(alloc: Global, count: usize) -> Result<Vec<T>
     Ok(tables)
 }
 
-/// For how many chunks the store of a device has places, if the device is a snapshot; else none.
-fn places_of(looker: &mut Looker<'_>, device: DeviceId) -> usize
+/// For how many chunks the store of a device has places, and how many chunks the device has, if it is a snapshot;
+/// else none.
+fn room_of(looker: &mut Looker<'_>, device: DeviceId) -> (usize, u64)
     requires { device < length looker.old.stack.devices }
-    ensures places { (number : ℕ) → nat_lt number result ≡ has_room looker.old.stack device number }
+    ensures places { (number : ℕ) → nat_lt number result.0 ≡ has_room looker.old.stack device number }
+    ensures chunks { IfSome (snapshot_at looker.old.stack device)
+        (λ snapshot. result.1 ≡ chunk_count looker.old.stack snapshot device) }
     ensures stack { looker.new.stack ≡ looker.old.stack }
     ensures one { looker.new.searches ≤ looker.old.searches + 1 }
 {
@@ -66,8 +70,9 @@ fn places_of(looker: &mut Looker<'_>, device: DeviceId) -> usize
     match &looker.look(device, 0).target {
         ResolvedTarget::Snapshot(snapshot) => {
             let len = lower_len(looker, snapshot.store);
-            place_count(snapshot.kind, snapshot.chunk, len) as usize
+            let places = place_count(snapshot.kind, snapshot.chunk, len) as usize;
+            (places, snapshot.chunk.chunk_of(looker.len(device) - 1) + 1)
         }
-        _ => 0,
+        _ => (0, 0),
     }
 }

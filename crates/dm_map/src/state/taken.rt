@@ -33,6 +33,20 @@ pub trait Taken: Drop + Sized {
         ensures places { IfOk result (λ taken. places taken ≡ count) }
         ensures valid { IfOk result (λ taken. valid taken ≡ true) };
 
+    /// As `with_places`, for a snapshot that has so many chunks: where they are fewer than the places, less memory
+    /// may do. Whichever chunks come, they are taken all the same.
+    ///
+    /// # Errors
+    ///
+    /// `AllocError` where it is out of memory.
+    fn for_chunks(alloc: Global, count: usize, _chunks: u64) -> Result<Self, AllocError>
+        ensures chunks { IfOk result (λ taken. chunks taken ≡ []) }
+        ensures places { IfOk result (λ taken. places taken ≡ count) }
+        ensures valid { IfOk result (λ taken. valid taken ≡ true) }
+    {
+        Self::with_places(alloc, count)
+    }
+
     /// The number of a chunk that was taken, from 0.
     fn find(&self, chunk: u64) -> Option<usize>
         ensures { result ≡ number_in chunk (chunks self.now) };

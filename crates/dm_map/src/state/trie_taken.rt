@@ -36,9 +36,9 @@ const MOST_PLACES: usize = 1 << 23;
 /// four links are written at most. That holds for whatever chunks: those that share a slot make a tree of
 /// forks.
 ///
-/// All memory is reserved by `with_places`: 20 to 24 bytes for each place. The table, 4 to 8 of them, is
-/// written then; the chunk itself, 8, and the links of a fork, as many, only when a chunk is taken. It
-/// refuses more than 2²³ places as too much memory.
+/// All memory is reserved by `with_places` or `for_chunks`: 16 bytes for each place, and the table. The table is written
+/// then: 4 to 8 bytes for each place, or for each chunk of the snapshot where these are fewer. A chunk itself, 8, and the
+/// links of a fork, as many, are written only when it is taken. More than 2²³ places are refused as too much memory.
 #[derive(Drop)]
 pub struct TrieTaken {
     chunks: Reserved<u64>,
@@ -157,10 +157,21 @@ impl Taken for TrieTaken {
         ensures valid { IfOk result (λ taken. ⟦<TrieTaken as Taken>⟧.valid taken ≡ true) }
         ensures few { OnOk result (count ≤ 2 ^ 23) }
     {
+        TrieTaken::for_chunks(alloc, count, count as u64)
+    }
+
+    /// The table has a slot for each chunk, or as many as there are places where these are fewer. It refuses more
+    /// than 2²³ places as too much memory.
+    fn for_chunks(alloc: Global, count: usize, chunks: u64) -> Result<TrieTaken, AllocError>
+        ensures chunks { IfOk result (λ taken. ⟦<TrieTaken as Taken>⟧.chunks taken ≡ []) }
+        ensures places { IfOk result (λ taken. ⟦<TrieTaken as Taken>⟧.places taken ≡ count) }
+        ensures valid { IfOk result (λ taken. ⟦<TrieTaken as Taken>⟧.valid taken ≡ true) }
+        ensures few { OnOk result (count ≤ 2 ^ 23) }
+    {
         if count > MOST_PLACES {
             return Err(AllocError);
         }
-        let slots = count.next_power_of_two();
+        let slots = (chunks.min(count as u64) as usize).next_power_of_two();
         Ok(TrieTaken {
             chunks: Reserved::from_vec(Vec::with_capacity(alloc, count)?),
             links: Reserved::from_vec(slots_with_room(alloc, slots, slots + 2 * count)?),

@@ -13,7 +13,8 @@ use Rattle.dm_table.specs.declared.tables.table.Target.{Target}
 use Rattle.dm_table.specs.declared.tables.table.Target.TheVariants as targets
 use Rattle.dm_stack.specs.Description.{Description, lower_len, lower_of}
 use Rattle.dm_stack.specs.checks.Soundness.{HasGoodChunk, HaveGoodChunks, is_bad_chunk, is_bad_snapshot, snapshot, bad_snapshots_in}
-use Rattle.dm_stack.proofs.checks.Passes.{all_changed, append_none, faults_by_none}
+use Rattle.dm_stack.proofs.checks.Passes.{faults_by_none}
+use Rattle.dm_table.proofs.Lists.{all_changed, append-nil_both}
 
 pub chunk_within : (chunk : ℕ) → is_bad_chunk chunk ≡ false → (0 < chunk) × (chunk ≤ 1024)
 chunk_within chunk good =
@@ -33,7 +34,7 @@ good_lines stack count lines good = all_changed (λ line. is_bad_snapshot stack 
 good_devices : (stack : Description) (devices : List DeviceSpec) → flat_map (λ device. bad_snapshots_in stack device.lines) devices ≡ [] → AllByRecursion (λ device. HaveGoodChunks device.lines) devices
 good_devices stack [] none = tt
 good_devices stack (device ∷ devices) none =
-    let parts = append_none (bad_snapshots_in stack device.lines) _ none in
+    let parts = append-nil_both (bad_snapshots_in stack device.lines) _ none in
     let good = faults_by_none Snapshot (λ line. line.at) (λ line. is_bad_snapshot stack (length device.lines) line.len line.target) device.lines parts.0 in
     (All-from_recursion (λ line. HasGoodChunk line.target) device.lines (good_lines stack (length device.lines) device.lines good), good_devices stack devices parts.1)
 

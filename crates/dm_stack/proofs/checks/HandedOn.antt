@@ -14,7 +14,8 @@ use Rattle.dm_table.specs.load.LoadFault.{fault, faults_by, first_or, first_faul
 use Rattle.dm_stack.specs.Description.{Description, end_of}
 use Rattle.dm_stack.specs.checks.Soundness.{Early, HaveSmallEnds, IsRefusedBy, Late, OnCycle, WithBefore, all_lines, checks_after, checks_before, crowded, deep, depth_of, empty, empty_in, faults_by_id, has_bad_store, has_bad_stripes, is_far, is_large, is_misplaced, is_unknown, misplaced, misplaced_in, misplaced_kind, passes_end, range, snapshot, bad_snapshots_in, is_bad_snapshot, store, stripe, too_large, too_many, twice, unknown, with_before, without_lines}
 use Rattle.dm_table.specs.tables.Span.{spans}
-use Rattle.dm_stack.proofs.checks.Passes.{all_changed, all_parts, append_none, faults_by_none}
+use Rattle.dm_stack.proofs.checks.Passes.{faults_by_none}
+use Rattle.dm_table.proofs.Lists.{all_append, all_changed, all_parts, append-nil_both}
 
 -- Ends within the limit
 
@@ -33,7 +34,7 @@ devices_within (device ∷ devices) small =
 
 pub ends_within : (stack : Description) → too_large stack ≡ [] → All (λ device. HaveSmallEnds device.lines) stack.devices
 ends_within stack e =
-    let none = append_none _ _ e in
+    let none = append-nil_both _ _ e in
     All-from_recursion (λ device. HaveSmallEnds device.lines) stack.devices (devices_within stack.devices (faults_by_none Limit (λ line. line.at) is_large (all_lines stack.devices) none.0))
 
 -- Faults that don't mean that memory ran out
@@ -44,10 +45,6 @@ IsNotMemory fault = fault.kind ≢ Memory
 pub first_not_memory : (check : List LoadFault) (later : Option LoadFault) (at : LoadFault) → AllByRecursion IsNotMemory check → (later ≡ Some at → IsNotMemory at) → first_or check later ≡ Some at → IsNotMemory at
 first_not_memory [] later at found more e = more e
 first_not_memory (fault ∷ faults) later at found more e = let same : fault.kind ≡ at.kind = cc in λ memory. found.0 (same ∙ memory)
-
-pub all_append : {X : Type 0} (P : X → Type 0) (xs ys : List X) → AllByRecursion P xs → AllByRecursion P ys → AllByRecursion P (xs ++ ys)
-all_append P [] ys h k = k
-all_append P (x ∷ xs) ys h k = (h.0, all_append P xs ys h.1 k)
 
 pub all_each : {X Y : Type 0} (P : Y → Type 0) (f : X → List Y) (xs : List X) → ((x : X) → AllByRecursion P (f x)) → AllByRecursion P (flat_map f xs)
 all_each P f [] each = tt

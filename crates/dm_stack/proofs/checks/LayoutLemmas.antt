@@ -10,8 +10,9 @@ use Rattle.dm_table.specs.declared.load.load_fault.LoadKind.TheVariants.{Gap, Ov
 use Rattle.dm_table.specs.declared.tables.table.Line.{Line}
 use Rattle.dm_stack.specs.Description.{end_of}
 use Rattle.dm_stack.specs.checks.Soundness.{WithBefore, is_misplaced, misplaced_in, misplaced_kind, with_before}
-use Rattle.dm_stack.proofs.checks.Passes.{all_changed, filter_none, map_none}
+use Rattle.dm_stack.proofs.checks.Passes.{filter_none, map_none}
 use Rattle.dm_stack.proofs.checks.WithBefore.{drop-with_before, further_on, none-with_before}
+use Rattle.dm_table.proofs.Lists.{all_changed}
 
 -- The end of lines, with one more
 

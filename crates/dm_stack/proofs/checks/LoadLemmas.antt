@@ -20,10 +20,11 @@ use Rattle.dm_stack.specs.checks.Graph.{IsClosed, IsFirstRing, Reaches, depths_t
 use Rattle.dm_stack.specs.checks.Depth.{stack_depth}
 use Rattle.dm_stack.specs.checks.Soundness.{Early, HasNoCycle, IsFirstCycle, IsRefusedBy, IsSound, Late, all_lines, checks_after, checks_before, crowded, is_unknown, is_unknown_ref, unknown}
 use Rattle.dm_table.specs.tables.Span.{Span, spans}
-use Rattle.dm_stack.proofs.checks.HandedOn.{all_append, each_in, refused_not_memory}
+use Rattle.dm_stack.proofs.checks.HandedOn.{each_in, refused_not_memory}
 use Rattle.dm_table.proofs.FaultLemmas.{first_or-found, first_or-none, first_or-passed}
-use Rattle.dm_stack.proofs.checks.Passes.{all_parts, faults_by_none}
+use Rattle.dm_stack.proofs.checks.Passes.{faults_by_none}
 use Rattle.dm_stack.proofs.lines.SpanLemmas.{none_past}
+use Rattle.dm_table.proofs.Lists.{all_append, all_parts}
 
 -- Checks in a row
 

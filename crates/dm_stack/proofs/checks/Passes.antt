@@ -9,19 +9,6 @@ use Rattle.dm_table.proofs.FaultLemmas.{first_fault-none}
 use Rattle.dm_stack.specs.Description.{Description}
 use Rattle.dm_stack.specs.checks.Soundness.{too_many, too_large, empty, misplaced, unknown, deep, stripe, range, snapshot, store, checks_before, checks_after, IsSound}
 
-pub append_none : {X : Type 0} (xs ys : List X) → xs ++ ys ≡ [] → (xs ≡ []) × (ys ≡ [])
-append_none [] ys e = (refl, e)
-append_none (x ∷ xs) ys e = absurd cc
-
--- what holds of all elements of lists in a row holds of those of each
-pub all_parts : {X : Type 0} (P : X → Type 0) (xs ys : List X) → AllByRecursion P (xs ++ ys) → AllByRecursion P xs × AllByRecursion P ys
-all_parts P [] ys h = (tt, h)
-all_parts P (x ∷ xs) ys h = let parts = all_parts P xs ys h.1 in ((h.0, parts.0), parts.1)
-
-pub all_changed : {X : Type 0} (P Q : X → Type 0) (xs : List X) → ((x : X) → P x → Q x) → AllByRecursion P xs → AllByRecursion Q xs
-all_changed P Q [] change each = tt
-all_changed P Q (x ∷ xs) change each = (change x each.0, all_changed P Q xs change each.1)
-
 pub cond_none : {X : Type 0} (x : X) (later : List X) (b : Bool) → cond b (x ∷ later) later ≡ [] → (b ≡ false) × (later ≡ [])
 cond_none x later true e = absurd cc
 cond_none x later false e = (refl, e)

@@ -115,9 +115,6 @@ pub clash_here : (before : List Claim) (k : ℕ) (earlier later : Claim) → k <
 clash_here before k earlier later within is met =
     rw ((drop-cons before k earlier within ∙ ap (λ (one : Claim). one ∷ drop (suc k) before) (sym is)), met)
 
-pub some_is : (x y : Claim) → Some x ≡ Some y → x ≡ y
-some_is x y e = cc
-
 -- what a search passed, where it found nothing
 none_found : (test : Claim → Bool) (xs : List Claim) → find test xs ≡ None → All (λ one. test one ≡ false) xs
 none_found test xs e k d within = fails_before_first test xs k d (by (position_or_len test xs) (cases_lt (position_or_len test xs) (length xs)) (sym (find_at test xs) ∙ e))

@@ -33,11 +33,11 @@ use Rattle.dm_table.specs.tables.Span.{Span, spans}
 use Rattle.dm_stack.specs.claims.Sweep.{IsCounted}
 use Rattle.dm_stack.proofs.checks.HandedOn.{all_each, each_in}
 use Rattle.dm_stack.proofs.checks.OneFault.{same_place}
-use Rattle.dm_stack.proofs.checks.Passes.{all_changed}
 use Rattle.dm_stack.proofs.claims.PairLemmas.{none_before}
 use Rattle.dm_stack.proofs.lines.SpanLemmas.{any_map, any_same, any_span, past_is}
 use Rattle.dm_stack.proofs.InStack.{device_there, disk_there}
 use Rattle.dm_stack.proofs.SoundLines.{device_sound, lines_there, there}
+use Rattle.dm_table.proofs.Lists.{all_changed}
 
 -- no line of a sound stack passes the end of what it names
 

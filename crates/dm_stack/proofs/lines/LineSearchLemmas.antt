@@ -19,9 +19,10 @@ use Rattle.dm_stack.specs.declared.lines.line_search.LastLine.{LastLine}
 use Rattle.dm_stack.specs.checks.Soundness.{IsSound, all_lines, is_large, past}
 use Rattle.dm_stack.proofs.checks.HandedOn.{line_within}
 use Rattle.dm_stack.proofs.checks.LayoutLemmas.{AreInRow}
-use Rattle.dm_stack.proofs.checks.Passes.{append_none, passes_all}
+use Rattle.dm_stack.proofs.checks.Passes.{passes_all}
 use Rattle.dm_stack.proofs.lines.SameLine.{holds_none}
 use Rattle.dm_stack.proofs.SoundLines.{holds_from, device_small, device_sound, lines_filled, lines_there, positive, there}
+use Rattle.dm_table.proofs.Lists.{append-nil_both}
 
 -- Binary digits
 
@@ -128,7 +129,7 @@ pub few_lines : (stack : Description) (id : ℕ) → IsSound stack → id < leng
 few_lines stack id sound within =
     let d = there stack.devices id within in
     let few = (passes_all stack sound).few in
-    let none = (append_none (past 1024 (λ device. device.at) stack.devices ++ past 1024 (λ disk. disk.at) stack.disks) (past 65536 (λ line. line.at) (all_lines stack.devices)) few).1 in
+    let none = (append-nil_both (past 1024 (λ device. device.at) stack.devices ++ past 1024 (λ disk. disk.at) stack.disks) (past 65536 (λ line. line.at) (all_lines stack.devices)) few).1 in
     let each = lines_length stack.devices id d.it d.at in
     let all = none_past 65536 (all_lines stack.devices) none in
     let same : length (lines_at stack id) ≡ length d.it.lines = ap length (lines_there stack id d.it d.at) in

@@ -19,8 +19,8 @@ use Rattle.dm_stack.specs.lines.Over.{all_over, copied, device_over, has_crowd, 
 use Rattle.dm_stack.specs.checks.Soundness.{IsSound}
 use Rattle.dm_stack.proofs.claims.MeetLemmas.{same_is, self_same}
 use Rattle.dm_stack.proofs.lines.Members.{any_there, flat_part, flat_there, found_there, in_range, kept, kept_parts, none_there, only, only_there, range_within}
-use Rattle.dm_stack.proofs.lines.SameLine.{mapped}
 use Rattle.dm_stack.proofs.SnapshotRule.{any_found, lines_within, snapshot_line}
+use Rattle.dm_table.proofs.Lists.{mapped}
 
 -- What the lists are
 
@@ -106,8 +106,8 @@ resolved_over : (stack : Description) (device : ℕ) (test : Line → Bool) (lin
     → Contains (flat_map (λ l. over_of stack device l.target) lines) (record { device = device; snapshot = snapshot })
 resolved_over stack device test lines line snapshot at is =
     let first = mapped (resolved_line stack) (find test lines) line at in
-    let same : resolved_target stack first.x.target ≡ line.target = ap (λ (l : ResolvedLine). l.target) first.value in
-    flat_there (λ (l : Line). over_of stack device l.target) lines first.x _ (found_there test lines first.x first.is).0 (target_all stack device first.x.target snapshot (same ∙ is))
+    let same : resolved_target stack first.0.target ≡ line.target = ap (λ (l : ResolvedLine). l.target) first.2 in
+    flat_there (λ (l : Line). over_of stack device l.target) lines first.0 _ (found_there test lines first.0 first.1).0 (target_all stack device first.0.target snapshot (same ∙ is))
 
 -- a snapshot is among those of its origin
 pub over_all : (stack : Description) (device : ℕ) (line : ResolvedLine) (snapshot : ResolvedSnapshot) → found_at stack device 0 ≡ Some line → line.target ≡ found.Snapshot snapshot → Contains (snapshots_over stack snapshot.origin) (record { device = device; snapshot = snapshot })

@@ -10,6 +10,7 @@ use Rattle.dm_stack.specs.lines.Below.{holds, line_of, resolved_line, found_at, 
 use Rattle.dm_stack.specs.checks.Soundness.{IsSound}
 use Rattle.dm_stack.proofs.checks.LayoutLemmas.{AreInRow}
 use Rattle.dm_stack.proofs.SoundLines.{HoldsSoundly, there, device_sound, lines_there}
+use Rattle.dm_table.proofs.Lists.{mapped}
 
 -- Lines that start where the one before ends
 
@@ -30,25 +31,16 @@ same_line end (first ∷ lines) sector other line e is from before =
 
 -- The lines of a device
 
-pub record IsMapped {X Y : Type 0} (f : X → Y) (o : Option X) (y : Y) : Type 0 where
-  pub x : X
-  pub is : o ≡ Some x
-  pub value : f x ≡ y
-
-pub mapped : {X Y : Type 0} (f : X → Y) (o : Option X) (y : Y) → option_map f o ≡ Some y → IsMapped f o y
-mapped f (Some x) y is = record { x = x; is = refl; value = cc }
-mapped f None y is = absurd cc
-
 pub same_found : (stack : Description) (id sector other : ℕ) (line : ResolvedLine) → IsSound stack → id < length stack.devices → found_at stack id sector ≡ Some line → line.start ≤ other → other < line.start + line.len → found_at stack id other ≡ Some line
 same_found stack id sector other line sound within is from before =
     let d = there stack.devices id within in
     let s = device_sound stack id d.it sound d.at in
     let lines = lines_there stack id d.it d.at in
     let m = mapped (resolved_line stack) (line_of (lines_at stack id) sector) line is in
-    let start : m.x.start ≡ line.start = cc (m.value) in
-    let len : m.x.len ≡ line.len = cc (m.value) in
-    let held : line_of d.it.lines sector ≡ Some m.x = cc in
-    let same = same_line 0 d.it.lines sector other m.x s.placed held (omega (arith, start, from)) (omega (arith, start, len, before)) in
+    let start : m.0.start ≡ line.start = cc (m.2) in
+    let len : m.0.len ≡ line.len = cc (m.2) in
+    let held : line_of d.it.lines sector ≡ Some m.0 = cc in
+    let same = same_line 0 d.it.lines sector other m.0 s.placed held (omega (arith, start, from)) (omega (arith, start, len, before)) in
     cc
 
 -- so what a search finds is the line of its sector

@@ -10,6 +10,7 @@ use Rattle.dm_stack.specs.Description.{Description, lower_len}
 use Rattle.dm_stack.specs.lines.Below.{AreStripes, column_of, in_column, below_stripes, Lies}
 use Rattle.dm_stack.specs.declared.lines.stripe_position.StripePosition.{StripePosition}
 use Rattle.dm_stack.specs.lines.StripePosition.{IsStripePosition}
+use Rattle.dm_table.proofs.Lists.{at_index}
 
 -- what is left of a chunk lies in its column's share of the line
 pub in_column_room : (chunk_size count column_len chunks len distance : ℕ) → 0 < chunk_size → 0 < count → len ≡ count * column_len → column_len ≡ chunks * chunk_size → distance < len
@@ -30,11 +31,6 @@ pub in_chunk : (chunk_size distance i : ℕ) → 0 < chunk_size → i < chunk_si
 in_chunk chunk_size distance i some within = record { number = grind (arith, some, within); position = grind (arith, some, within) }
 
 -- what holds of each element holds of one
-pub at_index : {X : Type 0} (P : X → Type 0) (xs : List X) (i : ℕ) (x : X) → AllByRecursion P xs → slice_get xs i ≡ Some x → P x
-at_index P [] i x each e = absurd cc
-at_index P (y ∷ ys) zero x each e = let same : y ≡ x = cc in rw (← same) each.0
-at_index P (y ∷ ys) (suc i) x each e = at_index P ys i x each.1 e
-
 -- the column of a sector, as one of the columns
 pub column_got : (chunk_size distance : ℕ) (columns : List ResolvedColumn) (column : ResolvedColumn) → 0 < length columns → column ≡ get_or columns (column_of chunk_size (length columns) distance) column → slice_get columns (column_of chunk_size (length columns) distance) ≡ Some column
 column_got chunk_size distance columns column some e =

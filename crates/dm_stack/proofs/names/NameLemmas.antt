@@ -17,11 +17,10 @@ use Rattle.dm_table.specs.declared.load.load_fault.LoadKind.TheVariants.{Memory,
 use Rattle.dm_table.specs.load.LoadFault.{fault, faults_by, IsMemoryFault, first_or, unless}
 use Rattle.dm_stack.specs.Description.{is_same}
 use Rattle.dm_stack.specs.checks.Soundness.{is_repeated, with_before}
-use Rattle.dm_stack.proofs.lines.StripeLemmas.{at_index}
 use Rattle.dm_stack.proofs.lines.SpanLemmas.{any_map}
 use Rattle.dm_stack.proofs.SoundLines.{position-map}
-use Rattle.dm_stack.proofs.lines.SameLine.{mapped}
 use Rattle.dm_stack.proofs.checks.WithBefore.{drop-with_before, none-with_before}
+use Rattle.dm_table.proofs.Lists.{at_index, mapped}
 
 pub is_same-sym : (a b : List ℕ) → is_same a b ≡ is_same b a
 is_same-sym a b = nat_list_eq_equiv.symm a b
@@ -61,7 +60,7 @@ pub named_distinct : {A : Type 0} (name : List ℕ) (keys : List (String A)) (nu
     → position (λ other. is_same other name) (map string_bytes keys) ≡ Some number
 named_distinct name keys number apart at =
     let key = mapped string_bytes (slice_get keys number) name (sym (slice_get-map string_bytes keys number) ∙ at) in
-    found_distinct name keys number key.x apart key.is key.value
+    found_distinct name keys number key.0 apart key.1 key.2
 
 -- Names that stand twice
 

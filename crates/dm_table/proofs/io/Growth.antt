@@ -1,5 +1,5 @@
 -- Lists that only grow, told by what is new.
-use Rattle.std.proofs.Common.{Result, Ok, Err, OnErr, [], ◌∷◌, ◌≡◌, ◌<◌, ◌≤◌, ℕ, ◌+◌, ◌-◌, List, ◌++◌, length, take, drop, sym, ap, ◌∙◌, add-zero, append_assoc, take-append-drop, arith}
+use Rattle.std.proofs.Common.{Ok, Err, [], ◌∷◌, ◌≡◌, ◌<◌, ◌≤◌, ℕ, ◌+◌, ◌-◌, List, ◌++◌, length, take, drop, sym, ap, ◌∙◌, add-zero, append_assoc, take-append-drop, arith}
 use Rattle.std.proofs.Math.Seq.{take-add}
 use Rattle.std.proofs.lemmas.List.{take_rest, append-nil, drop-drop, length-drop}
 use Rattle.dm_table.specs.declared.io.device_io.OutFault.{OutFault}
@@ -120,8 +120,3 @@ wrote_nothing old new fault (byte ∷ rest) some is =
       ok = tt;
       left = (byte, rest, cc (since_is old.written new.written [] more));
     }
-
--- a fact is one at an error
-pub on_err : {T E : Type 0} (r : Result T E) (P : Type 0) → P → OnErr r P
-on_err (Ok x) P fact = tt
-on_err (Err e) P fact = fact

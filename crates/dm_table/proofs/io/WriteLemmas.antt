@@ -15,6 +15,7 @@ use Rattle.dm_table.specs.declared.tables.table.Target.TheVariants.{Striped}
 use Rattle.dm_table.specs.tables.LineBody.{column_text, target_text, body_text}
 use Rattle.dm_table.specs.tables.LineHead.{target_head, body_head, columns_of}
 use Rattle.dm_table.specs.laws.Progress.{since_more}
+use Rattle.dm_table.proofs.tables.BodyRows.{columns_text}
 
 -- a fault in the first part
 pub wrote_stop : {E : Type 0} (old new : OutputPast) (fault : E) (first rest text : List ℕ) → text ≡ first ++ rest
@@ -161,7 +162,7 @@ joined_then byte f xs x some is h more = and_then (f x) _ (joined_slice byte f x
 
 -- a line after its label, in the two parts that it is written in
 body_split : (before : List ℕ) (target : Target) → before ++ target_text target ≡ (before ++ target_head target) ++ flat_map column_text (columns_of target)
-body_split before (Striped chunk columns) = simp append_assoc
+body_split before (Striped chunk columns) = rw (columns_text (decimal chunk) columns) (simp append_assoc)
 body_split before _ = sym (append-nil _)
 
 pub line_split : (name mark : List ℕ) (line : Line) → name ++ mark ++ body_text line ≡ (name ++ mark ++ body_head line) ++ flat_map column_text (columns_of line.target)

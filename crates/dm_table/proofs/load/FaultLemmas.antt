@@ -54,11 +54,6 @@ pub faults_from-good : {X : Type 0} (part : Part) (kind : LoadKind) (bad : X →
 faults_from-good part kind bad n [] h = refl
 faults_from-good part kind bad n (x ∷ xs) h = rw (h.0, faults_from-good part kind bad (suc n) xs h.1)
 
--- two halves of a check that together find nothing
-pub append-nil_both : (a b : List LoadFault) → a ++ b ≡ [] → (a ≡ []) × (b ≡ [])
-append-nil_both [] b e = (refl, e)
-append-nil_both (fault ∷ a) b e = absurd cc
-
 -- a newline ends the last line
 pub unended-nil : (part : Part) (n : ℕ) (rest : List ℕ) → unended part n rest ≡ [] → rest ≡ []
 unended-nil part n [] e = refl

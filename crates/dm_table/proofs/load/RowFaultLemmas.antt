@@ -9,7 +9,7 @@ use Rattle.dm_table.specs.declared.load.row_faults.RowFault.{RowFault}
 use Rattle.dm_table.specs.declared.load.row_faults.RowFault.TheVariants as rows
 use Rattle.dm_table.specs.declared.load.row_faults.FirstFaults.{FirstFaults}
 use Rattle.dm_table.specs.load.LoadFault.{Answers, fault_at, first_or, first_fault, faults_from, row_checks, unended, unless}
-use Rattle.dm_table.specs.load.RowFaults.{Reads, first_failed, row_fault, fault_in, no_faults, either, noted, noted_at, noted_rows, noted_rest, first_noted}
+use Rattle.dm_table.specs.load.RowFaults.{Reads, first_failed, row_fault, fault_in, no_faults, either, noted, noted_at, noted_rows, noted_rest, first_noted, said_unless}
 use Rattle.dm_table.proofs.load.FaultLemmas.{Answers-unless, faults_from-text, first_fault-text, text-append, unended-text, unless-ok, unless-err}
 
 -- one more fault of a kind, before what comes later
@@ -80,12 +80,23 @@ rows_answer {Y = Y} part is_row has_values has_names rows rest seen values all a
 
 -- One row
 
--- a row without a fault has its names
-pub names_true : (is_row has_values has_names : Bool) → first_failed is_row has_values has_names ≡ None → has_names ≡ true
-names_true true true true h = refl
-names_true true true false h = absurd cc
-names_true true false has_names h = absurd cc
-names_true false has_values has_names h = absurd cc
+-- a row without a fault passes all tests
+pub first_failed-none : (is_row has_values has_names : Bool) → first_failed is_row has_values has_names ≡ None → (is_row ≡ true) × (has_values ≡ true) × (has_names ≡ true)
+first_failed-none true true true h = (refl, refl, refl)
+first_failed-none true true false h = absurd cc
+first_failed-none true false has_names h = absurd cc
+first_failed-none false has_values has_names h = absurd cc
+
+-- a row that was read has no fault and says what was read; one that was refused has that fault, where each row without one says something
+
+pub said_read : {X : Type 0} (fault : Option RowFault) (said : Option X) (value : X) → said_unless fault said ≡ Ok value → (unless fault (tt {0}) ≡ Ok (tt {0})) × (said ≡ Some value)
+said_read None None value h = absurd cc
+said_read None (Some other) value h = let is : other ≡ value = cc in (refl, ap Some is)
+said_read (Some fault) said value h = absurd cc
+
+pub said_refused : {X : Type 0} (fault : Option RowFault) (said : Option X) (found : RowFault) → (fault ≡ None → (value : X) × (said ≡ Some value)) → said_unless fault said ≡ Err found → unless fault (tt {0}) ≡ Err found
+said_refused {X} None said found there h = let it = there refl in absurd (let no : ◌≡◌ {A = Result X RowFault} (Ok it.0) (Err found) = rw it.1 at h in cc)
+said_refused (Some fault) said found there h = let same : fault ≡ found = cc in ap Err same
 
 -- what is wrong with a row is why it was not read, where memory is left
 pub found_read : (read : Result (Unit {0}) RowFault) (found : Option RowFault) → Reads (λ done. done) read (unless found tt) → fault_in read ≢ Some rows.Memory → found ≡ fault_in read

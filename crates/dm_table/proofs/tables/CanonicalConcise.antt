@@ -5,8 +5,9 @@ use Rattle.std.specs.List.{join_with_byte}
 use Rattle.dm_table.specs.declared.tables.table.Line.{Line}
 use Rattle.dm_table.specs.declared.tables.table.DeviceSpec.{DeviceSpec}
 use Rattle.dm_table.specs.declared.load.place.Place.{Place}
+use Rattle.dm_table.specs.load.Reading.{SayEach}
 use Rattle.dm_table.specs.tables.LineBody.{body_text}
-use Rattle.dm_table.specs.tables.ConciseText.{place_of, is_ro, is_flags, SaysLines, SaysDevice, SaysDevices, DescribesConcise}
+use Rattle.dm_table.specs.tables.ConciseText.{place_of, is_ro, is_flags, SaysLines, SaysDevice, DescribesConcise}
 use Rattle.dm_table.specs.tables.CanonicalText.{ReadsBack, flag_text, concise_device, concise_text, lines_at, as_concise}
 
 -- Places are not written
@@ -76,7 +77,7 @@ device_again n text device s =
       at = refl;
     }
 
-devices_again : (n : ℕ) (texts : List (List ℕ)) (devices : List DeviceSpec) → SaysDevices n texts devices → SaysDevices n (map concise_device (as_concise n devices)) (as_concise n devices)
+devices_again : (n : ℕ) (texts : List (List ℕ)) (devices : List DeviceSpec) → SayEach SaysDevice n texts devices → SayEach SaysDevice n (map concise_device (as_concise n devices)) (as_concise n devices)
 devices_again n [] [] s = tt
 devices_again n [] (device ∷ devices) s = absurd s
 devices_again n (text ∷ texts) [] s = absurd s

@@ -8,10 +8,16 @@ use Rattle.dm_table.specs.declared.tables.table.DeviceSpec.{DeviceSpec}
 use Rattle.dm_table.specs.declared.load.place.Place.{Place}
 use Rattle.dm_table.specs.declared.load.place.Part.TheVariants.{Source}
 use Rattle.dm_table.specs.words.Name.{is_device_name}
+use Rattle.dm_table.specs.words.Fields.{lines_of, rest_of}
+use Rattle.dm_table.specs.load.Reading.{SayEach}
 use Rattle.dm_table.specs.tables.LineBody.{IsBody}
-use Rattle.dm_table.specs.tables.TableText.{NamedLine, line_text, Says, named_lines, HasPlaceOf, IsDescribed, DifferInName, DescribesTable}
+use Rattle.dm_table.specs.tables.TableText.{NamedLine, line_text, SaysLine, named_lines, HasPlaceOf, IsDescribed, DifferInName, DescribesTable}
 use Rattle.dm_table.specs.tables.CanonicalText.{ReadsBack, lines_text, table_text, placed_lines, as_table}
+use Rattle.dm_table.proofs.words.ByteLemmas.{is_shown-clear}
+use Rattle.dm_table.proofs.words.FieldLemmas.{IsClearOf, lines_of-lines, rest_of-lines}
+use Rattle.dm_table.proofs.load.Forms.{each_said}
 use Rattle.dm_table.proofs.tables.TableGroups.{named_of}
+use Rattle.dm_table.proofs.tables.TableRows.{text_written}
 
 -- Places and flags are not written
 
@@ -59,18 +65,17 @@ numbered_as n (device ∷ devices) = numbered_device device.name n (n + length d
 abbrev IsSayable : NamedLine → Type 0
 IsSayable named = (is_device_name named.name ≡ true) × IsBody named.line
 
-sayable : (n : ℕ) (texts : List (List ℕ)) (ns : List NamedLine) → Says n texts ns → AllByRecursion IsSayable ns
+sayable : (n : ℕ) (texts : List (List ℕ)) (ns : List NamedLine) → SayEach SaysLine n texts ns → AllByRecursion IsSayable ns
 sayable n [] [] s = tt
 sayable n [] (named ∷ ns) s = absurd s
 sayable n (text ∷ texts) [] s = absurd s
-sayable n (text ∷ texts) (named ∷ ns) s = ((s.1.name, s.1.body), sayable (suc n) texts ns s.2)
+sayable n (text ∷ texts) (named ∷ ns) s = ((s.0.1.name, s.0.1.body), sayable (suc n) texts ns s.1)
 
-said_again : (n : ℕ) (ns : List NamedLine) → AllByRecursion IsSayable ns → Says n (map line_text (numbered n ns)) (numbered n ns)
+said_again : (n : ℕ) (ns : List NamedLine) → AllByRecursion IsSayable ns → SayEach SaysLine n (map line_text (numbered n ns)) (numbered n ns)
 unfolding numbered
 said_again n [] h = tt
 said_again n (named ∷ ns) h = (
-  inl refl,
-  record { name = h.0.0; body = record { start = h.0.1.start; len = h.0.1.len; target = h.0.1.target }; at = refl },
+  (inl refl, record { name = h.0.0; body = record { start = h.0.1.start; len = h.0.1.len; target = h.0.1.target }; at = refl }),
   said_again (suc n) ns h.1,
 )
 
@@ -91,13 +96,17 @@ apart_as n (device ∷ next ∷ devices) h = (h.0, apart_as (n + length device.l
 
 -- what a text says, the text that is written says
 written_says : (text : List ℕ) (said : List DeviceSpec) → DescribesTable text said → DescribesTable (table_text said) (as_table 1 said)
-written_says text said d = record {
-  lines = map line_text (named_lines (as_table 1 said));
-  ended = sym (text_as 1 said) ∙ text_ended (as_table 1 said);
-  said = rw (numbered_as 1 said) (said_again 1 (named_lines said) (sayable 1 d.lines (named_lines said) d.said));
-  each = described_as 1 said d.each;
-  apart = apart_as 1 said d.apart;
-}
+written_says text said d =
+    let lines = map line_text (named_lines (as_table 1 said)) in
+    let whole : table_text said ≡ flat_map (λ text. text ++ 10 ∷ []) lines = sym (text_as 1 said) ∙ text_ended (as_table 1 said) in
+    let each : SayEach SaysLine 1 lines (named_lines (as_table 1 said)) = rw (numbered_as 1 said) (said_again 1 (named_lines said) (sayable 1 (lines_of text) (named_lines said) d.said.said)) in
+    let clear = each_said SaysLine (IsClearOf 10) (λ n text named s. is_shown-clear text (text_written n text named s.0 s.1)) 1 lines (named_lines (as_table 1 said)) each in
+    let again : lines_of (table_text said) ≡ lines = ap lines_of whole ∙ lines_of-lines lines clear in
+    record {
+      said = record { ended = ap rest_of whole ∙ rest_of-lines lines clear; said = rw again each };
+      each = described_as 1 said d.each;
+      apart = apart_as 1 said d.apart;
+    }
 
 -- and so of devices that differ from those in places and flags alone
 pub table_reads_back : (devices : List DeviceSpec) → ReadsBack DescribesTable (as_table 1) table_text devices

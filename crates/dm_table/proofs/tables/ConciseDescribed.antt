@@ -1,21 +1,22 @@
 -- A text of the concise form in which no check finds anything describes the devices that are read from it, and one that describes devices is read as them.
-use Rattle.std.proofs.Common.{◌≡◌, ◌⊎◌, inl, inr, ℕ, suc, ◌≤◌, Bool, true, false, not, eqb, List, [], ◌∷◌, ◌++◌, length, take, get_or, ◌-◌, None, Result, Ok, Err, refl, sym, ap, ◌∙◌, arith}
+use Rattle.std.proofs.Common.{◌≡◌, ◌⊎◌, inl, inr, ℕ, ◌≤◌, true, false, not, eqb, List, [], ◌∷◌, ◌++◌, length, take, get_or, ◌-◌, None, Result, Ok, Err, refl, sym, ap, ◌∙◌, arith}
 use Rattle.std.specs.Global.{Vec}
-use Rattle.std.specs.List.{list_all, join_with_byte, AllByRecursion}
-use Rattle.std.proofs.lemmas.Bool.{and_parts, cases_Bool, not-true, not-false, not_from_true, eqb-true}
-use Rattle.std.proofs.lemmas.List.{length-append}
+use Rattle.std.specs.List.{join_with_byte, AllByRecursion}
+use Rattle.std.proofs.lemmas.Bool.{and_parts, cases_Bool, not-true, eqb-true}
+use Rattle.std.proofs.lemmas.List.{append-nil, length-append, map-id}
 use Rattle.dm_table.specs.declared.tables.table.DeviceSpec.{DeviceSpec}
 use Rattle.dm_table.specs.declared.load.place.Part.TheVariants.{Source}
-use Rattle.dm_table.specs.declared.load.load_fault.LoadKind.TheVariants.{NotText, Syntax, Field, Name}
 use Rattle.dm_table.specs.declared.load.load_fault.LoadFault.{LoadFault}
 use Rattle.dm_table.specs.words.Fields.{parts_at, all_but_last, last_or}
 use Rattle.dm_table.specs.load.LoadFault.{Answers, first_fault, first_or, is_printable, not_text, row_checks, unless}
 use Rattle.dm_table.specs.load.Parsed.{IsParsed}
-use Rattle.dm_table.specs.tables.ConciseText.{SaysDevices, DescribesConcise, lacks, without_newline, parts_of, devices_of, is_device, has_values, has_names, concise_checks}
-use Rattle.dm_table.specs.tables.ConciseReading.{devices_from, parts_reading, read_concise}
+use Rattle.dm_table.specs.load.Reading.{SayEach}
+use Rattle.dm_table.specs.tables.ConciseText.{SaysDevice, DescribesConcise, lacks, entries, without_newline, parts_of, devices_of, is_device, has_values, has_names, concise_checks}
+use Rattle.dm_table.specs.tables.ConciseReading.{device_in, devices_from, parts_reading, read_concise}
 use Rattle.dm_table.specs.laws.NameLaws.{All-list_all}
 use Rattle.dm_table.proofs.words.ByteLemmas.{list_all-weaker}
-use Rattle.dm_table.proofs.load.FaultLemmas.{Answers-refused, append-nil_both, first_fault-none, first_fault-all, faults_from-nil, faults_from-good, unless-passed}
+use Rattle.dm_table.proofs.load.FaultLemmas.{Answers-refused, unless-passed}
+use Rattle.dm_table.proofs.load.Forms.{Form, IsRead, IsLawful, each_said, none_says, says_none}
 use Rattle.dm_table.proofs.load.Parsing.{parsed}
 use Rattle.dm_table.proofs.words.FieldLemmas.{IsClearOf, join-parts_at, parts_at-join, all_but_last-push, last_or-push}
 use Rattle.dm_table.proofs.tables.TableFields.{take-all_but_last, get_or-last_or}
@@ -62,68 +63,43 @@ parts_some : (text : List ℕ) → 1 ≤ length text → parts_of text ≡ parts
 parts_some [] h = absurd (omega arith)
 parts_some (b ∷ text) h = refl
 
--- what a text describes in which no check finds anything
+-- Devices keep the law of forms: each is its own row
 
-abbrev AllPass : (List ℕ → Bool) → List (List ℕ) → Type 0
-AllPass test texts = AllByRecursion (λ text. not (test text) ≡ false) texts
+abbrev device_form : Form (List ℕ) DeviceSpec
+device_form = record { part = Source; is_text = is_printable; row_of = λ text. text; is_row = is_device; has_values = has_values; has_names = has_names; value_in = λ n text. device_in n (entries text); says = SaysDevice }
 
-devices_said : (n : ℕ) (texts : List (List ℕ)) → AllPass is_device texts → AllPass has_values texts → AllPass has_names texts → SaysDevices n texts (devices_from n texts)
-devices_said n [] r l h = tt
-devices_said n (text ∷ texts) r l h =
-    let said = device_said n text (not-false _ r.0) (not-false _ l.0) (not-false _ h.0) in
-    rw said.is (said.says, devices_said (suc n) texts r.1 l.1 h.1)
+read_again : (n : ℕ) (text : List ℕ) (device : DeviceSpec) → SaysDevice n text device → IsRead device_form n text device
+read_again n text device s =
+    let own = device_again n text device s in
+    record {
+      text = list_all-weaker is_entry_byte _ entry_printed text (device_bytes n text device s);
+      row = own.row;
+      values = own.values;
+      names = own.names;
+      read = own.again;
+    }
 
-pub described : (text : List ℕ) → first_fault (concise_checks text) ≡ None → DescribesConcise text (devices_from 1 (devices_of text))
+law : IsLawful device_form
+law = record {
+  says = λ n text printed row values names. let said = device_said n text row values names in (said.device, said.is, said.says);
+  again = read_again;
+}
+
+described : (text : List ℕ) → first_fault (concise_checks text) ≡ None → DescribesConcise text (devices_from 1 (devices_of text))
 described text h =
     let parts = devices_of text in
-    let none = first_fault-none (concise_checks text) h in
     let whole = parts_joined (without_newline text) in
+    let said = (none_says device_form law parts parts [] [] (sym (append-nil parts)) (rw (map-id parts) h)).1 in
     record {
       parts = parts;
       spelled = elim (newline_cases text) [
         | inl e ↦ inl (e ∙ sym whole)
         | inr e ↦ inr (cc)
       ];
-      said = devices_said 1 parts
-          (faults_from-nil Source Syntax (λ device. not (is_device device)) 1 parts (append-nil_both _ [] none.1.0).0)
-          (faults_from-nil Source Field (λ device. not (has_values device)) 1 parts none.1.1.0)
-          (faults_from-nil Source Name (λ device. not (has_names device)) 1 parts none.1.1.1.0);
+      said = rw (map-id parts) at said;
     }
 
 -- and what is found in a text that describes devices
-
-record AreRead (n : ℕ) (texts : List (List ℕ)) (devices : List DeviceSpec) : Type 0 where
-  pub bytes : AllByRecursion (λ text. list_all is_entry_byte text ≡ true) texts
-  pub printed : AllPass is_printable texts
-  pub rows : AllPass is_device texts
-  pub values : AllPass has_values texts
-  pub names : AllPass has_names texts
-  pub again : devices_from n texts ≡ devices
-
-are_read : (n : ℕ) (texts : List (List ℕ)) (devices : List DeviceSpec) → SaysDevices n texts devices → AreRead n texts devices
-are_read n [] [] s = record { bytes = tt; printed = tt; rows = tt; values = tt; names = tt; again = refl }
-are_read n [] (device ∷ devices) s = absurd s
-are_read n (text ∷ texts) [] s = absurd s
-are_read n (text ∷ texts) (device ∷ devices) s =
-    let more = are_read (suc n) texts devices s.1 in
-    let own = device_again n text device s.0 in
-    let bytes = device_bytes n text device s.0 in
-    record {
-      bytes = (bytes, more.bytes);
-      printed = (not_from_true _ (list_all-weaker is_entry_byte _ entry_printed text bytes), more.printed);
-      rows = (not_from_true _ own.row, more.rows);
-      values = (not_from_true _ own.values, more.values);
-      names = (not_from_true _ own.names, more.names);
-      again = rw (own.again, more.again);
-    }
-
-without_semicolons : (texts : List (List ℕ)) → AllByRecursion (λ text. list_all is_entry_byte text ≡ true) texts → AllByRecursion (IsClearOf 59) texts
-without_semicolons [] h = tt
-without_semicolons (text ∷ texts) h = (All-list_all is_entry_byte (λ b. eqb b 59 ≡ false) entry_semicolon text h.0, without_semicolons texts h.1)
-
-without_newlines : (texts : List (List ℕ)) → AllByRecursion (λ text. list_all is_entry_byte text ≡ true) texts → AllByRecursion (λ text. lacks 10 text ≡ true) texts
-without_newlines [] h = tt
-without_newlines (text ∷ texts) h = (list_all-weaker is_entry_byte (λ b. not (eqb b 10)) entry_newline text h.0, without_newlines texts h.1)
 
 joined_lacks : (texts : List (List ℕ)) → AllByRecursion (λ text. lacks 10 text ≡ true) texts → lacks 10 (join_with_byte 59 texts) ≡ true
 joined_lacks [] h = refl
@@ -133,37 +109,25 @@ join_some : (text : List ℕ) (texts : List (List ℕ)) → 1 ≤ length text �
 join_some text [] h = h
 join_some text (next ∷ texts) h = omega (arith, h, length-append text (59 ∷ join_with_byte 59 (next ∷ texts)))
 
-parts_again : (n : ℕ) (texts : List (List ℕ)) (devices : List DeviceSpec) → SaysDevices n texts devices → AllByRecursion (IsClearOf 59) texts → parts_of (join_with_byte 59 texts) ≡ texts
+parts_again : (n : ℕ) (texts : List (List ℕ)) (devices : List DeviceSpec) → SayEach SaysDevice n texts devices → AllByRecursion (IsClearOf 59) texts → parts_of (join_with_byte 59 texts) ≡ texts
 parts_again n [] devices s clear = refl
 parts_again n (text ∷ texts) [] s clear = absurd s
 parts_again n (text ∷ texts) (device ∷ devices) s clear =
     parts_some (join_with_byte 59 (text ∷ texts)) (join_some text texts (device_some n text device s.0)) ∙ parts_at-join 59 text texts clear
 
-abbrev checks_of : List (List ℕ) → List (List LoadFault)
-checks_of parts = not_text Source parts ∷ row_checks Source is_device has_values has_names parts []
-
 pub again : (text : List ℕ) (ds : List DeviceSpec) → DescribesConcise text ds → (first_fault (concise_checks text) ≡ None) × (devices_from 1 (devices_of text) ≡ ds)
 again text ds d =
-    let read = are_read 1 d.parts ds d.said in
     let whole = join_with_byte 59 d.parts in
-    let lines = joined_lacks d.parts (without_newlines d.parts read.bytes) in
+    let semicolons = each_said SaysDevice (IsClearOf 59) (λ n text device s. All-list_all is_entry_byte (λ b. eqb b 59 ≡ false) entry_semicolon text (device_bytes n text device s)) 1 d.parts ds d.said in
+    let newlines = each_said SaysDevice (λ text. lacks 10 text ≡ true) (λ n text device s. list_all-weaker is_entry_byte (λ b. not (eqb b 10)) entry_newline text (device_bytes n text device s)) 1 d.parts ds d.said in
+    let lines = joined_lacks d.parts newlines in
     let bare : without_newline text ≡ whole = elim d.spelled [
       | inl e ↦ ap without_newline e ∙ newline_none whole lines
       | inr e ↦ ap without_newline e ∙ newline_dropped whole
     ] in
-    let parts : devices_of text ≡ d.parts = ap parts_of bare ∙ parts_again 1 d.parts ds d.said (without_semicolons d.parts read.bytes) in
-    let none : first_fault (checks_of d.parts) ≡ None =
-    first_fault-all (checks_of d.parts) (
-      faults_from-good Source NotText (λ device. not (is_printable device)) 1 d.parts read.printed,
-      (
-        rw (faults_from-good Source Syntax (λ device. not (is_device device)) 1 d.parts read.rows),
-        (
-          faults_from-good Source Field (λ device. not (has_values device)) 1 d.parts read.values,
-          (faults_from-good Source Name (λ device. not (has_names device)) 1 d.parts read.names, tt),
-        ),
-      ),
-    ) in
-    (rw parts none, ap (devices_from 1) parts ∙ read.again)
+    let parts : devices_of text ≡ d.parts = ap parts_of bare ∙ parts_again 1 d.parts ds d.said semicolons in
+    let read = says_none device_form law d.parts [] ds tt d.said in
+    rw parts (rw (append-nil d.parts, map-id d.parts) at read)
 
 -- How a text is read
 

@@ -1,10 +1,10 @@
 -- What is wrong with the parts of a device of the concise form, and with the device.
-use Rattle.std.proofs.Common.{◌≡◌, ◌≢◌, OnOk, ℕ, suc, ◌+◌, ◌-◌, ◌<◌, ◌≤◌, Bool, true, false, ◌&&◌, List, [], ◌∷◌, ◌++◌, length, take, drop, get_or, Option, Some, None, Result, Ok, Err, refl, sym, ap, ◌∙◌, append_assoc, arith}
+use Rattle.std.proofs.Common.{◌≡◌, ◌≢◌, OnOk, ℕ, suc, ◌+◌, ◌-◌, ◌<◌, ◌≤◌, Bool, true, false, ◌&&◌, List, [], ◌∷◌, ◌++◌, length, take, drop, get_or, Option, Some, None, Result, Ok, Err, refl, sym, ap, ◌∙◌, arith}
 use Rattle.std.specs.Prelude.{slice_index_or}
-use Rattle.std.specs.List.{cons_option, list_all}
+use Rattle.std.specs.List.{list_all}
 use Rattle.std.specs.Option.{option_to_list}
 use Rattle.std.proofs.lemmas.Bool.{and_parts}
-use Rattle.std.proofs.lemmas.List.{take_rest, append-nil, drop_more}
+use Rattle.std.proofs.lemmas.List.{take_rest, drop_more}
 use denote.Ref.{Bor}
 use Rattle.dm_table.specs.declared.tables.table.Line.{Line}
 use Rattle.dm_table.specs.declared.tables.table.DeviceSpec.{DeviceSpec}
@@ -20,10 +20,11 @@ use Rattle.dm_table.specs.load.RowFaults.{first_failed, Reads, fault_in, noted_a
 use Rattle.dm_table.specs.tables.LineBody.{is_body_row, is_body, has_body_names}
 use Rattle.dm_table.specs.tables.LineReading.{line_in}
 use Rattle.dm_table.specs.tables.ConciseText.{place_of, lacks, is_uuid, is_ro, entries, body_fields, is_device, is_label, has_label_values, has_label_names, has_names, has_values}
-use Rattle.dm_table.specs.tables.ConciseReading.{earlier_of, fault_of_body, fault_of_bodies, fault_of_label, fault_of_entries, fault_of_device, lines_in, device_in, device_unless, entries_reading, device_reading, bodies_reading, devices_from}
+use Rattle.dm_table.specs.tables.ConciseReading.{earlier_of, fault_of_body, fault_of_bodies, fault_of_label, fault_of_entries, fault_of_device, lines_in, device_in, entries_reading, device_reading, bodies_reading, devices_from}
 use Rattle.dm_table.proofs.load.FaultLemmas.{unless-ok, unless-err}
-use Rattle.dm_table.proofs.load.RowFaultLemmas.{names_true, read_clear}
-use Rattle.dm_table.proofs.tables.TargetRows.{and_false, read_ok}
+use Rattle.dm_table.proofs.load.RowFaultLemmas.{first_failed-none, read_clear, said_refused}
+use Rattle.dm_table.proofs.load.Forms.{said_after}
+use Rattle.dm_table.proofs.tables.TargetRows.{and_false}
 
 -- The earlier of two
 
@@ -146,15 +147,10 @@ entries_named n on_a_line (a ∷ []) k bodies lines label h is r = absurd (omega
 entries_named n on_a_line (a ∷ b ∷ es) k bodies lines label h is r =
     let v = unless-ok (earlier_of label (fault_of_bodies bodies)) (lines_in (place_of n) bodies) lines r in
     let clear = (earlier_of-clear label (fault_of_bodies bodies) v.0).0 in
-    let named = names_true (on_a_line && is_label (texts (a ∷ b ∷ es))) (has_label_values (texts (a ∷ b ∷ es))) (has_label_names (texts (a ∷ b ∷ es))) (sym is ∙ clear) in
+    let named = (first_failed-none (on_a_line && is_label (texts (a ∷ b ∷ es))) (has_label_values (texts (a ∷ b ∷ es))) (has_label_names (texts (a ∷ b ∷ es))) (sym is ∙ clear)).2 in
     (and_parts (is_device_name a.now) (is_uuid b.now) named).0
 
 -- Devices one after the other
-
--- what is said, if it is, after what was said so far
-one_more : {X : Type 0} (old : List X) (said : Option X) (more : List X) → (old ++ option_to_list said) ++ more ≡ old ++ cons_option said more
-one_more old None more = rw (append-nil old)
-one_more old (Some x) more = append_assoc old (x ∷ []) more
 
 -- one device further, where nothing is wrong so far
 pub devices_further : (parts : List (Bor (List ℕ))) (i : ℕ) (d : Bor (List ℕ)) (read : Result (Unit {0}) RowFault) (seen new : FirstFaults) (old devices : List DeviceSpec) → i < length parts → OnOk read (devices ≡ old ++ option_to_list (device_in (i + 1) (entries (get_or parts i d).now))) → fault_in read ≢ Some Memory
@@ -164,7 +160,7 @@ devices_further parts i d read seen new old devices below taken text is so_far c
     let next : drop i parts ≡ get_or parts i d ∷ drop (i + 1) parts = drop_more parts i d below in
     let number : i + 1 + 1 ≡ suc (i + 1) = omega arith in
     let here = read_clear read Source seen (i + 1) taken text (sym (ap first_noted is) ∙ clear) in
-    rw (number, here.0) (one_more old (device_in (i + 1) (entries (get_or parts i d).now)) (devices_from (suc (i + 1)) (texts (drop (i + 1) parts))) ∙ (rw next at (so_far here.1)))
+    rw (number, here.0) (said_after old (device_in (i + 1) (entries (get_or parts i d).now)) (devices_from (suc (i + 1)) (texts (drop (i + 1) parts))) ∙ (rw next at (so_far here.1)))
 
 -- Bodies one after the other
 
@@ -186,26 +182,10 @@ body_further bodies i d at label fault found old new below is added known made =
       known = cc (earlier_of-more fault found _ text, is, rw next at known);
       made = λ clear.
           let both = earlier_of-clear fault found clear in
-          rw (added (sym is ∙ both.1)) (one_more old (line_in at fields) (lines_in at (texts (drop (i + 1) bodies))) ∙ (rw next at (made both.0)));
+          rw (added (sym is ∙ both.1)) (said_after old (line_in at fields) (lines_in at (texts (drop (i + 1) bodies))) ∙ (rw next at (made both.0)));
     }
 
--- A device that was read has no fault, and its text says it; one that was refused has that fault
-
-read_by : (fault : Option RowFault) (said : Option DeviceSpec) (device : DeviceSpec) → device_unless fault said ≡ Ok device → (unless fault (tt {0}) ≡ Ok (tt {0})) × (said ≡ Some device)
-read_by None None device h = absurd cc
-read_by None (Some other) device h = (refl, ap Some (read_ok other device h))
-read_by (Some fault) said device h = absurd cc
-
-pub device_taken : (n : ℕ) (text : List ℕ) (device : DeviceSpec) → device_reading n text ≡ Ok device → (unless (fault_of_device text) (tt {0}) ≡ Ok (tt {0})) × (device_in n (entries text) ≡ Some device)
-device_taken n text device h = read_by (fault_of_device text) (device_in n (entries text)) device h
-
-refused_by : (fault : Option RowFault) (said : Option DeviceSpec) (found : RowFault) → (fault ≡ None → (device : DeviceSpec) × (said ≡ Some device)) → device_unless fault said ≡ Err found → unless fault (tt {0}) ≡ Err found
-refused_by None said found there h = let it = there refl in absurd (let no : Ok it.0 ≡ Err found = rw it.1 at h in cc)
-refused_by (Some fault) said found there h = let same : fault ≡ found = cc in ap Err same
-
-first_passed : (row values names : Bool) → first_failed row values names ≡ None → row ≡ true
-first_passed true values names h = refl
-first_passed false values names h = absurd cc
+-- A device that was refused has that fault
 
 label_says : (n : ℕ) (es : List (List ℕ)) → is_label es ≡ true → (device : DeviceSpec) × (device_in n es ≡ Some device)
 label_says n [] h = absurd cc
@@ -216,8 +196,8 @@ label_says n (name ∷ uuid ∷ minor ∷ flags ∷ bodies) h = (_, refl)
 
 pub device_refused : (n : ℕ) (text : List ℕ) (fault : RowFault) → device_reading n text ≡ Err fault → unless (fault_of_device text) (tt {0}) ≡ Err fault
 device_refused n text fault h =
-    refused_by (fault_of_device text) (device_in n (entries text)) fault
+    said_refused (fault_of_device text) (device_in n (entries text)) fault
     (λ none.
-    let passed = first_passed (is_device text) (has_values text) (has_names text) none in
+    let passed = (first_failed-none (is_device text) (has_values text) (has_names text) none).0 in
     label_says n (entries text) (and_parts (lacks 10 text) (is_label (entries text)) (and_parts (lacks 10 text && is_label (entries text)) _ passed).0).1)
     h

@@ -11,14 +11,14 @@ use Rattle.dm_table.specs.declared.load.place.Place.{Place}
 use Rattle.dm_table.specs.words.Name.{is_device_byte, is_device_name}
 use Rattle.dm_table.specs.words.Number.{number_in}
 use Rattle.dm_table.specs.words.Fields.{fields, row_fields, without_last_space}
-use Rattle.dm_table.specs.tables.LineBody.{body_text, IsBody, is_body_row, is_body, has_body_names}
+use Rattle.dm_table.specs.tables.LineBody.{body_text, target_fields, IsBody, is_body_row, is_body, has_body_names}
 use Rattle.dm_table.specs.tables.LineReading.{line_in}
 use Rattle.dm_table.specs.tables.ConciseText.{is_uuid, is_minor, is_ro, is_flags, place_of, WritesBody, SaysLines, SaysDevice, lacks, entries, without_first_space, body_fields, is_label, has_label_values, has_label_names, is_device, has_values, has_names}
 use Rattle.dm_table.specs.tables.ConciseReading.{lines_in, device_in}
 use Rattle.dm_table.specs.laws.NameLaws.{All-list_all}
 use Rattle.dm_table.proofs.words.ByteLemmas.{list_all-weaker, list_all-both}
 use Rattle.dm_table.proofs.words.FieldLemmas.{IsClearOf, parts_at-join, join-parts_at}
-use Rattle.dm_table.proofs.tables.BodyRows.{body_alone, body_there, body_again, body_said, body_placed, body_inked, body_row_passes, body_passes, body_names_pass, line_again, is_ink, IsInked, name_inked, number_inked, number_spelled, device_ink}
+use Rattle.dm_table.proofs.tables.BodyRows.{body_there, body_again, body_said, body_placed, body_inked, body_row_passes, body_passes, body_names_pass, line_again, is_ink, IsInked, name_inked, number_inked, number_spelled, device_ink}
 use Rattle.dm_table.proofs.tables.BodyRows as body
 use Rattle.dm_table.proofs.tables.TableGroups.{same_name}
 use Rattle.dm_table.proofs.tables.TableRows.{space_cases, space_dropped, space_joined, fields_joined, inks, inks_and_space, no_space, row_kept, row_kept_spaced}
@@ -43,7 +43,7 @@ pub body_writes : (at : Place) (text : List ℕ) (line : Line) → is_body_row (
 body_writes at text line r l =
     let bs = body_fields text in
     let whole : text ≡ join_with_byte 32 (fields text) = sym (join-parts_at 32 text) in
-    let spelled : join_with_byte 32 bs ≡ body_text line = ap (join_with_byte 32) (sym (body_again at bs line l)) ∙ body_alone line in
+    let spelled : join_with_byte 32 bs ≡ body_text line = ap (join_with_byte 32) (sym (body_again at bs line l)) in
     let led : join_with_byte 32 ([] ∷ bs) ≡ 32 ∷ body_text line = rw (← spelled) (spaced_before bs r) in
     elim (space_cases (fields text)) [
       | inl e ↦ elim (first_cases (row_fields text)) [
@@ -88,7 +88,7 @@ fields_again text whole f fs is h w =
 
 -- a text that writes a line has its fields
 pub body_read : (text : List ℕ) (line : Line) → WritesBody text line → IsBody line → body_fields text ≡ body.body_fields line
-body_read text line w h = fields_again text (body_text line) (decimal line.start) (decimal line.len ∷ body.target_fields line.target) (body_alone line) (body_inked line h) w
+body_read text line w h = fields_again text (body_text line) (decimal line.start) (decimal line.len ∷ target_fields line.target) refl (body_inked line h) w
 
 -- Bytes
 
@@ -135,7 +135,7 @@ inked_lines (f ∷ fs) h = (list_all-weaker is_ink is_line_byte ink_line f h.0.1
 
 body_bytes : (line : Line) → IsBody line → list_all is_line_byte (body_text line) ≡ true
 body_bytes line h =
-    ap (list_all is_line_byte) (sym (body_alone line)) ∙ join_passes is_line_byte 32 (decimal line.start) (decimal line.len ∷ body.target_fields line.target) refl (inked_lines (body.body_fields line) (body_inked line h))
+    join_passes is_line_byte 32 (decimal line.start) (decimal line.len ∷ target_fields line.target) refl (inked_lines (body.body_fields line) (body_inked line h))
 
 written_bytes : (text : List ℕ) (line : Line) → WritesBody text line → IsBody line → list_all is_line_byte text ≡ true
 written_bytes text line w h =

@@ -13,7 +13,7 @@ use Rattle.dm_table.specs.tables.ConciseReading.{read_concise}
 use Rattle.dm_table.specs.tables.ConciseText.{place_of}
 use Rattle.dm_table.specs.words.Fields.{lines_of}
 use Rattle.dm_table.specs.tables.LineBody.{kind_in, target_text}
-use Rattle.dm_table.specs.tables.TableReading.{joined, named_from, rows_of}
+use Rattle.dm_table.specs.tables.TableReading.{devices_from, rows_of}
 
 abbrev snapshot : StoreKind → Target
 snapshot kind = targets.Snapshot (refs.Disk (codes "a")) (refs.Disk (codes "b")) kind 8
@@ -34,7 +34,7 @@ read_as_concise : read_concise (codes "p,,,,0 8 snapshot a b P 8;n,,,,0 8 snapsh
 unfolding read_concise number_of
 read_as_concise = refl
 
-read_as_table : joined (named_from 1 (rows_of (lines_of (codes "p: 0 8 snapshot a b P 8\nn: 0 8 snapshot a b N 8\nk: 0 8 snapshot a b K 8\n")))) ≡ each_kind
+read_as_table : devices_from 1 (rows_of (lines_of (codes "p: 0 8 snapshot a b P 8\nn: 0 8 snapshot a b N 8\nk: 0 8 snapshot a b K 8\n"))) ≡ each_kind
 unfolding number_of
 read_as_table = refl
 

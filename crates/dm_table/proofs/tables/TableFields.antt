@@ -1,23 +1,24 @@
 -- What the tests of rows say, by places: the last field, and all before it.
-use Rattle.std.proofs.Common.{◌≡◌, ℕ, suc, ◌-◌, ◌≤◌, true, false, eqb, List, [], ◌∷◌, length, get_or, take, refl, ap, arith}
+use Rattle.std.proofs.Common.{◌≡◌, ℕ, suc, ◌-◌, ◌≤◌, true, false, eqb, List, [], ◌∷◌, length, get_or, take, refl, arith}
 use Rattle.std.proofs.lemmas.Bool.{lt-ltb, ne_eqb}
 use Rattle.dm_table.specs.words.Fields.{texts, all_but_last, last_or, without_last_space, ends_empty}
 use Rattle.dm_table.specs.tables.TableText.{is_label}
 use Rattle.std.proofs.lemmas.List.{take_rest}
-use Rattle.std.proofs.Common.{inl, inr, Option, Some, None, Ok, Err, sym, ◌∙◌}
-use Rattle.std.specs.Prelude.{◌&&◌, slice_index_or, drop, unwrap_or, is_some, if◌then◌else◌, Bool, Result}
+use Rattle.std.proofs.Common.{inl, inr, Option, Some, None, Ok, Err}
+use Rattle.std.specs.Prelude.{◌&&◌, slice_index_or, drop, unwrap_or, is_some}
 use Rattle.std.specs.Option.{option_map}
 use Rattle.dm_table.specs.declared.tables.table.Line.{Line}
 use Rattle.dm_table.specs.declared.load.place.Place.{Place}
 use Rattle.dm_table.specs.declared.load.place.Part.TheVariants.{Source}
 use Rattle.dm_table.specs.declared.load.row_faults.RowFault.{RowFault}
-use Rattle.dm_table.specs.declared.load.row_faults.RowFault.TheVariants.{Syntax, Name}
+use Rattle.dm_table.specs.declared.load.row_faults.RowFault.TheVariants.{Name}
 use Rattle.dm_table.specs.words.Name.{is_device_name}
 use Rattle.dm_table.specs.load.RowFaults.{first_failed, fault_in}
 use Rattle.dm_table.specs.tables.LineBody.{is_body_row, Body, body_in, has_target_names}
 use Rattle.dm_table.specs.tables.LineReading.{line_at, line_in, reading_of, body_reading}
 use Rattle.dm_table.specs.tables.TableText.{NamedLine, name_in, is_row}
 use Rattle.dm_table.specs.tables.TableReading.{named_in, named_reading, has_line_names, table_row_fault, row_reading}
+use Rattle.dm_table.proofs.tables.PairRows.{said_by}
 use Rattle.dm_table.proofs.tables.TargetRows.{made_fault, and_false, read_parts}
 use Rattle.std.proofs.lemmas.Bool.{cases_Bool}
 use denote.Ref.{Bor}
@@ -74,43 +75,23 @@ with_label label line = record { name = name_in label; line = line }
 
 -- what is wrong with a row is what its tests say
 label_found : (n : ℕ) (label : List ℕ) (o : Option Body) → fault_in (reading_of has_line_names (option_map (with_label label) (option_map (line_at (place n)) o)))
-    ≡ first_failed true (is_some o) (is_device_name (name_in label) && unwrap_or (option_map (λ body. has_target_names body.len body.target) o) true)
+    ≡ first_failed true (is_some o) (is_device_name (name_in label) && unwrap_or (option_map (λ body. has_target_names body.target) o) true)
 label_found n label None = refl
-label_found n label (Some body) = elim (cases_Bool (is_device_name (name_in label) && has_target_names body.len body.target)) [
+label_found n label (Some body) = elim (cases_Bool (is_device_name (name_in label) && has_target_names body.target)) [
   | inl e ↦ rw e
   | inr e ↦ rw e
 ]
 
-row_found : (n : ℕ) (row : List (List ℕ)) → fault_in (row_reading n row) ≡ table_row_fault row
+pub row_found : (n : ℕ) (row : List (List ℕ)) → fault_in (row_reading n row) ≡ table_row_fault row
 row_found n [] = refl
 row_found n (label ∷ fs) = elim (cases_Bool (is_row (label ∷ fs))) [
   | inl e ↦ rw e (label_found n label (body_in fs))
   | inr e ↦ rw e
 ]
 
-pub row_fault_is : (n : ℕ) (row : List (List ℕ)) (reading : Result NamedLine RowFault) → row_reading n row ≡ reading → table_row_fault row ≡ fault_in reading
-row_fault_is n row reading h = sym (row_found n row) ∙ ap fault_in h
-
--- a line that was read is the row's, and its names are valid
-pub record IsTaken (n : ℕ) (row : List (List ℕ)) : Type 0 where
-  pub named : NamedLine
-  pub said : named_in n row ≡ Some named
-  pub read : row_reading n row ≡ Ok named
-  pub names : has_line_names named ≡ true
-
-taken_by : (r : Bool) (o : Option NamedLine) → fault_in (if r then reading_of has_line_names o else Err Syntax) ≡ None
-    → (named : NamedLine) × (o ≡ Some named) × ((if r then reading_of has_line_names o else Err Syntax) ≡ Ok named) × (has_line_names named ≡ true)
-taken_by false o h = absurd cc
-taken_by true None h = absurd cc
-taken_by true (Some named) h = elim (cases_Bool (has_line_names named)) [
-  | inl e ↦ (named, refl, rw e, e)
-  | inr e ↦ absurd (cc)
-]
-
-pub row_taken : (n : ℕ) (row : List (List ℕ)) → table_row_fault row ≡ None → IsTaken n row
-row_taken n row h =
-    let a = taken_by (is_row row) (named_in n row) (row_found n row ∙ h) in
-    record { named = a.0; said = a.1; read = a.2; names = a.3 }
+-- a line that was read is the row's
+pub row_taken : (n : ℕ) (row : List (List ℕ)) (named : NamedLine) → row_reading n row ≡ Ok named → named_in n row ≡ Some named
+row_taken n row named h = said_by has_line_names (is_row row) (named_in n row) named h
 
 -- what is read of a body under a label is what is read of their row
 pub row_made : (n : ℕ) (row : List (Bor (List ℕ))) (d : Bor (List ℕ)) → 1 ≤ length row → is_label (slice_index_or row 0 d).now ≡ true → is_body_row (texts (take (length row - 1) (drop 1 row))) ≡ true
@@ -125,24 +106,24 @@ row_made n (f ∷ fs) d h l b =
 -- a fault of the body is that of the line
 pub named_fault : (name : List ℕ) (at : Place) (body : List (List ℕ)) (fault : RowFault) → body_reading at body ≡ Err fault → named_reading name at body ≡ Err fault
 named_fault name at body fault h =
-    made_fault (λ (line : Line). has_target_names line.len line.target) has_line_names (λ line. record { name = name; line = line }) (λ line unnamed. rw unnamed (and_false (is_device_name name))) (line_in at body) fault h
+    made_fault (λ (line : Line). has_target_names line.target) has_line_names (λ line. record { name = name; line = line }) (λ line unnamed. rw unnamed (and_false (is_device_name name))) (line_in at body) fault h
 
 -- a line is read where its body is and its name is valid
 pub named_line : (name : List ℕ) (at : Place) (body : List (List ℕ)) (line : Line) → is_device_name name ≡ true → body_reading at body ≡ Ok line → named_reading name at body ≡ Ok (record { name = name; line = line })
 named_line name at body line valid h =
-    let a = read_parts (λ (line : Line). has_target_names line.len line.target) (line_in at body) line h in
+    let a = read_parts (λ (line : Line). has_target_names line.target) (line_in at body) line h in
     rw (a.0, valid, a.1)
 
 pub named_unnamed : (name : List ℕ) (at : Place) (body : List (List ℕ)) (line : Line) → is_device_name name ≡ false → body_reading at body ≡ Ok line → named_reading name at body ≡ Err Name
 named_unnamed name at body line other h =
-    let a = read_parts (λ (line : Line). has_target_names line.len line.target) (line_in at body) line h in
+    let a = read_parts (λ (line : Line). has_target_names line.target) (line_in at body) line h in
     rw (a.0, other)
 
 -- a line that was read has the name under which it stands, and its place
-placed : (at : Place) (o : Option Body) (line : Line) → reading_of (λ (line : Line). has_target_names line.len line.target) (option_map (line_at at) o) ≡ Ok line → line.at ≡ at
+placed : (at : Place) (o : Option Body) (line : Line) → reading_of (λ (line : Line). has_target_names line.target) (option_map (line_at at) o) ≡ Ok line → line.at ≡ at
 placed at None line h = absurd cc
 placed at (Some body) line h =
-    let a = read_parts (λ (line : Line). has_target_names line.len line.target) (Some (line_at at body)) line h in
+    let a = read_parts (λ (line : Line). has_target_names line.target) (Some (line_at at body)) line h in
     let is : line_at at body ≡ line = cc in
     rw (← is)
 

@@ -11,15 +11,14 @@ use Rattle.dm_table.specs.declared.load.place.Place.{Place}
 use Rattle.dm_table.specs.words.Name.{is_device_name}
 use Rattle.dm_table.specs.declared.load.row_faults.RowFault.{RowFault}
 use Rattle.dm_table.specs.declared.load.row_faults.RowFault.TheVariants.{Name}
-use Rattle.dm_table.specs.load.RowFaults.{Reads}
-use Rattle.dm_table.specs.words.Fields.{lines_of}
-use Rattle.dm_table.specs.load.LoadFault.{first_fault, unless}
-use Rattle.dm_table.specs.load.Reading.{with_rows}
+use Rattle.dm_table.specs.load.RowFaults.{Reads, fault_in}
+use Rattle.dm_table.specs.load.LoadFault.{unless}
+use Rattle.dm_table.specs.load.Reading.{values_from, with_rows}
 use Rattle.dm_table.specs.tables.LineReading.{body_reading, made_of, with_line}
-use Rattle.dm_table.specs.tables.TableText.{NamedLine, table_checks}
-use Rattle.dm_table.specs.tables.TableReading.{named_in, named_from, named_reading, alone, join_line, joined, add_line, add_said, table_row_fault, row_reading, rows_of, read_table}
+use Rattle.dm_table.specs.tables.TableText.{NamedLine}
+use Rattle.dm_table.specs.tables.TableReading.{named_in, named_reading, alone, join_line, joined, add_line, add_said, table_row_fault, row_reading}
 use Rattle.dm_table.proofs.tables.TableGroups.{same_name, is_same_name, other_name, is_other_name}
-use Rattle.dm_table.proofs.tables.TableFields.{row_fault_is, row_taken, line_name, line_place, named_fault, named_line, named_unnamed}
+use Rattle.dm_table.proofs.tables.TableFields.{row_found, row_taken, line_name, line_place, named_fault, named_line, named_unnamed}
 use Rattle.dm_table.proofs.tables.TargetRows.{read_ok}
 
 -- What is made of a reading is made of what was read, or is its fault
@@ -132,30 +131,24 @@ joined_more (one ∷ ns) named = add_join one (joined ns) named ∙ ap (join_lin
 abbrev with_named : List DeviceSpec → ℕ → List (List ℕ) → List DeviceSpec
 with_named devices n row = add_said devices (named_in n row)
 
-one_joined : (ns : List NamedLine) (n : ℕ) (rows : List (List (List ℕ))) (said : Option NamedLine) → ((more : List NamedLine) → with_rows with_named (joined more) n rows ≡ joined (more ++ named_from n rows))
-    → with_rows with_named (add_said (joined ns) said) n rows ≡ joined (ns ++ cons_option said (named_from n rows))
+one_joined : (ns : List NamedLine) (n : ℕ) (rows : List (List (List ℕ))) (said : Option NamedLine) → ((more : List NamedLine) → with_rows with_named (joined more) n rows ≡ joined (more ++ values_from named_in n rows))
+    → with_rows with_named (add_said (joined ns) said) n rows ≡ joined (ns ++ cons_option said (values_from named_in n rows))
 one_joined ns n rows None later = later ns
 one_joined ns n rows (Some named) later =
-    rw (joined_more ns named) (later (ns ++ named ∷ []) ∙ ap joined (append_assoc ns (named ∷ []) (named_from n rows)))
+    rw (joined_more ns named) (later (ns ++ named ∷ []) ∙ ap joined (append_assoc ns (named ∷ []) (values_from named_in n rows)))
 
-rows_joined : (ns : List NamedLine) (n : ℕ) (rows : List (List (List ℕ))) → with_rows with_named (joined ns) n rows ≡ joined (ns ++ named_from n rows)
+pub rows_joined : (ns : List NamedLine) (n : ℕ) (rows : List (List (List ℕ))) → with_rows with_named (joined ns) n rows ≡ joined (ns ++ values_from named_in n rows)
 rows_joined ns n [] = ap joined (sym (append-nil ns))
 rows_joined ns n (row ∷ rows) = one_joined ns (suc n) rows (named_in n row) (λ more. rows_joined more (suc n) rows)
-
-pub read_table-rows : (text : List ℕ) → unless (first_fault (table_checks text)) (with_rows with_named [] 1 (rows_of (lines_of text))) ≡ read_table text
-unfolding read_table
-read_table-rows text = ap (unless (first_fault (table_checks text))) (rows_joined [] 1 (rows_of (lines_of text)))
 
 -- a row that was read has no fault and says what was read; one that was refused has that fault
 pub named_read : (n : ℕ) (row : List (List ℕ)) (named : NamedLine) → row_reading n row ≡ Ok named → (unless (table_row_fault row) (tt {0}) ≡ Ok (tt {0})) × (named_in n row ≡ Some named)
 named_read n row named h =
-    let clear : table_row_fault row ≡ None = row_fault_is n row (Ok named) h in
-    let taken = row_taken n row clear in
-    let same : taken.named ≡ named = read_ok taken.named named (sym taken.read ∙ h) in
-    (rw clear, taken.said ∙ ap Some same)
+    let clear : table_row_fault row ≡ None = sym (row_found n row) ∙ ap fault_in h in
+    (rw clear, row_taken n row named h)
 
 pub named_refused : (n : ℕ) (row : List (List ℕ)) (fault : RowFault) → row_reading n row ≡ Err fault → unless (table_row_fault row) (tt {0}) ≡ Err fault
-named_refused n row fault h = let found : table_row_fault row ≡ Some fault = row_fault_is n row (Err fault) h in rw found
+named_refused n row fault h = let found : table_row_fault row ≡ Some fault = sym (row_found n row) ∙ ap fault_in h in rw found
 
 -- the devices after a row, or its fault
 pub row_values : (r : Result (Unit {0}) RowFault) (n : ℕ) (row : List (List ℕ)) (ds made : List DeviceSpec) → Reads (λ done. made) r (made_of (add_line ds) (row_reading n row)) → OnOk r (made ≡ add_said ds (named_in n row))

@@ -5,15 +5,15 @@ use Rattle.std.specs.Option.{option_map}
 use Rattle.std.proofs.lemmas.Bool.{and_parts, and_from, ltb-true, lt-ltb, eqb-true, eq-eqb}
 use Rattle.std.proofs.lemmas.List.{length-append}
 use Rattle.dm_table.specs.words.Name.{is_device_name}
-use Rattle.dm_table.specs.words.Fields.{all_but_last, last_or, fields, row_fields, without_last_space}
+use Rattle.dm_table.specs.words.Fields.{last_or, fields, row_fields, without_last_space}
 use Rattle.dm_table.specs.tables.LineBody.{is_body_row, has_body_names}
 use Rattle.dm_table.specs.tables.TableText.{NamedLine, line_text, Writes, IsSaid, is_label, name_in, is_row, has_values, has_names}
 use Rattle.dm_table.specs.tables.LineReading.{line_in}
 use Rattle.dm_table.specs.tables.TableReading.{named_in}
 use Rattle.dm_table.proofs.words.ByteLemmas.{is_shown, list_all-weaker, list_all-both}
 use Rattle.dm_table.proofs.tables.TableFields.{place, with_label}
-use Rattle.dm_table.proofs.words.FieldLemmas.{parts_at-first, parts_at-clear, join-parts_at, all_but_last-push, last_or-push}
-use Rattle.dm_table.proofs.tables.BodyRows.{body_fields, body_joined, mapped, body_there, body_again, body_said, body_placed, is_ink, IsInked, ink_clear, ink_text, name_inked, body_inked, body_row_passes, body_passes, body_names_pass}
+use Rattle.dm_table.proofs.words.FieldLemmas.{parts_at-first, parts_at-clear, join-parts_at, all_but_last-push, last_or-push, last_split}
+use Rattle.dm_table.proofs.tables.BodyRows.{body_fields, mapped, body_there, body_again, body_said, body_placed, is_ink, IsInked, ink_clear, ink_text, name_inked, body_inked, body_row_passes, body_passes, body_names_pass}
 use Rattle.dm_table.proofs.tables.BodyRows as body
 
 -- The fields that a line is written with
@@ -25,7 +25,7 @@ abbrev pub row_for : NamedLine → List (List ℕ)
 row_for named = label_for named ∷ body_fields named.line
 
 pub line_joined : (named : NamedLine) → join_with_byte 32 (row_for named) ≡ line_text named
-line_joined named = body_joined (label_for named) named.line ∙ simp append_assoc
+line_joined named = simp append_assoc
 
 -- The last field, where a space ends the line
 
@@ -49,16 +49,11 @@ space_joined f (g ∷ fs) = rw (space_joined g fs) (sym (append_assoc f (32 ∷ 
 
 -- From a row that the tests pass to its line
 
-last_split : (xs : List ℕ) → 0 < length xs → xs ≡ all_but_last xs ++ last_or 0 xs ∷ []
-last_split [] h = absurd (omega arith)
-last_split (x ∷ []) h = refl
-last_split (x ∷ y ∷ xs) h = rw (last_split (y ∷ xs) (omega arith))
-
 label_spelled : (label : List ℕ) → is_label label ≡ true → name_in label ++ 58 ∷ [] ≡ label
 label_spelled label h =
     let a = and_parts (nat_lt 1 (length label)) (eqb (last_or 0 label) 58) h in
     let long : 1 < length label = ltb-true 1 (length label) a.0 in
-    cc (eqb-true (last_or 0 label) 58 a.1, last_split label (omega arith))
+    cc (eqb-true (last_or 0 label) 58 a.1, last_split 0 label (omega arith))
 
 -- the line that a row says, where its values are valid
 pub row_there : (n : ℕ) (row : List (List ℕ)) → has_values row ≡ true → (named : NamedLine) × (named_in n row ≡ Some named)

@@ -1,16 +1,14 @@
 -- What is read of the slices that the code has in hand, field by field.
-use Rattle.std.proofs.Common.{◌≡◌, ◌≢◌, inl, inr, ℕ, ◌-◌, ◌<◌, ◌≤◌, Bool, true, false, eqb, nat_eq, ◌&&◌, List, [], ◌∷◌, ◌++◌, length, take, drop, slice_index_or, Option, Some, None, Result, Ok, Err, refl, sym, ap, ◌∙◌, append_assoc, arith}
-use Rattle.std.specs.Prelude.{codes, is_some, if◌then◌else◌}
+use Rattle.std.proofs.Common.{◌≡◌, ◌≢◌, inl, inr, ℕ, ◌-◌, ◌<◌, ◌≤◌, Bool, true, false, eqb, ◌&&◌, List, [], ◌∷◌, ◌++◌, length, take, drop, slice_index_or, Option, Some, None, Result, Ok, Err, refl, sym, ap, ◌∙◌, append_assoc, arith}
+use Rattle.std.specs.Prelude.{is_some, if◌then◌else◌}
 use Rattle.std.specs.Option.{option_map}
-use Rattle.std.specs.Cmp.Lexicographic.{pointwise}
 use Rattle.std.proofs.lemmas.Bool.{cases_Bool}
 use Rattle.std.proofs.lemmas.List.{take_rest, length-map, append-nil}
 use denote.Ref.{Bor}
 use Rattle.dm_table.specs.declared.tables.table.Column.{Column}
 use Rattle.dm_table.specs.declared.tables.table.DevRef.{DevRef}
-use Rattle.dm_table.specs.declared.tables.table.StoreKind.{StoreKind}
 use Rattle.dm_table.specs.declared.tables.table.Target.{Target}
-use Rattle.dm_table.specs.declared.tables.table.Target.TheVariants.{Striped, Snapshot, Origin}
+use Rattle.dm_table.specs.declared.tables.table.Target.TheVariants.{Linear, Striped}
 use Rattle.dm_table.specs.declared.tables.table.Line.{Line}
 use Rattle.dm_table.specs.declared.tables.line_body.BodyHead.{BodyHead}
 use Rattle.dm_table.specs.declared.load.place.Place.{Place}
@@ -18,9 +16,8 @@ use Rattle.dm_table.specs.declared.load.row_faults.RowFault.{RowFault}
 use Rattle.dm_table.specs.declared.load.row_faults.RowFault.TheVariants.{Field, Name, Memory}
 use Rattle.dm_table.specs.words.Number.{number_of}
 use Rattle.dm_table.specs.words.Fields.{texts}
-use Rattle.dm_table.specs.tables.LineBody.{is_dev_ref, dev_in, if_both, pair_in, columns_in, is_half, striped_in, kind_in, snapshot_in, origin_in, bare_in, target_in, Body, has_target_names}
-use Rattle.dm_table.proofs.tables.BodyRows.{column_names}
-use Rattle.dm_table.specs.tables.LineReading.{line_at, has_column_names, dev_reading, reading_of, columns_reading, fault_before, target_reading, body_reading, line_of, with_line, with_target}
+use Rattle.dm_table.specs.tables.LineBody.{is_dev_ref, dev_in, if_both, then_in, columns_in, is_count, linear_in, striped_in, arguments_in, Body, has_target_names}
+use Rattle.dm_table.specs.tables.LineReading.{line_at, has_column_names, dev_reading, reading_of, columns_reading, fault_before, target_reading, body_reading, made_of, line_of, with_line, with_target}
 
 -- What is read of a value
 
@@ -135,151 +132,41 @@ column_unknown [] e h n = absurd (omega arith)
 column_unknown (f ∷ []) e h n = absurd (omega arith)
 column_unknown (f ∷ g ∷ fs) e h n = rw n
 
--- The arguments of a type
-
--- what is read of them, where this is what such arguments say
-abbrev pub arguments_reading : (len : ℕ) → (List (List ℕ) → Option Target) → List (Bor (List ℕ)) → Result Target RowFault
-arguments_reading len said fs = reading_of (has_target_names len) (said (texts fs))
-
-pub pair_none : (len : ℕ) (make : DevRef → ℕ → Target) (fs : List (Bor (List ℕ))) → length fs ≢ 2 → arguments_reading len (pair_in make) fs ≡ Err Field
-pair_none len make [] h = refl
-pair_none len make (f ∷ []) h = refl
-pair_none len make (f ∷ g ∷ []) h = absurd (h refl)
-pair_none len make (f ∷ g ∷ k ∷ fs) h = refl
-
--- what is made of a text and a number names the text alone
-abbrev pub NamesOne : (len : ℕ) → (DevRef → ℕ → Target) → Type 0
-NamesOne len make = (to : DevRef) (n : ℕ) → has_target_names len (make to n) ≡ (is_dev_ref to && true)
-
--- two arguments as the code has them
-texts_two : (fs : List (Bor (List ℕ))) (d e : Bor (List ℕ)) → length fs ≡ 2 → texts fs ≡ (slice_index_or fs 0 d).now ∷ (slice_index_or fs 1 e).now ∷ []
-texts_two [] d e h = absurd (omega arith)
-texts_two (f ∷ []) d e h = absurd (omega arith)
-texts_two (f ∷ g ∷ []) d e h = refl
-texts_two (f ∷ g ∷ k ∷ fs) d e h = absurd (omega arith)
-
-pub pair_unnamed : (len : ℕ) (make : DevRef → ℕ → Target) (fs : List (Bor (List ℕ))) (d e : Bor (List ℕ)) (offset : ℕ) (fault : RowFault) → NamesOne len make → length fs ≡ 2 → number_of (slice_index_or fs 1 e).now ≡ Some offset → dev_reading (slice_index_or fs 0 d).now ≡ Err fault
-    → arguments_reading len (pair_in make) fs ≡ Err fault
-pair_unnamed len make fs d e offset fault one two n r = let a = dev_unnamed (slice_index_or fs 0 d).now fault r in rw (texts_two fs d e two, n, one, a.0, a.1)
-
-pub pair_read : (len : ℕ) (make : DevRef → ℕ → Target) (fs : List (Bor (List ℕ))) (d e : Bor (List ℕ)) (offset : ℕ) (to : DevRef) → NamesOne len make → length fs ≡ 2 → number_of (slice_index_or fs 1 e).now ≡ Some offset → dev_reading (slice_index_or fs 0 d).now ≡ Ok to
-    → arguments_reading len (pair_in make) fs ≡ Ok (make to offset)
-pair_read len make fs d e offset to one two n r = let a = dev_parts (slice_index_or fs 0 d).now to r in rw (texts_two fs d e two, n, a.1, one, a.0)
-
-pub striped_none : (len : ℕ) (fs : List (Bor (List ℕ))) → length fs < 2 → arguments_reading len striped_in fs ≡ Err Field
-striped_none len [] h = refl
-striped_none len (f ∷ []) h = refl
-striped_none len (f ∷ g ∷ fs) h = absurd (omega arith)
-
--- what is read of a striped line, once its columns were
-abbrev pub with_columns : ℕ → Result (List Column) RowFault → Result Target RowFault
-with_columns chunk (Ok columns) = Ok (Striped chunk columns)
-with_columns chunk (Err fault) = Err fault
-
-columns_striped : (len chunk : ℕ) (columns : Option (List Column)) → reading_of (has_target_names len) (option_map (Striped chunk) columns) ≡ with_columns chunk (reading_of has_column_names columns)
-columns_striped len chunk None = refl
-columns_striped len chunk (Some columns) = rw column_names (elim (cases_Bool (has_column_names columns)) [
+-- what is made of a value, whose names are those of the value
+pub made_reading : {X Y : Type 0} (has_x : X → Bool) (has_y : Y → Bool) (make : X → Y) → ((x : X) → has_y (make x) ≡ has_x x) → (o : Option X) → reading_of has_y (option_map make o) ≡ made_of make (reading_of has_x o)
+made_reading has_x has_y make same None = refl
+made_reading has_x has_y make same (Some x) = rw (same x) (elim (cases_Bool (has_x x)) [
   | inl e ↦ rw e
   | inr e ↦ rw e
 ])
 
--- columns in number and a chunk: what is read is what is read of the columns
-half_texts : (count : List ℕ) (fs : List (Bor (List ℕ))) (n : ℕ) → n ≡ length fs → is_half count n ≡ true → is_half count (length (texts fs)) ≡ true
-half_texts count fs n e h = rw (length-map, ← e) h
+-- the arguments of a linear line
+pub linear_none : (fs : List (Bor (List ℕ))) → length fs ≢ 2 → reading_of has_target_names (linear_in (texts fs)) ≡ Err Field
+linear_none [] h = refl
+linear_none (f ∷ []) h = refl
+linear_none (f ∷ g ∷ []) h = absurd (h refl)
+linear_none (f ∷ g ∷ k ∷ fs) h = long (number_of g.now) where
+  long : (o : Option ℕ) → reading_of has_target_names (option_map (λ (said : DevRef × (ℕ × Unit {0})). Linear said.0 said.1.0) (if_both (λ x y. (x, y)) (Some (dev_in f.now)) (if_both (λ x y. (x, y)) o None))) ≡ Err Field
+  long None = refl
+  long (Some n) = refl
 
-pub striped_read : (len : ℕ) (fs : List (Bor (List ℕ))) (d e : Bor (List ℕ)) (chunk : ℕ) (reading : Result (List Column) RowFault) → 2 ≤ length fs
-    → is_half (slice_index_or fs 0 d).now (length (take (length fs - 2) (drop 2 fs))) ≡ true → number_of (slice_index_or fs 1 e).now ≡ Some chunk
-    → columns_reading (texts (take (length fs - 2) (drop 2 fs))) ≡ reading → arguments_reading len striped_in fs ≡ with_columns chunk reading
-striped_read len [] d e chunk reading h c n r = absurd (omega arith)
-striped_read len (f ∷ []) d e chunk reading h c n r = absurd (omega arith)
-striped_read len (f ∷ g ∷ fs) d e chunk reading h c n r =
-    let half : is_half f.now (length (texts fs)) ≡ true = half_texts f.now fs _ (ap length (take_rest (f ∷ g ∷ fs) 2)) c in
-    let read : columns_reading (texts fs) ≡ reading = rw (take_rest (f ∷ g ∷ fs) 2) at r in
-    rw (half, n) (columns_striped len chunk (columns_in (texts fs)) ∙ ap (with_columns chunk) read)
+pub linear_made : (fs : List (Bor (List ℕ))) (d : Bor (List ℕ)) (offset : ℕ) → length fs ≡ 2 → number_of (slice_index_or fs 1 d).now ≡ Some offset
+    → reading_of has_target_names (linear_in (texts fs)) ≡ made_of (λ to. Linear to offset) (dev_reading (slice_index_or fs 0 d).now)
+linear_made [] d offset h n = absurd (omega arith)
+linear_made (f ∷ []) d offset h n = absurd (omega arith)
+linear_made (f ∷ g ∷ []) d offset h n = rw n (elim (cases_Bool (is_dev_ref (dev_in f.now))) [
+  | inl k ↦ rw k
+  | inr k ↦ rw k
+])
+linear_made (f ∷ g ∷ k ∷ fs) d offset h n = absurd (omega arith)
 
--- four arguments
-texts_four : (fs : List (Bor (List ℕ))) (d e g k : Bor (List ℕ)) → length fs ≡ 4
-    → texts fs ≡ (slice_index_or fs 0 d).now ∷ (slice_index_or fs 1 e).now ∷ (slice_index_or fs 2 g).now ∷ (slice_index_or fs 3 k).now ∷ []
-texts_four [] d e g k h = absurd (omega arith)
-texts_four (a ∷ []) d e g k h = absurd (omega arith)
-texts_four (a ∷ b ∷ []) d e g k h = absurd (omega arith)
-texts_four (a ∷ b ∷ c ∷ []) d e g k h = absurd (omega arith)
-texts_four (a ∷ b ∷ c ∷ f ∷ []) d e g k h = refl
-texts_four (a ∷ b ∷ c ∷ f ∷ x ∷ fs) d e g k h = absurd (omega arith)
-
-pub snapshot_none : (len : ℕ) (fs : List (Bor (List ℕ))) → length fs ≢ 4 → arguments_reading len snapshot_in fs ≡ Err Field
-snapshot_none len [] h = refl
-snapshot_none len (a ∷ []) h = refl
-snapshot_none len (a ∷ b ∷ []) h = refl
-snapshot_none len (a ∷ b ∷ c ∷ []) h = refl
-snapshot_none len (a ∷ b ∷ c ∷ f ∷ []) h = absurd (h refl)
-snapshot_none len (a ∷ b ∷ c ∷ f ∷ x ∷ fs) h = refl
-
-pub snapshot_flag : (len : ℕ) (fs : List (Bor (List ℕ))) (g : Bor (List ℕ)) → length fs ≡ 4 → kind_in (slice_index_or fs 2 g).now ≡ None → arguments_reading len snapshot_in fs ≡ Err Field
-snapshot_flag len fs g four p = rw (texts_four fs g g g g four, p)
-
-pub snapshot_chunk : (len : ℕ) (fs : List (Bor (List ℕ))) (g k : Bor (List ℕ)) (kind : StoreKind) → length fs ≡ 4 → kind_in (slice_index_or fs 2 g).now ≡ Some kind → number_of (slice_index_or fs 3 k).now ≡ None
-    → arguments_reading len snapshot_in fs ≡ Err Field
-snapshot_chunk len fs g k kind four p n = rw (texts_four fs g g g k four, p, n)
-
-second_unnamed : (first : Bool) (target : Target) → ◌≡◌ {A = Result Target RowFault} (if first && (false && true) then Ok target else Err Name) (Err Name)
-second_unnamed true target = refl
-second_unnamed false target = refl
-
-pub snapshot_origin : (len : ℕ) (fs : List (Bor (List ℕ))) (d g k : Bor (List ℕ)) (kind : StoreKind) (chunk : ℕ) (fault : RowFault) → length fs ≡ 4 → kind_in (slice_index_or fs 2 g).now ≡ Some kind
-    → number_of (slice_index_or fs 3 k).now ≡ Some chunk → dev_reading (slice_index_or fs 0 d).now ≡ Err fault → arguments_reading len snapshot_in fs ≡ Err fault
-snapshot_origin len fs d g k kind chunk fault four p n o =
-    let a = dev_unnamed (slice_index_or fs 0 d).now fault o in
-    rw (texts_four fs d d g k four, p, n, a.0, a.1) (second_unnamed (is_dev_ref (dev_in (slice_index_or fs 1 d).now)) _)
-
-pub snapshot_store : (len : ℕ) (fs : List (Bor (List ℕ))) (d e g k : Bor (List ℕ)) (kind : StoreKind) (chunk : ℕ) (origin : DevRef) (fault : RowFault) → length fs ≡ 4 → kind_in (slice_index_or fs 2 g).now ≡ Some kind
-    → number_of (slice_index_or fs 3 k).now ≡ Some chunk → dev_reading (slice_index_or fs 0 d).now ≡ Ok origin → dev_reading (slice_index_or fs 1 e).now ≡ Err fault → arguments_reading len snapshot_in fs ≡ Err fault
-snapshot_store len fs d e g k kind chunk origin fault four p n o s =
-    let a = dev_parts (slice_index_or fs 0 d).now origin o in
-    let b = dev_unnamed (slice_index_or fs 1 e).now fault s in
-    rw (texts_four fs d e g k four, p, n, a.1, a.0, b.0, b.1)
-
-pub snapshot_read : (len : ℕ) (fs : List (Bor (List ℕ))) (d e g k : Bor (List ℕ)) (kind : StoreKind) (chunk : ℕ) (origin store : DevRef) → length fs ≡ 4 → kind_in (slice_index_or fs 2 g).now ≡ Some kind
-    → number_of (slice_index_or fs 3 k).now ≡ Some chunk → dev_reading (slice_index_or fs 0 d).now ≡ Ok origin → dev_reading (slice_index_or fs 1 e).now ≡ Ok store → arguments_reading len snapshot_in fs ≡ Ok (Snapshot origin store kind chunk)
-snapshot_read len fs d e g k kind chunk origin store four p n o s =
-    let a = dev_parts (slice_index_or fs 0 d).now origin o in
-    let b = dev_parts (slice_index_or fs 1 e).now store s in
-    rw (texts_four fs d e g k four, p, n, a.1, a.0, b.1, b.0)
-
--- one argument
-text_one : (fs : List (Bor (List ℕ))) (d : Bor (List ℕ)) → length fs ≡ 1 → texts fs ≡ (slice_index_or fs 0 d).now ∷ []
-text_one [] d h = absurd (omega arith)
-text_one (f ∷ []) d h = refl
-text_one (f ∷ g ∷ fs) d h = absurd (omega arith)
-
-pub origin_none : (len : ℕ) (fs : List (Bor (List ℕ))) → length fs ≢ 1 → arguments_reading len origin_in fs ≡ Err Field
-origin_none len [] h = refl
-origin_none len (f ∷ []) h = absurd (h refl)
-origin_none len (f ∷ g ∷ fs) h = refl
-
-pub origin_unnamed : (len : ℕ) (fs : List (Bor (List ℕ))) (d : Bor (List ℕ)) (fault : RowFault) → length fs ≡ 1 → dev_reading (slice_index_or fs 0 d).now ≡ Err fault → arguments_reading len origin_in fs ≡ Err fault
-origin_unnamed len fs d fault one r = let a = dev_unnamed (slice_index_or fs 0 d).now fault r in rw (text_one fs d one, a.0, a.1)
-
-pub origin_read : (len : ℕ) (fs : List (Bor (List ℕ))) (d : Bor (List ℕ)) (origin : DevRef) → length fs ≡ 1 → dev_reading (slice_index_or fs 0 d).now ≡ Ok origin → arguments_reading len origin_in fs ≡ Ok (Origin origin)
-origin_read len fs d origin one r = let a = dev_parts (slice_index_or fs 0 d).now origin r in rw (text_one fs d one, a.1, a.0)
-
--- A type and its arguments
-
-bare_some : (type : List ℕ) (fs : List (Bor (List ℕ))) → eqb (length fs) 0 ≡ false → bare_in type (texts fs) ≡ None
-bare_some type [] h = absurd cc
-bare_some type (f ∷ fs) h = refl
-
--- the argument of an origin
-pub target_origin : (len : ℕ) (fs : List (Bor (List ℕ))) (d : Bor (List ℕ)) → 1 ≤ length fs → pointwise nat_eq (slice_index_or fs 0 d).now (codes "linear") ≡ false → pointwise nat_eq (slice_index_or fs 0 d).now (codes "striped") ≡ false
-    → pointwise nat_eq (slice_index_or fs 0 d).now (codes "snapshot") ≡ false → pointwise nat_eq (slice_index_or fs 0 d).now (codes "snapshot-origin") ≡ true → target_reading len (texts fs) ≡ arguments_reading len origin_in (take (length fs - 1) (drop 1 fs))
-target_origin len [] d h linear striped snapshot origin = absurd (omega arith)
-target_origin len (f ∷ fs) d h linear striped snapshot origin = rw (linear, striped, snapshot, origin, take_rest)
-
--- arguments after a type that takes none
-pub target_over : (len : ℕ) (fs : List (Bor (List ℕ))) (d : Bor (List ℕ)) → 1 ≤ length fs → pointwise nat_eq (slice_index_or fs 0 d).now (codes "linear") ≡ false → pointwise nat_eq (slice_index_or fs 0 d).now (codes "striped") ≡ false
-    → pointwise nat_eq (slice_index_or fs 0 d).now (codes "snapshot") ≡ false → pointwise nat_eq (slice_index_or fs 0 d).now (codes "snapshot-origin") ≡ false → eqb (length (take (length fs - 1) (drop 1 fs))) 0 ≡ false → target_reading len (texts fs) ≡ Err Field
-target_over len [] d h linear striped snapshot origin some = absurd (omega arith)
-target_over len (f ∷ fs) d h linear striped snapshot origin some = rw (linear, striped, snapshot, origin, bare_some f.now fs (rw take_rest at some))
+-- the columns and their chunk, after their number
+pub striped_said : (fs : List (Bor (List ℕ))) (d : Bor (List ℕ)) → 1 ≤ length fs → is_count (slice_index_or fs 0 d).now (length (take (length fs - 1) (drop 1 fs))) ≡ true
+    → striped_in (texts fs) ≡ option_map (λ said. Striped said.0 said.1) (then_in number_of columns_in (texts (take (length fs - 1) (drop 1 fs))))
+striped_said [] d h c = absurd (omega arith)
+striped_said (f ∷ fs) d h c =
+    let counted : is_count f.now (length (texts fs)) ≡ true = rw length-map (rw (take_rest (f ∷ fs) 1) at c) in
+    rw (counted, take_rest (f ∷ fs) 1)
 
 pub and_false : (b : Bool) → (b && false) ≡ false
 and_false true = refl
@@ -304,31 +191,35 @@ read_parts {X} has_names (Some other) x h = elim (cases_Bool (has_names other)) 
   | inr e ↦ absurd (let no : ◌≡◌ {A = Result X RowFault} (Err Name) (Ok x) = rw e at h in cc)
 ]
 
-with_head : (head : BodyHead) (o : Option Target)
-    → option_map (line_at head.at) (option_map (λ target. let body : Body = record { start = head.start; len = head.len; target = target } in body) o) ≡ option_map (line_of head) o
-with_head head None = refl
-with_head head (Some target) = refl
-
 -- the line of a target that was read, or its fault
 line_made : (lines : List Line) (head : BodyHead) (o : Option Target)
-    → with_line lines (reading_of (λ line. has_target_names line.len line.target) (option_map (line_of head) o)) ≡ with_target lines head (reading_of (has_target_names head.len) o)
+    → with_line lines (reading_of (λ (line : Line). has_target_names line.target) (option_map (line_of head) o)) ≡ with_target lines head (reading_of has_target_names o)
 line_made lines head None = refl
-line_made lines head (Some target) = elim (cases_Bool (has_target_names head.len target)) [
+line_made lines head (Some target) = elim (cases_Bool (has_target_names target)) [
   | inl e ↦ rw e
   | inr e ↦ rw e
 ]
 
-pub body_made : (lines : List Line) (at : Place) (fs : List (Bor (List ℕ))) (d e : Bor (List ℕ)) (start len : ℕ) → 2 ≤ length fs → number_of (slice_index_or fs 0 d).now ≡ Some start
-    → number_of (slice_index_or fs 1 e).now ≡ Some len → with_line lines (body_reading at (texts fs)) ≡ with_target lines (record { start = start; len = len; at = at }) (target_reading len (texts (take (length fs - 2) (drop 2 fs))))
-body_made lines at [] d e start len h n m = absurd (omega arith)
-body_made lines at (f ∷ []) d e start len h n m = absurd (omega arith)
-body_made lines at (f ∷ g ∷ fs) d e start len h n m =
-    rw (n, m, take_rest) (
-    ap (λ said. with_line lines (reading_of (λ (line : Line). has_target_names line.len line.target) said)) (with_head (record { start = start; len = len; at = at }) (target_in (texts fs)))
-    ∙ line_made lines (record { start = start; len = len; at = at }) (target_in (texts fs))
-    )
+headed : (at : Place) (start len : ℕ) (o : Option Target) → option_map (line_at at) (option_map (λ (said : ℕ × (ℕ × Target)). let body : Body = record { start = said.0; len = said.1.0; target = said.1.1 } in body) (option_map (λ said. (start, said)) (option_map (λ target. (len, target)) o)))
+    ≡ option_map (λ target. record { start = start; len = len; target = target; at = at }) o
+headed at start len None = refl
+headed at start len (Some target) = refl
 
-pub body_none : (at : Place) (fs : List (Bor (List ℕ))) → length fs < 2 → body_reading at (texts fs) ≡ Err Field
+pub body_made : (lines : List Line) (at : Place) (fs : List (Bor (List ℕ))) (d : Bor (List ℕ)) (start len : ℕ) → 3 ≤ length fs → number_of (slice_index_or fs 0 d).now ≡ Some start → number_of (slice_index_or fs 1 d).now ≡ Some len
+    → with_line lines (body_reading at (texts fs)) ≡ with_target lines (record { start = start; len = len; at = at }) (target_reading (slice_index_or fs 2 d).now (texts (take (length fs - 3) (drop 3 fs))))
+body_made lines at [] d start len h n m = absurd (omega arith)
+body_made lines at (f ∷ []) d start len h n m = absurd (omega arith)
+body_made lines at (f ∷ g ∷ []) d start len h n m = absurd (omega arith)
+body_made lines at (f ∷ g ∷ i ∷ fs) d start len h n m =
+    rw (n, m, take_rest) (ap (λ said. with_line lines (reading_of (λ (line : Line). has_target_names line.target) said)) (headed at start len (arguments_in i.now (texts fs))) ∙ line_made lines (record { start = start; len = len; at = at }) (arguments_in i.now (texts fs)))
+
+no_line : (at : Place) (o p : Option ℕ) → reading_of (λ (line : Line). has_target_names line.target) (option_map (line_at at) (option_map (λ (said : ℕ × (ℕ × Target)). let body : Body = record { start = said.0; len = said.1.0; target = said.1.1 } in body) (if_both (λ x y. (x, y)) o (if_both (λ x y. (x, y)) p None)))) ≡ Err Field
+no_line at None p = refl
+no_line at (Some start) None = refl
+no_line at (Some start) (Some len) = refl
+
+pub body_none : (at : Place) (fs : List (Bor (List ℕ))) → length fs < 3 → body_reading at (texts fs) ≡ Err Field
 body_none at [] h = refl
-body_none at (f ∷ []) h = refl
-body_none at (f ∷ g ∷ fs) h = absurd (omega arith)
+body_none at (f ∷ []) h = no_line at (number_of f.now) None
+body_none at (f ∷ g ∷ []) h = no_line at (number_of f.now) (number_of g.now)
+body_none at (f ∷ g ∷ i ∷ fs) h = absurd (omega arith)

@@ -91,17 +91,17 @@ last_or-push d [] x = refl
 last_or-push d (y ∷ []) x = refl
 last_or-push d (y ∷ z ∷ xs) x = last_or-push d (z ∷ xs) x
 
+pub last_split : {X : Type 0} (d : X) (xs : List X) → 0 < length xs → xs ≡ all_but_last xs ++ last_or d xs ∷ []
+last_split d [] some = absurd (omega arith)
+last_split d (x ∷ []) some = refl
+last_split {X} d (x ∷ y ∷ xs) some = ap (λ (ys : List X). x ∷ ys) (last_split d (y ∷ xs) (omega arith))
+
 -- what is left when the last slice is taken off
 pub all_but_last-popped : (parts lines : List (Bor (List ℕ))) (last : Option (Bor (List ℕ))) → parts ≡ lines ++ option_to_list last → (last ≡ None → lines ≡ []) → texts lines ≡ all_but_last (texts parts)
 all_but_last-popped parts lines None popped empty = rw (popped, append-nil, empty refl)
 all_but_last-popped parts lines (Some slice) popped empty = sym (ap all_but_last (ap texts popped ∙ map-append _ lines (slice ∷ [])) ∙ all_but_last-push (texts lines) slice.now)
 
 -- Lines
-
-join_lines : (c : ℕ) (parts : List (List ℕ)) → join_with_byte c parts ≡ flat_map (λ line. line ++ c ∷ []) (all_but_last parts) ++ last_or [] parts
-join_lines c [] = refl
-join_lines c (part ∷ []) = refl
-join_lines c (part ∷ next ∷ parts) = rw (join_lines c (next ∷ parts)) (simp append_assoc)
 
 -- the parts of a text are never none
 all_but_last_more : {X : Type 0} (x : X) (xs : List X) → 0 < length xs → all_but_last (x ∷ xs) ≡ x ∷ all_but_last xs
@@ -133,14 +133,6 @@ line_found text after n found is_after =
 -- and a text without a newline
 pub no_line_found : (text : List ℕ) → IsFirstByte (is_byte 10) text None → (lines_of text ≡ []) × (rest_of text ≡ text)
 no_line_found text none = let parts = parts_at-nowhere 10 text none in (ap all_but_last parts, ap (last_or []) parts)
-
--- a text is its lines, each with its newline, and its rest
-pub lines_of-rest_of : (text : List ℕ) → text ≡ flat_map (λ line. line ++ 10 ∷ []) (lines_of text) ++ rest_of text
-lines_of-rest_of text = sym (join-parts_at 10 text) ∙ join_lines 10 (parts_at 10 text)
-
--- without a rest it is its lines
-pub lines_of-whole : (text : List ℕ) → rest_of text ≡ [] → text ≡ flat_map (λ line. line ++ 10 ∷ []) (lines_of text)
-lines_of-whole text none = lines_of-rest_of text ∙ rw none (append-nil _)
 
 -- lines without a newline in them are the parts of the text that they make, before an empty rest
 pub parts_at-lines : (lines : List (List ℕ)) → AllByRecursion (IsClearOf 10) lines → parts_at 10 (flat_map (λ line. line ++ 10 ∷ []) lines) ≡ lines ++ [] ∷ []

@@ -1,15 +1,32 @@
--- The checks of a text whose rows are its lines, and, for the functions that the public calls stand on, the values of its rows.
-use Rattle.std.specs.Prelude.{ℕ, suc, Bool, List, [], ◌∷◌, map}
+-- What a text says line by line, the checks of its rows, and, for the functions that the public calls stand on, the values of its rows.
+use Rattle.std.specs.Prelude.{◌≡◌, ℕ, suc, Bool, List, [], ◌∷◌, map, Option}
+use Rattle.std.specs.List.{cons_option}
 use Rattle.dm_table.specs.declared.load.place.Part.{Part}
 use Rattle.dm_table.specs.declared.load.load_fault.LoadFault.{LoadFault}
 use Rattle.dm_table.specs.words.Fields.{parts_at, lines_of, rest_of}
-use Rattle.dm_table.specs.load.LoadFault.{not_text, row_checks}
+use Rattle.dm_table.specs.load.LoadFault.{untexts, row_checks}
 use Rattle.dm_table.specs.words.Bytes.{code}
 
--- the checks of a text, in their order; row_of gives the row of a line
-abbrev pub line_checks : Part → (List ℕ → List (List ℕ)) → (is_row has_values has_names : List (List ℕ) → Bool) → List ℕ → List (List LoadFault)
-line_checks part row_of is_row has_values has_names text =
-    not_text part (parts_at (code "\n") text) ∷ row_checks part is_row has_values has_names (map row_of (lines_of text)) (rest_of text)
+-- the texts from number n on say these values, each one
+abbrev pub SayEach : {X : Type 0} → (says : ℕ → List ℕ → X → Type 0) → ℕ → (texts : List (List ℕ)) → List X → Type 0
+SayEach says n [] [] = Unit {0}
+SayEach says n (text ∷ texts) (value ∷ values) = says n text value × SayEach says (suc n) texts values
+SayEach says n texts values = ⊥
+
+-- the text is lines, each with its newline, and they say these values
+pub record LinesSay {X : Type 0} (says : ℕ → List ℕ → X → Type 0) (text : List ℕ) (values : List X) : Type 0 where
+  pub ended : rest_of text ≡ []
+  pub said : SayEach says 1 (lines_of text) values
+
+-- the checks of a text whose lines pass a test, in their order; row_of gives the row of a line
+abbrev pub line_checks : (is_text : List ℕ → Bool) → Part → (List ℕ → List (List ℕ)) → (is_row has_values has_names : List (List ℕ) → Bool) → List ℕ → List (List LoadFault)
+line_checks is_text part row_of is_row has_values has_names text =
+    untexts is_text part (parts_at (code "\n") text) ∷ row_checks part is_row has_values has_names (map row_of (lines_of text)) (rest_of text)
+
+-- the values that rows say, numbered from n
+abbrev pub values_from : {R X : Type 0} → (value_in : ℕ → R → Option X) → ℕ → List R → List X
+values_from value_in n [] = []
+values_from value_in n (row ∷ rows) = cons_option (value_in n row) (values_from value_in (suc n) rows)
 
 -- the values after these rows, numbered from n: each row is added to the values before it
 abbrev pub with_rows : {X : Type 0} → (List X → ℕ → List (List ℕ) → List X) → List X → ℕ → List (List (List ℕ)) → List X

@@ -1,5 +1,6 @@
 -- What is wrong with a row, and the first fault of each kind. Each row is read once, though by definition each check runs over all rows.
 use Rattle.std.specs.Prelude.{◌≡◌, ◌≢◌, ℕ, suc, Bool, List, [], ◌∷◌, Option, Some, None, Result, Ok, Err, if◌then◌else◌}
+use Rattle.std.specs.Option.{ok_or}
 use Rattle.dm_table.specs.declared.load.place.Part.{Part}
 use Rattle.dm_table.specs.declared.load.load_fault.LoadKind.TheVariants as kinds
 use Rattle.dm_table.specs.declared.load.load_fault.LoadFault.{LoadFault}
@@ -20,6 +21,11 @@ row_fault is_row has_values has_names row = first_failed (is_row row) (has_value
 abbrev pub Reads : {X Y : Type 0} → (X → Y) → Result X RowFault → Result Y RowFault → Type 0
 Reads view (Ok x) reading = reading ≡ Ok (view x)
 Reads view (Err fault) reading = fault ≢ Memory → reading ≡ Err fault
+
+-- what a row says, or the fault of its tests; Syntax, where it says nothing
+abbrev pub said_unless : {X : Type 0} → (fault : Option RowFault) → (said : Option X) → Result X RowFault
+said_unless None said = ok_or said Syntax
+said_unless (Some fault) said = Err fault
 
 -- why nothing was read, if so
 abbrev pub fault_in : {X : Type 0} → Result X RowFault → Option RowFault

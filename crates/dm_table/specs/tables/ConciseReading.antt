@@ -1,7 +1,6 @@
 -- How a device of the concise form is read, for the functions that the public call stands on.
-use Rattle.std.specs.Prelude.{ℕ, suc, Bool, ◌&&◌, List, [], ◌∷◌, drop, Option, Some, None, Result, Err}
-use Rattle.std.specs.Option.{ok_or}
-use Rattle.std.specs.List.{cons_option, filter_map}
+use Rattle.std.specs.Prelude.{ℕ, Bool, ◌&&◌, List, [], ◌∷◌, drop, Option, Some, None, Result}
+use Rattle.std.specs.List.{filter_map}
 use Rattle.dm_table.specs.declared.tables.table.Line.{Line}
 use Rattle.dm_table.specs.declared.tables.table.DeviceSpec.{DeviceSpec}
 use Rattle.dm_table.specs.declared.load.place.Place.{Place}
@@ -10,7 +9,8 @@ use Rattle.dm_table.specs.declared.load.load_fault.LoadFault.{LoadFault}
 use Rattle.dm_table.specs.declared.load.row_faults.RowFault.{RowFault}
 use Rattle.dm_table.specs.declared.load.row_faults.RowFault.TheVariants.{Syntax, Field, Name}
 use Rattle.dm_table.specs.load.LoadFault.{first_fault, row_checks, unless}
-use Rattle.dm_table.specs.load.RowFaults.{row_fault}
+use Rattle.dm_table.specs.load.Reading.{values_from}
+use Rattle.dm_table.specs.load.RowFaults.{row_fault, said_unless}
 use Rattle.dm_table.specs.tables.LineBody.{is_body_row, is_body, has_body_names}
 use Rattle.dm_table.specs.tables.LineReading.{line_in}
 use Rattle.dm_table.specs.tables.ConciseText.{place_of, is_ro, entries, body_fields, is_label, has_label_values, has_label_names, is_device, has_values, has_names, devices_of, concise_checks}
@@ -59,23 +59,17 @@ device_in n _ = None
 abbrev pub bodies_reading : Place → Option RowFault → List (List ℕ) → Result (List Line) RowFault
 bodies_reading at before texts = unless (earlier_of before (fault_of_bodies texts)) (lines_in at texts)
 
--- a device, or the fault that was found first: Syntax, where the entries say no device
-abbrev pub device_unless : Option RowFault → Option DeviceSpec → Result DeviceSpec RowFault
-device_unless None device = ok_or device Syntax
-device_unless (Some fault) device = Err fault
-
 -- device number n, or the fault of its entries; the flag says that no newline stands in them
 abbrev pub entries_reading : ℕ → Bool → List (List ℕ) → Result DeviceSpec RowFault
-entries_reading n on_a_line entries = device_unless (fault_of_entries on_a_line entries) (device_in n entries)
+entries_reading n on_a_line entries = said_unless (fault_of_entries on_a_line entries) (device_in n entries)
 
 -- device number n, or the fault of its text
 abbrev pub device_reading : ℕ → List ℕ → Result DeviceSpec RowFault
-device_reading n text = device_unless (fault_of_device text) (device_in n (entries text))
+device_reading n text = said_unless (fault_of_device text) (device_in n (entries text))
 
 -- the devices that texts say, numbered from n
 abbrev pub devices_from : ℕ → List (List ℕ) → List DeviceSpec
-devices_from n [] = []
-devices_from n (text ∷ texts) = cons_option (device_in n (entries text)) (devices_from (suc n) texts)
+devices_from = values_from (λ n text. device_in n (entries text))
 
 -- the devices of parts whose bytes are text, or the fault of their checks
 abbrev pub parts_reading : List (List ℕ) → Result (List DeviceSpec) LoadFault

@@ -1,5 +1,5 @@
 -- The concise form (dmsetup(8)): devices with semicolons between them, each NAME,UUID,MINOR,FLAGS and its lines, with commas between all. The first four label the bodies of the lines.
-use Rattle.std.specs.Prelude.{◌≡◌, ◌⊎◌, ℕ, suc, ◌≤◌, ◌==◌, Bool, true, false, not, ◌&&◌, ◌||◌, List, [], ◌∷◌, ◌++◌, length, drop, nat_le, nat_eq, codes, is_some, if◌then◌else◌}
+use Rattle.std.specs.Prelude.{◌≡◌, ◌⊎◌, ℕ, ◌≤◌, ◌==◌, Bool, true, false, not, ◌&&◌, ◌||◌, List, [], ◌∷◌, ◌++◌, length, drop, nat_le, nat_eq, codes, is_some, if◌then◌else◌}
 use Rattle.std.specs.List.{list_all, join_with_byte}
 use Rattle.std.specs.Cmp.Lexicographic.{pointwise}
 use Rattle.dm_table.specs.declared.tables.table.Line.{Line}
@@ -11,6 +11,7 @@ use Rattle.dm_table.specs.words.Name.{is_device_byte, is_device_name}
 use Rattle.dm_table.specs.words.Number.{number_of}
 use Rattle.dm_table.specs.words.Fields.{parts_at, all_but_last, last_or, row_fields}
 use Rattle.dm_table.specs.load.LoadFault.{not_text, row_checks}
+use Rattle.dm_table.specs.load.Reading.{SayEach}
 use Rattle.dm_table.specs.tables.LineBody.{body_text, IsBody, is_body_row, is_body, has_body_names}
 use Rattle.dm_table.specs.words.Bytes.{code}
 
@@ -67,18 +68,11 @@ pub record SaysDevice (n : ℕ) (text : List ℕ) (device : DeviceSpec) : Type 0
   pub said : SaysLines n bodies device.lines
   pub at : device.at ≡ place_of n
 
--- the texts from number n on say these devices
-abbrev pub SaysDevices : ℕ → List (List ℕ) → List DeviceSpec → Type 0
-SaysDevices n [] [] = Unit {0}
-SaysDevices n [] (device ∷ devices) = ⊥
-SaysDevices n (text ∷ texts) [] = ⊥
-SaysDevices n (text ∷ texts) (device ∷ devices) = SaysDevice n text device × SaysDevices (suc n) texts devices
-
 -- the text says these devices; one newline at its end has no meaning
 pub record DescribesConcise (text : List ℕ) (devices : List DeviceSpec) : Type 0 where
   pub parts : List (List ℕ)
   pub spelled : (text ≡ join_with_byte (code ";") parts) ⊎ (text ≡ join_with_byte (code ";") parts ++ code "\n" ∷ [])
-  pub said : SaysDevices 1 parts devices
+  pub said : SayEach SaysDevice 1 parts devices
 
 -- Its checks
 

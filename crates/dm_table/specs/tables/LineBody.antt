@@ -1,7 +1,7 @@
 -- The body of a table's line: a start, a length, and a target with its arguments (dmsetup(8)). How a line is labelled is up to the form.
-use Rattle.std.specs.Prelude.{◌≡◌, ℕ, ◌*◌, ◌^◌, ◌<◌, ◌==◌, Bool, true, ◌&&◌, List, [], ◌∷◌, ◌++◌, length, nat_le, nat_lt, nat_eq, codes, decimal, drop, Option, Some, None, is_some, unwrap_or, if◌then◌else◌}
+use Rattle.std.specs.Prelude.{◌≡◌, ℕ, ◌+◌, ◌*◌, ◌^◌, ◌<◌, ◌==◌, Bool, true, ◌&&◌, List, [], ◌∷◌, ◌++◌, length, nat_le, nat_lt, nat_eq, codes, decimal, drop, Option, Some, None, is_some, unwrap_or, map, if◌then◌else◌}
 use Rattle.std.specs.Option.{option_map}
-use Rattle.std.specs.List.{flat_map, list_all, AllByRecursion}
+use Rattle.std.specs.List.{flat_map, list_all, join_with_byte, AllByRecursion}
 use Rattle.std.specs.Cmp.Lexicographic.{pointwise}
 use Rattle.dm_table.specs.declared.tables.table.DevRef.{DevRef}
 use Rattle.dm_table.specs.declared.tables.table.DevRef.TheVariants.{Device, Disk}
@@ -13,7 +13,6 @@ use Rattle.dm_table.specs.declared.tables.table.Target.TheVariants.{Linear, Stri
 use Rattle.dm_table.specs.declared.tables.table.Line.{Line}
 use Rattle.dm_table.specs.words.Name.{is_device_name, is_disk_name, names_device, mapper}
 use Rattle.dm_table.specs.words.Number.{number_of, number_in}
-use Rattle.dm_table.specs.tables.Span.{target_spans}
 use Rattle.dm_table.specs.words.Bytes.{code}
 
 -- What a body says
@@ -33,18 +32,50 @@ kind_text Persistent = codes "P"
 kind_text Transient = codes "N"
 kind_text Keeping = codes "K"
 
--- how a target and its arguments are written
+-- what an argument of a target is
+pub data Argument : Type 0 where
+  Lower : DevRef → Argument
+  Amount : ℕ → Argument
+  Flag : StoreKind → Argument
+
+-- how an argument is written
+abbrev pub argument_text : Argument → List ℕ
+argument_text (Lower to) = dev_text to
+argument_text (Amount n) = decimal n
+argument_text (Flag kind) = kind_text kind
+
+-- a target as a row: its type and its arguments
+pub record Row : Type 0 where
+  pub type : List ℕ
+  pub arguments : List Argument
+
+abbrev pub row : List ℕ → List Argument → Row
+row type arguments = record { type = type; arguments = arguments }
+
+-- the arguments of a column
+abbrev pub column_arguments : Column → List Argument
+column_arguments column = Lower column.to ∷ Amount column.offset ∷ []
+
+-- what stands for a target in a line
+abbrev pub target_row : Target → Row
+target_row (Linear to offset) = row (codes "linear") (Lower to ∷ Amount offset ∷ [])
+target_row (Striped chunk columns) = row (codes "striped") (Amount (length columns) ∷ Amount chunk ∷ flat_map column_arguments columns)
+target_row Zero = row (codes "zero") []
+target_row Error = row (codes "error") []
+target_row (Snapshot origin store kind chunk) = row (codes "snapshot") (Lower origin ∷ Lower store ∷ Flag kind ∷ Amount chunk ∷ [])
+target_row (Origin origin) = row (codes "snapshot-origin") (Lower origin ∷ [])
+
+-- the fields of a target
+abbrev pub target_fields : Target → List (List ℕ)
+target_fields target = (target_row target).type ∷ map argument_text (target_row target).arguments
+
+-- how a target is written: its fields with spaces between them
 abbrev pub target_text : Target → List ℕ
-target_text (Linear to offset) = codes "linear " ++ dev_text to ++ code " " ∷ decimal offset
-target_text (Striped chunk columns) = codes "striped " ++ decimal (length columns) ++ code " " ∷ decimal chunk ++ flat_map column_text columns
-target_text Zero = codes "zero"
-target_text Error = codes "error"
-target_text (Snapshot origin store kind chunk) = codes "snapshot " ++ dev_text origin ++ code " " ∷ dev_text store ++ code " " ∷ kind_text kind ++ code " " ∷ decimal chunk
-target_text (Origin origin) = codes "snapshot-origin " ++ dev_text origin
+target_text target = join_with_byte (code " ") (target_fields target)
 
 -- how the body of a line is written
 abbrev pub body_text : Line → List ℕ
-body_text line = decimal line.start ++ code " " ∷ decimal line.len ++ code " " ∷ target_text line.target
+body_text line = join_with_byte (code " ") (decimal line.start ∷ decimal line.len ∷ target_fields line.target)
 
 -- the name of a device or of a disk is valid
 abbrev pub is_dev_ref : DevRef → Bool
@@ -55,18 +86,15 @@ is_dev_ref (Disk name) = is_disk_name name
 abbrev pub IsDevRef : DevRef → Type 0
 IsDevRef dev = is_dev_ref dev ≡ true
 
--- a text may say this column
-abbrev pub IsColumn : Column → Type 0
-IsColumn column = IsDevRef column.to × (column.offset < 10 ^ 19)
+-- a text may say this argument
+abbrev pub IsArgument : Argument → Type 0
+IsArgument (Lower to) = IsDevRef to
+IsArgument (Amount n) = n < 10 ^ 19
+IsArgument (Flag kind) = Unit {0}
 
 -- a text may say this target
 abbrev pub IsTarget : Target → Type 0
-IsTarget (Linear to offset) = IsDevRef to × (offset < 10 ^ 19)
-IsTarget (Striped chunk columns) = (length columns < 10 ^ 19) × (chunk < 10 ^ 19) × AllByRecursion IsColumn columns
-IsTarget Zero = Unit {0}
-IsTarget Error = Unit {0}
-IsTarget (Snapshot origin store kind chunk) = IsDevRef origin × IsDevRef store × (chunk < 10 ^ 19)
-IsTarget (Origin origin) = IsDevRef origin
+IsTarget target = AllByRecursion IsArgument (target_row target).arguments
 
 -- a text may say this body
 pub record IsBody (line : Line) : Type 0 where
@@ -85,15 +113,19 @@ abbrev pub if_both : {X Y Z : Type 0} → (X → Y → Z) → Option X → Optio
 if_both make None y = None
 if_both make (Some x) y = option_map (make x) y
 
--- the same of three
-abbrev pub if_all : {W X Y Z : Type 0} → (W → X → Y → Z) → Option W → Option X → Option Y → Option Z
-if_all make None x y = None
-if_all make (Some w) x y = if_both (make w) x y
+-- what the first field says and what the others say, if both say something
+abbrev pub then_in : {X Y : Type 0} → (List ℕ → Option X) → (List (List ℕ) → Option Y) → List (List ℕ) → Option (X × Y)
+then_in first others [] = None
+then_in first others (field ∷ fields) = if_both (λ x y. (x, y)) (first field) (others fields)
 
--- what is made of a text and a number
-abbrev pub pair_in : (DevRef → ℕ → Target) → List (List ℕ) → Option Target
-pair_in make (to ∷ number ∷ []) = option_map (λ n. make (dev_in to) n) (number_of number)
-pair_in make _ = None
+-- what no field says
+abbrev pub nothing_in : List (List ℕ) → Option (Unit {0})
+nothing_in [] = Some tt
+nothing_in (field ∷ fields) = None
+
+-- a device or a disk
+abbrev pub lower_in : List ℕ → Option DevRef
+lower_in text = Some (dev_in text)
 
 -- two fields for each column: a text and a number
 abbrev pub columns_in : List (List ℕ) → Option (List Column)
@@ -101,14 +133,14 @@ columns_in [] = Some []
 columns_in (to ∷ []) = None
 columns_in (to ∷ offset ∷ more) = if_both (λ n columns. record { to = dev_in to; offset = n } ∷ columns) (number_of offset) (columns_in more)
 
--- a number, which is half of n
-abbrev pub is_half : List ℕ → ℕ → Bool
-is_half count n = is_some (number_of count) && 2 * number_in count == n
+-- the number of columns that have two fields each among n of them, which have one more
+abbrev pub is_count : List ℕ → ℕ → Bool
+is_count count n = is_some (number_of count) && 2 * number_in count + 1 == n
 
 -- the number of columns, the number of sectors of a chunk, and the columns
 abbrev pub striped_in : List (List ℕ) → Option Target
-striped_in (count ∷ chunk ∷ columns) = if is_half count (length columns) then if_both Striped (number_of chunk) (columns_in columns) else None
-striped_in _ = None
+striped_in [] = None
+striped_in (count ∷ others) = if is_count count (length others) then option_map (λ said. Striped said.0 said.1) (then_in number_of columns_in others) else None
 
 -- the flag of a kind of store
 abbrev pub kind_in : List ℕ → Option StoreKind
@@ -117,30 +149,31 @@ kind_in flag =
     else (if pointwise nat_eq flag (codes "N") then Some Transient
     else (if pointwise nat_eq flag (codes "K") then Some Keeping else None))
 
--- two texts, the kind of the store, and a number
-abbrev pub snapshot_in : List (List ℕ) → Option Target
-snapshot_in (origin ∷ store ∷ flag ∷ chunk ∷ []) = if_both (λ kind n. Snapshot (dev_in origin) (dev_in store) kind n) (kind_in flag) (number_of chunk)
-snapshot_in _ = None
+-- a device and a number
+abbrev pub linear_in : List (List ℕ) → Option Target
+linear_in fields = option_map (λ said. Linear said.0 said.1.0) (then_in lower_in (then_in number_of nothing_in) fields)
 
--- a text
-abbrev pub origin_in : List (List ℕ) → Option Target
-origin_in (origin ∷ []) = Some (Origin (dev_in origin))
-origin_in _ = None
+-- a target of a type that few lines have, by its arguments
+abbrev pub other_in : (type : List ℕ) → List (List ℕ) → Option Target
+other_in type fields =
+    if pointwise nat_eq type (codes "striped") then striped_in fields
+    else (if pointwise nat_eq type (codes "snapshot")
+    then option_map (λ said. Snapshot said.0 said.1.0 said.1.1.0 said.1.1.1.0) (then_in lower_in (then_in lower_in (then_in kind_in (then_in number_of nothing_in))) fields)
+    else (if pointwise nat_eq type (codes "snapshot-origin") then option_map (λ said. Origin said.0) (then_in lower_in nothing_in fields)
+    else None))
 
--- a target type that takes no arguments, where there are none
-abbrev pub bare_in : List ℕ → List (List ℕ) → Option Target
-bare_in type [] = if pointwise nat_eq type (codes "zero") then Some Zero else (if pointwise nat_eq type (codes "error") then Some Error else None)
-bare_in type _ = None
+-- a target of this type, by its arguments
+abbrev pub arguments_in : (type : List ℕ) → List (List ℕ) → Option Target
+arguments_in type fields =
+    if pointwise nat_eq type (codes "linear") then linear_in fields
+    else (if pointwise nat_eq type (codes "zero") then option_map (λ said. Zero) (nothing_in fields)
+    else (if pointwise nat_eq type (codes "error") then option_map (λ said. Error) (nothing_in fields)
+    else other_in type fields))
 
 -- a target type and its arguments
 abbrev pub target_in : List (List ℕ) → Option Target
 target_in [] = None
-target_in (type ∷ arguments) =
-    if pointwise nat_eq type (codes "linear") then pair_in Linear arguments
-    else (if pointwise nat_eq type (codes "striped") then striped_in arguments
-    else (if pointwise nat_eq type (codes "snapshot") then snapshot_in arguments
-    else (if pointwise nat_eq type (codes "snapshot-origin") then origin_in arguments
-    else bare_in type arguments)))
+target_in (type ∷ arguments) = arguments_in type arguments
 
 -- a line without its place
 pub record Body : Type 0 where
@@ -150,8 +183,7 @@ pub record Body : Type 0 where
 
 -- a start, a length and a target
 abbrev pub body_in : List (List ℕ) → Option Body
-body_in (start ∷ len ∷ target) = if_all (λ start len target. record { start = start; len = len; target = target }) (number_of start) (number_of len) (target_in target)
-body_in _ = None
+body_in fields = option_map (λ said. record { start = said.0; len = said.1.0; target = said.1.1 }) (then_in number_of (then_in number_of target_in) fields)
 
 -- Its checks
 
@@ -163,10 +195,16 @@ is_body_row fields = nat_le 3 (length fields) && list_all (λ field. nat_lt 0 (l
 abbrev pub is_body : List (List ℕ) → Bool
 is_body fields = is_some (body_in fields)
 
--- each name in the target of a line of this length is valid: they are those of its spans
-abbrev pub has_target_names : (len : ℕ) → Target → Bool
-has_target_names len target = list_all (λ span. is_dev_ref span.to) (target_spans len target)
+-- an argument that is a name is a valid one
+abbrev pub has_name : Argument → Bool
+has_name (Lower to) = is_dev_ref to
+has_name (Amount n) = true
+has_name (Flag kind) = true
+
+-- each name in a target is valid
+abbrev pub has_target_names : Target → Bool
+has_target_names target = list_all has_name (target_row target).arguments
 
 -- the same for the body that fields say; where they say none, there is no name to check
 abbrev pub has_body_names : List (List ℕ) → Bool
-has_body_names fields = unwrap_or (option_map (λ body. has_target_names body.len body.target) (body_in fields)) true
+has_body_names fields = unwrap_or (option_map (λ body. has_target_names body.target) (body_in fields)) true

@@ -1,7 +1,7 @@
 -- What is read of the fields of a body, a value or a fault, for the functions that read them once.
 use Rattle.std.specs.Prelude.{ℕ, Bool, List, [], ◌∷◌, ◌++◌, Option, Some, None, is_some, Result, Ok, Err, if◌then◌else◌}
 use Rattle.std.specs.Option.{option_map}
-use Rattle.std.specs.List.{list_all}
+use Rattle.std.specs.List.{flat_map, list_all}
 use Rattle.dm_table.specs.declared.tables.table.DevRef.{DevRef}
 use Rattle.dm_table.specs.declared.tables.table.Column.{Column}
 use Rattle.dm_table.specs.declared.tables.table.Target.{Target}
@@ -10,7 +10,7 @@ use Rattle.dm_table.specs.declared.tables.line_body.BodyHead.{BodyHead}
 use Rattle.dm_table.specs.declared.load.place.Place.{Place}
 use Rattle.dm_table.specs.declared.load.row_faults.RowFault.{RowFault}
 use Rattle.dm_table.specs.declared.load.row_faults.RowFault.TheVariants.{Syntax, Field, Name, Memory}
-use Rattle.dm_table.specs.tables.LineBody.{is_dev_ref, dev_in, columns_in, target_in, Body, body_in, has_target_names}
+use Rattle.dm_table.specs.tables.LineBody.{column_arguments, is_dev_ref, dev_in, columns_in, arguments_in, Body, body_in, has_name, has_target_names}
 
 -- the line of a body, at a place
 abbrev pub line_at : Place → Body → Line
@@ -33,7 +33,17 @@ reading_of has_names (Some x) = if has_names x then Ok x else Err Name
 
 -- each name in columns is valid
 abbrev pub has_column_names : List Column → Bool
-has_column_names columns = list_all (λ column. is_dev_ref column.to) columns
+has_column_names columns = list_all has_name (flat_map column_arguments columns)
+
+-- what is read in two parts, if both are read: Field before Name
+abbrev pub both_read : {X Y : Type 0} → Result X RowFault → Result Y RowFault → Result (X × Y) RowFault
+both_read (Ok x) (Ok y) = Ok (x, y)
+both_read (Ok x) (Err fault) = Err fault
+both_read (Err Name) (Ok y) = Err Name
+both_read (Err Name) (Err fault) = Err fault
+both_read (Err Syntax) others = Err Syntax
+both_read (Err Field) others = Err Field
+both_read (Err Memory) others = Err Memory
 
 -- the columns that fields say, or what is wrong with them: Field before Name
 abbrev pub columns_reading : List (List ℕ) → Result (List Column) RowFault
@@ -46,13 +56,13 @@ fault_before Syntax fields = Syntax
 fault_before Field fields = Field
 fault_before Memory fields = Memory
 
--- the target of a line of this length
-abbrev pub target_reading : (len : ℕ) → List (List ℕ) → Result Target RowFault
-target_reading len fields = reading_of (has_target_names len) (target_in fields)
+-- the target of this type that arguments say
+abbrev pub target_reading : (type : List ℕ) → List (List ℕ) → Result Target RowFault
+target_reading type arguments = reading_of has_target_names (arguments_in type arguments)
 
 -- the line at this place that fields say, or what is wrong with them: Field before Name
 abbrev pub body_reading : Place → List (List ℕ) → Result Line RowFault
-body_reading at fields = reading_of (λ line. has_target_names line.len line.target) (line_in at fields)
+body_reading at fields = reading_of (λ line. has_target_names line.target) (line_in at fields)
 
 -- what is made of what is read, if it is read
 abbrev pub made_of : {X Y : Type 0} → (X → Y) → Result X RowFault → Result Y RowFault

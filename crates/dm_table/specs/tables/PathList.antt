@@ -1,8 +1,7 @@
 -- Lists of paths: a line DISK PATH for each disk that has an image.
-use Rattle.std.specs.Prelude.{◌≡◌, ℕ, suc, ◌+◌, ◌-◌, ◌/◌, ◌%◌, ◌<◌, ◌==◌, Bool, true, ◌&&◌, List, [], ◌∷◌, ◌++◌, length, take, drop, get_or, nat_eq, nat_le, is_some, map, codes, Option, None, Some, Result, Err, if◌then◌else◌}
-use Rattle.std.specs.Option.{option_map}
+use Rattle.std.specs.Prelude.{◌≡◌, ℕ, ◌+◌, ◌-◌, ◌/◌, ◌%◌, ◌<◌, ◌==◌, Bool, true, ◌&&◌, List, [], ◌∷◌, ◌++◌, length, take, drop, get_or, nat_eq, nat_le, is_some, map, codes, Option, None, Some, Result, Err, if◌then◌else◌}
 use Rattle.std.specs.Char.{is_ascii_digit}
-use Rattle.std.specs.List.{ends_with, list_all, cons_option}
+use Rattle.std.specs.List.{ends_with, list_all}
 use Rattle.std.specs.Str.{is_utf8}
 use Rattle.std.specs.Str.Parse.{digits_value}
 use Rattle.dm_table.specs.declared.load.place.Part.TheVariants.{Paths}
@@ -10,13 +9,13 @@ use Rattle.dm_table.specs.declared.load.load_fault.LoadFault.{LoadFault}
 use Rattle.dm_table.specs.declared.load.row_faults.RowFault.{RowFault}
 use Rattle.dm_table.specs.declared.load.row_faults.RowFault.TheVariants.{Syntax}
 use Rattle.dm_table.specs.declared.tables.disk_path.DiskPath.{DiskPath}
-use Rattle.dm_table.specs.load.LoadFault.{first_fault, row_checks, unless, untexts}
-use Rattle.dm_table.specs.load.RowFaults.{row_fault}
+use Rattle.dm_table.specs.load.LoadFault.{first_fault, unless}
+use Rattle.dm_table.specs.load.Reading.{LinesSay, line_checks, values_from}
 use Rattle.dm_table.specs.tables.ConciseText.{lacks}
-use Rattle.dm_table.specs.tables.DiskList.{has_name, is_pair}
+use Rattle.dm_table.specs.tables.DiskList.{has_name, is_pair, pair_in}
 use Rattle.dm_table.specs.tables.LineReading.{reading_of}
 use Rattle.dm_table.specs.words.Bytes.{code}
-use Rattle.dm_table.specs.words.Fields.{fields, last_or, lines_of, parts_at, rest_of}
+use Rattle.dm_table.specs.words.Fields.{fields, last_or, lines_of, parts_at}
 use Rattle.dm_table.specs.words.Name.{is_disk_name}
 
 -- What a path says
@@ -59,16 +58,9 @@ pub record IsPathOf (n : ℕ) (line : List ℕ) (disk : DiskPath) : Type 0 where
   pub place : place_in path ≡ Some (disk.file, disk.start)
   pub at : disk.at ≡ record { part = Paths; number = n }
 
--- the lines from number n on say where these disks lie, each one
-abbrev pub ArePathsOf : ℕ → (lines : List (List ℕ)) → List DiskPath → Type 0
-ArePathsOf n [] [] = Unit {0}
-ArePathsOf n (line ∷ lines) (disk ∷ disks) = IsPathOf n line disk × ArePathsOf (suc n) lines disks
-ArePathsOf n lines disks = ⊥
-
 -- the text is lines, each with its newline, and they say where these disks lie
-pub record DescribesPaths (text : List ℕ) (disks : List DiskPath) : Type 0 where
-  pub ended : rest_of text ≡ []
-  pub said : ArePathsOf 1 (lines_of text) disks
+abbrev pub DescribesPaths : List ℕ → List DiskPath → Type 0
+DescribesPaths = LinesSay IsPathOf
 
 -- Its checks
 
@@ -76,11 +68,13 @@ pub record DescribesPaths (text : List ℕ) (disks : List DiskPath) : Type 0 whe
 abbrev pub name_and_path : List ℕ → List (List ℕ)
 name_and_path line = let name = get_or (fields line) 0 [] in name ∷ drop (length name + 1) line ∷ []
 
+-- where a disk lies by its name and its place, as line number n
+abbrev pub path_at : ℕ → List ℕ → List ℕ × ℕ → DiskPath
+path_at n name place = record { disk = name; file = place.0; start = place.1; at = record { part = Paths; number = n } }
+
 -- where a disk lies by a row, as line number n
 abbrev pub path_in : ℕ → List (List ℕ) → Option DiskPath
-path_in n (name ∷ path ∷ []) =
-    option_map (λ place. record { disk = name; file = place.0; start = place.1; at = record { part = Paths; number = n } }) (place_in path)
-path_in n _ = None
+path_in = pair_in place_in path_at
 
 -- a place that a disk can have, whatever its line number
 abbrev pub has_place : List (List ℕ) → Bool
@@ -88,24 +82,13 @@ has_place row = is_some (path_in 0 row)
 
 -- the checks of a list, in their order
 abbrev pub path_checks : List ℕ → List (List LoadFault)
-path_checks text =
-    untexts is_path_text Paths (parts_at (code "\n") text)
-    ∷ row_checks Paths is_pair has_place has_name (map name_and_path (lines_of text)) (rest_of text)
-
--- where disks lie by rows, numbered from n
-abbrev pub paths_from : ℕ → List (List (List ℕ)) → List DiskPath
-paths_from n [] = []
-paths_from n (row ∷ rows) = cons_option (path_in n row) (paths_from (suc n) rows)
+path_checks text = line_checks is_path_text Paths name_and_path is_pair has_place has_name text
 
 -- what a text gives: where disks lie, or the first fault of the first check that finds any
 unfoldable pub read_paths : List ℕ → Result (List DiskPath) LoadFault
-read_paths text = unless (first_fault (path_checks text)) (paths_from 1 (map name_and_path (lines_of text)))
+read_paths text = unless (first_fault (path_checks text)) (values_from path_in 1 (map name_and_path (lines_of text)))
 
 -- How rows are read, for the functions that the public call stands on
-
--- what is wrong with a row
-abbrev pub path_fault : List (List ℕ) → Option RowFault
-path_fault row = row_fault is_pair has_place has_name row
 
 -- what is read of a row, as line n
 abbrev pub path_reading : ℕ → List (List ℕ) → Result DiskPath RowFault

@@ -1,21 +1,19 @@
 -- How a row of table text is read, for the functions that the public call stands on.
-use Rattle.std.specs.Prelude.{ℕ, suc, Bool, false, ◌&&◌, List, [], ◌∷◌, ◌++◌, map, nat_eq, Option, Some, None, Result, Err, if◌then◌else◌}
+use Rattle.std.specs.Prelude.{ℕ, Bool, false, ◌&&◌, List, [], ◌∷◌, ◌++◌, map, nat_eq, Option, Some, None, Result, Err, if◌then◌else◌}
 use Rattle.std.specs.Option.{option_map}
-use Rattle.std.specs.List.{cons_option}
 use Rattle.std.specs.Cmp.Lexicographic.{pointwise}
 use Rattle.dm_table.specs.declared.tables.table.DeviceSpec.{DeviceSpec}
 use Rattle.dm_table.specs.declared.load.place.Place.{Place}
 use Rattle.dm_table.specs.declared.load.place.Part.TheVariants.{Source}
-use Rattle.dm_table.specs.declared.load.load_fault.LoadFault.{LoadFault}
 use Rattle.dm_table.specs.declared.load.row_faults.RowFault.{RowFault}
 use Rattle.dm_table.specs.declared.load.row_faults.RowFault.TheVariants.{Syntax}
-use Rattle.dm_table.specs.words.Fields.{lines_of, row_fields}
-use Rattle.dm_table.specs.load.LoadFault.{first_fault, unless}
+use Rattle.dm_table.specs.words.Fields.{row_fields}
+use Rattle.dm_table.specs.load.Reading.{values_from}
 use Rattle.dm_table.specs.words.Name.{is_device_name}
 use Rattle.dm_table.specs.load.RowFaults.{row_fault}
 use Rattle.dm_table.specs.tables.LineBody.{has_target_names}
 use Rattle.dm_table.specs.tables.LineReading.{line_in, reading_of}
-use Rattle.dm_table.specs.tables.TableText.{NamedLine, name_in, is_row, has_values, has_names, table_checks}
+use Rattle.dm_table.specs.tables.TableText.{NamedLine, name_in, is_row, has_values, has_names}
 
 -- the rows of lines
 abbrev pub rows_of : List (List ℕ) → List (List (List ℕ))
@@ -25,11 +23,6 @@ rows_of = map row_fields
 abbrev pub named_in : ℕ → List (List ℕ) → Option NamedLine
 named_in n (label ∷ body) = option_map (λ line. record { name = name_in label; line = line }) (line_in (record { part = Source; number = n }) body)
 named_in n [] = None
-
--- the lines that rows say, numbered from n
-abbrev pub named_from : ℕ → List (List (List ℕ)) → List NamedLine
-named_from n [] = []
-named_from n (row ∷ rows) = cons_option (named_in n row) (named_from (suc n) rows)
 
 -- a device of one line
 abbrev pub alone : NamedLine → DeviceSpec
@@ -68,7 +61,7 @@ table_row_fault row = row_fault is_row has_values has_names row
 
 -- the name of a line, and each in its target, is valid
 abbrev pub has_line_names : NamedLine → Bool
-has_line_names named = is_device_name named.name && has_target_names named.line.len named.line.target
+has_line_names named = is_device_name named.name && has_target_names named.line.target
 
 -- what is read of a body under this name
 abbrev pub named_reading : List ℕ → Place → List (List ℕ) → Result NamedLine RowFault
@@ -80,8 +73,4 @@ row_reading n row = if is_row row then reading_of has_line_names (named_in n row
 
 -- the devices of rows, whose lines are numbered from n
 abbrev pub devices_from : ℕ → List (List (List ℕ)) → List DeviceSpec
-devices_from n rows = joined (named_from n rows)
-
--- the devices of a text, or the fault of its checks
-unfoldable pub read_table : List ℕ → Result (List DeviceSpec) LoadFault
-read_table text = unless (first_fault (table_checks text)) (devices_from 1 (rows_of (lines_of text)))
+devices_from n rows = joined (values_from named_in n rows)

@@ -1,5 +1,5 @@
 -- Table text: a line NAME: START LEN TYPE ARGS for each line of a table (dmsetup(8)). The name and its colon label the body of a line.
-use Rattle.std.specs.Prelude.{◌≡◌, ◌≢◌, ◌⊎◌, ℕ, suc, ◌==◌, Bool, true, false, ◌&&◌, List, [], ◌∷◌, ◌++◌, length, map, nat_lt}
+use Rattle.std.specs.Prelude.{◌≡◌, ◌≢◌, ◌⊎◌, ℕ, ◌==◌, Bool, true, false, ◌&&◌, List, [], ◌∷◌, ◌++◌, length, map, nat_lt}
 use Rattle.std.specs.List.{flat_map, AllByRecursion}
 use Rattle.dm_table.specs.declared.tables.table.Line.{Line}
 use Rattle.dm_table.specs.declared.tables.table.DeviceSpec.{DeviceSpec}
@@ -8,7 +8,8 @@ use Rattle.dm_table.specs.declared.load.place.Part.TheVariants.{Source}
 use Rattle.dm_table.specs.declared.load.load_fault.LoadFault.{LoadFault}
 use Rattle.dm_table.specs.words.Name.{is_device_name}
 use Rattle.dm_table.specs.words.Fields.{row_fields, all_but_last, last_or}
-use Rattle.dm_table.specs.load.Reading.{line_checks}
+use Rattle.dm_table.specs.load.LoadFault.{is_printable}
+use Rattle.dm_table.specs.load.Reading.{LinesSay, line_checks}
 use Rattle.dm_table.specs.tables.LineBody.{body_text, IsBody, is_body_row, is_body, has_body_names}
 use Rattle.dm_table.specs.words.Bytes.{code}
 
@@ -33,12 +34,9 @@ pub record IsSaid (n : ℕ) (named : NamedLine) : Type 0 where
   pub body : IsBody named.line
   pub at : named.line.at ≡ record { part = Source; number = n }
 
--- the text lines from number n on say these lines
-abbrev pub Says : ℕ → List (List ℕ) → List NamedLine → Type 0
-Says n [] [] = Unit {0}
-Says n [] (named ∷ more) = ⊥
-Says n (text ∷ texts) [] = ⊥
-Says n (text ∷ texts) (named ∷ more) = Writes text named × IsSaid n named × Says (suc n) texts more
+-- text line number n says this line
+abbrev pub SaysLine : ℕ → List ℕ → NamedLine → Type 0
+SaysLine n text named = Writes text named × IsSaid n named
 
 -- the lines of all devices, one after another, each with its device's name
 abbrev pub named_lines : List DeviceSpec → List NamedLine
@@ -62,9 +60,7 @@ DifferInName (device ∷ next ∷ devices) = (device.name ≢ next.name) × Diff
 
 -- the text says these devices
 pub record DescribesTable (text : List ℕ) (devices : List DeviceSpec) : Type 0 where
-  pub lines : List (List ℕ)
-  pub ended : text ≡ flat_map (λ line. line ++ code "\n" ∷ []) lines
-  pub said : Says 1 lines (named_lines devices)
+  pub said : LinesSay SaysLine text (named_lines devices)
   pub each : AllByRecursion IsDescribed devices
   pub apart : DifferInName devices
 
@@ -95,4 +91,4 @@ has_names [] = false
 
 -- the checks of a text, in their order
 abbrev pub table_checks : List ℕ → List (List LoadFault)
-table_checks text = line_checks Source row_fields is_row has_values has_names text
+table_checks text = line_checks is_printable Source row_fields is_row has_values has_names text

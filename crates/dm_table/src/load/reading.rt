@@ -6,7 +6,7 @@
 
 ghost use Rattle.std.specs.Prelude.{◌≡◌, ◌+◌, ℕ, Bool, List, [], None, Ok, IfOk, OnOk, length, map};
 ghost use Rattle.dm_table.specs.words.Fields.{texts, lines_of, rest_of};
-ghost use Rattle.dm_table.specs.load.LoadFault.{Answers, first_fault, row_checks, unless};
+ghost use Rattle.dm_table.specs.load.LoadFault.{Answers, first_fault, is_printable, row_checks, unless};
 ghost use Rattle.dm_table.specs.load.Reading.{line_checks, with_rows};
 ghost use Rattle.dm_table.specs.load.RowFaults.{Reads, no_faults, noted_rest, noted_rows, row_fault, first_noted};
 
@@ -90,7 +90,7 @@ pub(crate) fn read_lines<T: FromRows>(
     text: &[u8],
 ) -> Result<Vec<T>, LoadFault>
     ensures { Answers part (λ v. v.items) result
-        (unless (first_fault (line_checks part T.row_of T.is_row T.has_values T.has_names text.now))
+        (unless (first_fault (line_checks is_printable part T.row_of T.is_row T.has_values T.has_names text.now))
         (with_rows T.with_row [] 1 (map T.row_of (lines_of text.now)))) }
 {
     if let Err(fault) = check_text(alloc, part, b'\n', text) {

@@ -5,8 +5,8 @@
 //! `disk_line`, its place in `is_pair`, its value in `disk_in` and, if it is a name, its test in
 //! `has_name` and `disk_reading`.
 
-ghost use Rattle.std.specs.Prelude.{◌++◌, []};
-ghost use Rattle.std.specs.List.{cons_option};
+ghost use Rattle.std.specs.Prelude.{◌++◌};
+ghost use Rattle.std.specs.Option.{option_to_list};
 ghost use Rattle.dm_table.specs.declared.load.place.Part.TheVariants.{Disks};
 ghost use Rattle.dm_table.specs.words.Fields.{fields, texts};
 ghost use Rattle.dm_table.specs.load.RowFaults.{Reads};
@@ -52,7 +52,7 @@ impl FromRows for Disk {
 
     ghost has_names = { has_name };
 
-    ghost with_row = { λ disks n row. disks ++ cons_option (disk_in n row) [] };
+    ghost with_row = { λ disks n row. disks ++ option_to_list (disk_in n row) };
 
     fn cut_line<'a>(row: &mut Vec<&'a [u8]>, line: &'a [u8]) -> Result<(), AllocError> {
         cut_into(row, b' ', line)

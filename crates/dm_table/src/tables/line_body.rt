@@ -2,17 +2,16 @@
 //!
 //! Each form of a table labels such bodies in its own way, and hands their fields over. They are read
 //! once into a line: what isn't one is refused as it is met. A new target type is an arm in
-//! `read_target` with a function that reads its arguments. In `specs/tables/LineBody.antt` it has the same
-//! two (or an arm in `bare_in`, without arguments), and arms in `target_text` and `IsTarget`. What it
-//! names is an arm of `target_spans`, in `specs/tables/Span.antt`.
+//! `read_target`. In `specs/tables/LineBody.antt` it is an arm in `target_row` and one in `other_in`.
+//! What it names is an arm of `target_spans`, in `specs/tables/Span.antt`.
 
-ghost use Rattle.std.specs.Prelude.{◌≡◌, ◌++◌, ◌∷◌, [], Ok, true, false, length, drop, is_some, nat_lt, MatchOption};
+ghost use Rattle.std.specs.Prelude.{◌≡◌, ◌++◌, ◌∷◌, ◌&&◌, [], ℕ, Bool, List, Option, Ok, true, false, length, drop, is_some, nat_lt, MatchOption};
 ghost use Rattle.std.specs.List.{list_all};
 ghost use Rattle.dm_table.specs.words.Fields.{texts};
 ghost use Rattle.dm_table.specs.words.Name.{names_device, mapper};
-ghost use Rattle.dm_table.specs.declared.tables.table.Target.TheVariants.{Linear};
-ghost use Rattle.dm_table.specs.tables.LineBody.{is_body_row, columns_in, is_half, pair_in, striped_in, snapshot_in, origin_in, has_target_names, kind_in};
-ghost use Rattle.dm_table.specs.tables.LineReading.{dev_reading, reading_of, columns_reading, fault_before, target_reading, body_reading, line_of, with_line, with_target};
+ghost use Rattle.dm_table.specs.words.Number.{number_of};
+ghost use Rattle.dm_table.specs.tables.LineBody.{is_body_row, is_dev_ref, columns_in, is_count, then_in, nothing_in, lower_in, linear_in, striped_in, other_in, has_target_names, kind_in};
+ghost use Rattle.dm_table.specs.tables.LineReading.{dev_reading, reading_of, both_read, has_column_names, columns_reading, fault_before, target_reading, body_reading, line_of, with_line, with_target};
 ghost use Rattle.dm_table.specs.load.RowFaults.{Reads};
 
 use crate::load::place::Place;
@@ -79,7 +78,7 @@ pub(crate) fn read_body(
 ) -> Result<(), RowFault>
     ensures { Reads (λ done. lines.new) result (with_line lines.old (body_reading at (texts fields.now))) }
 {
-    let [start, len, target @ ..] = fields else {
+    let [start, len, kind, arguments @ ..] = fields else {
         return Err(RowFault::Field);
     };
     let Some(start) = number(*start) else {
@@ -88,38 +87,37 @@ pub(crate) fn read_body(
     let Some(len) = number(*len) else {
         return Err(RowFault::Field);
     };
-    read_target(alloc, lines, &BodyHead { start, len, at }, target)
+    read_typed(alloc, lines, &BodyHead { start, len, at }, *kind, arguments)
 }
 
-/// Adds the line of a type and its arguments.
-fn read_target(
+/// Adds the line of a type and its arguments. The targets that most lines have are made where they stay.
+fn read_typed(
     alloc: Global,
     lines: &mut Table,
     head: &BodyHead,
-    target: &[&[u8]],
+    kind: &[u8],
+    arguments: &[&[u8]],
 ) -> Result<(), RowFault>
     ensures { Reads (λ done. lines.new) result
-        (with_target lines.old head.now (target_reading head.now.len (texts target.now))) }
+        (with_target lines.old head.now (target_reading kind.now (texts arguments.now))) }
 {
-    let [kind, arguments @ ..] = target else {
-        return Err(RowFault::Field);
-    };
-    if *kind == b"linear".as_slice() {
+    if kind == b"linear".as_slice() {
         read_linear(alloc, lines, head, arguments)
-    } else if *kind == b"striped".as_slice() {
-        read_striped(alloc, lines, head, arguments)
-    } else if *kind == b"snapshot".as_slice() {
-        read_snapshot(alloc, lines, head, arguments)
-    } else if *kind == b"snapshot-origin".as_slice() {
-        read_origin(alloc, lines, head, arguments)
-    } else if !arguments.is_empty() {
-        Err(RowFault::Field)
-    } else if *kind == b"zero".as_slice() {
+    } else if kind == b"zero".as_slice() {
+        if !arguments.is_empty() {
+            return Err(RowFault::Field);
+        }
         head.push(alloc, lines, Target::Zero)
-    } else if *kind == b"error".as_slice() {
+    } else if kind == b"error".as_slice() {
+        if !arguments.is_empty() {
+            return Err(RowFault::Field);
+        }
         head.push(alloc, lines, Target::Error)
     } else {
-        Err(RowFault::Field)
+        match read_target(alloc, kind, arguments) {
+            Ok(target) => head.push(alloc, lines, target),
+            Err(fault) => Err(fault),
+        }
     }
 }
 
@@ -131,8 +129,7 @@ fn read_linear(
     arguments: &[&[u8]],
 ) -> Result<(), RowFault>
     ensures { Reads (λ done. lines.new) result
-        (with_target lines.old head.now
-        (reading_of (has_target_names head.now.len) (pair_in Linear (texts arguments.now)))) }
+        (with_target lines.old head.now (reading_of has_target_names (linear_in (texts arguments.now)))) }
 {
     let [to, offset] = arguments else {
         return Err(RowFault::Field);
@@ -144,100 +141,178 @@ fn read_linear(
     head.push(alloc, lines, Target::Linear { to, offset })
 }
 
-/// Adds the line whose target the arguments of a striped line say.
-fn read_striped(
-    alloc: Global,
-    lines: &mut Table,
-    head: &BodyHead,
-    arguments: &[&[u8]],
-) -> Result<(), RowFault>
-    ensures { Reads (λ done. lines.new) result
-        (with_target lines.old head.now
-        (reading_of (has_target_names head.now.len) (striped_in (texts arguments.now)))) }
+/// The target of a type with more arguments than a linear line, or fewer, and its arguments.
+fn read_target(alloc: Global, kind: &[u8], arguments: &[&[u8]]) -> Result<Target, RowFault>
+    ensures { Reads (λ target. target) result
+        (reading_of has_target_names (other_in kind.now (texts arguments.now))) }
 {
-    let [count, chunk, columns @ ..] = arguments else {
-        return Err(RowFault::Field);
-    };
-    if !is_half(*count, columns.len()) {
-        return Err(RowFault::Field);
-    }
-    let Some(chunk) = number(*chunk) else {
-        return Err(RowFault::Field);
-    };
-    let columns = read_columns(alloc, columns)?;
-    head.push(alloc, lines, Target::Striped { chunk, columns })
-}
-
-/// Adds the line of a snapshot: its origin and store, the kind of the store, and the sectors of a chunk.
-fn read_snapshot(
-    alloc: Global,
-    lines: &mut Table,
-    head: &BodyHead,
-    arguments: &[&[u8]],
-) -> Result<(), RowFault>
-    ensures { Reads (λ done. lines.new) result
-        (with_target lines.old head.now
-        (reading_of (has_target_names head.now.len) (snapshot_in (texts arguments.now)))) }
-{
-    let [origin, store, flag, chunk] = arguments else {
-        return Err(RowFault::Field);
-    };
-    let Some(kind) = kind_of(*flag) else {
-        return Err(RowFault::Field);
-    };
-    let Some(chunk) = number(*chunk) else {
-        return Err(RowFault::Field);
-    };
-    let origin = read_dev(alloc, *origin)?;
-    let store = read_dev(alloc, *store)?;
-    let target = Target::Snapshot {
-        origin,
-        store,
-        kind,
-        chunk,
-    };
-    head.push(alloc, lines, target)
-}
-
-/// The kind of store that a flag stands for.
-fn kind_of(flag: &[u8]) -> Option<StoreKind>
-    ensures { result ≡ kind_in flag.now }
-{
-    if flag == b"P".as_slice() {
-        Some(StoreKind::Persistent)
-    } else if flag == b"N".as_slice() {
-        Some(StoreKind::Transient)
-    } else if flag == b"K".as_slice() {
-        Some(StoreKind::Keeping)
+    if kind == b"striped".as_slice() {
+        read_striped(alloc, arguments)
+    } else if kind == b"snapshot".as_slice() {
+        Arguments::read_all(alloc, arguments).map(|(origin, (store, (kind, (chunk, ()))))| {
+            Target::Snapshot {
+                origin,
+                store,
+                kind,
+                chunk,
+            }
+        })
+    } else if kind == b"snapshot-origin".as_slice() {
+        Arguments::read_all(alloc, arguments).map(|(origin, ())| Target::Origin { origin })
     } else {
-        None
+        Err(RowFault::Field)
     }
 }
 
-/// Adds the line whose target the argument of a line of an origin says.
-fn read_origin(
-    alloc: Global,
-    lines: &mut Table,
-    head: &BodyHead,
-    arguments: &[&[u8]],
-) -> Result<(), RowFault>
-    ensures { Reads (λ done. lines.new) result
-        (with_target lines.old head.now
-        (reading_of (has_target_names head.now.len) (origin_in (texts arguments.now)))) }
+/// The target that the arguments of a striped line say.
+fn read_striped(alloc: Global, arguments: &[&[u8]]) -> Result<Target, RowFault>
+    ensures { Reads (λ target. target) result (reading_of has_target_names (striped_in (texts arguments.now))) }
 {
-    let [origin] = arguments else {
+    let [count, others @ ..] = arguments else {
         return Err(RowFault::Field);
     };
-    let origin = read_dev(alloc, *origin)?;
-    head.push(alloc, lines, Target::Origin { origin })
+    if !is_count(*count, others.len()) {
+        return Err(RowFault::Field);
+    }
+    Arguments::read_all(alloc, others).map(|(chunk, columns)| Target::Striped { chunk, columns })
 }
 
-/// Whether the field is a number, and half of the other one: nothing is doubled, so nothing wraps.
-fn is_half(count: &[u8], fields: usize) -> bool
-    ensures { result ≡ is_half count.now fields }
+/// What a field is read into.
+trait Argument: Drop {
+    /// What the field says.
+    ghost said: { List ℕ → Option Self };
+
+    /// Whether it is no name, or a valid one.
+    ghost has_name: { Self → Bool };
+
+    /// Reads it.
+    fn read(alloc: Global, field: &[u8]) -> Result<Self, RowFault>
+        ensures { Reads (λ x. x) result (reading_of has_name (said field.now)) };
+}
+
+impl Argument for u64 {
+    ghost said = { number_of };
+
+    ghost has_name = { λ n. true };
+
+    #[inline(always)]
+    fn read(_: Global, field: &[u8]) -> Result<u64, RowFault> {
+        match number(field) {
+            Some(n) => Ok(n),
+            None => Err(RowFault::Field),
+        }
+    }
+}
+
+impl Argument for StoreKind {
+    ghost said = { kind_in };
+
+    ghost has_name = { λ kind. true };
+
+    fn read(_: Global, field: &[u8]) -> Result<StoreKind, RowFault> {
+        if field == b"P".as_slice() {
+            Ok(StoreKind::Persistent)
+        } else if field == b"N".as_slice() {
+            Ok(StoreKind::Transient)
+        } else if field == b"K".as_slice() {
+            Ok(StoreKind::Keeping)
+        } else {
+            Err(RowFault::Field)
+        }
+    }
+}
+
+impl Argument for DevRef {
+    ghost said = { lower_in };
+
+    ghost has_name = { is_dev_ref };
+
+    #[inline(always)]
+    fn read(alloc: Global, field: &[u8]) -> Result<DevRef, RowFault> {
+        read_dev(alloc, field)
+    }
+}
+
+/// What fields are read into, one after the other.
+trait Arguments: Drop {
+    /// What the fields say.
+    ghost said: { List (List ℕ) → Option Self };
+
+    /// Whether each name in it is valid.
+    ghost has_names: { Self → Bool };
+
+    /// Reads them. `Field` takes precedence over `Name`.
+    fn read_all(alloc: Global, fields: &[&[u8]]) -> Result<Self, RowFault>
+        ensures { Reads (λ x. x) result (reading_of has_names (said (texts fields.now))) };
+}
+
+impl Arguments for () {
+    ghost said = { nothing_in };
+
+    ghost has_names = { λ nothing. true };
+
+    #[inline(always)]
+    fn read_all(_: Global, fields: &[&[u8]]) -> Result<(), RowFault> {
+        if fields.is_empty() {
+            Ok(())
+        } else {
+            Err(RowFault::Field)
+        }
+    }
+}
+
+impl<A: Argument, R: Arguments> Arguments for (A, R) {
+    ghost said = { then_in A.said R.said };
+
+    ghost has_names = { λ both. A.has_name both.0 && R.has_names both.1 };
+
+    #[inline(always)]
+    fn read_all(alloc: Global, fields: &[&[u8]]) -> Result<(A, R), RowFault> {
+        let [first, others @ ..] = fields else {
+            return Err(RowFault::Field);
+        };
+        both(A::read(alloc, *first), R::read_all(alloc, others))
+    }
+}
+
+impl Arguments for Columns {
+    ghost said = { columns_in };
+
+    ghost has_names = { has_column_names };
+
+    fn read_all(alloc: Global, fields: &[&[u8]]) -> Result<Columns, RowFault> {
+        read_columns(alloc, fields)
+    }
+}
+
+/// What was read in two parts.
+#[inline(always)]
+fn both<A: Drop, B: Drop>(
+    first: Result<A, RowFault>,
+    others: Result<B, RowFault>,
+) -> Result<(A, B), RowFault>
+    ensures { result ≡ both_read first others }
+{
+    match first {
+        Ok(first) => match others {
+            Ok(others) => Ok((first, others)),
+            Err(fault) => Err(fault),
+        },
+        Err(RowFault::Name) => match others {
+            Ok(_) => Err(RowFault::Name),
+            Err(fault) => Err(fault),
+        },
+        Err(fault) => Err(fault),
+    }
+}
+
+/// Whether the field is a number, and the others are two for each of so many columns and one more: nothing is
+/// doubled, so nothing wraps.
+fn is_count(count: &[u8], others: usize) -> bool
+    ensures { result ≡ is_count count.now others }
 {
     match number(count) {
-        Some(count) => fields % 2 == 0 && fields as u64 / 2 == count,
+        Some(count) => others % 2 == 1 && others as u64 / 2 == count,
         None => false,
     }
 }

@@ -4,7 +4,7 @@
 //! read as those of a disk list are, but their text is UTF-8.
 
 ghost use Rattle.std.specs.Prelude.{◌≡◌, ◌<◌, ◌≤◌, ◌^◌, ◌++◌, ◌∷◌, [], IfSome, length, option_map};
-ghost use Rattle.std.specs.List.{cons_option};
+ghost use Rattle.std.specs.Option.{option_to_list};
 ghost use Rattle.dm_table.specs.declared.load.place.Part.TheVariants.{Paths};
 ghost use Rattle.dm_table.specs.load.LoadFault.{Answers};
 ghost use Rattle.dm_table.specs.load.Parsed.{IsParsed};
@@ -69,7 +69,7 @@ impl FromRows for DiskPath {
 
     ghost has_names = { has_name };
 
-    ghost with_row = { λ disks n row. disks ++ cons_option (path_in n row) [] };
+    ghost with_row = { λ disks n row. disks ++ option_to_list (path_in n row) };
 
     fn cut_line<'a>(row: &mut Vec<&'a [u8]>, line: &'a [u8]) -> Result<(), AllocError> {
         let (name, path) = cut_name(line);

@@ -23,14 +23,14 @@ pub(crate) fn marks(of: u8, text: &[u8]) -> Option<u64>
     if len < 8 || 64 < len {
         None
     } else if len < 16 {
-        let first = marks_of_8(of, &text[..8]);
-        Some(joined::<8>(first, marks_of_8(of, &text[len - 8..]), len))
+        let first = marks_of::<8>(of, &text[..8]);
+        Some(joined::<8>(first, marks_of::<8>(of, &text[len - 8..]), len))
     } else if len < 32 {
-        let first = marks_of_16(of, &text[..16]);
-        Some(joined::<16>(first, marks_of_16(of, &text[len - 16..]), len))
+        let first = marks_of::<16>(of, &text[..16]);
+        Some(joined::<16>(first, marks_of::<16>(of, &text[len - 16..]), len))
     } else {
-        let first = marks_of_32(of, &text[..32]);
-        Some(joined::<32>(first, marks_of_32(of, &text[len - 32..]), len))
+        let first = marks_of::<32>(of, &text[..32]);
+        Some(joined::<32>(first, marks_of::<32>(of, &text[len - 32..]), len))
     }
 }
 
@@ -46,35 +46,14 @@ fn joined<const HALF: usize>(first: u64, last: u64, len: usize) -> u64
     ((last >> (2 * HALF - len)) << HALF) | first
 }
 
-/// The places of a byte in a text of 8 bytes.
+/// The places of a byte in a text of `LEN` bytes.
 #[inline(always)]
-fn marks_of_8(of: u8, text: &[u8]) -> u64
-    requires { length text.now ≡ 8 }
+fn marks_of<const LEN: usize>(of: u8, text: &[u8]) -> u64
+    requires length { length text.now ≡ LEN }
+    requires few { LEN ≤ 64 }
     ensures { result ≡ marks_of of text.now }
 {
-    u8x8::from_array(*as_array::<8>(text))
-        .simd_eq(u8x8::splat(of))
-        .to_bitmask()
-}
-
-/// The places of a byte in a text of 16 bytes.
-#[inline(always)]
-fn marks_of_16(of: u8, text: &[u8]) -> u64
-    requires { length text.now ≡ 16 }
-    ensures { result ≡ marks_of of text.now }
-{
-    u8x16::from_array(*as_array::<16>(text))
-        .simd_eq(u8x16::splat(of))
-        .to_bitmask()
-}
-
-/// The places of a byte in a text of 32 bytes.
-#[inline(always)]
-fn marks_of_32(of: u8, text: &[u8]) -> u64
-    requires { length text.now ≡ 32 }
-    ensures { result ≡ marks_of of text.now }
-{
-    u8x32::from_array(*as_array::<32>(text))
-        .simd_eq(u8x32::splat(of))
+    Simd::<u8, LEN>::from_array(*as_array::<LEN>(text))
+        .simd_eq(Simd::splat(of))
         .to_bitmask()
 }

@@ -17,7 +17,7 @@ fn words_of<'a>(rt: &impl Abort, alloc: Global, line: &'a str) -> Vec<&'a str> {
 }
 
 /// Words, and the job that they ask for, in the words of `shown`.
-static JOBS: [(&str, &str); 21] = [
+static JOBS: [(&str, &str); 27] = [
     ("map table a.table a.disks", "map a.table a.disks"),
     ("map table -- a.table a.disks", "map a.table a.disks"),
     ("map lvm vg0.backup", "map lvm vg0.backup"),
@@ -56,6 +56,15 @@ static JOBS: [(&str, &str); 21] = [
         "stored map lvm vg0.backup after a.requests",
     ),
     ("map --before= lvm vg0.backup", "map lvm vg0.backup after "),
+    ("map images --status a.paths", "status of images a.paths"),
+    (
+        "map images a.paths --before=a.requests",
+        "map images a.paths after a.requests",
+    ),
+    ("table images a.paths", "table images a.paths"),
+    ("concise images a.paths", "concise images a.paths"),
+    ("check images a.paths", "check images a.paths"),
+    ("replay images a.paths", "replay images a.paths"),
     (
         "map table --paths a.paths a.table a.disks --status",
         "stored status of a.table a.disks",
@@ -91,6 +100,21 @@ fn shown_source(
     text.expect(rt, "a text")
 }
 
+/// A command and its list of images, as a text, and the file of earlier requests.
+fn shown_images(
+    rt: &impl Abort,
+    alloc: Global,
+    command: &str,
+    paths: &str,
+    earlier: Option<&str>,
+) -> String {
+    let (after, path) = match earlier {
+        Some(path) => (" after ", path),
+        None => ("", ""),
+    };
+    format!(in alloc; "{command} images {paths}{after}{path}").expect(rt, "a text")
+}
+
 /// A job as a text.
 fn shown(rt: &impl Abort, alloc: Global, job: Job<'_>) -> String {
     let (command, source, earlier) = match job {
@@ -107,6 +131,23 @@ fn shown(rt: &impl Abort, alloc: Global, job: Job<'_>) -> String {
                 (None, false) => "map",
             };
             (command, source, earlier)
+        }
+        Job::MapImages {
+            paths,
+            earlier,
+            status,
+        } => {
+            let command = if status { "status of" } else { "map" };
+            return shown_images(rt, alloc, command, paths, earlier);
+        }
+        Job::OfImages { paths, task } => {
+            let command = match task {
+                Task::Print(TableForm::Table) => "table",
+                Task::Print(TableForm::Concise) => "concise",
+                Task::Check => "check",
+                Task::Replay => "replay",
+            };
+            return shown_images(rt, alloc, command, paths, None);
         }
         Job::Print { form, source } => match form {
             TableForm::Table => ("table", source, None),

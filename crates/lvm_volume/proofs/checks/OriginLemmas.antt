@@ -12,16 +12,9 @@ use Rattle.lvm_volume.specs.declared.group.segment.SegmentType.TheVariants.{Zero
 use Rattle.lvm_volume.specs.declared.group.volume.Volume.{Volume}
 use Rattle.lvm_volume.specs.checks.Extents.{is_unknown, stripes_of, volumes_named}
 use Rattle.lvm_volume.specs.group.Roles.{is_bad_snapshot, is_bad_target, is_record, is_store, recorded, records_of, role_at, role_by, role_of, roles_of, snapshot_of, unless_recorded}
+use Rattle.dm_table.proofs.Lists.{all_append, all_changed}
 
 -- Lists
-
-pub all_both : (P : Record → Type 0) (xs ys : List Record) → AllByRecursion P xs → AllByRecursion P ys → AllByRecursion P (xs ++ ys)
-all_both P [] ys a b = b
-all_both P (x ∷ xs) ys a b = (a.0, all_both P xs ys a.1 b)
-
-pub all_by : (P Q : Record → Type 0) → ((snapshot : Record) → P snapshot → Q snapshot) → (xs : List Record) → AllByRecursion P xs → AllByRecursion Q xs
-all_by P Q f [] a = tt
-all_by P Q f (x ∷ xs) a = (f x a.0, all_by P Q f xs a.1)
 
 pub all_paired : (P Q : Record → Type 0) (xs : List Record) → AllByRecursion P xs → AllByRecursion Q xs → AllByRecursion (λ snapshot. P snapshot × Q snapshot) xs
 all_paired P Q [] a b = tt
@@ -42,7 +35,7 @@ all_among : (snapshots : List Record) → AllByRecursion (has_origin snapshots) 
 all_among [] = tt
 all_among (snapshot ∷ snapshots) = (
   rw (eq-eqb snapshot.origin snapshot.origin refl),
-  all_by (has_origin snapshots) (has_origin (snapshot ∷ snapshots)) (λ other is. or_right (snapshot.origin == other.origin) _ is) snapshots (all_among snapshots),
+  all_changed (has_origin snapshots) (has_origin (snapshot ∷ snapshots)) snapshots (λ other is. or_right (snapshot.origin == other.origin) _ is) (all_among snapshots),
 )
 
 -- What the checks leave of a record
@@ -73,7 +66,7 @@ all_allowed : (physicals count : ℕ) (volumes : List Volume) (all : List Role) 
     → AllByRecursion (λ volume. AllByRecursion (λ segment. is_bad_snapshot volumes all (length volume.segments == 1) segment ≡ false) volume.segments) left → AllByRecursion (IsAllowed count all) (records_of left)
 all_allowed physicals count volumes all [] known good = tt
 all_allowed physicals count volumes all (volume ∷ left) known good =
-    all_both (IsAllowed count all) (recorded volume.segments) (records_of left) (allowed_in physicals count volumes all volume.segments known.0 good.0) (all_allowed physicals count volumes all left known.1 good.1)
+    all_append (IsAllowed count all) (recorded volume.segments) (records_of left) (allowed_in physicals count volumes all volume.segments known.0 good.0) (all_allowed physicals count volumes all left known.1 good.1)
 
 -- The role of an origin
 
@@ -100,9 +93,10 @@ is_origin volumes snapshot all allowed among =
     let there = role_there snapshots 0 position volumes allowed.there in
     let volume = there.0 in
     let is : role_at (roles_of volumes) position ≡ role_of snapshots (position, volume) = there.1 ∙ ap (λ (n : ℕ). role_of snapshots (n, volume)) (omega arith) in
-    let stored = all_by (λ (s : Record). ((s.store == position) ≡ true) × IsAllowed (length volumes) (roles_of volumes) s) (λ (s : Record). is_store (role_of snapshots (position, volume)) ≡ true)
+    let stored = all_changed (λ (s : Record). ((s.store == position) ≡ true) × IsAllowed (length volumes) (roles_of volumes) s) (λ (s : Record). is_store (role_of snapshots (position, volume)) ≡ true)
+    (filter (λ s. s.store == position) snapshots)
     (λ s h. subst (λ (role : Role). is_store role ≡ true) is (subst (λ (n : ℕ). is_store (role_at (roles_of volumes) n) ≡ true) (eqb-true s.store position h.0) h.1.store))
-    (filter (λ s. s.store == position) snapshots) (all_filtered (IsAllowed (length volumes) (roles_of volumes)) (λ s. s.store == position) snapshots all) in
+    (all_filtered (IsAllowed (length volumes) (roles_of volumes)) (λ s. s.store == position) snapshots all) in
     is ∙ origin_by (recorded volume.segments) (list_any (λ s. s.origin == position) snapshots) (filter (λ s. s.store == position) snapshots) among (sym (ap is_record is) ∙ allowed.no_record) stored
 
 pub all_origins : (physicals : ℕ) (volumes : List Volume) → AllByRecursion (λ volume. AllByRecursion (λ segment. is_unknown physicals (length volumes) segment ≡ false) volume.segments) volumes
@@ -110,5 +104,5 @@ pub all_origins : (physicals : ℕ) (volumes : List Volume) → AllByRecursion (
     → AllByRecursion (λ snapshot. role_at (roles_of volumes) snapshot.origin ≡ roles.Origin) (records_of volumes)
 all_origins physicals volumes known good =
     let allowed = all_allowed physicals (length volumes) volumes (roles_of volumes) volumes known good in
-    all_by (λ (s : Record). IsAllowed (length volumes) (roles_of volumes) s × has_origin (records_of volumes) s) (λ (s : Record). role_at (roles_of volumes) s.origin ≡ roles.Origin)
-    (λ s h. is_origin volumes s allowed h.0 h.1) (records_of volumes) (all_paired (IsAllowed (length volumes) (roles_of volumes)) (has_origin (records_of volumes)) (records_of volumes) allowed (all_among (records_of volumes)))
+    all_changed (λ (s : Record). IsAllowed (length volumes) (roles_of volumes) s × has_origin (records_of volumes) s) (λ (s : Record). role_at (roles_of volumes) s.origin ≡ roles.Origin)
+    (records_of volumes) (λ s h. is_origin volumes s allowed h.0 h.1) (all_paired (IsAllowed (length volumes) (roles_of volumes)) (has_origin (records_of volumes)) (records_of volumes) allowed (all_among (records_of volumes)))

@@ -26,16 +26,10 @@ use Rattle.lvm_volume.specs.group.Group.{Keyed, device_of, first_section, group_
 use Rattle.lvm_volume.specs.group.Roles.{is_bad_snapshot, roles_of}
 use Rattle.lvm_volume.specs.tables.Tables.{IsSegmentIn, IsSoundGroup, IsStripeIn, checks_of_parts, extent_faults, physical_at}
 use Rattle.lvm_volume.proofs.checks.OriginLemmas.{all_origins}
+use Rattle.dm_table.proofs.FaultLemmas.{first_or-none}
+use Rattle.dm_table.proofs.Lists.{append-nil_both}
 
 -- Lists of faults that are empty
-
-pub first_or-nil : (faults : List LoadFault) (later : Option LoadFault) → first_or faults later ≡ None → (faults ≡ []) × (later ≡ None)
-first_or-nil [] later e = (refl, e)
-first_or-nil (f ∷ faults) later e = absurd cc
-
-pub append-nil_both : (xs ys : List LoadFault) → xs ++ ys ≡ [] → (xs ≡ []) × (ys ≡ [])
-append-nil_both [] ys e = (refl, e)
-append-nil_both (x ∷ xs) ys e = absurd cc
 
 flat-nil : {X : Type 0} (f : X → List LoadFault) (xs : List X) → flat_map f xs ≡ [] → AllByRecursion (λ x. f x ≡ []) xs
 flat-nil f [] e = tt
@@ -136,14 +130,14 @@ in-limits size group e =
 pub one-in_limits : (size : ℕ) (top : Tree) (group : Keyed) → sections_of top.values ≡ group ∷ [] → first_or (faults_of_fields (Limits size) top) None ≡ None → InLimits size group.1
 unfolding one_group_faults
 one-in_limits size top group one e =
-    let all = (first_or-nil (faults_of_fields (Limits size) top) None e).0 in
+    let all = (first_or-none (faults_of_fields (Limits size) top) None e).0 in
     let a = append-nil_both (fields_faults (Limits size) top top_fields) _ all in
     in-limits size group.1 (sym (ap (one_group_faults (Limits size) top.line) one) ∙ a.1)
 
 -- where the check of fields finds nothing there is one section
 pub one_section : (top : Tree) → first_or (faults_of_fields Fields top) None ≡ None → sections_of top.values ≡ first_section (sections_of top.values) ∷ []
 unfolding one_group_faults
-one_section top e = by_list (sections_of top.values) (append-nil_both (fields_faults Fields top top_fields) _ (first_or-nil (faults_of_fields Fields top) None e).0).1 where
+one_section top e = by_list (sections_of top.values) (append-nil_both (fields_faults Fields top top_fields) _ (first_or-none (faults_of_fields Fields top) None e).0).1 where
   by_list : (sections : List Keyed) → one_group_faults Fields top.line sections ≡ [] → sections ≡ first_section sections ∷ []
   by_list [] h = absurd cc
   by_list (group ∷ []) h = refl
@@ -266,9 +260,9 @@ sound_volumes size physicals keys (tree ∷ trees) few limits known begins = (
 pub sound_group : (group : Keyed) → InLimits (group_in group).extent_size group.1 → first_fault (checks_of_parts (group_in group)) ≡ None → IsSoundGroup (group_in group)
 sound_group group limits e =
     let g = group_in group in
-    let a = first_or-nil (unknown_faults g) _ e in
-    let b = first_or-nil (extent_faults g) _ a.1 in
-    let c = first_or-nil (snapshot_faults g) None b.1 in
+    let a = first_or-none (unknown_faults g) _ e in
+    let b = first_or-none (extent_faults g) _ a.1 in
+    let c = first_or-none (snapshot_faults g) None b.1 in
     let lies = append-nil_both (size_faults g.extent_size g.physicals) _ b.0 in
     let sections = sections_at (codes "physical_volumes") group.1 in
     let few = small g.extent_size (map device_of sections) sections limits.physicals in

@@ -16,23 +16,10 @@ pub first_after : (xs ys : List LoadFault) (later : Option LoadFault) → first_
 first_after [] ys later e = refl
 first_after (x ∷ xs) ys later e = absurd cc
 
-pub first_kept : (faults : List LoadFault) (later : Option LoadFault) (fault : LoadFault) → first_or faults None ≡ Some fault → first_or faults later ≡ Some fault
-first_kept [] later fault e = absurd cc
-first_kept (f ∷ faults) later fault e = e
-
 -- what one check found is what several find first, and out of memory stays that
 pub found_more : {a b : Option LoadFault} {fault : LoadFault} → (a ≡ Some fault → b ≡ Some fault) → (a ≡ Some fault) ⊎ IsMemoryFault Source fault → (b ≡ Some fault) ⊎ IsMemoryFault Source fault
 found_more more (inl found) = inl (more found)
 found_more more (inr memory) = inr memory
-
--- what was found, where a check refuses or gives its value
-pub err_is : {X : Type 0} (o : Option LoadFault) (x : X) (fault : LoadFault) → unless o x ≡ Err fault → o ≡ Some fault
-err_is None x fault e = absurd cc
-err_is (Some f) x fault e = cc
-
-pub ok_is : {X : Type 0} (o : Option LoadFault) (x y : X) → unless o x ≡ Ok y → (o ≡ None) × (x ≡ y)
-ok_is None x y e = (refl, cc)
-ok_is (Some f) x y e = absurd cc
 
 -- a check that takes no memory
 pub checked : {X : Type 0} (r : Result X LoadFault) (found : Option LoadFault) → result_err r ≡ found → IsChecked r found

@@ -1,6 +1,8 @@
 -- Steps of a reading, one after the other.
-use Rattle.std.proofs.Common.{◌≡◌, ◌⊎◌, inl, append_assoc, arith, ℕ, ◌+◌, ◌-◌, ◌<◌, ◌≤◌, drop, get_or, length, map, List, [], ◌∷◌, ◌++◌, Option, Some, None, refl, sym, ap, ◌∙◌}
+use Rattle.std.proofs.Common.{◌≡◌, ◌⊎◌, inl, append_assoc, arith, ℕ, ◌+◌, ◌-◌, ◌<◌, ◌≤◌, drop, get_or, length, map, List, [], ◌∷◌, ◌++◌, Option, Some, None, Result, refl, sym, ap, ◌∙◌}
+use Rattle.std.specs.Result.{IsErrAnd, result_err}
 use Rattle.std.proofs.lemmas.List.{append-nil, drop_more}
+use Rattle.std.proofs.lemmas.Result.{err_from_is_err_and}
 use Rattle.std.proofs.Math.ListN.{drop_of_length-le}
 use Rattle.std.specs.List.{flat_map, range_with_len}
 use Rattle.dm_table.specs.declared.load.place.Part.TheVariants.{Source}
@@ -11,7 +13,8 @@ use Rattle.lvm_volume.specs.declared.fields.reader.FieldReader.{FieldReader}
 use Rattle.lvm_volume.specs.fields.Checks.{Check, Fields, Limits}
 use Rattle.lvm_volume.specs.fields.Fields.{first_of, missing}
 use Rattle.lvm_volume.specs.fields.Steps.{IsStep, after, or_first}
-use Rattle.lvm_volume.proofs.fields.Faults.{first_after, first_here, first_kept, found_more, range_more}
+use Rattle.lvm_volume.proofs.fields.Faults.{first_after, first_here, found_more, range_more}
+use Rattle.dm_table.proofs.FaultLemmas.{first_or-found}
 
 or_first_both : (found : Option LoadFault) (xs ys : List LoadFault) → or_first (or_first found xs) ys ≡ or_first found (xs ++ ys)
 or_first_both None [] ys = refl
@@ -51,6 +54,10 @@ in_words {f} {g} {old} same h = record {
 -- where a step fails, no reader matters
 pub any_new : {f : Check → List LoadFault} {old new other next : FieldReader} {fault : LoadFault} → IsStep f old new (Some fault) → IsStep f other next (Some fault)
 any_new h = record { passed = λ none. absurd cc; failed_at = h.failed_at }
+
+-- a step that fails, as the exit of a `?` hands it on
+pub exits : {X : Type 0} {f : Check → List LoadFault} {old new : FieldReader} {fault : LoadFault} (r : Result X LoadFault) → IsErrAnd r (λ e. e ≡ fault) → IsStep f old new (Some fault) → IsStep f old new (result_err r)
+exits r is step = let p = err_from_is_err_and r is in rw (p.1, p.2) step
 
 -- the last of a list of fields
 pub at_last : {f : Check → List LoadFault} {old new : FieldReader} {failed : Option LoadFault} → IsStep f old new failed → IsStep (λ check. f check ++ []) old new failed
@@ -119,7 +126,7 @@ abbrev pub of_both : (Check → List LoadFault) → ℕ → Option LoadFault
 of_both f size = first_or (f Fields) (first_of (f (Limits size)))
 
 pub ends_failed : {f : Check → List LoadFault} {old new : FieldReader} {fault : LoadFault} (size : ℕ) → IsStep f old new (Some fault) → (of_both f size ≡ Some fault) ⊎ IsMemoryFault Source fault
-ends_failed {f} size h = found_more (first_kept (f Fields) _ _) (h.failed_at _ refl)
+ends_failed {f} size h = found_more (first_or-found (f Fields) _ _) (h.failed_at _ refl)
 
 pub ends_with : {f : Check → List LoadFault} {new : FieldReader} (size : ℕ) → IsStep f (fresh size) new None → of_both f size ≡ new.excess
 ends_with {f} size h =

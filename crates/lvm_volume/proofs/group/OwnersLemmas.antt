@@ -14,6 +14,7 @@ use Rattle.lvm_volume.specs.group.Owners.{Owners, all_owned, letters_of, owned_g
 use Rattle.lvm_volume.specs.group.OwnersCode.{ids_view}
 use Rattle.lvm_volume.specs.tables.Tables.{IsSegmentIn, IsSoundGroup, IsStripeIn, physical_at}
 use denote.Ref.{Bor}
+use Rattle.dm_table.proofs.Lists.{all_changed}
 
 -- ---- letters
 
@@ -59,10 +60,6 @@ from_end test (x ∷ xs) n (suc i) past = from_end test xs n i (omega (arith, pa
 
 -- ---- soundness doesn't depend on the names of disks
 
-all_by : {X : Type 0} (P Q : X → Type 0) → ((x : X) → P x → Q x) → (xs : List X) → AllByRecursion P xs → AllByRecursion Q xs
-all_by P Q f [] a = tt
-all_by P Q f (x ∷ xs) a = (f x a.0, all_by P Q f xs a.1)
-
 same_start : (owners : Owners) (ids : List (List ℕ)) (physicals : List Physical) (i : ℕ) → length ids ≡ length physicals → (physical_at (all_owned owners ids physicals) i).start ≡ (physical_at physicals i).start
 same_start owners [] [] i e = refl
 same_start owners [] (p ∷ physicals) i e = absurd (omega (arith, e))
@@ -87,13 +84,13 @@ segment_owned owners ids size physicals e segment is = record {
   start = is.start;
   len = is.len;
   end = is.end;
-  stripes = all_by (IsStripeIn size physicals) (IsStripeIn size (all_owned owners ids physicals)) (stripe_owned owners ids size physicals e) (stripes_of segment.target) is.stripes;
+  stripes = all_changed (IsStripeIn size physicals) (IsStripeIn size (all_owned owners ids physicals)) (stripes_of segment.target) (stripe_owned owners ids size physicals e) is.stripes;
 }
 
 pub sound_owned : (owners : Owners) (ids : List (List ℕ)) (group : Group) → length ids ≡ length group.physicals → IsSoundGroup group → IsSoundGroup (owned_group owners ids group)
 sound_owned owners ids group e sound = record {
-  volumes = all_by (λ (v : Volume). AllByRecursion (IsSegmentIn group.extent_size group.physicals) v.segments) (λ (v : Volume). AllByRecursion (IsSegmentIn group.extent_size (all_owned owners ids group.physicals)) v.segments)
-      (λ v fit. all_by (IsSegmentIn group.extent_size group.physicals) (IsSegmentIn group.extent_size (all_owned owners ids group.physicals)) (segment_owned owners ids group.extent_size group.physicals e) v.segments fit)
-      group.volumes sound.volumes;
+  volumes = all_changed (λ (v : Volume). AllByRecursion (IsSegmentIn group.extent_size group.physicals) v.segments) (λ (v : Volume). AllByRecursion (IsSegmentIn group.extent_size (all_owned owners ids group.physicals)) v.segments) group.volumes
+      (λ v fit. all_changed (IsSegmentIn group.extent_size group.physicals) (IsSegmentIn group.extent_size (all_owned owners ids group.physicals)) v.segments (segment_owned owners ids group.extent_size group.physicals e) fit)
+      sound.volumes;
   origins = sound.origins;
 }

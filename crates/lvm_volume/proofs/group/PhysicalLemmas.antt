@@ -12,8 +12,8 @@ use Rattle.lvm_volume.specs.group.PhysicalFields as spec
 use Rattle.lvm_volume.specs.group.PhysicalFields.{Fields, all_named, devices_in, fields_of, fields_view}
 use Rattle.dm_table.specs.declared.load.load_fault.LoadKind.TheVariants.{Name}
 use Rattle.dm_table.specs.load.LoadFault.{fault_at}
-use Rattle.lvm_volume.proofs.fields.Faults.{err_is, ok_is}
 use Rattle.dm_table.specs.declared.load.place.Part.TheVariants.{Source}
+use Rattle.dm_table.proofs.FaultLemmas.{unless-err, unless-ok}
 
 pub named : (p : Physical) → is_disk_name p.disk ≡ true → unless (first_or (name_faults (p ∷ [])) None) p ≡ Ok p
 named p e = rw e
@@ -38,7 +38,7 @@ pub refused_here : (f : Fields → Physical) (xs : List PhysicalFields) (i : ℕ
     → unless (first_or (name_faults (f (fields_view (get_or xs i other)) ∷ [])) None) (f (fields_view (get_or xs i other))) ≡ Err fault → unless (first_or (name_faults all) None) all ≡ Err fault
 refused_here f xs i other all fault within left e =
     let x = fields_view (get_or xs i other) in
-    let found = alone (not (is_disk_name (f x).disk)) (fault_at Source Name (f x).line) (name_faults (map f (map fields_view (drop (i + 1) xs)))) fault (err_is _ _ fault e) in
+    let found = alone (not (is_disk_name (f x).disk)) (fault_at Source Name (f x).line) (name_faults (map f (map fields_view (drop (i + 1) xs)))) fault (unless-err _ _ fault e) in
     let first : first_or (name_faults all) None ≡ Some fault = rw (← left, at_position f xs i other within, found) in
     rw first
 
@@ -47,7 +47,7 @@ pub taken_here : (f : Fields → Physical) (xs : List PhysicalFields) (i : ℕ) 
     → (map f (map fields_view (drop i xs)) ≡ p ∷ map f (map fields_view (drop (i + 1) xs))) × (first_or (name_faults (map f (map fields_view (drop (i + 1) xs)))) None ≡ first_or (name_faults (map f (map fields_view (drop i xs)))) None)
 taken_here f xs i other p within e =
     let x = fields_view (get_or xs i other) in
-    let a = ok_is (first_or (name_faults (f x ∷ [])) None) (f x) p e in
+    let a = unless-ok (first_or (name_faults (f x ∷ [])) None) (f x) p e in
     let more = map f (map fields_view (drop (i + 1) xs)) in
     let at = at_position f xs i other within in (
       rw (← a.1) at,

@@ -15,8 +15,9 @@ use Rattle.lvm_volume.specs.Names.{fault_of}
 use Rattle.lvm_volume.specs.group.Roles.{end_of, name_at, recorded, records_of, role_at, role_by, role_of, roles_of, segments_at, unless_recorded}
 use Rattle.lvm_volume.specs.tables.Tables.{IsMadeIn, IsSegmentIn, IsSnapshotIn, IsSoundGroup, members_of, device_parts, length_of, unnamed, unnamed_volume}
 use Rattle.lvm_volume.proofs.tables.NamedLemmas.{origin_named}
-use Rattle.lvm_volume.proofs.checks.OriginLemmas.{all_by, all_filtered}
-use Rattle.lvm_volume.proofs.checks.Sound.{append-nil_both, first_or-nil}
+use Rattle.lvm_volume.proofs.checks.OriginLemmas.{all_filtered}
+use Rattle.dm_table.proofs.FaultLemmas.{first_or-none}
+use Rattle.dm_table.proofs.Lists.{all_changed, append-nil_both}
 
 -- Lengths
 
@@ -69,7 +70,7 @@ snapshot_fits : (group : Group) (snapshots : List Record) (at : ℕ × Volume) �
 snapshot_fits group snapshots at fit =
     let test : Record → Bool = λ snapshot. snapshot.store == at.0 in
     snapshot_by group (recorded at.1.segments) (list_any (λ snapshot. snapshot.origin == at.0) snapshots) (filter test snapshots)
-    (all_by (λ (s : Record). (test s ≡ true) × FitsIn group s) (FitsIn group) (λ s h. h.1) (filter test snapshots) (all_filtered (FitsIn group) test snapshots fit))
+    (all_changed (λ (s : Record). (test s ≡ true) × FitsIn group s) (FitsIn group) (filter test snapshots) (λ s h. h.1) (all_filtered (FitsIn group) test snapshots fit))
 
 -- All volumes
 
@@ -85,11 +86,11 @@ made_from group snapshots first (volume ∷ volumes) fits segments none =
 -- a sound group of which no name is refused
 pub all_made : (group : Group) → IsSoundGroup group → first_or (unnamed group) None ≡ None → AllByRecursion (IsMadeIn group) (members_of group)
 all_made group sound named =
-    let none = (first_or-nil (unnamed group) None named).0 in
+    let none = (first_or-none (unnamed group) None named).0 in
     let snapshots = records_of group.volumes in
-    let fits = all_by (λ (s : Record). role_at (roles_of group.volumes) s.origin ≡ roles.Origin) (FitsIn group)
+    let fits = all_changed (λ (s : Record). role_at (roles_of group.volumes) s.origin ≡ roles.Origin) (FitsIn group) snapshots
     (λ s is. (length_fits group (segments_at group.volumes s.origin) (fit_at group.extent_size group.physicals group.volumes s.origin sound.volumes), real_named group.name snapshots 0 s.origin group.volumes none is))
-    snapshots sound.origins in
+    sound.origins in
     made_from group snapshots 0 group.volumes fits sound.volumes none
 
 -- the parts of a group, one by one

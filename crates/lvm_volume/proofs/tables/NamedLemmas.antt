@@ -12,7 +12,8 @@ use Rattle.lvm_volume.specs.declared.group.roles.Role.TheVariants as roles
 use Rattle.lvm_volume.specs.declared.group.volume.Volume.{Volume}
 use Rattle.lvm_volume.specs.Names.{fault_of}
 use Rattle.lvm_volume.specs.tables.Tables.{device_parts, layers_of, unnamed_layer, unnamed_volume}
-use Rattle.lvm_volume.proofs.checks.Sound.{append-nil_both, hit-nil}
+use Rattle.lvm_volume.proofs.checks.Sound.{hit-nil}
+use Rattle.dm_table.proofs.Lists.{append-nil_both}
 
 -- Volumes of which no name is refused
 

@@ -6,8 +6,8 @@ use std::test::Fail;
 
 #[test]
 fn chunks_are_found_by_their_bits(rt: HostRuntime) {
-    let mut taken = TrieTaken::with_places(rt.alloc(), 4).expect(&rt, "a trie");
-    // The table has four links: the first three chunks begin at one, and part at bits 3 and 0.
+    let mut taken = TrieTaken::for_chunks(rt.alloc(), 6, 3).expect(&rt, "a trie");
+    // For three chunks the table has four links: the first three here begin at one, and part at bits 3 and 0.
     for chunk in [0, 8, 13, 3] {
         offer(&mut taken, chunk);
     }
@@ -23,7 +23,10 @@ fn chunks_are_found_by_their_bits(rt: HostRuntime) {
         let found = taken.find_counted(chunk, &mut comparisons, &mut bits);
         assert_eq!(&rt; (found, bits), (want, tested), "{chunk}");
     }
-    assert!(&rt; taken.is_full() && taken.is_valid(), "full and valid");
+    assert!(&rt;
+        !taken.is_full() && taken.is_valid(),
+        "two places left, and valid"
+    );
     taken.invalidate();
     assert!(&rt; !taken.is_valid(), "lost");
     let many = TrieTaken::with_places(rt.alloc(), (1 << 23) + 1);

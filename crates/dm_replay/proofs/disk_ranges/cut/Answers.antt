@@ -1,20 +1,24 @@
 use Rattle.std.proofs.Common.{arith}
+use Rattle.dm_replay.specs.Stored.{IsLastBefore}
 use Rattle.dm_replay.proofs.StoredLemmas.{AreParts, parts_apart, parts_keep, sets}
 use Rattle.dm_replay.proofs.disk_ranges.cut.Goals.{In_ok-insert-2}
 use Rattle.dm_replay.proofs.disk_ranges.cut.Goals as goal
 
+found : (c : In_ok-insert-2) → IsLastBefore c.args.ranges.now c.args.sector c.in-Some.start c.in-Some.range
+found c = rw c.in-Some.is at c.requires.some
+
 are_parts : (c : In_ok-insert-2) → AreParts c.args.ranges.now c.insert.new.self c.insert-2.new.self c.in-Some.start c.args.sector c.in-Some.range c.with_len.result c.rest.result
 are_parts c = record {
-  are = c.requires;
-  is = c.in-Some.ensures.some.is;
+  are = c.requires.apart;
+  is = (found c).is;
   ordered = c.insert-2.ensures.ordered;
   set_front = sets _ _ _ _ c.in_ok-insert.ensures.updates;
   set_rest = sets _ _ _ _ c.in_ok-insert-2.ensures.updates;
-  after = c.in-Some.ensures.some.before;
-  before = omega (arith, c.if-front-range.false, c.in-Some.ensures.some.before);
-  front_len = omega (arith, c.with_len.ensures.len, c.in-Some.ensures.some.before);
+  after = (found c).before;
+  before = omega (arith, c.if-front-range.false, (found c).before);
+  front_len = omega (arith, c.with_len.ensures.len, (found c).before);
   front_first = c.with_len.ensures.first;
-  rest_len = omega (arith, c.rest.ensures.all (omega (arith, c.if-front-range.false)), c.in-Some.ensures.some.before);
+  rest_len = omega (arith, c.rest.ensures.all (omega (arith, c.if-front-range.false)), (found c).before);
   rest_first = c.rest.ensures.first;
 }
 

@@ -1,8 +1,11 @@
-use Rattle.std.proofs.Common.{◌∙◌, ap, map}
-use Rattle.dmremap.specs.declared.messages.TheConstants.{EXPLANATIONS}
-use Rattle.dmremap.specs.Explanation.{explanation, said_of}
+use Rattle.std.proofs.Common.{◌∙◌, ap, refl}
+use Rattle.dmremap.specs.Explanation.{explanation, of_any}
 use Rattle.dmremap.proofs.explanation.explanation.Goals as goal
 
-pub returns : goal.returns
+pub returns-in-Some : goal.returns-in-Some
 unfolding explanation
-returns c = c.said_of.ensures ∙ ap (said_of (map (λ row. (row.0.now, row.1.now)) EXPLANATIONS)) c.word_in.ensures
+returns-in-Some c = rw (← c.in-Some.ensures) refl
+
+pub returns-in-None : goal.returns-in-None
+unfolding explanation
+returns-in-None c = rw (← c.in-None.ensures) (c.of_any.ensures ∙ ap of_any c.word_in.ensures)

@@ -10,7 +10,7 @@ use Rattle.dmremap.proofs.map_stored.map_stored.Goals as goal
 -- ---- the load was refused
 
 pub returns-in-Err-clause-run : goal.returns-in-Err-clause-run
-returns-in-Err-clause-run g c = λ held seen. unloaded_runs _ _ _ _ _ _ _ _ _ _ _ c.in-Err.fault c.unloaded.result c.in-Err.ensures.gives.refused c.unloaded.ensures c.tell.ensures
+returns-in-Err-clause-run g c = λ held seen. unloaded_runs _ c.args.format _ (delivery (g.S.Input.past c.args.source.now) (g.S.Input.past c.load.new.source)) (delivery_if g.D.Input.past c.args.disks.now c.load.new.disks) _ _ _ _ _ _ c.in-Err.fault c.unloaded.result c.in-Err.ensures.gives.refused c.unloaded.ensures c.tell.ensures
 
 pub returns-in-Err-clause-streams : goal.returns-in-Err-clause-streams
 returns-in-Err-clause-streams g c = unloaded_streams _ _ _ _ _ c.in-Err.fault (rw (c.unloaded.ensures) at c.tell.ensures)
@@ -22,7 +22,7 @@ returns-in-Err-clause-earlier g c = λ held seen. inl refl
 
 pub returns-in-Ok-clause-run : goal.returns-in-Ok-clause-run
 returns-in-Ok-clause-run g c = λ held seen.
-    runs_from _ _ _ _ _ _ _ _ _ _ _ _ c.in-Ok.stack c.in-Ok.ensures.gives.sound
+    runs_from _ c.args.format _ (delivery (g.S.Input.past c.args.source.now) (g.S.Input.past c.load.new.source)) (delivery_if g.D.Input.past c.args.disks.now c.load.new.disks) _ _ _ _ _ _ _ c.in-Ok.stack c.in-Ok.ensures.gives.sound
     (c.map_from-status.ensures.run _ _ (c.begin_after-begun.ensures.begun held seen))
 
 pub returns-in-Ok-clause-memory : goal.returns-in-Ok-clause-memory

@@ -1,4 +1,4 @@
-use Rattle.std.proofs.Common.{◌∙◌, ℕ, ◌+◌, List, Result, Ok, Err, sym, ap}
+use Rattle.std.proofs.Common.{◌∙◌, ℕ, ◌+◌, List, Result, Ok, Err, sym, ap, refl}
 use Rattle.lvm_head.specs.declared.area.Area.{Area}
 use Rattle.lvm_head.specs.declared.fault.HeadFault.{HeadFault}
 use Rattle.lvm_head.specs.Labels.{area_at}
@@ -8,6 +8,7 @@ use Rattle.lvm_head.proofs.head.read_areas.Goals as goal
 
 pub loop-i-init : goal.loop-i-init
 loop-i-init g c = record {
+  listed = refl;
   still = λ held seen. seen;
   text = λ held seen. common_none (λ i. area_text (held c.args.disk) (area_at c.args.label.now (c.args.areas.from + i))) c.new-text.result.items c.new-text.ensures.items;
 }
@@ -30,6 +31,7 @@ returns-in-Err-same_text-clause-is g c = λ held seen some.
 
 pub loop-i-preserved : goal.loop-i-preserved
 loop-i-preserved g c = record {
+  listed = c.read_area.ensures.listed ∙ c.loop-i.invariant.listed;
   still = λ held seen. c.loop-i.invariant.still held (c.read_area.ensures.still held seen);
   text = λ held seen.
       let f : ℕ → Result (List ℕ) HeadFault = λ i. area_text (held c.args.disk) (area_at c.args.label.now (c.args.areas.from + i)) in

@@ -1,9 +1,10 @@
-use Rattle.std.proofs.Common.{Ok, Err, refl}
+use Rattle.std.proofs.Common.{Ok, Err, refl, ◌∙◌}
 use Rattle.lvm_head.proofs.HeadsLemmas.{heads_more, heads_none, heads_refused}
 use Rattle.lvm_head.proofs.heads.read_heads.Goals as goal
 
 pub loop-disk-init : goal.loop-disk-init
 loop-disk-init g c = record {
+  listed = refl;
   still = λ held seen. seen;
   heads = λ held seen. heads_none held _ c.new.ensures.items c.new-2.ensures.items;
 }
@@ -20,6 +21,7 @@ returns-in-Err-joined-clause-refused g c = λ held seen some.
 
 pub loop-disk-preserved : goal.loop-disk-preserved
 loop-disk-preserved g c = record {
+  listed = c.read_head.ensures.listed ∙ c.loop-disk.invariant.listed;
   still = λ held seen. c.loop-disk.invariant.still held (c.read_head.ensures.still held seen);
   heads = λ held seen.
       heads_more held c.loop-disk.disk c.loop-disk.heads c.in-Ok-joined.heads (Ok c.in-Ok.head)

@@ -1,4 +1,4 @@
-use Rattle.std.proofs.Common.{ℕ, ◌%◌, slice_index, refl, length-append, arith}
+use Rattle.std.proofs.Common.{ℕ, ◌%◌, slice_index, refl, length-append, arith, ◌∙◌}
 use Rattle.lvm_head.specs.declared.fault.HeadFault.TheVariants.{Unread}
 use Rattle.lvm_head.specs.Areas.{ring_place}
 use Rattle.lvm_head.specs.Texts.{byte_at}
@@ -9,6 +9,7 @@ pub loop-number-init : goal.loop-number-init
 loop-number-init g c = record {
   len = refl;
   count = rw c.in_ok-bytes.ensures.items refl;
+  listed = refl;
   still = λ held seen. seen;
   has = λ held seen. tt;
   bytes = λ held seen. gathered_none (λ number. byte_at (held c.args.disk) (ring_place c.args.start c.args.location number)) c.in_ok-bytes.bytes.items c.in_ok-bytes.ensures.items;
@@ -30,6 +31,7 @@ loop-number-preserved g c =
     record {
       len = let same = c.reach.auto.block in omega (arith, same, c.loop-number.invariant.len);
       count = rw (c.in_ok-push.ensures.items, length-append, c.loop-number.invariant.count) refl;
+      listed = c.reach.ensures.listed ∙ c.loop-number.invariant.listed;
       still = λ held seen. c.loop-number.invariant.still held (c.reach.ensures.still held seen);
       has = λ held seen. c.in_default.ensures.is held seen (c.loop-number.invariant.has held (c.reach.ensures.still held seen));
       bytes = λ held seen.

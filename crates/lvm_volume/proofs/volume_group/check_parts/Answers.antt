@@ -5,8 +5,8 @@ use Rattle.lvm_volume.specs.checks.Extents.{size_faults, snapshot_faults_in, unk
 use Rattle.lvm_volume.specs.group.Group.{Group}
 use Rattle.lvm_volume.specs.tables.Tables.{extent_faults}
 use Rattle.lvm_volume.proofs.fields.Faults.{first_after}
-use Rattle.lvm_volume.proofs.GroupLemmas.{found_later}
 use Rattle.lvm_volume.proofs.volume_group.check_parts.Goals as goal
+use Rattle.dm_table.proofs.FaultLemmas.{first_or-passed}
 
 pub returns : goal.returns
 returns c = λ name.
@@ -23,5 +23,5 @@ returns c = λ name.
     sym (rw (ps, vs))
     ∙ c.in_ok-check_extents.ensures in
     let extents : first_or (extent_faults group) None ≡ None = first_after (size_faults size physicals) _ None sizes ∙ lie in
-    let later = ap (λ (vs : List Volume). first_or (snapshot_faults_in vs) None) vs ∙ sym (found_later (unknown_faults group) _ unknown ∙ found_later (extent_faults group) _ extents) in
+    let later = ap (λ (vs : List Volume). first_or (snapshot_faults_in vs) None) vs ∙ sym (first_or-passed (unknown_faults group) _ unknown ∙ first_or-passed (extent_faults group) _ extents) in
     rw (← later) c.check_snapshots.ensures

@@ -31,8 +31,8 @@ next_snapshot stack seen ids counted next device same ids_are counted_are before
     let is : device ≡ get_or (snapshots stack) next device = is_in ∙ rw (ids_are, same) in
     record { within = within; is = is; there = rw is (snapshot_there stack next device within) }
 
-pub places_of-requires : goal.places_of-requires
-places_of-requires g c =
+pub room_of-places-requires : goal.room_of-places-requires
+room_of-places-requires g c =
     let l = c.loop-next in
     let it = next_snapshot c.args.looker.now.stack l.looker.stack c.snapshots.result.now c.snapshots-count.result.now l.next c.index-snapshots-next.result l.invariant.same c.snapshots.ensures.ids c.snapshots-count.ensures.ids c.loop-next-test.true c.index-snapshots-next.is in
     rw l.invariant.same it.there
@@ -48,11 +48,11 @@ loop-next-preserved g c =
     let stack = c.args.looker.now.stack in let l = c.loop-next in let d = c.index-snapshots-next.result in let table = c.in_ok-table.table in let made = c.in_ok-table.ensures in
     let it = next_snapshot stack l.looker.stack c.snapshots.result.now c.snapshots-count.result.now l.next d l.invariant.same c.snapshots.ensures.ids c.snapshots-count.ensures.ids c.loop-next-test.true c.index-snapshots-next.is in
     let room : (number : ℕ) → nat_lt number (g.T.Taken.places table) ≡ has_room stack d number = λ number.
-    rw (made.places, c.places_of.ensures.places number, l.invariant.same) in
+    rw (made.places, c.room_of-places.ensures.places number, l.invariant.same) in
     record {
       count = length-set l.tables.items c.index.result table ∙ l.invariant.count;
       room = next_rooms g.T.Taken.places stack l.tables.items l.next d c.index.result table it.within it.is c.index.ensures room l.invariant.room;
       state = state_new g.T.Taken.chunks g.T.Taken.valid l.tables.items c.index.result (length stack.devices) table (omega (arith, it.there, c.index.ensures)) l.invariant.state made.chunks made.valid;
-      same = c.places_of.ensures.stack ∙ l.invariant.same;
-      looked = omega (arith, c.places_of.ensures.one, l.invariant.looked);
+      same = c.room_of-places.ensures.stack ∙ l.invariant.same;
+      looked = omega (arith, c.room_of-places.ensures.one, l.invariant.looked);
     }

@@ -2,8 +2,9 @@ use Rattle.std.proofs.Common.{length, refl, sym, ap, ◌∙◌}
 use Rattle.std.specs.Prelude.{take}
 use Rattle.std.proofs.lemmas.Option.{slice_get_read}
 use Rattle.dm_stack.specs.claims.Sweep.{clash_with}
-use Rattle.dm_stack.proofs.claims.TidyLemmas.{clash_here, clash_none, some_is}
+use Rattle.dm_stack.proofs.claims.TidyLemmas.{clash_here, clash_none}
 use Rattle.dm_stack.proofs.claims.tidy.clash_at.Goals as goal
+use Rattle.dm_table.proofs.Lists.{some_is}
 
 pub returns-then-meets : goal.returns-then-meets
 returns-then-meets c later there =

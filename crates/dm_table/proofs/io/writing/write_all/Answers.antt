@@ -2,8 +2,9 @@ use Rattle.std.proofs.Common.{◌≡◌, ◌<◌, ◌∙◌, ap, length, rules}
 use Rattle.dm_table.specs.io.DeviceIo.{OutputPast}
 use Rattle.std.proofs.lemmas.List.{append-nil}
 use Rattle.std.proofs.lemmas.Result.{err_from_is_err_and}
-use Rattle.dm_table.proofs.io.Growth.{before, sent_cut, sent_further, sent_whole, front_beginning, on_err}
+use Rattle.dm_table.proofs.io.Growth.{before, sent_cut, sent_further, sent_whole, front_beginning}
 use Rattle.dm_table.proofs.io.writing.write_all.Goals as goal
+use Rattle.dm_table.proofs.Lists.{on_err}
 
 pub returns-in_err-taken-clause-err : goal.returns-in_err-taken-clause-err
 returns-in_err-taken-clause-err g c =

@@ -1,5 +1,8 @@
 use Rattle.std.proofs.lemmas.Result.{err_from_is_err_and}
-use Rattle.dm_table.proofs.tables.ConciseFaults.{device_taken, device_refused}
+use Rattle.dm_table.specs.tables.ConciseReading.{device_in, fault_of_device}
+use Rattle.dm_table.specs.tables.ConciseText.{entries}
+use Rattle.dm_table.proofs.load.RowFaultLemmas.{said_read}
+use Rattle.dm_table.proofs.tables.ConciseFaults.{device_refused}
 use Rattle.dm_table.proofs.tables.concise_text.read_part.Goals as goal
 
 pub returns-in_err-read_device-clause-fault : goal.returns-in_err-read_device-clause-fault
@@ -8,4 +11,4 @@ returns-in_err-read_device-clause-fault c =
     rw (p.1, p.2) (λ other. device_refused c.args.number c.args.part.now c.in_err-read_device.field-0.0 (c.in_err-read_device.ensures other))
 
 pub returns-clause-devices : goal.returns-clause-devices
-returns-clause-devices c = rw (c.in_ok-push.ensures.items, (device_taken c.args.number c.args.part.now _ c.in_ok-read_device.ensures).1)
+returns-clause-devices c = rw (c.in_ok-push.ensures.items, (said_read (fault_of_device c.args.part.now) (device_in c.args.number (entries c.args.part.now)) _ c.in_ok-read_device.ensures).1)

@@ -8,4 +8,4 @@ returns-in_default c = λ other. ap (with_line _) (body_none c.args.at c.args.fi
 
 pub returns : goal.returns
 returns c =
-    rw (body_made c.args.lines.now c.args.at c.args.fields.now _ _ c.in-Some.start c.in-Some-number.len c.in-len2-up.len_at_least (sym c.in-Some.ensures) (sym c.in-Some-number.ensures)) c.read_target.ensures
+    rw (body_made c.args.lines.now c.args.at c.args.fields.now _ c.in-Some.start c.in-Some-number.len c.in-len3-up.len_at_least (sym c.in-Some.ensures) (sym c.in-Some-number.ensures)) c.read_typed.ensures

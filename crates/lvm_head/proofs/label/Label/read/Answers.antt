@@ -1,4 +1,4 @@
-use Rattle.std.proofs.Common.{◌∙◌, ℕ, Ok, Err, sym, ap}
+use Rattle.std.proofs.Common.{◌∙◌, ℕ, Ok, Err, sym, ap, refl}
 use Rattle.lvm_head.specs.declared.fault.HeadFault.TheVariants.{Unread}
 use Rattle.lvm_head.specs.Labels.{label_in, or_no_label}
 use Rattle.lvm_head.proofs.FoundLemmas.{found_at, found_none, none_more}
@@ -7,6 +7,7 @@ use Rattle.lvm_head.proofs.label.Label.read.Goals as goal
 
 pub loop-place-init : goal.loop-place-init
 loop-place-init g c = record {
+  listed = refl;
   still = λ held seen. seen;
   none = λ held seen. found_none (λ place. label_in place (held c.args.disk place));
 }
@@ -27,6 +28,7 @@ pub loop-place-preserved : goal.loop-place-preserved
 loop-place-preserved g c =
     let n : ℕ = c.loop-place.place in
     record {
+      listed = c.read.ensures.listed ∙ c.loop-place.invariant.listed;
       still = λ held seen. c.loop-place.invariant.still held (c.read.ensures.still held seen);
       none = λ held seen.
           none_more (λ place. label_in place (held c.args.disk place)) n (c.loop-place.invariant.none held (c.read.ensures.still held seen))

@@ -1,13 +1,10 @@
-use Rattle.std.proofs.lemmas.Result.{err_from_is_err_and}
 use Rattle.lvm_volume.specs.fields.Fields.{field_faults}
-use Rattle.lvm_volume.proofs.fields.Steps.{at_last, then_fails, then_goes}
+use Rattle.lvm_volume.proofs.fields.Steps.{at_last, exits, then_fails, then_goes}
 use Rattle.lvm_volume.proofs.group.group_fields.check_head.Goals as goal
 
 pub returns-in_err-check_title_field : goal.returns-in_err-check_title_field
 unfolding field_faults
-returns-in_err-check_title_field c = λ reader.
-    let p = err_from_is_err_and c.from_residual.result c.from_residual.ensures.1 in
-    rw (p.1, p.2) (then_fails _ (c.in_err-check_title_field.ensures reader))
+returns-in_err-check_title_field c = λ reader. exits c.from_residual.result c.from_residual.ensures.1 (then_fails _ (c.in_err-check_title_field.ensures reader))
 
 pub returns : goal.returns
 unfolding field_faults

@@ -1,5 +1,4 @@
 use Rattle.std.proofs.Common.{◌∙◌, List, map}
-use Rattle.std.proofs.lemmas.Result.{err_from_is_err_and}
 use Rattle.std.proofs.lemmas.List.{map_push}
 use Rattle.lvm_text.specs.Iterate.{item_view}
 use Rattle.dm_table.specs.declared.load.load_fault.LoadFault.{LoadFault}
@@ -7,16 +6,14 @@ use Rattle.lvm_volume.specs.fields.Checks.{Check}
 use Rattle.lvm_volume.specs.fields.Fields.{fields_faults, physical_fields}
 use Rattle.lvm_volume.specs.group.Group.{Keyed}
 use Rattle.lvm_volume.specs.group.PhysicalFields.{fields_of, fields_view}
-use Rattle.lvm_volume.proofs.fields.Steps.{goes_on, made_next, none_left, stops_here}
+use Rattle.lvm_volume.proofs.fields.Steps.{exits, goes_on, made_next, none_left, stops_here}
 use Rattle.lvm_volume.proofs.group.physical.fields_in.Goals as goal
 
 abbrev of_physical : Check → Keyed → List LoadFault
 of_physical check physical = fields_faults check physical.1 physical_fields
 
 pub returns-in_err-fields-clause-step : goal.returns-in_err-fields-clause-step
-returns-in_err-fields-clause-step c =
-    let p = err_from_is_err_and c.from_residual.result c.from_residual.ensures.1 in
-    rw (p.1, p.2) (c.loop-section.invariant.step _ _ (stops_here of_physical item_view c.args.sections.now c.loop-section.section-index c.section-item.result c.loop-section-test.true c.section-item.is c.in_err-fields.ensures.step))
+returns-in_err-fields-clause-step c = exits c.from_residual.result c.from_residual.ensures.1 (c.loop-section.invariant.step _ _ (stops_here of_physical item_view c.args.sections.now c.loop-section.section-index c.section-item.result c.loop-section-test.true c.section-item.is c.in_err-fields.ensures.step))
 
 pub loop-section-preserved : goal.loop-section-preserved
 loop-section-preserved c =

@@ -1,20 +1,17 @@
 use Rattle.std.proofs.Common.{◌∙◌, List}
-use Rattle.std.proofs.lemmas.Result.{err_from_is_err_and}
 use Rattle.lvm_text.specs.Tree.{Tree}
 use Rattle.dm_table.specs.declared.load.load_fault.LoadFault.{LoadFault}
 use Rattle.lvm_volume.specs.fields.Checks.{Check}
 use Rattle.lvm_volume.specs.fields.Fields.{fields_faults, section_view, segment_fields}
 use Rattle.lvm_volume.specs.group.Group.{segment_of}
-use Rattle.lvm_volume.proofs.fields.Steps.{goes_on, made_next, stops_here}
+use Rattle.lvm_volume.proofs.fields.Steps.{exits, goes_on, made_next, stops_here}
 use Rattle.lvm_volume.proofs.group.segment.segments_in.Goals as goal
 
 abbrev of_segment : Check → Tree → List LoadFault
 of_segment check segment = fields_faults check segment segment_fields
 
 pub returns-in_err-segment-clause-step : goal.returns-in_err-segment-clause-step
-returns-in_err-segment-clause-step c =
-    let p = err_from_is_err_and c.from_residual.result c.from_residual.ensures.1 in
-    rw (p.1, p.2) (c.loop-section.invariant.step _ _ (stops_here of_segment section_view c.args.sections.now c.loop-section.section-index c.section-item.result c.loop-section-test.true c.section-item.is c.in_err-segment.ensures.step))
+returns-in_err-segment-clause-step c = exits c.from_residual.result c.from_residual.ensures.1 (c.loop-section.invariant.step _ _ (stops_here of_segment section_view c.args.sections.now c.loop-section.section-index c.section-item.result c.loop-section-test.true c.section-item.is c.in_err-segment.ensures.step))
 
 pub loop-section-preserved : goal.loop-section-preserved
 loop-section-preserved c =

@@ -1,16 +1,13 @@
 use Rattle.std.proofs.Common.{ap, sym, ◌∙◌}
-use Rattle.std.proofs.lemmas.Result.{err_from_is_err_and}
 use Rattle.lvm_volume.specs.fields.Fields.{field_faults}
-use Rattle.lvm_volume.proofs.fields.Steps.{in_words, nothing_left, then_fails, then_goes}
+use Rattle.lvm_volume.proofs.fields.Steps.{exits, in_words, nothing_left, then_fails, then_goes}
 use Rattle.lvm_volume.proofs.group.SegmentLemmas.{of_error, of_zero}
 use Rattle.lvm_volume.specs.group.TypeName.{type_text}
 use Rattle.lvm_volume.proofs.group.segment.target_at.Goals as goal
 
 pub returns-in_err-type_at-clause-step : goal.returns-in_err-type_at-clause-step
 unfolding field_faults
-returns-in_err-type_at-clause-step c =
-    let p = err_from_is_err_and c.from_residual.result c.from_residual.ensures.1 in
-    rw (p.1, p.2) (then_fails _ (c.in_err-type_at.ensures.step c.args.reader.now))
+returns-in_err-type_at-clause-step c = exits c.from_residual.result c.from_residual.ensures.1 (then_fails _ (c.in_err-type_at.ensures.step c.args.reader.now))
 
 pub returns-in-Striped-clause-step : goal.returns-in-Striped-clause-step
 unfolding field_faults

@@ -1,16 +1,13 @@
 use Rattle.std.proofs.Common.{◌≡◌, ◌∙◌, ℕ, ap, map}
-use Rattle.std.proofs.lemmas.Result.{err_from_is_err_and}
 use Rattle.lvm_volume.specs.fields.Fields.{section_view, segments_of, volume_faults}
 use Rattle.lvm_volume.specs.fields.Steps.{numbers_faults}
 use Rattle.lvm_volume.specs.group.Group.{segment_of, volume_of}
-use Rattle.lvm_volume.proofs.fields.Steps.{in_words, then_fails, then_goes}
+use Rattle.lvm_volume.proofs.fields.Steps.{exits, in_words, then_fails, then_goes}
 use Rattle.lvm_volume.proofs.group.volume.volume_of.Goals as goal
 
 pub returns-in_err-head-clause-step : goal.returns-in_err-head-clause-step
 unfolding volume_faults
-returns-in_err-head-clause-step c =
-    let p = err_from_is_err_and c.from_residual.result c.from_residual.ensures.1 in
-    rw (p.1, p.2) (then_fails _ c.in_err-head.ensures.step)
+returns-in_err-head-clause-step c = exits c.from_residual.result c.from_residual.ensures.1 (then_fails _ c.in_err-head.ensures.step)
 
 pub returns-in_err-sections-clause-step : goal.returns-in_err-sections-clause-step
 unfolding volume_faults
@@ -18,8 +15,7 @@ returns-in_err-sections-clause-step c =
     let volume = c.args.section.1.now in
     let reader = c.head_of.new.reader in
     let count = c.in_ok-head.ensures.count in
-    let p = err_from_is_err_and c.from_residual-in_err-sections.result c.from_residual-in_err-sections.ensures.1 in
-    rw (p.1, p.2) (then_goes c.in_ok-head.ensures.step (then_fails _ (in_words (λ check. ap (λ (n : ℕ). numbers_faults volume n check) count) (c.in_err-sections.ensures.step reader))))
+    exits c.from_residual-in_err-sections.result c.from_residual-in_err-sections.ensures.1 (then_goes c.in_ok-head.ensures.step (then_fails _ (in_words (λ check. ap (λ (n : ℕ). numbers_faults volume n check) count) (c.in_err-sections.ensures.step reader))))
 
 pub returns-in_err-segments-clause-step : goal.returns-in_err-segments-clause-step
 unfolding volume_faults
@@ -28,8 +24,7 @@ returns-in_err-segments-clause-step c =
     let reader = c.head_of.new.reader in
     let count = c.in_ok-head.ensures.count in
     let all : map section_view c.deref.result.now ≡ segments_of volume = rw (← count) (ap (map section_view) c.deref.ensures.value ∙ c.in_ok-sections.ensures.value) in
-    let p = err_from_is_err_and c.from_residual-in_err-segments.result c.from_residual-in_err-segments.ensures.1 in
-    rw (p.1, p.2) (then_goes c.in_ok-head.ensures.step (then_goes (in_words (λ check. ap (λ (n : ℕ). numbers_faults volume n check) count) (c.in_ok-sections.ensures.step reader)) (in_words (λ check. rw all) c.in_err-segments.ensures.step)))
+    exits c.from_residual-in_err-segments.result c.from_residual-in_err-segments.ensures.1 (then_goes c.in_ok-head.ensures.step (then_goes (in_words (λ check. ap (λ (n : ℕ). numbers_faults volume n check) count) (c.in_ok-sections.ensures.step reader)) (in_words (λ check. rw all) c.in_err-segments.ensures.step)))
 
 pub returns-clause-step : goal.returns-clause-step
 unfolding volume_faults

@@ -17,8 +17,8 @@ use Rattle.lvm_volume.specs.tables.Tables.{IsSoundGroup, checks_of_parts}
 use Rattle.lvm_volume.proofs.checks.Sound.{one-in_limits, one_section, sound_group}
 use Rattle.lvm_volume.proofs.group.PhysicalLemmas.{all_said}
 use Rattle.lvm_volume.proofs.GroupLemmas.{accepted, at_fields, at_names, at_parts, both_none, of_both, refused_by}
-use Rattle.lvm_volume.proofs.fields.Faults.{ok_is}
 use Rattle.lvm_volume.proofs.volume_group.VolumeGroup.read.Goals as goal
+use Rattle.dm_table.proofs.FaultLemmas.{unless-ok}
 
 pub returns-in-Err : goal.returns-in-Err
 returns-in-Err c = refused_by (at_fields c.args.top.now c.in-Err.fault) c.in-Err.ensures.checked
@@ -41,7 +41,7 @@ made : (top : Tree) (fields : GroupFields) (all : List PhysicalFields) (physical
     → Made top fields.extent_size physicals fields.volumes.items
 made top fields all physicals none said is got =
     let named = physicals_are top fields all said is in
-    let h = ok_is (first_or (name_faults (all_named (map fields_view all))) None) (all_named (map fields_view all)) physicals got in
+    let h = unless-ok (first_or (name_faults (all_named (map fields_view all))) None) (all_named (map fields_view all)) physicals got in
     record {
       fields = none;
       names = rw (← named) h.0;

@@ -1,0 +1,54 @@
+-- What proofs of several crates need of lists, options and results.
+use Rattle.std.proofs.Common.{◌≡◌, ℕ, zero, suc, List, [], ◌∷◌, ◌++◌, Option, Some, None, Result, Ok, Err, OnOk, refl, subst}
+use Rattle.std.specs.Prelude.{OnErr, option_map, slice_get}
+use Rattle.std.specs.List.{AllByRecursion}
+
+-- Lists
+
+-- two lists that together have no element
+pub append-nil_both : {X : Type 0} (xs ys : List X) → xs ++ ys ≡ [] → (xs ≡ []) × (ys ≡ [])
+append-nil_both [] ys e = (refl, e)
+append-nil_both (x ∷ xs) ys e = absurd cc
+
+-- what holds of all elements of lists in a row holds of those of each, and the other way round
+
+pub all_parts : {X : Type 0} (P : X → Type 0) (xs ys : List X) → AllByRecursion P (xs ++ ys) → AllByRecursion P xs × AllByRecursion P ys
+all_parts P [] ys h = (tt, h)
+all_parts P (x ∷ xs) ys h = let parts = all_parts P xs ys h.1 in ((h.0, parts.0), parts.1)
+
+pub all_front : {X : Type 0} (P : X → Type 0) (xs ys : List X) → AllByRecursion P (xs ++ ys) → AllByRecursion P xs
+all_front P xs ys h = (all_parts P xs ys h).0
+
+pub all_append : {X : Type 0} (P : X → Type 0) (xs ys : List X) → AllByRecursion P xs → AllByRecursion P ys → AllByRecursion P (xs ++ ys)
+all_append P [] ys h k = k
+all_append P (x ∷ xs) ys h k = (h.0, all_append P xs ys h.1 k)
+
+-- what follows from it holds of all as well
+pub all_changed : {X : Type 0} (P Q : X → Type 0) (xs : List X) → ((x : X) → P x → Q x) → AllByRecursion P xs → AllByRecursion Q xs
+all_changed P Q [] change each = tt
+all_changed P Q (x ∷ xs) change each = (change x each.0, all_changed P Q xs change each.1)
+
+-- and it holds of the element at a place
+pub at_index : {X : Type 0} (P : X → Type 0) (xs : List X) (i : ℕ) (x : X) → AllByRecursion P xs → slice_get xs i ≡ Some x → P x
+at_index P [] i x each e = absurd cc
+at_index P (y ∷ ys) zero x each e = let same : y ≡ x = cc in subst P same each.0
+at_index P (y ∷ ys) (suc i) x each e = at_index P ys i x each.1 e
+
+-- Options and results
+
+pub some_is : {X : Type 0} (x y : X) → Some x ≡ Some y → x ≡ y
+some_is x y e = cc
+
+-- what a mapped value was before
+pub mapped : {X Y : Type 0} (f : X → Y) (o : Option X) (y : Y) → option_map f o ≡ Some y → (x : X) × (o ≡ Some x) × (f x ≡ y)
+mapped f None y e = absurd cc
+mapped f (Some x) y e = (x, refl, cc)
+
+-- what holds anyway holds of each result
+pub on_ok : {T E : Type 0} (r : Result T E) (P : Type 0) → P → OnOk r P
+on_ok (Ok x) P fact = fact
+on_ok (Err e) P fact = tt
+
+pub on_err : {T E : Type 0} (r : Result T E) (P : Type 0) → P → OnErr r P
+on_err (Ok x) P fact = tt
+on_err (Err e) P fact = fact

@@ -1,0 +1,48 @@
+//! The images of a list of paths as disks, whose heads are read by their places in the list.
+
+ghost use Rattle.std.specs.Prelude.{◌≡◌};
+ghost use Rattle.dmremap.specs.ImagesLoad.{AreSeen};
+
+use dm_store::Images;
+use dm_table::DiskPath;
+use lvm_head::{Disks, ReadFault};
+use std::alloc::Global;
+
+/// Images, and the list that says which disks lie in them.
+#[derive(Drop)]
+pub struct ListedImages<I> {
+    pub(crate) images: I,
+    pub(crate) paths: Vec<DiskPath>,
+}
+
+impl<I> ListedImages<I> {
+    /// Images with an empty list. No memory is taken.
+    pub fn new(alloc: Global, images: I) -> ListedImages<I>
+        ensures { result.images ≡ images }
+    {
+        ListedImages {
+            images,
+            paths: Vec::new(alloc),
+        }
+    }
+}
+
+impl<I: Images> Disks for ListedImages<I> {
+    ghost listed = { λ disks. disks.paths.items };
+
+    ghost IsSeen = { λ disks held. AreSeen (I.IsSeen disks.images) disks.paths.items held };
+
+    fn read(&mut self, disk: usize, sector: u64, into: &mut [u8]) -> Result<(), ReadFault> {
+        let Some(path) = self.paths.get(disk) else {
+            return Err(ReadFault);
+        };
+        let start = path.start.number() + sector;
+        match self
+            .images
+            .read(path.at.number, path.file.as_str(), start, into)
+        {
+            Ok(()) => Ok(()),
+            Err(_) => Err(ReadFault),
+        }
+    }
+}

@@ -1,0 +1,123 @@
+"""Who has the sectors of images, of their partitions and of arrays: what is found there, and what lies on that."""
+
+import functools
+import itertools
+from typing import Dict, Iterator, List
+
+from dmremap_tools.base.luks_header import Container
+from dmremap_tools.base.numbers import SECTOR
+from dmremap_tools.base.partition_table import Table
+from dmremap_tools.model.device import ALL, Device, Part
+from dmremap_tools.model.mapping import Mapped
+from dmremap_tools.model.md_array import Array
+from dmremap_tools.model.md_superblock import Member
+from dmremap_tools.model.owners import Ground, Groups, Run, all_of, chunks_of, claimed, filled, free, unknown
+from dmremap_tools.model.pile import Pile
+
+
+class Owners:
+    """The owners of the sectors of each device that was looked at."""
+
+    def __init__(self, pile: Pile) -> None:
+        pile.search()
+        self._pile, groups = pile, Groups(pile.groups)
+        self._known: Dict[Device, Ground] = {}
+        for array in pile.arrays:
+            for member in array.members:
+                self._known[member.device] = of_member(array, member, self.on(array.device or member.device))
+        for device, table in pile.tables.items():
+            self._known[device] = self._of_table(device, table)
+        for spot, container in pile.containers:
+            self._known[spot.device] = of_container(spot.device, container)
+        for volume in pile.volumes:
+            if volume.question is None:
+                self._known[volume.device] = groups.of(volume)
+            elif volume.device not in pile.tables:
+                self._known[volume.device] = all_of(unknown(volume.question))
+
+    def on(self, device: Device) -> Ground:
+        return lambda first, end: (self._known.get(device) or self._of_other(device))(first, end)
+
+    def _of_table(self, device: Device, table: Table) -> Ground:
+        if table.fault:
+            return all_of(unknown(table.fault))
+        copies = itertools.chain([table.kind], itertools.repeat(f"backup of the {table.kind}" if table.copy else "MBR"))
+        claims = [Run(start // SECTOR, end // SECTOR, name) for (start, end), name in zip(table.taken, copies)]
+        claims += [self._within(part.start, part.size, part) for part in table.partitions.values()]
+        return claimed(claims, free(device, "no partition has it"))
+
+    def _within(self, start: int, size: int, device: Device) -> Run:
+        """What has sectors in which a device lies."""
+        return Run(start // SECTOR, (start + size) // SECTOR, device.name, 0, self.on(device))
+
+    def _of_other(self, device: Device) -> Ground:
+        """Who has sectors of a device that is none of these."""
+        within = [found.spot.device for found in self._pile.found if found.spot.image is device]
+        claims = [self._within(volume.start, volume.size, volume.device) for volume in self._pile.volumes
+                  if volume.device in within]
+        found = next((found for found in self._pile.found if found.spot.device is device), None)
+        if claims:
+            around = "nothing says what is around the physical volumes that looking through it found"
+            made = claimed(claims, all_of(unknown(around)))
+        elif found is None or found.what in ("unknown", "foreign"):
+            made = all_of(unknown(found.note if found else "it was looked into no more"))
+        else:
+            made = all_of(f"{found.what}: {found.note}" if found.note else found.what)
+        return self._known.setdefault(device, made)
+
+
+def of_container(device: Device, container: Container) -> Ground:
+    name, start = f"LUKS{container.version}", container.start
+    if start is None:
+        return all_of(f"{name} container: {container.fault}")
+    end = device.size // SECTOR if container.length is None else start + container.length
+    claims = [Run(0, max(start, container.header), f"{name} header")]
+    claims += [Run(start, end, f"{name} data, encrypted")] * (start >= container.header)
+    return claimed(claims, free(device, "the container doesn't say that it has it"))
+
+
+def of_member(array: Array, member: Member, above: Ground) -> Ground:
+    """Who has the sectors of a member of an array: that, or the superblock with what it keeps free."""
+    start, rest = member.superblock.start, all_of(f"superblock of {array.label}, with what it keeps free")
+    if array.device is None:
+        data = all_of(f"{array.label}, which isn't followed: {array.why}")
+    elif not any(other is member for other in array.by_role.values()):
+        data = all_of(f"a member of {array.label} that is stale or was being rebuilt")
+    else:
+        data = filled(functools.partial(of_data, array, member, above), rest)
+    return claimed([Run(start, start + array.length(member), "", 0, data)], rest)
+
+
+def of_data(array: Array, member: Member, above: Ground, first: int, end: int) -> Iterator[Run]:
+    """Who has sectors of a member's data: sectors of the array, or parity."""
+    device, chunks = array.device, functools.partial(chunks_of, name=array.label, above=above)
+    if array.level == "raid1":
+        yield Run(first, end, array.label, first, above)
+    elif array.level in ("linear", "raid0"):
+        for line in device.source.devices[device.key].lines if isinstance(device, Mapped) else ():
+            columns, chunk = len(line.places()), int(line.words[1]) if line.target == "striped" else ALL
+            for place, (disk, start, count) in enumerate(line.spans()):
+                part = device.source.disks[disk]
+                if isinstance(part, Part) and part.lower is member.device:
+                    begin, until = max(first, start), min(end, start + (count or 0))
+                    yield from chunks(begin, until, chunk, lambda row: [row * columns + place], begin=start,
+                                      to=line.start)
+    else:
+        role = next(role for role, other in array.by_role.items() if other is member)
+        is_copied, until = array.level == "raid10", min(end, array.chunks * array.chunk)
+        yield from chunks(first, until, array.chunk,
+                          lambda row: copies_in(array, role, row) if is_copied else [array.number(role, row)],
+                          parity=f"parity of {array.label}")
+
+
+def copies_in(array: Array, role: int, row: int) -> List[int]:
+    """The chunks of raid10 that a member has in a row."""
+    near, far, is_offset = array.copies
+    stride, end, found = 1 if is_offset else max(1, array.chunks // far), array.sectors // array.chunk, set()
+    for turn in range(far):
+        base = (row - turn * stride) // (far if is_offset else 1)
+        about = (base * array.count + (role - turn * near) % array.count) // near
+        for number in range(max(0, about - near), min(end, about + near + 1)):
+            if any(array.place(number, copy) == (role, row) for copy in range(near * far)):
+                found.add(number)
+    return sorted(found)

@@ -1,0 +1,187 @@
+"""Where the disks of tables, or of a text of lvm2, lie in images: at places that are given, or where the images have the
+physical volumes of the text. Places are refused at which the bytes of a disk aren't those that lie there, as in a
+member of an array that has only some of these."""
+
+import os
+import re
+from typing import Dict, Iterable, Iterator, List, Optional, Tuple
+
+from dmremap_tools.base import quoting, streams, written
+from dmremap_tools.base.numbers import SECTOR
+from dmremap_tools.base.paths import Place
+from dmremap_tools.base.refusal import Refusal
+from dmremap_tools.model.config_text import Document, shown
+from dmremap_tools.model.device import Device, Image, Lenient, Part
+from dmremap_tools.model.md_superblock import BAD_BLOCKS, HARMLESS, Member, has_all
+from dmremap_tools.model.physical_volume import Label, label_of
+from dmremap_tools.model.pile import Pile
+from dmremap_tools.model.volume_group import Group, disk_names
+
+# What tables call an array, and a partition of one.
+ARRAY, PARTITION = re.compile(r"(?:/dev/)?md(?:_?d?\d+(?:p\d+)?|/.+)|9:\d+"), re.compile(r".*p\d+")
+GIVE = "give the partition that it is, as IMAGE?offset=BYTES"
+PARTS = ("a member of an md array that isn't raid1, so that no member has all of a physical volume: give the images of "
+         "all members to `save GROUP/VOLUME OUT IMAGE..`, which puts it together")
+CHANGING = ("a member of an md array that is a spare, or is being filled or reshaped, so that it doesn't have the "
+            "array's bytes: take another member")
+BAD = "a member of an md array that has bad blocks, which a kernel reads from another one: take that"
+NO_VOLUME = "a member of an md array in which the physical volume isn't found: give its place, as IMAGE?offset=BYTES"
+OLDER = ("a member of an md array that was away when others changed: it has the count of events {}, and {} has {}: "
+         "take that")
+
+
+def groups_in(path: str) -> Tuple[Document, List[Group]]:
+    """A text of lvm2, and its groups that have physical volumes. Refuses a text without any."""
+    document = Document(streams.name_of(path), streams.read_bytes(path))
+    groups = [group for group in map(Group, document.top.sections()) if group.physicals]
+    if not groups:
+        raise Refusal(document.path, "no physical volumes of a group: give a text of /etc/lvm/backup, or what "
+                      "`metadata` prints")
+    return document, groups
+
+
+def disks_of(path: str) -> Iterator[Tuple[str, int, Optional[bytes]]]:
+    """The name of each physical volume of a group, its sectors, and its id, if it has one."""
+    document, (group, *_) = groups_in(path)
+    physicals = list(group.physicals.values())
+    for name, node in zip(disk_names(physicals), physicals):
+        size = node.value(b"dev_size", int)
+        if size is None or size <= 0:
+            why = f"no dev_size of {shown(node.key)}: take the copy that lvm2-text makes"
+            raise document.refused(node.start, why)
+        yield name, size, node.value(b"id", bytes)
+
+
+def by_ids(text: Optional[str], places: Dict[str, Place], sizes: Dict[str, int], asked: str) -> Dict[str, Place]:
+    """The places of disks, of which some may be whole disks that have a physical volume on a partition. Without `text`,
+    the metadata of their group, they are what was given. `sizes` has the sectors of each disk, and `asked` is dmremap.
+    Refuses an image of another disk, and one of which nothing says where the disk is."""
+    ids = {name: identity for name, _, identity in (disks_of(text) if text is not None else ()) if identity is not None}
+    found, pile = dict(places), pile_at((place.path for place in places.values()), asked)
+    check_places(places, pile, bool(ids))
+    for name, place in places.items():
+        image, size = image_at(pile, place.path), sizes.get(name)
+        if not image:
+            continue
+        if name in ids:
+            found[name] = place_of_volume(pile, image, name, ids[name], place)
+        # The image of a whole disk isn't one of a partition, which doesn't begin where that does. A disk as long as said
+        # is taken, and one whose image ends too early, if its partitions lie within so many sectors.
+        table = pile.tables.get(image) if not found[name].is_said else None
+        ends = [image.bytes, *(part.start + part.size for part in table.partitions.values())] if table else []
+        if table and size is not None and image.bytes // SECTOR != size and max(ends) > size * SECTOR:
+            raise Refusal(image.name, f"the image of a whole disk ({table.kind}), and {quoting.shown(name)} has {size} "
+                          f"sectors: {GIVE}")
+    return found
+
+
+def pile_at(paths: Iterable[str], asked: Optional[str] = None) -> Pile:
+    """What is in the images at these paths, without those that can't be read, of which who reads them says why."""
+    here = (path for path in dict.fromkeys(paths) if written.identity_at(path) and os.access(path, os.R_OK))
+    return Pile(list(here), asked)
+
+
+def image_of(path: str) -> Image:
+    """The image at a path, which has the bytes of a disk in their order."""
+    image = Image(path)
+    if image.other_form or not image.bytes:
+        raise Refusal(image.name, image.other_form or "it is empty: give the image of a disk")
+    return image
+
+
+def image_at(pile: Pile, path: str) -> Optional[Image]:
+    """The image of a pile that is at a path, perhaps under another name; None where there is none."""
+    identity = written.identity_at(path)
+    return next((spot.image for spot in pile.spots() if spot.image and spot.image.identity == identity), None)
+
+
+def begins_in(pile: Pile, device: Device, image: Image) -> Iterator[int]:
+    """The bytes of an image from which on all bytes of a device lie, one after the other: of an array those of its
+    members that have them."""
+    if device is image:
+        yield 0
+    elif isinstance(device, Part):
+        yield from (begin + device.start for begin in begins_in(pile, device.lower, image))
+    for member in (member for array in pile.arrays if array.device is device for member in array.by_role.values()):
+        if not fault_of(member, pile):
+            yield from (begin + member.superblock.start * SECTOR for begin in begins_in(pile, member.device, image))
+
+
+def place_of_volume(pile: Pile, image: Image, name: str, identity: bytes, place: Place) -> Place:
+    """Where an image has the physical volume with this id: in all of it, or at a place that was given. That place
+    itself where nothing says which volume is there. Refuses the image of another volume, and one in question."""
+    members = [(begin, member) for member in pile.members for begin in begins_in(pile, member.device, image)]
+    datas = [(begin, begin + it.superblock.start * SECTOR) for begin, it in members if has_all(it.superblock)]
+    labels = {begin: label_at(image, begin) for begin in (place.start, *(data for _, data in datas))}
+    found = {begin: label.identity for begin, label in labels.items() if label}
+    whys: Dict[int, Optional[str]] = {}
+    for volume in pile.volumes:
+        for begin in begins_in(pile, volume.device, image):
+            found[begin] = volume.identity.encode()
+            whys[begin] = volume.doubt or (None if place.is_said else volume.question)
+    if place.is_said:
+        here = [place.start, *(data for begin, data in datas if begin == place.start)]
+        found = {begin: known for begin, known in found.items() if begin in here}
+    mine = next((begin for begin, known in found.items() if known == identity), None)
+    table, note = pile.tables.get(image), next((found.note for found in pile.found if found.spot.device is image), "")
+    if mine is not None and whys.get(mine):
+        raise Refusal(image.name, whys[mine] or "")
+    if mine is not None:
+        return Place(place.path, mine, True)
+    if found:
+        wrong, ids = f"it isn't {quoting.shown(name)}, whose id is {shown(identity)}", map(shown, found.values())
+        raise Refusal(image.name, f"{wrong}, but has the id {' or '.join(ids)}: give the path of that")
+    if table and not place.is_said:
+        numbers = quoting.some(list(map(str, table.partitions))) or "-"
+        raise Refusal(image.name, table.fault or f"the image of a whole disk ({table.kind}), none of whose partitions "
+                      f"({numbers}) has a sound label: {GIVE}")
+    if any(each.device is image for each in pile.damaged):
+        raise Refusal(image.name, note)
+    for member in (member for begin, member in members if begin == place.start and member.superblock.start):
+        raise Refusal(image.name, fault_of(member, pile) or NO_VOLUME)
+    return place
+
+
+def label_at(image: Image, begin: int) -> Optional[Label]:
+    """The sound label of a physical volume that begins at a byte of an image."""
+    return label_of(Lenient(Part(image.name, image, begin, max(0, image.size - begin))))[0]
+
+
+def check_places(places: Dict[str, Place], pile: Pile, are_volumes: bool = False) -> None:
+    """Refuses places behind the superblocks of members that don't have all data of their arrays, or of which another
+    one here is newer; or behind one that is damaged, so that nothing says of which level the array is. The names are
+    those of disks. Where they are physical volumes or arrays, a place at which a member begins is the same."""
+    for name, place in places.items():
+        image, is_array = image_at(pile, place.path), bool(ARRAY.fullmatch(name))
+        if not image:
+            continue
+        begins = [(spot, begin) for spot in pile.spots() for begin in begins_in(pile, spot.device, image)]
+        behind = [spot for spot, begin in begins if begin < place.start < begin + spot.device.size]
+        damaged = next((spot for spot in behind if spot in pile.damaged), None)
+        if damaged:
+            raise Refusal(place.path, next(found.note for found in pile.found if found.spot is damaged))
+        for member in pile.members:
+            for spot, begin in ((spot, begin) for spot, begin in begins if spot.device is member.device):
+                data = begin + member.superblock.start * SECTOR
+                is_beginning, is_behind = place.start in (begin, data), spot in behind
+                is_volume = are_volumes and (is_beginning or not place.is_said) and bool(label_at(image, data))
+                why = fault_of(member, pile) if is_behind or is_volume or is_array and is_beginning else None
+                if why:
+                    raise Refusal(quoting.shown(place.path), why)
+                is_array_place = is_array and not are_volumes and (is_behind or is_beginning)
+                if is_array_place and place.start != data and not PARTITION.fullmatch(name):
+                    raise Refusal(quoting.shown(place.path), f"{quoting.shown(name)} is an array, and this place is in "
+                                  f"a member of one whose data begins at byte {data}: give that, as IMAGE?offset=BYTES")
+
+
+def fault_of(member: Member, pile: Pile) -> Optional[str]:
+    """Why the bytes of a member aren't those of its array, or None."""
+    mine = member.superblock
+    if not has_all(mine):
+        return PARTS
+    if mine.role is None or mine.features & ~HARMLESS:
+        return CHANGING
+    alike = (it for it in pile.members if it.superblock.array == mine.array)
+    newer = ((pile.spot_of[it.device].path, it.superblock.events) for it in alike)
+    ages = (OLDER.format(mine.events, path, events) for path, events in newer if events > mine.events)
+    return BAD if mine.features & BAD_BLOCKS else next(ages, None)
