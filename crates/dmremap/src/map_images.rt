@@ -35,7 +35,7 @@ use std::mem::forget;
 ///
 /// The statuses are those of `map_stored`. Status 1 is given where the list is refused, then the head of a disk, the
 /// text or what it describes, a store, an earlier request: then nothing was written or flushed, and no request was
-/// read. Whatever was refused, nothing that comes later in this order was asked for.
+/// read. No image is read where the list is refused, and no earlier request where a head, the text or a store is.
 ///
 /// Cost: that of the heads (`read_heads`), of the text and of the stores, and then that of `map_stored`.
 #[tactic(auto, using(crate::proofs::ExitLemmas::exits_told))]

@@ -1,1 +1,1 @@
-"""Commands for what lies below and above a stack: used snapshots, arrays, pools, file systems, and pictures of them."""
+"""Arrays of md, tables that dmremap has loaded, and the lines of devices that are made."""
