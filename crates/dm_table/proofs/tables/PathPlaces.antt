@@ -97,27 +97,6 @@ last_nowhere text none = sym (ap (last_or []) (parts_at-clear 61 text (λ k d be
     let same : get_or text k d ≡ get_or text k 0 = grind (arith, elements) in
     rw same (false_from_ne_true _ (none k (omega arith) below)))))
 
--- ---- an offset
-
--- digits that are all read
-pub offset_read : (digits : List ℕ) (len value : ℕ) → 1 ≤ length digits → length digits ≤ 18 → length digits ≤ len → IsReadTo digits len value → Some value ≡ offset_in digits
-offset_read digits len value some few all read =
-    let whole : take len digits ≡ digits = take_all len digits all in
-    let each : list_all is_ascii_digit digits ≡ true = ap (list_all is_ascii_digit) (sym whole) ∙ read.digits in
-    let is : value ≡ digits_value 10 digits = read.value ∙ ap (digits_value 10) whole in
-    rw (le-leb 1 (length digits) some, le-leb (length digits) 18 few, each) (ap Some is)
-
--- a byte that is none
-pub offset_other : (digits : List ℕ) (len : ℕ) → len < length digits → is_ascii_digit (get_or digits len 0) ≡ false → None ≡ offset_in digits
-offset_other digits len below other =
-    let none : list_all is_ascii_digit digits ≡ false = list_all_at is_ascii_digit digits len 0 below other in
-    rw none (no_more (nat_le 1 (length digits)) (nat_le (length digits) 18))
-  where
-    no_more : (a b : Bool) → None ≡ cond (a && (b && false)) (Some (digits_value 10 digits)) None
-    no_more true true = refl
-    no_more true false = refl
-    no_more false b = refl
-
 -- ---- a place
 
 -- a place that a path says is one that a disk can have

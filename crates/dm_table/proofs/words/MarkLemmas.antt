@@ -57,13 +57,8 @@ back_marks c text n = ap (marks_of c) (take_rest text n) ∙ ap mask_l (sym (dro
 
 -- a mark stands within the text
 pub mark_within : {X : Type 0} (p : X → Bool) (xs : List X) → 0 < mask_l (map p xs) → prefix_len (λ x. not (p x)) xs < length xs
-mark_within p [] some = absurd (omega arith)
-mark_within p (x ∷ xs) some = elim (cases_Bool (p x)) [
-  | inl e ↦ rw e (omega arith)
-  | inr e ↦
-      let rest : 0 < mask_l (map p xs) = omega (arith, rw e at some) in
-      rw e (omega (arith, mark_within p xs rest))
-]
+mark_within p [] some = absurd (omega (arith, some))
+mark_within p (x ∷ xs) some = grind (arith, some, mark_within p xs)
 
 -- the first byte c, by how many others come before it
 first_by_prefix : (c : ℕ) (text : List ℕ) → prefix_len (λ byte. not (byte == c)) text < length text → IsFirstByte (is_byte c) text (Some (prefix_len (λ byte. not (byte == c)) text))
