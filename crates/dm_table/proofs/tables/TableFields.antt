@@ -11,7 +11,6 @@ use Rattle.dm_table.specs.declared.tables.table.Line.{Line}
 use Rattle.dm_table.specs.declared.load.place.Place.{Place}
 use Rattle.dm_table.specs.declared.load.place.Part.TheVariants.{Source}
 use Rattle.dm_table.specs.declared.load.row_faults.RowFault.{RowFault}
-use Rattle.dm_table.specs.declared.load.row_faults.RowFault.TheVariants.{Name}
 use Rattle.dm_table.specs.words.Name.{is_device_name}
 use Rattle.dm_table.specs.load.RowFaults.{first_failed, fault_in}
 use Rattle.dm_table.specs.tables.LineBody.{is_body_row, Body, body_in, has_target_names}

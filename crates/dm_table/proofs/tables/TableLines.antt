@@ -10,7 +10,6 @@ use Rattle.dm_table.specs.declared.tables.table.DeviceSpec.{DeviceSpec}
 use Rattle.dm_table.specs.declared.load.place.Place.{Place}
 use Rattle.dm_table.specs.words.Name.{is_device_name}
 use Rattle.dm_table.specs.declared.load.row_faults.RowFault.{RowFault}
-use Rattle.dm_table.specs.declared.load.row_faults.RowFault.TheVariants.{Name}
 use Rattle.dm_table.specs.load.RowFaults.{Reads, fault_in}
 use Rattle.dm_table.specs.load.LoadFault.{unless}
 use Rattle.dm_table.specs.load.Reading.{values_from, with_rows}

@@ -1,5 +1,5 @@
 -- A text spells a number exactly where the number is read off it.
-use Rattle.std.proofs.Common.{◌≡◌, ◌≢◌, ℕ, ◌+◌, ◌-◌, ◌*◌, ◌^◌, ◌<◌, ◌≤◌, inl, inr, Bool, true, false, cond, eqb, nat_le, not, ◌||◌, List, Option, Some, None, length, get_or, take, take_all, refl, sym, ap, ◌∙◌, arith, rules}
+use Rattle.std.proofs.Common.{◌≡◌, ◌≢◌, ℕ, ◌+◌, ◌-◌, ◌*◌, ◌^◌, ◌<◌, ◌≤◌, inl, inr, true, false, eqb, nat_le, not, ◌||◌, List, Option, Some, None, length, get_or, take, take_all, refl, sym, ap, ◌∙◌, arith, rules}
 use Rattle.std.specs.Prelude.{decimal, is_some, unwrap_or}
 use Rattle.std.specs.Char.{digit_value, is_ascii_digit}
 use Rattle.std.specs.Int.{IsInRange}
