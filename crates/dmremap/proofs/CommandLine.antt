@@ -18,9 +18,7 @@ use Rattle.dmremap.specs.declared.words.WordsFault.TheVariants.{Words, Disks, Me
 -- a command that a parse reads as a plain one has no global argument
 third : (a b c d : Bool) → (a && (b && (not c && d))) ≡ true → c ≡ false
 third true true false d e = refl
-third true true true d e = absurd (true≢false (sym e))
-third true false c d e = absurd (true≢false (sym e))
-third false b c d e = absurd (true≢false (sym e))
+third a b c d e = absurd (true≢false (sym e))
 
 plain_local : (command : Command) → (shape_of command).is_plain ≡ true → (out-Command command).has_globals ≡ false
 plain_local command plain = third _ _ _ _ plain

@@ -6,7 +6,7 @@ use Rattle.dm_table.specs.declared.load.place.Part.TheVariants.{Paths}
 use Rattle.dm_table.specs.declared.tables.disk_path.DiskPath.{DiskPath}
 use Rattle.dm_table.specs.io.DeviceIo.{Delivery, InputPast, OutputPast, written_since}
 use Rattle.dm_table.specs.laws.Progress.{since-same}
-use Rattle.dm_table.specs.load.PartInput.{PartRead, TextOf, Refuses, Unread, part_read}
+use Rattle.dm_table.specs.load.PartInput.{PartRead, TextOf, part_read}
 use Rattle.dm_table.specs.tables.PathList.{read_paths}
 use Rattle.dm_stack.specs.Description.{Description, described}
 use Rattle.dm_stack.specs.checks.Soundness.{IsSound}
@@ -50,8 +50,7 @@ pub images_listed : (stack : Description) (read : PartRead) (listed : List DiskP
 images_listed stack (TextOf text) listed is =
     let same : read_paths text ≡ Ok listed = cc in
     rw same refl
-images_listed stack (Refuses fault) listed is = absurd cc
-images_listed stack Unread listed is = absurd cc
+images_listed stack read listed is = absurd cc
 
 -- so a run starts from what the stores hold in these
 pub listed_start : (paths : Delivery) (held : Contents) (stack : Description) (listed : List DiskPath) → list_in (part_read Paths paths) ≡ Some (Ok listed)

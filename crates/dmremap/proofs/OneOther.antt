@@ -20,7 +20,6 @@ use Rattle.lvm_volume.proofs.Splits.{one_split}
 use Rattle.dmremap.specs.declared.exit.Exit.{Exit}
 use Rattle.dmremap.specs.declared.exit.Exit.TheVariants as exits
 use Rattle.dmremap.specs.declared.exit.Refusal.TheVariants as refusals
-use Rattle.dmremap.specs.declared.job.Format.{Format}
 use Rattle.dmremap.specs.Exit.{IsPlain, load_status}
 use Rattle.dmremap.specs.declared.job.TableForm.{TableForm}
 use Rattle.dmremap.specs.declared.job.Task.{Task}
@@ -53,15 +52,12 @@ one_reported : (Gives : Load → Type 0) → ((a b : Load) → Gives a → Gives
 one_reported Gives one a b x y = one_report_said y.load a b (rw (← one x.load y.load x.loaded y.loaded) x.says) y.says
 
 one_said : (asked : JobWords) (source disks : Delivery) (a b : Said) → JobSays asked source disks a → JobSays asked source disks b → a ≡ b
-one_said (map_words from paths earlier status) source disks a b x y = absurd x
-one_said (replay_words from) source disks a b x y = absurd x
-one_said (map_images_words paths earlier status) source disks a b x y = absurd x
-one_said (of_images_words paths task) source disks a b x y = absurd x
 one_said (print_words form from) source disks a b x y = one_devices (PartsGive (format_of from) source disks) (one_load (format_of from) source disks) form a b x y
 one_said (check_words from) source disks a b x y = one_reported (PartsGive (format_of from) source disks) (one_load (format_of from) source disks) a b x y
 one_said (name_words parts) source disks a b x y = sym x ∙ y
 one_said (split_words name) source disks a b x y = one_split_said name a b x y
 one_said (explain_words text) source disks a b x y = sym x ∙ y
+one_said asked source disks a b x y = absurd x
 
 -- what is printed of it, and the exit
 one_printed : (Says : Said → Type 0) → ((a b : Said) → Says a → Says b → a ≡ b) → (a b : Exit) (x y : List ℕ) → IsPlain a → IsPlain b → IsPrinted Says x a → IsPrinted Says y b → (a ≡ b) × (x ≡ y)
@@ -133,10 +129,8 @@ one_end : (stack : Description) (requests : Requests) (a b : Exit) (x y : List �
 one_end stack requests a b x y plain plain' is is' = go a b plain plain' is is'
   where
     ran : (e : Ending) (text : List ℕ) → IsPlain (exits.Ended e) → IsPlayed stack requests text (exits.Ended e) → IsWhole stack requests text e
-    ran endings.Done text plain is = is
-    ran (endings.BadRequest number word) text plain is = is
-    ran endings.ReadFault text plain is = is
     ran endings.WriteFault text plain is = absurd (plain.0 refl)
+    ran e text plain is = is
 
     go : (a b : Exit) → IsPlain a → IsPlain b → IsPlayed stack requests x a → IsPlayed stack requests y b → (a ≡ b) × (x ≡ y)
     go (exits.Ended e) (exits.Ended e') plain plain' is is' =

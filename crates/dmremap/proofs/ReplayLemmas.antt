@@ -1,6 +1,7 @@
 -- What the requests that a player was handed say of a replay.
 use Rattle.std.proofs.Common.{◌≡◌, ◌≢◌, ℕ, List, [], ◌∷◌, ◌++◌, None, Some, Result, Err, IfErr, refl, sym, ap, append_assoc}
 use Rattle.std.proofs.lemmas.List.{append-nil}
+use Rattle.std.proofs.lemmas.Result.{IfErr-at_err}
 use Rattle.dm_table.specs.io.DeviceIo.{Delivery, InputPast, since}
 use Rattle.dm_table.specs.io.Progress.{IsReadOn, MetNothing}
 use Rattle.dm_table.specs.io.WriteAll.{IsCutShort}
@@ -25,10 +26,6 @@ use Rattle.dmremap.specs.ReplayOutcome.{AreAnswered, HasPlayed, HasStopped, IsAn
 use Rattle.dmremap.specs.Streams.{AskedBy, HasMetBy}
 
 -- ---- one request
-
--- what a fault says
-at_fault : {T : Type 0} (r : Result T ReplayFault) (fault : ReplayFault) (Says : ReplayFault → Type 0) → r ≡ Err fault → IfErr r Says → Says fault
-at_fault r fault Says is h = rw is at h
 
 -- the answer to one request is what is written for it alone
 alone : (stack : Description) (old : List Asked) (request : NumberedRequest) (text : List ℕ) → IsAnswer stack old request text → AreAnswered stack old (request ∷ []) text
@@ -90,16 +87,14 @@ one_stopped IsCause stack old request w why = record { first = []; last = reques
 -- the same by the fault of a request
 pub stopped_by : {T : Type 0} (Says : ReplayFault → Type 0) (IsCause : NumberedRequest → Type 0) (stack : Description) (old : List Asked) (request : NumberedRequest) (w : List ℕ) (r : Result T ReplayFault) (fault : ReplayFault)
     → r ≡ Err fault → IfErr r Says → (Says fault → IsCause request) → StopsAt IsCause stack old (request ∷ []) (since w w)
-stopped_by Says IsCause stack old request w r fault is h why = one_stopped IsCause stack old request w (why (at_fault r fault Says is h))
+stopped_by Says IsCause stack old request w r fault is h why = one_stopped IsCause stack old request w (why (IfErr-at_err Says is h))
 
 -- ---- all requests
 
 -- all were answered, and they end by themselves
 pub all_played : (stack : Description) (requests : Requests) (text : List ℕ) (e : Ending) → AreAnswered stack [] requests.all text → requests.ending ≡ Some e → e ≢ endings.WriteFault → IsPlayed stack requests text (exits.Ended e)
 all_played stack requests text endings.WriteFault told ends other = absurd (other refl)
-all_played stack requests text endings.Done told ends other = record { ends_so = ends; told = told }
-all_played stack requests text (endings.BadRequest number word) told ends other = record { ends_so = ends; told = told }
-all_played stack requests text endings.ReadFault told ends other = record { ends_so = ends; told = told }
+all_played stack requests text e told ends other = record { ends_so = ends; told = told }
 
 -- it stopped at one of the first
 stops_among : (IsCause : NumberedRequest → Type 0) (stack : Description) (all first later : List NumberedRequest) (text : List ℕ) → all ≡ first ++ later → StopsAt IsCause stack [] first text → StopsAt IsCause stack [] all text
