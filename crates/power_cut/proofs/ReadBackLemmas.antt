@@ -15,8 +15,7 @@ use Rattle.power_cut.specs.ReadBack.{AreReadBack, IsOnDisks, IsReadBack, reads_o
 pub all_on_disks : (stack : Description) (asked : List Asked) (writes : List NumberedRequest) (backs : List ReadBack) → AreReadBack stack asked writes backs → AllByRecursion (IsOnDisks (length stack.disks)) backs
 all_on_disks stack asked [] [] are = tt
 all_on_disks stack asked (write ∷ writes) (back ∷ backs) are = (are.0.disks, all_on_disks stack (asked ++ asked_of stack (read_of write) ∷ []) writes backs are.1)
-all_on_disks stack asked [] (back ∷ backs) are = absurd are
-all_on_disks stack asked (write ∷ writes) [] are = absurd are
+all_on_disks stack asked writes backs are = absurd are
 
 -- one more
 read_more : (stack : Description) (asked : List Asked) (writes : List NumberedRequest) (backs : List ReadBack) (write : NumberedRequest) (back : ReadBack) → AreReadBack stack asked writes backs
@@ -28,8 +27,7 @@ read_more stack asked (first ∷ writes) (front ∷ backs) write back are is =
       read_more stack (asked ++ read ∷ []) writes backs write back are.1
           (rw (append_assoc asked (read ∷ []) (reads_of stack writes)) is),
     )
-read_more stack asked [] (front ∷ backs) write back are is = absurd are
-read_more stack asked (first ∷ writes) [] write back are is = absurd are
+read_more stack asked writes backs write back are is = absurd are
 
 -- a replay was asked for reads of the sectors of writes, one after the other, and this was read back
 pub record HasReadBack (old now : Replaying) (writes : List NumberedRequest) (backs : List ReadBack) : Type 0 where
