@@ -15,7 +15,7 @@ PROMISES = [
     ("map", ["map_whole"], "what `map` reads, writes and tells"),
     ("before", ["map_stored", "play_earlier"], "the same after earlier requests"),
     ("paths", ["map_stored", "listed_images", "check_paths"], "the same from what stores hold"),
-    ("images", ["map_images", "images_whole"], "the same of a group in images"),
+    ("images", ["map_images", "images_whole", "print_metadata"], "the same of a group in images"),
     ("other", ["other_whole"], "the same of the other commands"),
     ("load", ["load"], "what a source and a disk list give"),
     ("words", ["read_words"], "the command line"),

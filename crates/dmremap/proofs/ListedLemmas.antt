@@ -1,5 +1,5 @@
 -- A sector of a disk of a list, as a read of its image has it.
-use Rattle.std.proofs.Common.{◌≡◌, ◌∙◌, ℕ, ◌+◌, ◌*◌, ◌<◌, zero, suc, List, Option, Some, None, Result, Ok, Err, arith, length, slice_get, refl, sym, ap}
+use Rattle.std.proofs.Common.{◌≡◌, ◌∙◌, ℕ, ◌+◌, ◌*◌, ◌<◌, zero, suc, List, Some, None, Result, Ok, Err, arith, length, slice_get, refl, sym, ap}
 use Rattle.dm_table.specs.declared.tables.disk_path.DiskPath.{DiskPath}
 use Rattle.dm_store.specs.declared.images.ReadFault.{ReadFault}
 use Rattle.dm_store.specs.Images.{Contents, sector_in}

@@ -20,13 +20,12 @@ use Rattle.lvm_volume.proofs.Splits.{one_split}
 use Rattle.dmremap.specs.declared.exit.Exit.{Exit}
 use Rattle.dmremap.specs.declared.exit.Exit.TheVariants as exits
 use Rattle.dmremap.specs.declared.exit.Refusal.TheVariants as refusals
-use Rattle.dmremap.specs.declared.job.Format.{Format}
 use Rattle.dmremap.specs.Exit.{IsPlain, load_status}
 use Rattle.dmremap.specs.declared.job.TableForm.{TableForm}
 use Rattle.dmremap.specs.declared.job.Task.{Task}
 use Rattle.dmremap.specs.declared.job.Task.TheVariants.{Check, Print, Replay}
 use Rattle.dmremap.specs.ImagesWhole.{TaskDoes}
-use Rattle.dmremap.specs.Job.{JobWords, format_of, map_images_words, map_words, of_images_words, print_words, check_words, replay_words, name_words, split_words, explain_words}
+use Rattle.dmremap.specs.Job.{JobWords, format_of, map_images_words, map_words, metadata_words, of_images_words, print_words, check_words, replay_words, name_words, split_words, explain_words}
 use Rattle.dmremap.specs.Load.{Load, PartsGive, RefusedBy, SoundAs}
 use Rattle.dmremap.specs.OtherWhole.{ReplaysLoad, ReplaysStack, JobDoes}
 use Rattle.dmremap.specs.Printing.{IsPrinted, LoadReports, LoadSays, Prints, Refuses, ReportSays, Said, SplitSays, JobSays, devices_said, line}
@@ -57,6 +56,7 @@ one_said (map_words from paths earlier status) source disks a b x y = absurd x
 one_said (replay_words from) source disks a b x y = absurd x
 one_said (map_images_words paths earlier status) source disks a b x y = absurd x
 one_said (of_images_words paths task) source disks a b x y = absurd x
+one_said (metadata_words paths) source disks a b x y = absurd x
 one_said (print_words form from) source disks a b x y = one_devices (PartsGive (format_of from) source disks) (one_load (format_of from) source disks) form a b x y
 one_said (check_words from) source disks a b x y = one_reported (PartsGive (format_of from) source disks) (one_load (format_of from) source disks) a b x y
 one_said (name_words parts) source disks a b x y = sym x ∙ y
@@ -203,6 +203,7 @@ pub one_other : (asked : JobWords) (source disks requests : Delivery) (a b : Exi
 one_other (map_words from paths earlier status) source disks requests a b x y plain plain' is is' = absurd is
 one_other (map_images_words paths earlier status) source disks requests a b x y plain plain' is is' = absurd is
 one_other (of_images_words paths task) source disks requests a b x y plain plain' is is' = absurd is
+one_other (metadata_words paths) source disks requests a b x y plain plain' is is' = absurd is
 one_other (replay_words from) source disks requests a b x y plain plain' is is' = one_replay (PartsGive (format_of from) source disks) (one_load (format_of from) source disks) requests a b x y plain plain' is is'
 one_other asked source disks requests a b x y plain plain' is is' = one_printed (JobSays asked source disks) (one_said asked source disks) a b x y plain plain' is is'
 

@@ -2,6 +2,7 @@ pub mod Done
 pub mod Exit
 pub mod Explanation
 pub mod ImagesLoad
+pub mod ImagesText
 pub mod ImagesWhole
 pub mod Inputs
 pub mod Job

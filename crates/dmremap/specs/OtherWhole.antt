@@ -10,7 +10,7 @@ use Rattle.dmremap.specs.declared.exit.Exit.{Exit}
 use Rattle.dmremap.specs.declared.exit.Exit.TheVariants.{Refused}
 use Rattle.dmremap.specs.declared.exit.Refusal.TheVariants as refusals
 use Rattle.dmremap.specs.declared.job.Format.{Format}
-use Rattle.dmremap.specs.Job.{JobWords, format_of, map_images_words, map_words, of_images_words, replay_words}
+use Rattle.dmremap.specs.Job.{JobWords, format_of, map_images_words, map_words, metadata_words, of_images_words, replay_words}
 use Rattle.dmremap.specs.declared.job.Task.{Task}
 use Rattle.dmremap.specs.declared.job.Task.TheVariants.{Replay}
 use Rattle.dmremap.specs.Load.{Load, PartsGive, RefusedBy, SoundAs}
@@ -24,6 +24,7 @@ abbrev pub is_other : JobWords → Bool
 is_other (map_words from paths earlier status) = false
 is_other (map_images_words paths earlier status) = false
 is_other (of_images_words paths task) = false
+is_other (metadata_words paths) = false
 is_other _ = true
 
 -- what is done with a load reads requests
@@ -61,5 +62,6 @@ abbrev pub JobDoes : JobWords → (source disks requests : Delivery) → List �
 JobDoes (map_words from paths earlier status) source disks requests text exit = ⊥
 JobDoes (map_images_words paths earlier status) source disks requests text exit = ⊥
 JobDoes (of_images_words paths task) source disks requests text exit = ⊥
+JobDoes (metadata_words paths) source disks requests text exit = ⊥
 JobDoes (replay_words from) source disks requests text exit = ReplaysFiles (format_of from) source disks requests text exit
 JobDoes asked source disks requests text exit = IsPrinted (JobSays asked source disks) text exit

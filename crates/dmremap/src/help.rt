@@ -193,6 +193,24 @@ Exit status
 Example
   dmremap replay table stack.table disks.txt < requests.txt";
 
+pub(crate) const METADATA_ABOUT: &str =
+    "Prints the metadata text that images of a group's disks have";
+
+pub(crate) const METADATA_NOTES: &str = "\
+PATHS is a list like that of `dmremap map --paths`, of images of the group's
+physical volumes. Their heads are read and checked as by `dmremap map images`,
+and their text is printed byte by byte, without a check of what it says.
+
+Exit status
+  0  the text was printed; it is empty if no head has one
+  1  PATHS or a disk was refused
+  2  the words were refused
+  5  the output could not be written
+  6  out of memory
+
+Example
+  dmremap metadata images vg.paths";
+
 pub(crate) const NAME_ABOUT: &str = "Prints the device-mapper name of a logical volume";
 
 pub(crate) const NAME_NOTES: &str = "\
@@ -229,6 +247,8 @@ Example
 pub(crate) const FORMAT_HELP: &str = "The format of FILE";
 
 pub(crate) const FILE_HELP: &str = "The tables, the metadata, or the list of images";
+
+pub(crate) const IMAGES_HELP: &str = "The list of images";
 
 pub(crate) const DISKS_HELP: &str = "The disks and their lengths; not with lvm";
 

@@ -74,6 +74,8 @@ pub enum Job<'a> {
         paths: &'a str,
         task: Task,
     },
+    /// Print the metadata text of the group that lies in the images of a list.
+    Metadata(&'a str),
     /// Print the devices of a source in a form.
     Print {
         form: TableForm,
@@ -138,6 +140,7 @@ impl<'a> Job<'a> {
             | Job::Replay(source) => Some(source),
             Job::MapImages { .. }
             | Job::OfImages { .. }
+            | Job::Metadata(_)
             | Job::Name { .. }
             | Job::SplitName(_)
             | Job::Explain(_) => None,

@@ -1,7 +1,8 @@
 //! dmremap maps block requests through device-mapper tables to the disks below.
 //!
 //! This file is the table of contents: `words` reads the command line, `map_whole`, `map_stored`,
-//! `map_images`, `other_whole` and `images_whole` do the work, and `main` joins them to the real files and streams and does nothing else.
+//! `map_images`, `other_whole`, `images_whole` and `print_metadata` do the work, and `main` joins them to the real files
+//! and streams and does nothing else.
 #![tactic(auto)]
 
 ghost use Rattle.std.specs.Prelude.{◌≡◌, true};
@@ -14,6 +15,7 @@ mod explanation;
 mod file_images;
 mod help;
 mod images_load;
+mod images_text;
 mod images_whole;
 mod job;
 mod listed_images;
@@ -37,6 +39,7 @@ use dm_stream::Ending;
 use dm_table::{Counted, Gathered};
 use exit::Exit;
 use file_images::FileImages;
+use images_text::print_metadata;
 use images_whole::images_whole;
 use job::{Job, Source, Task};
 use listed_images::ListedImages;
@@ -116,6 +119,7 @@ fn do_words(rt: &HostRuntime, told: &mut Told, words: &[&str]) -> Result<u8, Wor
             status,
         } => map_images_of(rt, told, paths, earlier, status),
         Job::OfImages { paths, task } => do_with_images(rt, told, paths, task),
+        Job::Metadata(paths) => print_text_of(rt, told, paths),
         job => Ok(do_other(rt, told, &job)),
     }
 }
@@ -231,6 +235,19 @@ fn do_with_images(
         &mut paths,
         &mut disks,
         &mut Counted::new(rt.stdin()),
+        &mut Gathered::new(Counted::new(rt.stdout())),
+        &mut Counted::new(&mut *told),
+    ))
+}
+
+/// Prints the metadata text of a group in images.
+fn print_text_of(rt: &HostRuntime, told: &mut Told, paths: &str) -> Result<u8, WordsFault> {
+    let mut disks = ListedImages::new(rt.alloc(), FileImages::new(rt.alloc(), rt)?);
+    let mut paths: File<'_, PathsPart> = file_at(rt, paths);
+    Ok(print_metadata::<File<'_, PathsPart>, FileImages<'_>, Answers, Messages<'_>>(
+        rt.alloc(),
+        &mut paths,
+        &mut disks,
         &mut Gathered::new(Counted::new(rt.stdout())),
         &mut Counted::new(&mut *told),
     ))

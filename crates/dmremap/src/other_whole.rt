@@ -115,7 +115,9 @@ fn answer<S: Input, D: Input, Q: Exchange<W>, W: Output>(
     ensures disks { IsReadOnIf D.past disks.old disks.new }
 {
     match job {
-        Job::Map { .. } | Job::MapImages { .. } | Job::OfImages { .. } => unreachable!(),
+        Job::Map { .. } | Job::MapImages { .. } | Job::OfImages { .. } | Job::Metadata(_) => {
+            unreachable!()
+        }
         Job::Replay(from) => replay(alloc, from.format(), source, disks, requests, output),
         Job::Print { form, source: from } => {
             match load_if(alloc, from.format(), source, disks) {

@@ -17,7 +17,7 @@ fn words_of<'a>(rt: &impl Abort, alloc: Global, line: &'a str) -> Vec<&'a str> {
 }
 
 /// Words, and the job that they ask for, in the words of `shown`.
-static JOBS: [(&str, &str); 27] = [
+static JOBS: [(&str, &str); 28] = [
     ("map table a.table a.disks", "map a.table a.disks"),
     ("map table -- a.table a.disks", "map a.table a.disks"),
     ("map lvm vg0.backup", "map lvm vg0.backup"),
@@ -65,6 +65,7 @@ static JOBS: [(&str, &str); 27] = [
     ("concise images a.paths", "concise images a.paths"),
     ("check images a.paths", "check images a.paths"),
     ("replay images a.paths", "replay images a.paths"),
+    ("metadata images a.paths", "metadata images a.paths"),
     (
         "map table --paths a.paths a.table a.disks --status",
         "stored status of a.table a.disks",
@@ -149,6 +150,7 @@ fn shown(rt: &impl Abort, alloc: Global, job: Job<'_>) -> String {
             };
             return shown_images(rt, alloc, command, paths, None);
         }
+        Job::Metadata(paths) => return shown_images(rt, alloc, "metadata", paths, None),
         Job::Print { form, source } => match form {
             TableForm::Table => ("table", source, None),
             TableForm::Concise => ("concise", source, None),
