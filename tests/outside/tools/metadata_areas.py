@@ -5,6 +5,7 @@ import contextlib
 import importlib
 import os
 
+import images
 import tool_calls
 from harness import NOBODY, Case, run
 from physical_volumes import FIRST, MAGIC, SECTOR, area, gpt, label, mbr, md_member, text_of_area, volume, with_backup
@@ -234,6 +235,13 @@ TAKEN = [
 ]
 
 
+def check_whole(tally, program, command):
+    """Of a whole image dmremap's own answer is printed, so that nothing is told of an area that isn't used."""
+    path = program.file("whole", images.disk("a", images.area(), images.area(b"x", flags=1)))
+    env = dict(os.environ, PATH=os.path.dirname(program.path) + os.pathsep + os.environ["PATH"])
+    tally.same("the text of a whole image", command.run(path, env=env), 0, images.TEXT[:-1])
+
+
 def check_rows(command):
     for name, head, *told, message in REFUSED:
         command.refuses(name, head, message, told="".join(told))
@@ -455,7 +463,7 @@ HOSTILE = [("a long word", b"a" * (1 << 19)), ("braces", b' {\nid = "' * (1 << 1
 
 
 class MetadataAreas(Case, checks=[
-    check_sample, check_rings, check_flips, check_lengths, check_rows, check_disks, check_places, check_heads,
+    check_sample, check_rings, check_flips, check_lengths, check_whole, check_rows, check_disks, check_places, check_heads,
     check_files, check_texts
 ]):
     """All that the command is tried on."""

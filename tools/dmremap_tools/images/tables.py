@@ -11,20 +11,20 @@ reported; `save` and `serve` read it.
 
 import os
 import shlex
-import tempfile
 from argparse import ArgumentParser, Namespace
-from typing import Dict, List, Optional, Tuple, Union
+from typing import Dict, Optional, Tuple, Union
 
-from dmremap_tools.base import names, paths, program, quoting, streams, tables
+from dmremap_tools.base import names, program, quoting, streams, tables
 from dmremap_tools.base.given import put
 from dmremap_tools.base.numbers import SECTOR
 from dmremap_tools.base.program import NoProgram
 from dmremap_tools.base.refusal import Refusal
 from dmremap_tools.layouts import rescue_map
-from dmremap_tools.model.device import Copies, Device, Image, Part, whole_run
+from dmremap_tools.model.device import Copies, Device, Image, Part
 from dmremap_tools.model.layout import Layout
 from dmremap_tools.model.mapping import FILES, Mapped, Tables
 from dmremap_tools.model.pile import Pile
+from dmremap_tools.model.placed import path_of, read_by_heads
 
 EXAMPLE = "dmremap-tools tables vg0 sda.img sdb.img --to vg0.tables"
 Devices = Dict[str, tables.Device]
@@ -150,44 +150,18 @@ class GroupTables(Tables):
         for path in (os.path.join(folder, name) for name in FILES):
             if os.path.lexists(path):
                 raise Refusal(quoting.shown(path), "it is there already: give another folder, or remove it first")
-        heads = self._heads()
-        if asked and heads and is_taken(asked, heads):
+        heads = read_by_heads(asked, "check", self._layout.physical.values()) if asked else None
+        if heads:
             listed = os.path.join(folder, FILES[-1])
-            put(listed, heads)
+            put(listed, heads[0])
             streams.tell(f"dmremap reads the text of {quoting.shown(self._layout.name)} in its images")
             streams.out.write(f"dmremap map images {shlex.quote(listed)}\n")
             return
-        places = {name: absolute(image) for name, image in self.disks.items()}
-        file, disks, listed = map(shlex.quote, self.write(folder, places))
+        file, disks, listed = map(shlex.quote, self.write(folder, {name: path_of(image) for name, image in self.disks.items()}))
         has_snapshots = any(line.target == "snapshot" for line in self.lines())
         streams.out.write(f"dmremap map table {file} {disks}" + f" --paths {listed}" * has_snapshots + "\n")
-
-    def _heads(self) -> List[str]:
-        """The lines of PATHS by which the heads of all physical volumes are read, or none if one is no part of an image."""
-        found: List[str] = []
-        for number, device in enumerate(self._layout.physical.values()):
-            run = whole_run(device)
-            if not run:
-                return []
-            found.append(paths.line(f"disk{number}", absolute(run[0]), run[1]))
-        return found
 
     def _name_of(self, *parts: Union[bytes, str]) -> str:
         """The name that lvm2 gives a device: each hyphen of a part is doubled."""
         words = (part if isinstance(part, str) else part.decode("utf-8", "replace") for part in parts)
         return "-".join(word.replace("-", "--") for word in (self._layout.name, *words))
-
-
-def absolute(image: Image) -> str:
-    """The path of an image for PATHS."""
-    path = os.path.abspath(image.path)
-    if quoting.is_odd(path):
-        raise Refusal(quoting.shown(path), "it is no UTF-8, as PATHS has to be: give the image another name, or a link to it")
-    return path
-
-
-def is_taken(asked: str, heads: List[str]) -> bool:
-    """Whether dmremap takes a group from these images by their heads."""
-    with tempfile.NamedTemporaryFile(prefix="dmremap-tools-") as listed:
-        put(listed.name, heads)
-        return program.ask([asked, "check", "images", listed.name])[2] == 0

@@ -21,10 +21,11 @@ numbers. No checksum tells whether another physical volume has a later text, or 
 """
 
 import argparse
+import contextlib
 import os
 from typing import List, Optional
 
-from dmremap_tools.base import numbers, paths, quoting, streams
+from dmremap_tools.base import numbers, paths, program, quoting, streams
 from dmremap_tools.base.numbers import SECTOR
 from dmremap_tools.base.refusal import Refusal, WrongWords
 from dmremap_tools.model import md_superblock
@@ -32,7 +33,7 @@ from dmremap_tools.model.device import Device, Image, Lenient, Part
 from dmremap_tools.model.physical_volume import (EMPTY, MISSING, SEARCHED, Area, PhysicalVolume, Text,
                                                  leftover_in, texts_of_ring, volume_in)
 from dmremap_tools.model.pile import Pile, place_of
-from dmremap_tools.model.placed import image_of
+from dmremap_tools.model.placed import image_of, read_by_heads
 
 EXAMPLE = "dmremap-tools metadata vg0-head.img > vg0.backup && dmremap table lvm vg0.backup"
 OTHER = "try another physical volume of the group, or a file in /etc/lvm/backup"
@@ -77,8 +78,7 @@ def run(words: argparse.Namespace) -> None:
     if words.list:
         for text in texts_in(images[0], volumes):
             time = (text.said_time() or b"cut").decode("utf-8", "surrogateescape")
-            line = f"{text.at} {text.group} {text.identity} seqno {text.seqno} - {time}"
-            streams.out.write(quoting.escaped(line) + "\n")
+            streams.out.write(quoting.escaped(f"{text.at} {text.group} {text.identity} seqno {text.seqno} - {time}") + "\n")
         return
     content = older_text(images[0], volumes, words.seqno, words.at) if is_of_one else first_if_equal(volumes)
     streams.out.write(content.decode("utf-8", "surrogateescape"))
@@ -100,7 +100,12 @@ def volume_of(device: Device) -> Optional[PhysicalVolume]:
 
 
 def first_if_equal(volumes: List[PhysicalVolume]) -> bytes:
-    """The first of the valid texts of these volumes. Refuses texts that differ in more than their times."""
+    """The text that dmremap reads in these volumes, if it is there and takes them; else the first of their valid texts.
+    Refuses texts that differ in more than their times."""
+    with contextlib.suppress(Refusal):
+        heads = read_by_heads(program.dmremap(None), "metadata", [volume.device for volume in volumes])
+        if heads and heads[1]:
+            return heads[1].encode("utf-8", "surrogateescape")
     texts = [valid_text(volume) for volume in volumes]
     if len({it.body() for it in texts}) > 1:
         for volume, text in zip(volumes, texts):

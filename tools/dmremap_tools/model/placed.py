@@ -4,14 +4,16 @@ member of an array that has only some of these."""
 
 import os
 import re
+import tempfile
 from typing import Dict, Iterable, Iterator, List, Optional, Tuple
 
-from dmremap_tools.base import quoting, streams, written
+from dmremap_tools.base import paths, program, quoting, streams, written
+from dmremap_tools.base.given import put
 from dmremap_tools.base.numbers import SECTOR
 from dmremap_tools.base.paths import Place
 from dmremap_tools.base.refusal import Refusal
 from dmremap_tools.model.config_text import Document, shown
-from dmremap_tools.model.device import Device, Image, Lenient, Part
+from dmremap_tools.model.device import Device, Image, Lenient, Part, whole_run
 from dmremap_tools.model.md_superblock import BAD_BLOCKS, HARMLESS, Member, has_all
 from dmremap_tools.model.physical_volume import Label, label_of
 from dmremap_tools.model.pile import Pile
@@ -28,6 +30,25 @@ BAD = "a member of an md array that has bad blocks, which a kernel reads from an
 NO_VOLUME = "a member of an md array in which the physical volume isn't found: give its place, as IMAGE?offset=BYTES"
 OLDER = ("a member of an md array that was away when others changed: it has the count of events {}, and {} has {}: "
          "take that")
+
+def read_by_heads(asked: str, command: str, devices: Iterable[Device]) -> Optional[Tuple[List[str], str]]:
+    """The lines of PATHS of physical volumes, and what a command of dmremap prints of these; None where it takes them not."""
+    runs = [whole_run(device) for device in devices]
+    lines = [paths.line(f"disk{number}", path_of(run[0]), run[1]) for number, run in enumerate(runs) if run]
+    if not lines or len(lines) < len(runs):
+        return None
+    with tempfile.NamedTemporaryFile(prefix="dmremap-tools-") as listed:
+        put(listed.name, lines)
+        printed, _, status = program.ask([asked, command, "images", listed.name])
+    return (lines, printed) if status == 0 else None
+
+
+def path_of(image: Image) -> str:
+    """The path of an image for PATHS, from anywhere."""
+    path = os.path.abspath(image.path)
+    if quoting.is_odd(path):
+        raise Refusal(quoting.shown(path), "it is no UTF-8, as PATHS has to be: give the image another name, or a link to it")
+    return path
 
 
 def groups_in(path: str) -> Tuple[Document, List[Group]]:
