@@ -72,9 +72,9 @@ def place_of(target: Target) -> Optional[Place]:
 def copied(target: Target, path: str) -> Place:
     """A copy of a volume, with holes where it has zeros or lacks bytes."""
     with open(path, "wb") as file:
-        for at, size, source, start, what in parts_of(joined(target.device, 0, target.size)):
+        for at, (source, start, size) in parts_of(joined(target.device, 0, target.size)):
             streams.show_progress(f"copying {target.name}: {at >> 20} of {target.size >> 20} MiB")
-            for size, content, _ in () if what else read_blocks(source.load, start, start + size):
+            for size, content, _ in () if source.is_hole else read_blocks(source.load, start, start + size):
                 if content.strip(b"\0"):
                     file.seek(at)
                     file.write(content)

@@ -42,6 +42,8 @@ class Device:
 
     # Whether all its bytes are known to be there. Devices that can tell that sooner than by their extents do.
     is_whole = False
+    # Whether a copy has a hole for its bytes: zeros, and what is missing.
+    is_hole = False
 
     def __init__(self, name: str, size: int = ALL) -> None:
         self.name, self.size = name, size
@@ -82,6 +84,8 @@ class Device:
 
 class Missing(Device):
     """Bytes that aren't there; the name says why."""
+
+    is_hole = True
 
     def lack(self, start: int, size: int) -> Optional[str]:
         return self.name
@@ -408,3 +412,4 @@ def joined(device: Device, start: int, size: int) -> Iterator[Tuple[int, Extent]
 
 # Bytes that nobody wrote.
 ZEROS = Known("zeros", ALL, lambda start, size: bytes(size))
+ZEROS.is_hole = True

@@ -10,7 +10,7 @@ import struct
 import subprocess
 import tempfile
 import weakref
-from typing import Any, Callable, Dict, Iterator, List, NamedTuple, NoReturn, Optional, Sequence, Tuple
+from typing import Any, Callable, Dict, Iterator, List, NoReturn, Optional, Sequence, Tuple
 
 from dmremap_tools.base import names, numbers, paths, program, quoting, store_places, tables
 from dmremap_tools.base.given import put
@@ -26,9 +26,10 @@ WINDOW, MOST_WINDOWS = 1 << 15, 20
 # Devices that are loaded together, of which the program takes 1,024 with what they lie on, and programs that run.
 MOST_DEVICES, MOST_CHILDREN = 400, 16
 ANSWER = re.compile(r"^([0-9]+) (?:R ([^ \n]+) ([0-9]+)|(zero|error)) ([0-9]+)$", re.M)
+# The groups of an answer's line: the request, the disk and the start there, or what is done without one, and how many sectors.
+Row = Tuple[str, str, str, str, str]
 # Bytes of an answer that are taken at a time.
 MOST_READ = 1 << 20
-READ, ZERO = "R", "zero"
 FILES = ("FILE", "DISKS", "PATHS")
 FAILS = "reads fail there, as the tables say"
 ASKED = "it is asked where volumes lie: build it, put it beside this tool, or give --program"
@@ -40,8 +41,6 @@ LOST = f"the store: its header is zeros, and what follows isn't, so that it isn'
 UNKNOWN = f"the store: its header is zeros, and nothing tells whether the merge ended: {OLDER}"
 ODD = f"the store: its header says neither that it is valid nor that it isn't, {store_places.DAMAGED}: {OLDER}"
 BROKEN = f"the store: its list goes on behind a free place, {store_places.DAMAGED}: {OLDER}"
-# Sectors of an answer: a disk and a start there, unless they are zeros or fail.
-Piece = NamedTuple("Piece", [("what", str), ("disk", str), ("start", int), ("count", int)])
 
 
 class Tables:
@@ -63,8 +62,8 @@ class Tables:
         return name
 
     @functools.lru_cache(None)
-    def whole_run(self, name: str) -> Optional[Tuple[Image, int, int]]:
-        return whole_run(self.disks[name])
+    def whole_run(self, name: str) -> Tuple[Device, int, int]:
+        return whole_run(self.disks[name]) or (ZEROS, 0, 0)
 
     def add(self, name: str, lines: Sequence[tables.Line]) -> None:
         self.devices[name] = tables.Device(name)
@@ -100,13 +99,23 @@ class Tables:
         return (span for line in self.lines() for span in line.spans() if span[0] in self.disks)
 
     @functools.lru_cache(MOST_WINDOWS)
-    def window(self, name: str, start: int) -> List[Piece]:
-        """Where the sectors of a window are read. Where the program was ended meanwhile, it is asked once more."""
+    def window(self, name: str, start: int) -> List[Extent]:
+        """Where the bytes of a window lie. Where the program was ended meanwhile, it is asked once more."""
         count, child = min(WINDOW, self.devices[name].end() - start), self.child_of(name)
-        with contextlib.suppress(Refusal):
-            return child.ask(name, start, count)
-        self._child.cache_clear()
-        return self.child_of(name).ask(name, start, count)
+        try:
+            rows = child.ask(name, start, count)
+        except Refusal:
+            self._child.cache_clear()
+            rows = self.child_of(name).ask(name, start, count)
+        found: List[Extent] = []
+        for _, disk, place, other, length in rows:
+            size = int(length) * SECTOR
+            if other:
+                found.append(Extent(ZEROS if other == "zero" else Missing(FAILS), 0, size))
+                continue
+            at, (source, begin, most) = int(place) * SECTOR, self.whole_run(disk)
+            found += [Extent(source, begin + at, size)] if at + size <= most else self.disks[disk].extents(at, size)
+        return found
 
     def child_of(self, name: str) -> "Child":
         """The program that knows a device and others around it, or this one alone where it refuses another."""
@@ -191,7 +200,7 @@ class Child:
         weakref.finalize(self, self._child.kill)
         self.ask(name, 0, 1)
 
-    def ask(self, name: str, first: int, count: int) -> List[Piece]:
+    def ask(self, name: str, first: int, count: int) -> List[Row]:
         """The answer to one request, which has its number."""
         try:
             self._child.stdin.write(f"R {name} {first} {count}\n".encode())
@@ -199,7 +208,7 @@ class Child:
         except OSError:
             self._fail()
         self._number += 1
-        found: List[Piece] = []
+        found: List[Row] = []
         text = b""
         while count > 0:
             more = self._child.stdout.read1(MOST_READ)
@@ -207,9 +216,8 @@ class Child:
             rows = ANSWER.findall(whole.decode())
             if not more or {row[0] for row in rows} - {str(self._number)} or len(rows) != whole.count(b"\n") + len(newline):
                 self._fail()
-            pieces = [Piece(what or READ, disk, int(start or 0), int(length)) for _, disk, start, what, length in rows]
-            found += pieces
-            count -= sum(piece.count for piece in pieces)
+            found += rows
+            count -= sum(int(row[4]) for row in rows)
         if count or text:
             self._fail()
         return found
@@ -256,20 +264,15 @@ class Mapped(Device):
     def _extents(self, start: int, size: int) -> Iterator[Extent]:
         if start % SECTOR or size % SECTOR:
             raise Gap(self.name, "no whole sectors: ask for these")
-        first, end = start // SECTOR, (start + size) // SECTOR
-        for at in range(first // WINDOW * WINDOW, end, WINDOW):
-            for what, disk, place, count in self.source.window(self.key, at):
-                begin, stop = max(first, at), min(end, at + count)
-                if begin < stop and what == READ:
-                    where, length = (place + begin - at) * SECTOR, (stop - begin) * SECTOR
-                    run = self.source.whole_run(disk)
-                    if run and where + length <= run[2]:
-                        yield Extent(run[0], run[1] + where, length)
-                    else:
-                        yield from self.source.disks[disk].extents(where, length)
-                elif begin < stop:
-                    yield Extent(ZEROS if what == ZERO else Missing(FAILS), 0, (stop - begin) * SECTOR)
-                at += count
+        end, step = start + size, WINDOW * SECTOR
+        for at in range(start // step * step, end, step):
+            for extent in self.source.window(self.key, at // SECTOR):
+                stop = at + extent.size
+                if start <= at and stop <= end:
+                    yield extent
+                elif max(start, at) < min(end, stop):
+                    yield Extent(extent.source, extent.start + max(start - at, 0), min(end, stop) - max(start, at))
+                at = stop
 
 
 def snapshot_of(layout: Any, record: Record) -> Device:
