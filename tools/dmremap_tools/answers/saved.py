@@ -211,6 +211,8 @@ class Target:
         with self.place.failing():
             while left:
                 count = os.pwrite(self._descriptor, left, at)
+                # Its disk begins to take them now, so that the wait for it at the end is short.
+                os.posix_fadvise(self._descriptor, at, count, os.POSIX_FADV_DONTNEED)
                 left, at = left[count:], at + count
 
     def sync(self) -> None:
