@@ -9,14 +9,14 @@ import os
 import re
 import stat
 import time
-from typing import Dict, Iterable, Iterator, List, NamedTuple, Optional, Sequence, Set, Tuple
+from typing import Dict, Iterable, Iterator, List, NamedTuple, Optional, Sequence, Tuple
 
 from dmremap_tools.base import quoting, streams, written
 from dmremap_tools.base.numbers import SECTOR
 from dmremap_tools.base.refusal import Refusal
 from dmremap_tools.layouts import rescue_map
 from dmremap_tools.layouts.rescue_map import BAD, FINISHED, UNTRIED, Area
-from dmremap_tools.model.device import BLOCK, ZEROS, Device, Extent, Image, Lenient, Missing, Run, cut, read_blocks
+from dmremap_tools.model.device import BLOCK, ZEROS, Device, Extent, Image, Lenient, Missing, Run, cut, joint, read_blocks
 
 OF = re.compile(r"# Of (.*) of ([0-9]+) sectors, from (.*?)(?:, with ([0-9]+) maps)?")
 HEAD = "# Mapfile. Created by dmremap-tools save\n# current_pos  current_status  current_pass\n"
@@ -29,7 +29,7 @@ PARTLY = "give --resume MAP to save the rest: the map says then what is missing"
 NOTHING = bytes(BLOCK)
 # Into how many places one call reads at most.
 MOST_VIEWS = 1024
-UNREADABLE, END = Missing("it can't be read"), Extent(Missing("it ends"), 0, 0)
+UNREADABLE, END = Missing("it can't be read"), Extent(Missing("it ends"), 0, 1)
 # How often a map is written, in seconds.
 STEP = 30
 # Bytes of a file: the first one, and where they come from.
@@ -302,11 +302,10 @@ def windows(parts: Iterable[Transfer]) -> Iterator[List[Transfer]]:
     try:
         for part in parts:
             at, (_, _, size) = part
-            if window and (at != end or at + size > most):
-                yield window
-                window = []
-            if not window:
-                most = at + BLOCK
+            if at != end or at + size > most:
+                if window:
+                    yield window
+                window, most = [], at + BLOCK
             window.append(part)
             end = at + size
     except Refusal as refusal:
@@ -320,26 +319,24 @@ def windows(parts: Iterable[Transfer]) -> Iterator[List[Transfer]]:
 
 def results(parts: List[Transfer], buffer: memoryview, target: Target) -> Iterator[Tuple[int, int, Optional[Missing]]]:
     """Puts the parts of a window into a file: from where to where, and what lacks there."""
-    first, unread, before = parts[0][0], read(parts, buffer), None  # type: int, Set[Transfer], Optional[Device]
+    first, before = parts[0][0], None  # type: int, Optional[Device]
     begin = end = first
-    for part in [*parts, (0, END)]:
-        source, _, size = part[1]
-        are_read = unread and part in unread
-        for size, what in loaded(part[1], buffer[end - first:]) if are_read else ((size, source if source.is_hole else None),):
-            if what is None and not buffer[end - first] and target.has(end, buffer[end - first:end - first + size]):
-                what = ZEROS
-            if what is not before:
-                if before is None:
-                    target.write(begin, buffer[begin - first:end - first])
-                if begin < end:
-                    yield begin, end, before if isinstance(before, Missing) else None
-                begin, before = end, what
-            end += size
+    for _, (source, _, size) in [*read(parts, buffer), (0, END)]:
+        what = source if source.is_hole else None
+        if what is None and not buffer[end - first] and target.has(end, buffer[end - first:end - first + size]):
+            what = ZEROS
+        if what is not before:
+            if before is None:
+                target.write(begin, buffer[begin - first:end - first])
+            if begin < end:
+                yield begin, end, before if isinstance(before, Missing) else None
+            begin, before = end, what
+        end += size
 
 
-def read(parts: List[Transfer], buffer: memoryview) -> Set[Transfer]:
-    """Reads parts of images to their places in a window, by one call where they go on there. Returns those that are
-    to be read one by one."""
+def read(parts: List[Transfer], buffer: memoryview) -> List[Transfer]:
+    """Reads parts to their places in a window, by one call where they go on in an image. Returns them, with what can't be
+    read as missing."""
     runs: List[List[Transfer]] = []
     last: Dict[Device, List[Transfer]] = {}
     ends: Dict[Device, int] = {}
@@ -351,18 +348,15 @@ def read(parts: List[Transfer], buffer: memoryview) -> Set[Transfer]:
                 runs.append(last[source])
             last[source].append(part)
             ends[source] = start + size
-    first, unread = parts[0][0], set()  # type: int, Set[Transfer]
+    first, lost = parts[0][0], []  # type: int, List[Run]
     for run in runs:
         views, (_, (source, start, _)) = [buffer[at - first:at - first + extent.size] for at, extent in run], run[0]
-        if not (isinstance(source, Image) and source.fill(start, views)):
-            unread.update(run)
-    return unread
-
-
-def loaded(extent: Extent, view: memoryview) -> Iterator[Tuple[int, Optional[Missing]]]:
-    """The bytes of an extent that are read as far as they can be: how many, and what lacks there."""
-    at = 0
-    for size, content, is_there in read_blocks(extent.source.load, extent.start, extent.start + extent.size):
-        view[at:at + len(content)] = content
-        yield size, None if is_there else UNREADABLE
-        at += size
+        if isinstance(source, Image) and source.fill(start, views):
+            continue
+        for at, (source, start, size) in run:
+            for count, content, is_there in read_blocks(source.load, start, start + size):
+                buffer[at - first:at - first + len(content)] = content
+                lost += [] if is_there else [(at, at + count)]
+                at += count
+    return [(begin, Extent(UNREADABLE if gap else source, 0, end - begin)) for at, (source, _, size) in parts
+            for begin, end, gap in cut(joint(lost), at, at + size)] if lost else parts

@@ -18,20 +18,19 @@ from dmremap_tools.base.numbers import SECTOR
 from dmremap_tools.base.program import NoProgram
 from dmremap_tools.base.refusal import Refusal
 from dmremap_tools.model.config_text import shown
-from dmremap_tools.model.device import ZEROS, Device, Extent, Gap, Image, Lenient, Missing, whole_run
+from dmremap_tools.model.device import ALL, ZEROS, Device, Extent, Gap, Lenient, Missing, whole_run
 from dmremap_tools.model.volume_group import Record
 
 # Sectors that one request asks for, and answers to these that are kept.
 WINDOW, MOST_WINDOWS = 1 << 15, 20
 # Devices that are loaded together, of which the program takes 1,024 with what they lie on, and programs that run.
 MOST_DEVICES, MOST_CHILDREN = 400, 16
-ANSWER = re.compile(r"^([0-9]+) (?:R ([^ \n]+) ([0-9]+)|(zero|error)) ([0-9]+)$", re.M)
-# The groups of an answer's line: the request, the disk and the start there, or what is done without one, and how many sectors.
-Row = Tuple[str, str, str, str, str]
+ANSWER = re.compile(r"^([0-9]+) (?:R ([^ \n]+)|(zero|error)) (?=([0-9]+))(?(2)[0-9]+ )([0-9]+)$", re.M)
 # Bytes of an answer that are taken at a time.
 MOST_READ = 1 << 20
 FILES = ("FILE", "DISKS", "PATHS")
 FAILS = "reads fail there, as the tables say"
+OTHERS = {"zero": (ZEROS, 0, ALL), "error": (Missing(FAILS), 0, ALL)}
 ASKED = "it is asked where volumes lie: build it, put it beside this tool, or give --program"
 # What a snapshot is called in tables of its own, and why one is refused.
 NAME, NEXT, OLDER = "snapshot", "activate it with lvm2, or save the origin", "give an older image of its disk"
@@ -41,6 +40,9 @@ LOST = f"the store: its header is zeros, and what follows isn't, so that it isn'
 UNKNOWN = f"the store: its header is zeros, and nothing tells whether the merge ended: {OLDER}"
 ODD = f"the store: its header says neither that it is valid nor that it isn't, {store_places.DAMAGED}: {OLDER}"
 BROKEN = f"the store: its list goes on behind a free place, {store_places.DAMAGED}: {OLDER}"
+
+# A disk, or what else is done; the start there, which without a disk means nothing; and how many sectors.
+Piece = Tuple[str, str, int, int]
 
 
 class Tables:
@@ -52,6 +54,7 @@ class Tables:
         # What writes to a file what the program reads of the disk that a store is.
         self.stores: Dict[str, Callable[[str], None]] = {}
         self._names: Dict[Device, str] = {}
+        self._whole_run = functools.lru_cache(None)(lambda name: whole_run(self.disks[name]) or (ZEROS, 0, 0))
         # What adds devices that are to be loaded together with those that are there.
         self.waiting: List[Callable[[], object]] = []
 
@@ -60,10 +63,6 @@ class Tables:
         name = self._names.setdefault(device, f"d{next(DISKS)}")
         self.disks[name] = device
         return name
-
-    @functools.lru_cache(None)
-    def whole_run(self, name: str) -> Tuple[Device, int, int]:
-        return whole_run(self.disks[name]) or (ZEROS, 0, 0)
 
     def add(self, name: str, lines: Sequence[tables.Line]) -> None:
         self.devices[name] = tables.Device(name)
@@ -103,17 +102,14 @@ class Tables:
         """Where the bytes of a window lie. Where the program was ended meanwhile, it is asked once more."""
         count, child = min(WINDOW, self.devices[name].end() - start), self.child_of(name)
         try:
-            rows = child.ask(name, start, count)
+            pieces = child.ask(name, start, count)
         except Refusal:
             self._child.cache_clear()
-            rows = self.child_of(name).ask(name, start, count)
+            pieces = self.child_of(name).ask(name, start, count)
         found: List[Extent] = []
-        for _, disk, place, other, length in rows:
-            size = int(length) * SECTOR
-            if other:
-                found.append(Extent(ZEROS if other == "zero" else Missing(FAILS), 0, size))
-                continue
-            at, (source, begin, most) = int(place) * SECTOR, self.whole_run(disk)
+        for disk, other, place, length in pieces:
+            at, size = place * SECTOR, length * SECTOR
+            source, begin, most = OTHERS[other] if other else self._whole_run(disk)
             found += [Extent(source, begin + at, size)] if at + size <= most else self.disks[disk].extents(at, size)
         return found
 
@@ -200,7 +196,7 @@ class Child:
         weakref.finalize(self, self._child.kill)
         self.ask(name, 0, 1)
 
-    def ask(self, name: str, first: int, count: int) -> List[Row]:
+    def ask(self, name: str, first: int, count: int) -> List[Piece]:
         """The answer to one request, which has its number."""
         try:
             self._child.stdin.write(f"R {name} {first} {count}\n".encode())
@@ -208,16 +204,18 @@ class Child:
         except OSError:
             self._fail()
         self._number += 1
-        found: List[Row] = []
+        found: List[Piece] = []
         text = b""
         while count > 0:
             more = self._child.stdout.read1(MOST_READ)
             whole, newline, text = (text + more).rpartition(b"\n")
             rows = ANSWER.findall(whole.decode())
-            if not more or {row[0] for row in rows} - {str(self._number)} or len(rows) != whole.count(b"\n") + len(newline):
+            requests, disks, others, places, lengths = zip(*rows) if rows else [()] * 5
+            if not more or set(requests) - {str(self._number)} or len(rows) != whole.count(b"\n") + len(newline):
                 self._fail()
-            found += rows
-            count -= sum(int(row[4]) for row in rows)
+            counts = list(map(int, lengths))
+            found += zip(disks, others, map(int, places), counts)
+            count -= sum(counts)
         if count or text:
             self._fail()
         return found
