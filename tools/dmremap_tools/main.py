@@ -14,7 +14,7 @@ from types import ModuleType
 from typing import Callable, Dict, List, NoReturn, Sequence, Tuple, Type
 
 from dmremap_tools import commands
-from dmremap_tools.base import quoting, streams, written
+from dmremap_tools.base import near_names, quoting, streams, written
 from dmremap_tools.base.refusal import Refusal, WrongWords
 
 TOOL = "dmremap-tools"
@@ -49,12 +49,14 @@ class Parser(argparse.ArgumentParser):
         streams.out.write(self.format_help())
 
     def parsed(self, words: List[str]) -> argparse.Namespace:
-        """The words of a command, with options in any place, unless they end in those of another program."""
+        """The words of a command, with options in any place. If they end in those of another program, so do options that
+        aren't the command's own."""
         self._words = words
         try:
             typed, others = self.parse_known_intermixed_args(words)
         except TypeError:
             typed, others = self.parse_known_args(words)
+            typed.words, others = others + typed.words, []
         if others:
             self.error("unrecognized arguments: " + quoting.some([quoting.shown(it) for it in others], " "))
         return typed
@@ -164,13 +166,7 @@ def _next_step(words: List[str], why: str) -> List[str]:
         return []
     given = [part for it in words for part in (it, it.partition("=")[2])]
     path = next((it for it in given if it and why == "%s: %s" % (quoting.shown(it), os.strerror(errno.ENOENT))), "")
-    folder, name = os.path.split(path)
-    if folder and not os.path.isdir(folder):
-        return ["there is no folder %s: mend the path, or make the folder" % quoting.shown(folder)]
-    near = difflib.get_close_matches(name, os.listdir(folder or "."), 3)
-    if not near:
-        return ["there is no file of such a name: mend the path"]
-    return ["near are: " + quoting.some([quoting.shown(it) for it in near])]
+    return [near_names.missing_note(path)]
 
 
 def _end(status: int, message: str, is_fed: bool, usage: str = "", step: Sequence[str] = ()) -> int:

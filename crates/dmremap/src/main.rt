@@ -43,7 +43,7 @@ use listed_images::ListedImages;
 use map_images::map_images;
 use map_stored::map_stored;
 use map_whole::map_whole;
-use next_step::Told;
+use next_step::{Shown, Told};
 use other_whole::other_whole;
 use part_file::{DisksPart, EarlierPart, PartFile, PathsPart, SourcePart};
 use status::STATUS_DONE;
@@ -60,6 +60,9 @@ type Requests = Counted<Stdin>;
 
 /// Where answers go.
 type Answers = Gathered<Counted<Stdout>>;
+
+/// Where answers of `map` go, of which the first are kept.
+type ShownAnswers<'s> = Gathered<Counted<&'s mut Shown>>;
 
 /// Where messages go.
 type Messages<'m> = Counted<&'m mut Told>;
@@ -82,8 +85,8 @@ fn begin(rt: &HostRuntime, told: &mut Told) -> Result<u8, WordsFault> {
     answer(rt, told)
 }
 
-/// Does what the words ask for, and returns the exit status; then names what explains a refusal. Its room on the stack is
-/// taken when it is called, and no sooner.
+/// Does what the words ask for, and returns the exit status; then names what explains a refusal or an error. Its room on
+/// the stack is taken when it is called, and no sooner.
 #[inline(never)]
 fn answer(rt: &HostRuntime, told: &mut Told) -> Result<u8, WordsFault> {
     let arguments = arguments_of(rt)?;
@@ -91,30 +94,34 @@ fn answer(rt: &HostRuntime, told: &mut Told) -> Result<u8, WordsFault> {
         .iter()
         .map(|argument| argument.as_str())
         .collect(rt.alloc())?;
-    let status = match do_words(rt, told, words.as_slice()) {
+    let mut shown = Shown::new(rt.stdout());
+    let status = match do_words(rt, told, &mut shown, words.as_slice()) {
         Ok(status) => status,
         Err(fault) => refuse(rt, told, &fault),
     };
-    if status != STATUS_DONE {
-        told.name_next_step(rt, words.as_slice());
-    }
+    told.name_next_step(rt, &shown, status == STATUS_DONE, words.as_slice());
     Ok(status)
 }
 
 /// Does what the words ask for, and returns the exit status.
-fn do_words(rt: &HostRuntime, told: &mut Told, words: &[&str]) -> Result<u8, WordsFault> {
+fn do_words(
+    rt: &HostRuntime,
+    told: &mut Told,
+    shown: &mut Shown,
+    words: &[&str],
+) -> Result<u8, WordsFault> {
     match read_words(rt.alloc(), words)? {
         Job::Map {
             source,
             paths,
             earlier,
             status,
-        } => map_files(rt, told, source, paths, earlier, status),
+        } => map_files(rt, told, shown, source, paths, earlier, status),
         Job::MapImages {
             paths,
             earlier,
             status,
-        } => map_images_of(rt, told, paths, earlier, status),
+        } => map_images_of(rt, told, shown, paths, earlier, status),
         Job::OfImages { paths, task } => do_with_images(rt, told, paths, task),
         job => Ok(do_other(rt, told, &job)),
     }
@@ -134,6 +141,7 @@ fn arguments_of(rt: &HostRuntime) -> Result<Vec<String>, WordsFault> {
 fn map_files(
     rt: &HostRuntime,
     told: &mut Told,
+    shown: &mut Shown,
     source: Source<'_>,
     paths: Option<&str>,
     earlier: Option<&str>,
@@ -145,7 +153,7 @@ fn map_files(
             File<'_, SourcePart>,
             File<'_, DisksPart>,
             Requests,
-            Answers,
+            ShownAnswers<'_>,
             Messages<'_>,
         >(
             rt.alloc(),
@@ -154,7 +162,7 @@ fn map_files(
             &mut source_at(rt, source),
             &mut disks,
             &mut Counted::new(rt.stdin()),
-            &mut Gathered::new(Counted::new(rt.stdout())),
+            &mut Gathered::new(Counted::new(&mut *shown)),
             &mut Counted::new(&mut *told),
         ));
     }
@@ -168,7 +176,7 @@ fn map_files(
         FileImages<'_>,
         File<'_, EarlierPart>,
         Requests,
-        Answers,
+        ShownAnswers<'_>,
         Messages<'_>,
     >(
         rt.alloc(),
@@ -180,7 +188,7 @@ fn map_files(
         &mut images,
         &mut earlier,
         &mut Counted::new(rt.stdin()),
-        &mut Gathered::new(Counted::new(rt.stdout())),
+        &mut Gathered::new(Counted::new(&mut *shown)),
         &mut Counted::new(&mut *told),
     ))
 }
@@ -190,6 +198,7 @@ fn map_files(
 fn map_images_of(
     rt: &HostRuntime,
     told: &mut Told,
+    shown: &mut Shown,
     paths: &str,
     earlier: Option<&str>,
     status: bool,
@@ -202,7 +211,7 @@ fn map_images_of(
         FileImages<'_>,
         File<'_, EarlierPart>,
         Requests,
-        Answers,
+        ShownAnswers<'_>,
         Messages<'_>,
     >(
         rt.alloc(),
@@ -211,7 +220,7 @@ fn map_images_of(
         &mut disks,
         &mut earlier,
         &mut Counted::new(rt.stdin()),
-        &mut Gathered::new(Counted::new(rt.stdout())),
+        &mut Gathered::new(Counted::new(&mut *shown)),
         &mut Counted::new(&mut *told),
     ))
 }

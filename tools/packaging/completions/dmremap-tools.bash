@@ -31,7 +31,7 @@ _dmremap_tools() {
             store) offered="--help --requests --size --chunk --kind --program --paths --fresh" ;;
             picture) offered="--help --scale" ;;
             md) offered="--help --name --follow --member --copy --path --size" ;;
-            explain) offered="--help --program --paths --json --before --status" ;;
+            explain) offered="--help --program --json" ;;
         esac
     fi
     mapfile -t COMPREPLY < <(compgen -W "$offered" -- "$word")
