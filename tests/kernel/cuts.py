@@ -18,9 +18,6 @@ SECTOR, MAGIC = 512, 0x70416E53
 AREA, OTHERS = stores.AREA, "other lists and chunk lengths"
 # Stores that the kernel takes or refuses otherwise, after so many writes: the departure, and what the program says.
 DEPARTING = {
-    # A list of which one disk is cleared, and not yet the other.
-    ("cut-pieces", 3): (OTHERS, "dmremap: store s: order"),
-    ("cut-pieces-at-once", 3): (OTHERS, "dmremap: store s: order"),
     # A list that fills the last area, behind which there is no room for another. The kernel refuses it.
     ("cut-store-full-area", 2): (AREA, "taken"),
     # It loads all of these. The first has another chunk length in its header than in the table.
@@ -30,6 +27,8 @@ DEPARTING = {
     ("cut-store-range", 2): (OTHERS, "dmremap: store s: range"),
     ("cut-store-again", 2): (OTHERS, "dmremap: store s: again"),
 }
+# The same where one disk of a new store's list is cleared, and not yet the other.
+HALF_CLEARED = OTHERS, "dmremap: store s: order"
 
 
 def jobs(folder):
@@ -64,9 +63,12 @@ def check(found, cut, reading):
 def check_look(found, cut, reading):
     """Compares what the program reads with what the kernel read."""
     ours, theirs = ("refused" if "refused" in it else "taken" for it in (reading, cut.seen))
-    if (cut.vector.name, cut.writes) in DEPARTING:
-        departure, word = DEPARTING[cut.vector.name, cut.writes]
-        found.departs(departure, cut.where(""), reading.get("refused", "taken"), word, theirs)
+    departing = DEPARTING.get((cut.vector.name, cut.writes))
+    if cut.requests and not cut.begun and theirs == "taken" != ours:
+        departing = HALF_CLEARED
+    if departing:
+        departure, said = departing
+        found.departs(departure, cut.where(""), reading.get("refused", "taken"), said, theirs)
     elif found.same("stacks that a kernel loads or refuses", cut.where(""), ours, theirs) and ours == "taken":
         for what, values in cut.seen.items():
             found.same("devices and status lines that a kernel read", cut.where(what), reading[what], values)
