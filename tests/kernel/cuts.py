@@ -75,8 +75,8 @@ def check_look(found, cut, reading):
 
 
 def check_losses(found, program, cut, dice):
-    """Reads all devices where each write that wasn't flushed is lost or not. A snapshot that was lost may then be valid."""
-    kept = [it for write in cut.pending if dice.random() < 0.5 for it in write]
+    """Reads all devices where each sector that wasn't flushed is lost or not. A snapshot that was lost may then be valid."""
+    kept = [it for write in cut.pending for it in write if dice.random() < 0.5]
     before = [cut.flushed.get(*it[:2]) for it in kept]
     for it in kept:
         cut.flushed.put(*it)
