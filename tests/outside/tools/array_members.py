@@ -136,13 +136,12 @@ class ArrayMembers(Case):
         self.program.file("members/c", other)
         self.program.file("members/paths", "%s a?offset=8192\n/dev/sdb1 c?offset=8192\n" % NAME)
         self.program.file("members/a", md_member(VOLUME, 16, level=1))
-        self.program.file("members/disks", "%s 256\n/dev/sdb1 64\n" % NAME)
-        got = self.call("spans", "--paths", "paths", "disks", self.program.file("members/table", "v: 0 8 linear %s 8\n" % NAME))
+        got = self.call("elsewhere", "--losetup", "--paths", "paths", self.program.file("members/table", "v: 0 8 linear %s 8\n" % NAME))
         self.holds("halves of two arrays", got.status == 0, got.err)
         self.program.file("members/b", md_member(VOLUME, 16, level=1, events=8))
         self.program.file("members/paths", "%s a?offset=8192\n/dev/sdb1 b\n" % NAME)
-        got = self.call("spans", "--paths", "paths", "disks", "table")
-        self.refuses("an older half among disks", got, "%s spans: a: %s" % (TOOL, OLDER % (7, "b", 8)))
+        got = self.call("elsewhere", "--losetup", "--paths", "paths", "table")
+        self.refuses("an older half among disks", got, "%s elsewhere: a: %s" % (TOOL, OLDER % (7, "b", 8)))
 
     def test_partitions(self):
         """Members on partitions, of which a disk may end with the superblock of its last one."""
@@ -165,7 +164,6 @@ class ArrayMembers(Case):
         commands = {
             "save": ["save", *asked, "v", "out", *source],
             "dd": ["dd", *asked, "--requests", "requests", *source],
-            "spans": ["spans", "--paths", "paths", "disks", "table"],
             "elsewhere": ["elsewhere", "--losetup", "--paths", "paths", "table"],
         }
         for level, start in ((5, 16), (5, 17), (5, 4), (1, 16)):

@@ -5,9 +5,7 @@ import os
 import random
 import re
 
-import containers
 import layout_rows
-import physical_volumes
 import tool_calls
 from harness import Case
 from origins import SHARING, claims, disks_of, small_stack, tidiness
@@ -33,35 +31,6 @@ def check_many_clashes(tally, program, top):
     said = "dmremap-tools spans: %s: there are more than 1000000 clashes: take the lines of one disk, or of fewer devices\n" % path
     tally.holds("clashes of nested ranges", (got.status, got.out.count(b"\n"), got.err.decode()) == (1, 1000001, said),
                 "status %s, %d lines, %r" % (got.status, got.out.count(b"\n"), got.err))
-
-
-def check_taken(tally, program, top):
-    """What images say is taken, as `owner` says it: a GPT with both copies, a partition without a line, a label of LVM with two
-    areas. Images that are cut or changed say less, but all the same something."""
-    head = physical_volumes.gpt((40, 89), (90, 97), last=130).ljust(98 * 512, b"\0")
-    disk = bytearray(physical_volumes.with_backup(head, (40, 89), (90, 97)))
-    disk[48 * 512:48 * 512 + 208] = containers.version_1(4)[:208]
-    label = physical_volumes.label([(4096, 2048), (48 << 9, 1024)], size=64 << 9)
-    volume = (bytes(512) + label).ljust(64 << 9, b"\0")
-    sda = program.file("taken/sda", bytes(disk))
-    places = "sda %s\nsdb %s\n" % (sda, program.file("taken/sdb", volume))
-    files = [program.file("taken/disks", "sda 131\nsdb 64\n"), program.file("taken/table", "p: 0 50 linear sda 40\nv: 0 20 linear /dev/mapper/p 8\n")]
-    words = ["spans", "--paths", program.file("taken/paths", places), *files]
-    wanted = ("/dev/mapper/p 8 28 v 0 linear\n/dev/mapper/p 50 50 - - end\nsda 0 34 GPT - allocated\nsda 40 90 p 0 linear\n"
-              "sda 90 98 %s:2 0 allocated\nsda 98 131 backup-of-the-GPT - allocated\nsda 131 131 - - end\nsdb 1 2 label-of-LVM - allocated\n"
-              "sdb 8 12 metadata-area-of-LVM - allocated\nsdb 48 50 metadata-area-of-LVM - allocated\nsdb 64 64 - - end\n") % sda
-    tally.same("what is taken of disks", tool_calls.call(top, words), 0, wanted)
-    program.file("taken/sda", physical_volumes.mbr((0x83, 40, 50), (0x82, 90, 9)).ljust(131 * 512, b"\0"))
-    got = tool_calls.call(top, words)
-    tally.holds("what is taken of a disk with an MBR", ("\nsda 0 1 MBR - allocated\nsda 40 90 p 0 linear\nsda 90 99 %s:2 0 allocated\n" % sda).encode() in got.out, got.out)
-    dice = random.Random(1)
-    for _ in range(60):
-        changed = bytearray(disk)
-        for _ in range(3):
-            changed[dice.choice([dice.randrange(2048), 48 * 512 + dice.randrange(208)])] = dice.randrange(256)
-        program.file("taken/sda", bytes(changed[:dice.choice([len(changed), dice.randrange(1, len(changed))])]))
-        got = tool_calls.call(top, words)
-        tally.holds("what is taken of a changed disk", got.status == 0 and b"sda 40 90 p 0 linear\n" in got.out, "%s, %r" % (got.status, got.err))
 
 
 def check_full(tally, program, top):
@@ -213,6 +182,6 @@ def extents(units):
 
 
 class Layouts(Case, checks=[
-    check_rows, check_taken, check_full, check_places, check_sizes, check_many_clashes, check_random
+    check_rows, check_full, check_places, check_sizes, check_many_clashes, check_random
 ]):
     """Rows, sizes, and stacks at random."""

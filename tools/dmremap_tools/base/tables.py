@@ -1,6 +1,5 @@
 """Devices and their lines, in table text and in concise text, and DISKS, the disks that they may name."""
 
-import re
 from typing import Callable, Dict, Iterator, List, Optional, Sequence, Tuple
 
 from dmremap_tools.base import names, numbers, quoting, streams
@@ -113,13 +112,6 @@ def line_of(place: str, text: str) -> Line:
     if fault:
         raise Refusal(place, f"{fault}, see `dmremap-tools explain`: {quoting.shown(text)}")
     return line
-
-
-def names_in(path: str) -> List[str]:
-    """What a disk or a device may be called in FILE: with and without /dev/ in front, or as a device of that name."""
-    short = re.sub("^/dev/", "", path)
-    name = names.of_path(path)
-    return [path, "/dev/" + path, short, path if name == path else names.MAPPER + name, names.MAPPER + short]
 
 
 def text_of(devices: List[Device], is_concise: bool) -> str:

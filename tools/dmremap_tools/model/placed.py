@@ -4,7 +4,7 @@ member of an array that has only some of these."""
 
 import os
 import re
-from typing import Dict, Iterable, Iterator, List, Optional, Tuple
+from typing import Dict, Iterable, Iterator, Optional, Tuple
 
 from dmremap_tools.base import quoting, streams, written
 from dmremap_tools.base.numbers import SECTOR
@@ -30,19 +30,14 @@ OLDER = ("a member of an md array that was away when others changed: it has the 
          "take that")
 
 
-def groups_in(path: str) -> Tuple[Document, List[Group]]:
-    """A text of lvm2, and its groups that have physical volumes. Refuses a text without any."""
+def disks_of(path: str) -> Iterator[Tuple[str, int, Optional[bytes]]]:
+    """The name of each physical volume of a text's group, its sectors, and its id, if it has one. Refuses a text without
+    any, and a physical volume without a length."""
     document = Document(streams.name_of(path), streams.read_bytes(path))
-    groups = [group for group in map(Group, document.top.sections()) if group.physicals]
-    if not groups:
+    group = next((group for group in map(Group, document.top.sections()) if group.physicals), None)
+    if not group:
         raise Refusal(document.path, "no physical volumes of a group: give a text of /etc/lvm/backup, or what "
                       "`metadata` prints")
-    return document, groups
-
-
-def disks_of(path: str) -> Iterator[Tuple[str, int, Optional[bytes]]]:
-    """The name of each physical volume of a group, its sectors, and its id, if it has one."""
-    document, (group, *_) = groups_in(path)
     physicals = list(group.physicals.values())
     for name, node in zip(disk_names(physicals), physicals):
         size = node.value(b"dev_size", int)

@@ -25,7 +25,7 @@ _dmremap_tools() {
             lvm2-text) offered="--help --only --program" ;;
             report) offered="--help --disks --plot --times --compare" ;;
             dd) offered="--help --requests --image --program --paths --fresh" ;;
-            spans) offered="--help --free --clashes --align --to --paths" ;;
+            spans) offered="--help --free --clashes --align --to" ;;
             tree) offered="--help --dot" ;;
             extents) offered="--help --ls --program --paths --fresh" ;;
             store) offered="--help --requests --size --chunk --kind --program --paths --fresh" ;;
