@@ -4,7 +4,7 @@ import hashlib
 import json
 import struct
 from collections import namedtuple
-from typing import List, NamedTuple, Optional
+from typing import NamedTuple, Optional
 
 from dmremap_tools.base import luks_text, numbers, streams
 from dmremap_tools.base.disk_image import Readable
@@ -41,15 +41,17 @@ Container = namedtuple("Container", "version identity start length header fault"
 
 def container_in(image: Readable) -> Optional[Container]:
     """The container that an image is, by its first header or by the second alone, or None."""
-    head, headers = image.read(0, BINARY), headers_in(image)
+    # Of version 2, the first header says where the second one is; if it is damaged, that is looked for.
+    head, first = image.read(0, BINARY), _header_at(image, 0)
+    second = next(filter(None, (_header_at(image, it) for it in ([first.size] if first else SIZES))), None)
     is_first, version = head.startswith(MAGIC), int.from_bytes(head[6:8], "big")
     if is_first and version == 1 and len(head) >= FIRST_BYTES:
         start, key_bytes, uuid = FIRST.unpack_from(head)
         ends = [key + -(-key_bytes * stripes // SECTOR) for key, stripes in SLOT.iter_unpack(head[SLOTS])]
         fault = TOO_SHORT if start * SECTOR >= image.size else None
         return Container(1, _text(uuid), start, None, max(-(-FIRST_BYTES // SECTOR), *ends), fault)
-    newest: Optional[Header] = max(headers, key=lambda it: it.sequence, default=None)
-    if newest is not next(iter(headers), None):
+    newest = second if not first or second and second.sequence > first.sequence else first
+    if newest is not (first or second):
         streams.tell(f"{image.path}: its second header of LUKS is newer: that is read")
     found = _container_of(newest) if newest else Container(version, fault=DAMAGED)
     end = 0 if found.start is None else (found.start + (found.length or 1)) * SECTOR
@@ -58,13 +60,6 @@ def container_in(image: Readable) -> Optional[Container]:
     if is_first:
         return found._replace(version=version)
     return None if found.start is None else found._replace(fault=SECOND_ALONE)
-
-
-def headers_in(image: Readable) -> List[Header]:
-    """The sound headers of version 2. The first says where the second is; if it is damaged, that is looked for."""
-    first = _header_at(image, 0)
-    second = next(filter(None, (_header_at(image, it) for it in ([first.size] if first else SIZES))), None)
-    return [it for it in (first, second) if it]
 
 
 def _header_at(image: Readable, place: int) -> Optional[Header]:

@@ -34,10 +34,6 @@ Entry = NamedTuple("Entry", [("flags", int), ("kind", int), ("start", int), ("si
 Table = namedtuple("Table", "kind copy sector partitions taken fault end", defaults=(None, None))
 
 
-class DamagedTable(Refusal):
-    """There is a GPT, of which no copy is sound."""
-
-
 def table_of(image: Readable, sector: int = SECTOR) -> Optional[Table]:
     """The partition table of a disk, or None where it has none. As with Linux, an MBR that doesn't say that there is a
     GPT goes before what is left of one. It counts in sectors of so many bytes; where a GPT lies says that."""
@@ -52,8 +48,8 @@ def table_of(image: Readable, sector: int = SECTOR) -> Optional[Table]:
         return None
     table = table or backup_of(image)
     if not table:
-        raise DamagedTable(image.path, "both copies of its partition table (GPT) are damaged: "
-                           "repair it in a copy with gdisk, or cut the partition out with dd")
+        raise Refusal(image.path, "both copies of its partition table (GPT) are damaged: "
+                      "repair it in a copy with gdisk, or cut the partition out with dd")
     return table
 
 

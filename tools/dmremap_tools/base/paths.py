@@ -2,7 +2,7 @@
 
 import re
 from argparse import ArgumentParser
-from typing import Container, Dict, Iterable, NamedTuple, Optional, Pattern
+from typing import Dict, NamedTuple, Optional, Pattern
 
 from dmremap_tools.base import quoting, streams
 from dmremap_tools.base.numbers import SECTOR
@@ -40,10 +40,9 @@ def line(name: str, path: str, start: int = 0) -> str:
     return f"{name} {said}\n"
 
 
-def add_words(parser: ArgumentParser, is_needed: bool = False) -> None:
-    parser.add_argument("--paths", metavar="PATHS", required=is_needed,
-                        help="lines NAME PATH: a disk of the tables, and its path on this machine; PATH?offset=BYTES "
-                        "is a partition of a whole disk, which begins there")
+def add_words(parser: ArgumentParser) -> None:
+    parser.add_argument("--paths", metavar="PATHS", help="lines NAME PATH: a disk of the tables, and its path on this "
+                        "machine; PATH?offset=BYTES is a partition of a whole disk, which begins there")
 
 
 def read(path: str, form: Optional[Pattern[str]] = None, are_apart: bool = True) -> Dict[str, str]:
@@ -66,11 +65,3 @@ def read(path: str, form: Optional[Pattern[str]] = None, are_apart: bool = True)
 def places(path: Optional[str], are_apart: bool = True) -> Dict[str, Place]:
     """The place of each name, of a file that may not be given."""
     return {name: place_of(it) for name, it in read(path, None, are_apart).items()} if path is not None else {}
-
-
-def check_known(where: Optional[str], named: Iterable[str], disks: Container[str]) -> None:
-    """Refuses a name in the file `where` that no disk has: the disk that was meant would be read at its own name."""
-    for name in named:
-        if name not in disks:
-            why = f"no disk is called {quoting.shown(name)}: give a name that the tables have"
-            raise Refusal(streams.name_of(where or "--paths"), why)

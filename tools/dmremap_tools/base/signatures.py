@@ -5,7 +5,7 @@ import functools
 import json
 import shutil
 import struct
-from typing import Callable, Dict, Iterator, List, NamedTuple, Tuple
+from typing import Callable, Dict, Iterator, List, NamedTuple, Tuple, Union
 
 from dmremap_tools.base import program
 from dmremap_tools.base.disk_image import BCACHE, BCACHE_AT, BCACHE_SECTOR, ZFS_AT, ZFS_MAGIC, Readable
@@ -14,23 +14,19 @@ from dmremap_tools.base.refusal import Refusal
 
 # What a signature is of, and the byte at which it is.
 Signature = NamedTuple("Signature", [("kind", str), ("at", int)])
-# The kinds by the names that libblkid gives them, the bytes, and where they are: from the beginning, or, below 0, from
-# the end.
-KNOWN = [
+# The kinds by the names that libblkid gives them, the bytes, or some of which one is there, and where they are: from the
+# beginning, or, below 0, from the end.
+KNOWN: List[Tuple[str, Union[bytes, Tuple[bytes, ...]], Tuple[int, ...]]] = [
     ("ddf_raid_member", b"\xde\x11\xde\x11", (-SECTOR, -258 * SECTOR)),
     ("isw_raid_member", b"Intel Raid ISM Cfg Sig. ", (-2 * SECTOR, -16 * SECTOR)),
     ("nvidia_raid_member", b"NVIDIA", (-2 * SECTOR,)),
     ("lsi_mega_raid_member", b"$XIDE$", (-SECTOR,)),
     ("promise_fasttrack_raid_member", b"Promise Technology, Inc.",
      tuple(-SECTOR * it for it in (63, 255, 256, 16, 399, 591, 675, 735, 911, 974, 991, 951, 3087))),
-    ("hpt37x_raid_member", b"\xf0\x16\x78\x5a", (9 * SECTOR + 32,)),
-    ("hpt37x_raid_member", b"\xfd\x16\x78\x5a", (9 * SECTOR + 32,)),
-    ("hpt45x_raid_member", b"\xf3\x16\x78\x5a", (-11 * SECTOR,)),
-    ("hpt45x_raid_member", b"\xfd\x16\x78\x5a", (-11 * SECTOR,)),
+    ("hpt37x_raid_member", (b"\xf0\x16\x78\x5a", b"\xfd\x16\x78\x5a"), (9 * SECTOR + 32,)),
+    ("hpt45x_raid_member", (b"\xf3\x16\x78\x5a", b"\xfd\x16\x78\x5a"), (-11 * SECTOR,)),
     ("adaptec_raid_member", b"\x37\xfc\x4d\x1e", (-SECTOR,)),
-    ("drbd", b"\x83\x74\x02\x6b", (60 - 8 * SECTOR,)),
-    ("drbd", b"\x83\x74\x02\x6c", (60 - 8 * SECTOR,)),
-    ("drbd", b"\x83\x74\x02\x6d", (60 - 8 * SECTOR,)),
+    ("drbd", (b"\x83\x74\x02\x6b", b"\x83\x74\x02\x6c", b"\x83\x74\x02\x6d"), (60 - 8 * SECTOR,)),
     ("drbdmanage_control_volume", b"$DRBDmgr=q", (0,)),
     ("ubi", b"UBI#", (0,)),
     ("zfs_member", ZFS_MAGIC, (ZFS_AT, ZFS_AT + (256 << 10))),
@@ -40,7 +36,8 @@ KNOWN = [
     ("vdo", b"dmvdo001", (0,)),
     ("stratis", b"!Stra0tis\x86\xff\x02^\x41rh", (SECTOR + 4, 9 * SECTOR + 4)),
     ("ceph_bluestore", b"bluestore block device", (0,))]
-LONGEST = max(len(magic) for _, magic, _ in KNOWN)
+# How many bytes tell: none has more.
+TOLD = 32
 # Those of the last sector whose bytes are too short to tell, with the byte at which they are, and the sum that tells.
 Sum = Callable[[bytes], bool]
 SUMMED: List[Tuple[str, bytes, int, Sum]] = [
@@ -61,7 +58,7 @@ def signatures_in(image: Readable) -> List[Signature]:
     """The signatures that are looked for here."""
     places = ((kind, magic, at if at >= 0 else image.size // SECTOR * SECTOR + at) for kind, magic, places in KNOWN
               for at in places)
-    read = functools.lru_cache(None)(lambda at: image.read(at, LONGEST))
+    read = functools.lru_cache(None)(lambda at: image.read(at, TOLD))
     found = [Signature(kind, at) for kind, magic, at in places if at >= 0 and read(at).startswith(magic)]
     end = image.size // SECTOR * SECTOR - SECTOR
     last = image.read(end, SECTOR) if end > 0 else b""

@@ -9,8 +9,8 @@ from dmremap_tools.base.refusal import Refusal
 
 # How many dmremap counts in all stores together.
 MOST = 4194304
-# How many sectors a chunk has at most, here and for a kernel.
-MOST_IN_CHUNK, KERNELS_MOST = 1 << 10, 1 << 21
+# How many sectors a chunk has at most.
+MOST_IN_CHUNK = 1 << 10
 STATUS = re.compile(r"([^ ]+): 0 [0-9]+ snapshot (?:([0-9]+)/[0-9]+ ([0-9]+)|Invalid)")
 REFUSED = re.compile(r"dmremap: store ([^ ]+): ([a-z]+)")
 DAMAGED = "which no kernel writes: it is damaged, was changed while it was read, or is another snapshot's"
@@ -29,7 +29,7 @@ WHYS = {
 
 
 def is_chunk(chunk: int) -> bool:
-    return 0 < chunk <= KERNELS_MOST and chunk & (chunk - 1) == 0
+    return 0 < chunk <= MOST_IN_CHUNK and chunk & (chunk - 1) == 0
 
 
 def places(chunk: Optional[int], length: int) -> int:

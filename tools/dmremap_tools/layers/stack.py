@@ -86,7 +86,11 @@ def start(words: argparse.Namespace, source: Given, devices: Optional[Iterable[s
     """Starts for these devices of a source, or for all. Refuses snapshots whose stores can't be read or are invalid."""
     asked, places = program.dmremap(words.program), paths.places(words.paths)
     loaded = load(asked, source, folder)
-    paths.check_known(words.paths, places, loaded.sizes)
+    unknown = next((name for name in places if name not in loaded.sizes), None)
+    if unknown is not None:
+        # The disk that was meant would be read at its own name.
+        why = f"no disk is called {quoting.shown(unknown)}: give a name that the tables have"
+        raise Refusal(streams.name_of(words.paths), why)
     places = by_ids(loaded.group, places, loaded.sizes, asked)
     part = loaded if devices is None else loaded.part(devices)
     command = [asked, "map", *part.write(folder)]

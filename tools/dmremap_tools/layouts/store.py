@@ -91,9 +91,9 @@ class Runs:
 
     def __init__(self, text: bytes, command: List[str]) -> None:
         self._text, self._command, self._count = text, command, 0
-        self.statuses = functools.lru_cache(None)(self._statuses)
 
-    def _statuses(self, size: int) -> Dict[str, str]:
+    @functools.lru_cache(None)
+    def statuses(self, size: int) -> Dict[str, str]:
         """The status of each snapshot after the requests in so many bytes."""
         self._count += 1
         streams.show_progress(f"run {self._count}, over {size} of {len(self._text)} bytes")

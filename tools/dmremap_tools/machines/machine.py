@@ -39,7 +39,7 @@ from typing import Dict, Iterable, List, Optional, Set, Tuple
 from dmremap_tools.base import names, numbers, paths, quoting, streams, tables
 from dmremap_tools.base.partition_table import Partition, backup_of, table_of
 from dmremap_tools.base.refusal import Refusal, WrongWords
-from dmremap_tools.base.store_places import MOST, MOST_IN_CHUNK, places
+from dmremap_tools.base.store_places import MOST, is_chunk, places
 from dmremap_tools.model.device import Image, Lenient
 from dmremap_tools.model.physical_volume import label_of
 from dmremap_tools.model.placed import GIVE, check_places, image_of, label_at, pile_at
@@ -180,7 +180,7 @@ class Stack:
 
     def _fault_of_store(self, store: str, kind: str, said: str) -> str:
         chunk, length = int(said), self.length(store) or 0
-        if chunk & (chunk - 1) or not 0 < chunk <= MOST_IN_CHUNK:
+        if not is_chunk(chunk):
             return f"its chunks have {chunk} sectors"
         if not all(it.is_store for it in self.kept([store])):
             return "its store is read-only, or not made of linear and striped lines"

@@ -58,10 +58,6 @@ class Node:
         self.items: List[Item] = []
         self.children: Optional[Dict[bytes, "Node"]] = None
 
-    @property
-    def is_list(self) -> bool:
-        return not self.items or self.items[0].start > self.value_at
-
     def child(self, key: bytes) -> Optional["Node"]:
         return (self.children or {}).get(key)
 

@@ -283,7 +283,7 @@ def snapshot_of(layout: Any, record: Record) -> Device:
                       "the origin instead")
     if origin not in layout.group.volumes or record.volume.extents != layout.group.volumes[origin].extents:
         raise Refusal(name, f"its origin {shown(origin)} isn't there, or was resized since: {NEXT}")
-    if not store_places.is_chunk(chunk) or chunk > store_places.MOST_IN_CHUNK:
+    if not store_places.is_chunk(chunk):
         raise Refusal(name, f"its text says chunks of {chunk} sectors, which aren't followed: {NEXT}")
     kept, key = layout.plain(store), layout.key_of(origin)
     source = layout.tables.closure([key])

@@ -293,7 +293,8 @@ class Pile:
             self._recognise_leftover(spot, known, question or self._question_of(spot))
 
     def _recognise_leftover(self, spot: Spot, known: Optional[str], question: Optional[str]) -> None:
-        """Says what a device is without a sound label: what is left of a physical volume, or something else."""
+        """Says what a device is without a sound label: what is left of a physical volume, or something else, which blkid
+        names where it can be asked."""
         known = None if known == "lvm2" else known
         leftover = None if known else physical_volume.leftover_in(spot.device, spot.device is spot.image)
         volume = leftover.volume() if leftover else None
@@ -303,19 +304,15 @@ class Pile:
             self._say(spot, "physical volume", question or leftover.fault)
             return
         self.leftovers += [leftover] if leftover else []
-        known, other = self._named(spot, known)
+        told = self._told_by_blkid(spot)
+        kind, table = told.get("TYPE"), told.get("PTTYPE")
+        other = disk_image.other_table_of(Lenient(spot.device)) or (table if table not in (None, "dos", "gpt") else None)
+        if kind and (known or spot.partition):
+            known = SAME.get(kind, kind)
         note = leftover.note() if leftover else OTHER_TABLE.format(other) if other else NOTHING if not known else ""
         self._say(spot, known or "unknown", question or note)
         if not known and spot.image and not spot.partition:
             self._unknown.append(spot)
-
-    def _named(self, spot: Spot, known: Optional[str]) -> Tuple[Optional[str], Optional[str]]:
-        """The names of what begins a device, and of a partition table that isn't followed, as blkid says them where it
-        can be asked."""
-        told = self._told_by_blkid(spot)
-        kind, table = told.get("TYPE"), told.get("PTTYPE")
-        other = disk_image.other_table_of(Lenient(spot.device)) or (table if table not in (None, "dos", "gpt") else None)
-        return SAME.get(kind, kind) if kind and (known or spot.partition) else known, other
 
     def _assemble(self) -> None:
         """Puts the arrays together and looks at them, again if one turns out to be a member of another."""

@@ -52,7 +52,8 @@ class Later:
             return f"it was removed, and the text with the seqno {lost} that came after it is lost: {SINCE}"
         # The current text of a disk of this side that can't be read may be a later one, too.
         faults = map(self._lost.get, side.physical_ids.values())
-        unreadable = next(filter(None, itertools.chain(faults, self._faults_after(side.text))), None)
+        later = (fault for fault, age in self._faults if is_after(age, side.text))
+        unreadable = next(filter(None, itertools.chain(faults, later)), None)
         if unreadable:
             return f"only an older text has it, and a later one can't be read ({unreadable}), so that {SINCE}"
         for identity, first, end in sorted(side.uses(name)):
@@ -71,9 +72,6 @@ class Later:
                 return
             if first < each.end and is_after(each.age, text):
                 yield each.owner
-
-    def _faults_after(self, text: Text) -> Iterator[str]:
-        return (fault for fault, age in self._faults if is_after(age, text))
 
     def _ages(self) -> Iterator[Tuple[Text, Age]]:
         for identity, holders in self._known.items():
