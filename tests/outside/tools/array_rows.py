@@ -215,7 +215,6 @@ SIXES = {"left-symmetric": "q012p 012pq 12pq0 2pq01", "left-asymmetric": "q012p 
          "ddf-zero-restart": "pq012 0pq12 01pq2 012pq", "ddf-N-restart": "012pq 01pq2 0pq12 pq012", "ddf-N-continue": "012qp 12qp0 2qp01 qp012",
          "left-asymmetric-6": "012pq 01p2q 0p12q p012q", "right-asymmetric-6": "p012q 0p12q 01p2q 012pq",
          "left-symmetric-6": "012pq 12p0q 2p01q p012q", "right-symmetric-6": "p012q 2p01q 12p0q 012pq", "parity-first-6": "p012q p012q p012q p012q"}
-READ_ALL = "1 R /dev/md0 0 192\n"
 FOLLOWED = [
     *(followed(FIVE(layout), "".join("1 R /dev/md0 %d 16\n" % (16 * it) for it in range(12)), chunk_by_chunk(letters)) for layout, letters in FIVES.items()),
     *(followed(SIX(layout), "".join("1 R /dev/md0 %d 16\n" % (16 * it) for it in range(12)), chunk_by_chunk(letters)) for layout, letters in SIXES.items()),

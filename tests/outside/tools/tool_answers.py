@@ -4,7 +4,7 @@ import os
 import random
 
 from harness import Case, run
-from tool_calls import call, check_rows, good, lost
+from tool_calls import call, check_rows, good, lost, read
 
 # What is made of answers.
 
@@ -191,13 +191,8 @@ def check_dd(tally, program, top):
         made = call(top, ["dd", *words, *source], given="%s w 0 20\n" % operation, folder=folder)
         got = run(["sh"], given=made.out, folder=folder)
         tally.same("the lines of dd %s %s" % (operation, words), got, 0, b"" if words else image)
-    tally.holds("what dd read", bytes_of(os.path.join(folder, "out")) == image, "it is something else")
-    tally.holds("where dd wrote", bytes_of(os.path.join(folder, "a"))[3 * 512:] == image[:4096] + image[8192:], "it is elsewhere")
-
-
-def bytes_of(path):
-    with open(path, "rb") as it:
-        return it.read()
+    tally.holds("what dd read", read(os.path.join(folder, "out")) == image, "it is something else")
+    tally.holds("where dd wrote", read(os.path.join(folder, "a"))[3 * 512:] == image[:4096] + image[8192:], "it is elsewhere")
 
 
 class ToolAnswers(Case, checks=[check_answers, check_blocks, check_costs, check_dd]):
