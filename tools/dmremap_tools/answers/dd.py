@@ -16,9 +16,10 @@ import tempfile
 from argparse import ArgumentParser, Namespace
 from typing import Iterator, Optional, Tuple
 
-from dmremap_tools.base import disk_image, given, names, numbers, paths, pieces, quoting, requests, streams, written
+from dmremap_tools.base import given, names, numbers, paths, pieces, quoting, requests, streams, written
 from dmremap_tools.base.refusal import Refusal, WrongWords
-from dmremap_tools.layers import stack
+from dmremap_tools.formats import disk_image
+from dmremap_tools.model import loaded_stack
 
 EXAMPLE = "echo 'R vg0-lv0 8000 16' | dmremap-tools dd lvm vg0.backup | sh | cmp -n 8192 - /mnt/report.odt"
 
@@ -27,7 +28,7 @@ def add_words(parser: ArgumentParser) -> None:
     given.add_words(parser)
     parser.add_argument("--requests", metavar="REQUESTS", default="-", help="a file of requests; else standard input")
     parser.add_argument("--image", metavar="IMAGE", help="the file with the sectors of the requests, one after the other")
-    stack.add_words(parser)
+    loaded_stack.add_words(parser)
 
 
 def run(words: Namespace) -> None:
@@ -46,7 +47,7 @@ def run(words: Namespace) -> None:
         kept = os.path.join(folder, "REQUESTS")
         given.put(kept, asked())
         # What is written to an origin goes to the stores of its snapshots, too.
-        begun = stack.start(words, source, None if "W" in operations else sorted(devices), folder)
+        begun = loaded_stack.start(words, source, None if "W" in operations else sorted(devices), folder)
         with open(kept, encoding="utf-8", errors="surrogateescape") as it, pieces.Mapped(begun.words, it) as mapped:
             writer = Writer(mapped.answers, image, begun.places)
             streams.out.write("set -e\n")

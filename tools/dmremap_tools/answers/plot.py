@@ -8,8 +8,8 @@ from operator import add
 from typing import Dict, Iterator, List, Optional, Sequence, Tuple
 
 from dmremap_tools.base import pieces, streams
+from dmremap_tools.base import svg
 from dmremap_tools.base.refusal import Refusal
-from dmremap_tools.layouts import svg
 
 COLUMNS, ROWS, CELL, MARGIN = 450, 150, 2, 20
 # A column has a byte for each cell, with how often it was read, up to the darkest, and then how often it was written.

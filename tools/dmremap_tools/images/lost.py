@@ -30,9 +30,9 @@ from dmremap_tools.answers.saved import parts_of
 from dmremap_tools.base import program, streams
 from dmremap_tools.base.numbers import SECTOR
 from dmremap_tools.base.paths import Place
-from dmremap_tools.layouts import rescue_map
-from dmremap_tools.layouts.file_systems import NoSystem, Run, system_in
+from dmremap_tools.formats import rescue_map
 from dmremap_tools.model.device import Image, joined, lacking, read_blocks
+from dmremap_tools.model.file_systems import NoSystem, Run, system_in
 from dmremap_tools.model.pile import Pile, Target
 
 EXAMPLE = "dmremap-tools lost vg0/home sda.img sdb.img --map sda.img=sda.map"

@@ -24,7 +24,7 @@ from typing import Iterator, Tuple
 from dmremap_tools.base import numbers, program, quoting, streams
 from dmremap_tools.base.numbers import SECTOR
 from dmremap_tools.base.refusal import Refusal
-from dmremap_tools.layouts import rescue_map
+from dmremap_tools.formats import rescue_map
 from dmremap_tools.model.image_owners import Owners
 from dmremap_tools.model.owners import Step, unknown, ways
 from dmremap_tools.model.pile import Pile

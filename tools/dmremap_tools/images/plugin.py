@@ -12,7 +12,7 @@ import nbdkit  # type: ignore
 from dmremap_tools.base import streams
 from dmremap_tools.base.numbers import SECTOR
 from dmremap_tools.base.refusal import Refusal
-from dmremap_tools.layouts import rescue_map
+from dmremap_tools.formats import rescue_map
 from dmremap_tools.model.device import ZEROS, joined
 from dmremap_tools.model.pile import Pile, Target
 

@@ -11,8 +11,8 @@ from dmremap_tools.base import given, names, quoting, streams, written
 from dmremap_tools.base.numbers import SECTOR
 from dmremap_tools.base.paths import Place
 from dmremap_tools.base.refusal import Refusal
-from dmremap_tools.layers import stack
-from dmremap_tools.layouts import rescue_map
+from dmremap_tools.model import loaded_stack as stack
+from dmremap_tools.formats import rescue_map
 from dmremap_tools.model.device import ZEROS, Device, Entry, Image, Overlaid, Part, Run
 from dmremap_tools.model.mapping import LoadedTables, Mapped
 from dmremap_tools.model.pile import Target

@@ -25,11 +25,12 @@ import shlex
 from argparse import ArgumentParser, Namespace
 from typing import Any, Callable, Dict, Iterator, List, Optional
 
-from dmremap_tools.base import partition_table, program, quoting, streams
-from dmremap_tools.base.luks_header import Container, container_in
+from dmremap_tools.base import program, quoting, streams
 from dmremap_tools.base.numbers import SECTOR
 from dmremap_tools.base.program import NoProgram
 from dmremap_tools.base.refusal import INCOMPLETE, Refusal
+from dmremap_tools.formats import partition_table
+from dmremap_tools.formats.luks_header import Container, container_in
 from dmremap_tools.model import md_superblock
 from dmremap_tools.model.device import Device, Lenient
 from dmremap_tools.model.groups import UNKNOWN, WHOLE, Group, Volume

@@ -23,9 +23,9 @@ from argparse import ArgumentParser, Namespace
 from typing import List, Optional
 
 from dmremap_tools.base import program, quoting, streams
-from dmremap_tools.base.disk_image import mount_command
 from dmremap_tools.base.refusal import Refusal
-from dmremap_tools.layouts import rescue_map
+from dmremap_tools.formats import rescue_map
+from dmremap_tools.formats.disk_image import mount_command
 from dmremap_tools.model.groups import file_system_in
 from dmremap_tools.model.pile import Pile
 

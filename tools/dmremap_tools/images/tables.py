@@ -20,7 +20,7 @@ from dmremap_tools.base.given import put
 from dmremap_tools.base.numbers import SECTOR
 from dmremap_tools.base.program import NoProgram
 from dmremap_tools.base.refusal import Refusal
-from dmremap_tools.layouts import rescue_map
+from dmremap_tools.formats import rescue_map
 from dmremap_tools.model.device import Copies, Device, Image, Part, whole_run
 from dmremap_tools.model.layout import Layout
 from dmremap_tools.model.mapping import FILES, Mapped, Tables

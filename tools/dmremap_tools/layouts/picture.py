@@ -13,8 +13,8 @@ from argparse import ArgumentParser, Namespace
 from typing import Dict, List, Set, Tuple
 
 from dmremap_tools.base import quoting, streams
+from dmremap_tools.base import svg
 from dmremap_tools.base.refusal import Refusal
-from dmremap_tools.layouts import svg
 from dmremap_tools.layouts.spans import END, MEET, Span, kind_of
 
 EXAMPLE = "dmremap-tools spans stack.disks stack.table | dmremap-tools picture > disks.svg"

@@ -21,10 +21,11 @@ from argparse import ArgumentParser, Namespace
 from collections import Counter, defaultdict
 from typing import Dict, Iterator, List, Tuple
 
-from dmremap_tools.base import given, names, numbers, pieces, program, requests, store_places, streams
+from dmremap_tools.base import given, names, numbers, pieces, program, requests, streams
 from dmremap_tools.base.refusal import Refusal, WrongWords
-from dmremap_tools.layers import stack
-from dmremap_tools.layouts.file_systems import Run
+from dmremap_tools.formats import store_places
+from dmremap_tools.model import loaded_stack
+from dmremap_tools.model.file_systems import Run
 
 EXAMPLE = "dmremap-tools store table snaps.table snaps.disks"
 STATUS = re.compile(r"^([^ \n]+): 0 [0-9]+ snapshot (.*)$", re.M)
@@ -44,7 +45,7 @@ def add_words(parser: ArgumentParser) -> None:
     asked.add_argument("--size", metavar="REQUESTS", help="the writes of a day, say, to devices that have no snapshot yet")
     parser.add_argument("--chunk", type=numbers.word, default=8, metavar="SECTORS", help="with --size: the chunk, a power of two; else 8")
     parser.add_argument("--kind", choices=("P", "N", "K"), default="P", help="with --size: the kind of the snapshot; else P")
-    stack.add_words(parser)
+    loaded_stack.add_words(parser)
 
 
 def run(words: Namespace) -> None:
@@ -59,14 +60,14 @@ def run(words: Namespace) -> None:
     source = given.given_in(words, "FORMAT FILE [DISKS] [--requests REQUESTS]")
     with tempfile.TemporaryDirectory(prefix="dmremap-tools-") as folder:
         if text is None:
-            loaded, ends = stack.load(program.dmremap(words.program), source, folder), []
+            loaded, ends = loaded_stack.load(program.dmremap(words.program), source, folder), []
         else:
-            begun = stack.start(words, source, None, folder)
+            begun = loaded_stack.start(words, source, None, folder)
             loaded, ends = begun.loaded, list(Runs(text, [*begun.words, "--status"]).ends())
     streams.out.write("".join([*places_of(loaded, streams.name_of(words.file)), *ends]))
 
 
-def places_of(loaded: stack.Stack, name: str) -> Iterator[str]:
+def places_of(loaded: loaded_stack.Stack, name: str) -> Iterator[str]:
     """A line for each snapshot: whether its store can be full."""
     lengths = dict(loaded.sizes, **{path: device.end() for path, device in loaded.by_path().items()})
     served = {line.words[0] for device in loaded.devices for line in device.lines if line.target == "snapshot-origin"}

@@ -4,9 +4,9 @@ import functools
 import itertools
 from typing import Dict, Iterator, List
 
-from dmremap_tools.base.luks_header import Container
 from dmremap_tools.base.numbers import SECTOR
-from dmremap_tools.base.partition_table import Table
+from dmremap_tools.formats.luks_header import Container
+from dmremap_tools.formats.partition_table import Table
 from dmremap_tools.model.device import ALL, Device, Part
 from dmremap_tools.model.mapping import Mapped
 from dmremap_tools.model.md_array import Array

@@ -12,11 +12,12 @@ import tempfile
 import weakref
 from typing import Any, Callable, Dict, Iterator, List, NamedTuple, NoReturn, Optional, Sequence, Tuple
 
-from dmremap_tools.base import names, numbers, paths, program, quoting, store_places, tables
+from dmremap_tools.base import names, numbers, paths, program, quoting, tables
 from dmremap_tools.base.given import put
 from dmremap_tools.base.numbers import SECTOR
 from dmremap_tools.base.program import NoProgram
 from dmremap_tools.base.refusal import Refusal
+from dmremap_tools.formats import store_places
 from dmremap_tools.model.config_text import shown
 from dmremap_tools.model.device import ZEROS, Device, Extent, Gap, Image, Lenient, Missing, whole_run
 from dmremap_tools.model.volume_group import Record

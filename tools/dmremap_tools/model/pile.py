@@ -2,14 +2,15 @@
 
 from typing import Dict, List, NamedTuple, Optional, Sequence, Tuple
 
-from dmremap_tools.base import disk_image, quoting, signatures
-from dmremap_tools.base.disk_image import file_system_of
-from dmremap_tools.base.luks_header import SECOND_ALONE, Container, container_in
+from dmremap_tools.base import quoting
 from dmremap_tools.base.numbers import SECTOR
-from dmremap_tools.base.partition_table import Table, backup_of, table_of
 from dmremap_tools.base.program import NoProgram
 from dmremap_tools.base.refusal import Refusal
-from dmremap_tools.base.signatures import Signature
+from dmremap_tools.formats import disk_image, signatures
+from dmremap_tools.formats.disk_image import file_system_of
+from dmremap_tools.formats.luks_header import SECOND_ALONE, Container, container_in
+from dmremap_tools.formats.partition_table import Table, backup_of, table_of
+from dmremap_tools.formats.signatures import Signature
 from dmremap_tools.model import mapping, md_superblock, physical_volume
 from dmremap_tools.model.device import Device, Doubt, Image, Lenient, Part, Run
 from dmremap_tools.model.groups import REMOVED, Group, Texts, Volume, same_id

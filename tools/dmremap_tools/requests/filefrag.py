@@ -24,8 +24,8 @@ from argparse import ArgumentParser, Namespace
 from typing import Dict, Iterable, Iterator, Set, Tuple
 
 from dmremap_tools.base import names, numbers, quoting, requests, streams, tables
+from dmremap_tools.base import made_device
 from dmremap_tools.base.refusal import WrongWords
-from dmremap_tools.layers import parts
 
 EXAMPLE = "filefrag -s -v -b512 /mnt/report.odt | dmremap-tools filefrag vg0-lv0 | dmremap map lvm vg0.backup"
 
@@ -63,7 +63,7 @@ def add_words(parser: ArgumentParser) -> None:
     parser.add_argument("--device", metavar="NAME", help="the file as a device of this name")
     parser.add_argument("--on", metavar="DISK", help="with --device: what the file system lies on, a disk or /dev/mapper/NAME")
     parser.add_argument("--size", metavar="BYTES", help="with --device and --debugfs: how many bytes the file has")
-    parts.add_words(parser)
+    made_device.add_words(parser)
     names.add_words(parser)
 
 
@@ -88,8 +88,8 @@ def run(words: Namespace) -> None:
             if (first, count) != ENDED:
                 requests.write(source, "R", name, first, count)
         return
-    disk = parts.disk_in(words.on, "--on") if words.on is not None else names.MAPPER + name
-    device = parts.device_of(words.device, "", lines_of(source, extents, disk), parts.part_of(words))
+    disk = made_device.disk_in(words.on, "--on") if words.on is not None else names.MAPPER + name
+    device = made_device.device_of(words.device, "", lines_of(source, extents, disk), made_device.part_of(words))
     streams.out.write(tables.text_of([device], False))
 
 

@@ -20,7 +20,7 @@ from typing import Dict, List, Optional
 
 from dmremap_tools.base import names, numbers, paths, quoting, streams, tables
 from dmremap_tools.base.refusal import Refusal, WrongWords
-from dmremap_tools.layers.stack import Stack
+from dmremap_tools.model.loaded_stack import Stack
 from dmremap_tools.model.placed import check_places, pile_at
 
 EXAMPLE = "dmremap concise lvm vg0.backup | dmremap-tools elsewhere --paths paths.txt > here.concise"

@@ -37,9 +37,9 @@ import re
 from typing import Dict, Iterable, List, Optional, Set, Tuple
 
 from dmremap_tools.base import names, numbers, paths, quoting, streams, tables
-from dmremap_tools.base.partition_table import Partition, backup_of, table_of
 from dmremap_tools.base.refusal import Refusal, WrongWords
-from dmremap_tools.base.store_places import MOST, MOST_IN_CHUNK, places
+from dmremap_tools.formats.partition_table import Partition, backup_of, table_of
+from dmremap_tools.formats.store_places import MOST, MOST_IN_CHUNK, places
 from dmremap_tools.model.device import Image, Lenient
 from dmremap_tools.model.physical_volume import label_of
 from dmremap_tools.model.placed import GIVE, check_places, image_of, label_at, pile_at

@@ -14,8 +14,8 @@ from argparse import ArgumentParser, Namespace
 from typing import Dict, Iterator, List, NoReturn, Set
 
 from dmremap_tools.base import numbers, streams, tables
+from dmremap_tools.base import made_device
 from dmremap_tools.base.refusal import Refusal
-from dmremap_tools.layers import parts
 
 EXAMPLE = "dmremap-tools btrfs --name btrfs --device 1 /dev/sda chunks.txt > btrfs.table"
 BLOCK = re.compile(r"(?:leaf|node) (\d{1,20}) (?:level \d+ )?items (\d{1,5}) free.* owner (\S+)")
@@ -82,16 +82,16 @@ def add_words(parser: ArgumentParser) -> None:
     parser.add_argument("--device", metavar=("NUMBER", "DISK"), nargs=2, action="append", required=True,
                         help="a device of the file system")
     parser.add_argument("--copy", metavar="N", type=numbers.word, default=0, help="which copy, counted from 0")
-    parts.add_words(parser)
+    made_device.add_words(parser)
     parser.add_argument("chunks", metavar="CHUNKS", help="what dump-tree printed")
 
 
 def run(words: Namespace) -> None:
-    disks = {number: parts.disk_in(disk, "--device") for number, disk in words.device}
+    disks = {number: made_device.disk_in(disk, "--device") for number, disk in words.device}
     chunks = sorted(read(words.chunks), key=lambda it: it.start)
     if not chunks:
         raise Refusal(streams.name_of(words.chunks), "no chunks of a btrfs file system: " + ANEW)
-    device = parts.device_of(words.name, "", lines_of(chunks, disks, words.copy), parts.part_of(words))
+    device = made_device.device_of(words.name, "", lines_of(chunks, disks, words.copy), made_device.part_of(words))
     if words.copy >= max(1, *(it.copies() for it in chunks)):
         raise Refusal(streams.name_of(words.chunks), "no chunk has a copy %d, counted from 0: give a lower --copy" % words.copy)
     streams.out.write(tables.text_of([device], False))

@@ -6,8 +6,9 @@ import re
 from argparse import ArgumentParser, Namespace
 from typing import Dict, List, NamedTuple, Sequence, Tuple
 
-from dmremap_tools.base import disk_image, numbers, quoting, streams, written
+from dmremap_tools.base import numbers, quoting, streams, written
 from dmremap_tools.base.refusal import Refusal, WrongWords
+from dmremap_tools.formats import disk_image
 
 FINISHED, BAD, UNTRIED = "+", "-", "?"
 # A map says first where ddrescue stands. An area has a position, a size and a status.

@@ -8,9 +8,9 @@ import struct
 from typing import Callable, Dict, Iterator, List, NamedTuple, Tuple
 
 from dmremap_tools.base import program
-from dmremap_tools.base.disk_image import BCACHE, BCACHE_AT, BCACHE_SECTOR, ZFS_AT, ZFS_MAGIC, Readable
 from dmremap_tools.base.numbers import SECTOR
 from dmremap_tools.base.refusal import Refusal
+from dmremap_tools.formats.disk_image import BCACHE, BCACHE_AT, BCACHE_SECTOR, ZFS_AT, ZFS_MAGIC, Readable
 
 # What a signature is of, and the byte at which it is.
 Signature = NamedTuple("Signature", [("kind", str), ("at", int)])

@@ -15,9 +15,9 @@ from collections import namedtuple
 from typing import Callable, Collection, Dict, Iterable, Iterator, List, NamedTuple, Optional, Sequence, Set, Tuple
 
 from dmremap_tools.base import paths, program, quoting, streams
-from dmremap_tools.base.disk_image import EXT_AT, EXT_MAGIC
 from dmremap_tools.base.numbers import SECTOR
 from dmremap_tools.base.refusal import Refusal
+from dmremap_tools.formats.disk_image import EXT_AT, EXT_MAGIC
 from dmremap_tools.model.device import Lenient
 from dmremap_tools.model.placed import image_of
 

@@ -25,11 +25,11 @@ from typing import Dict, Iterator, List, Optional, Sequence, Tuple
 
 from dmremap_tools.base import names, numbers, pieces, quoting, requests, streams, tables
 from dmremap_tools.base.refusal import Refusal, WrongWords
-from dmremap_tools.layers import examine
 from dmremap_tools.model.device import Device, Image, blocks_of
 from dmremap_tools.model.md_array import Array, apart, sides_of
 from dmremap_tools.model.md_chunks import PARITY
 from dmremap_tools.model.md_superblock import BAD_BLOCKS, OLD, Member, found_in, outermost
+from dmremap_tools.tables import examine
 
 # The name of a disk, a sector of it, and how many follow.
 DiskRun = Tuple[str, int, int]

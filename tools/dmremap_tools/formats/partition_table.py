@@ -6,9 +6,9 @@ import zlib
 from collections import namedtuple
 from typing import List, NamedTuple, Optional
 
-from dmremap_tools.base.disk_image import Readable
 from dmremap_tools.base.numbers import SECTOR
 from dmremap_tools.base.refusal import Refusal
+from dmremap_tools.formats.disk_image import Readable
 
 GPT = b"EFI PART"
 # A GPT lies in the second sector, of which a disk may have either size.

@@ -7,9 +7,10 @@ import os
 import stat
 from typing import Dict, Iterable, Iterator, List, NamedTuple, Optional, Set, Tuple
 
-from dmremap_tools.base import names, paths, program, quoting, store_places, streams, tables
+from dmremap_tools.base import names, paths, program, quoting, streams, tables
 from dmremap_tools.base.given import Given, put
 from dmremap_tools.base.refusal import Refusal
+from dmremap_tools.formats import store_places
 from dmremap_tools.model.placed import by_ids, disks_of, image_of
 
 NEXT = "--paths says where disks are, and --fresh takes every snapshot as new"
