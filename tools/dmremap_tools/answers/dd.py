@@ -58,7 +58,7 @@ def run(words: Namespace) -> None:
 class Writer:
     """Writes the lines; `at` is the place in the image, in sectors."""
 
-    def __init__(self, source: pieces.Answers, image: "str | None", here: "dict[str, paths.Place]") -> None:
+    def __init__(self, source: pieces.Answers, image: "str | None", here: "dict[str, paths.DiskPlace]") -> None:
         self.source, self.image, self.here = source, image, here
         self.at = 0
         self._known = written.identity_at(image) if image is not None else None
@@ -90,7 +90,7 @@ class Writer:
     @functools.lru_cache(maxsize=None)
     def _disk(self, name: str) -> Tuple[str, int, Optional[int]]:
         """The path of a disk, its first sector there, and where what --paths names ends, if it is there."""
-        place, end = self.here.get(name) or paths.Place(name), None
+        place, end = self.here.get(name) or paths.DiskPlace(name), None
         if self._known and written.identity_at(place.path) == self._known:
             shown = f"{quoting.shown(self.image or '')} is the disk {quoting.shown(name)}"
             raise WrongWords(f"--image: {shown}, too: give another file")

@@ -83,7 +83,7 @@ def halved(columns: Dict[int, bytearray]) -> Dict[int, bytearray]:
     return made
 
 
-class Fields:
+class DiskFields:
     """The fields of all disks. A column is of so many requests, or so much time: twice as much, when all are used."""
 
     def __init__(self, sizes: Dict[str, int], moments: Moments) -> None:

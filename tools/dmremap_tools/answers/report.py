@@ -31,7 +31,7 @@ from operator import add, sub
 from typing import Dict, List, Optional, Sequence, Tuple
 
 from dmremap_tools.answers.compared import Compared
-from dmremap_tools.answers.plot import Fields, Moments
+from dmremap_tools.answers.plot import DiskFields, Moments
 from dmremap_tools.base import numbers, pieces, quoting, streams, tables
 from dmremap_tools.base.refusal import Refusal, WrongWords
 
@@ -58,7 +58,7 @@ def run(words: Namespace) -> None:
     picture = streams.beside(words.plot) if words.plot is not None else None
     sizes = tables.read_disks(words.disks) if words.disks is not None else None
     moments = Moments(words.times)
-    fields = Fields(sizes, moments) if picture and sizes is not None else None
+    fields = DiskFields(sizes, moments) if picture and sizes is not None else None
     compared = Compared(words.compare) if words.compare is not None else None
     report, source = Report(sizes, fields, compared), pieces.Answers(words.file)
     for requests, *done in source.by_blocks():
@@ -78,7 +78,8 @@ def run(words: Namespace) -> None:
 class Report:
     """The figures of answers."""
 
-    def __init__(self, sizes: Optional[Dict[str, int]], fields: Optional[Fields], compared: Optional[Compared]) -> None:
+    def __init__(self, sizes: Optional[Dict[str, int]], fields: Optional[DiskFields],
+                 compared: Optional[Compared]) -> None:
         self._sizes, self._fields, self._compared = sizes, fields, compared
         # By disk and what is done, the pieces and the sectors; and of lengths with so many binary digits, the pieces.
         self._counts: Dict[Tuple[str, str], int] = Counter()

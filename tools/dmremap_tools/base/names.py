@@ -19,7 +19,7 @@ LSBLK = re.compile(r"(\d{1,10}:\d{1,10}) (\d{1,20})(?: (\S+)(?: \S*)?)?")
 LSBLK_COMMAND = "lsblk -brno MAJ:MIN,SIZE,KNAME,PKNAME"
 MOST_KEPT = 4096
 # Where a name stands: in lines, or in the word of the command line that is called so in the usage.
-Place = Union[streams.Lines, str]
+NamePlace = Union[streams.Lines, str]
 
 
 def of_path(path: str) -> str:
@@ -40,7 +40,7 @@ class Names:
     def _of_minor(self) -> Dict[str, str]:
         return {number.partition(":")[2]: name for name, number in read_ls(self._ls or "")}
 
-    def known(self, path: str, place: Place) -> str:
+    def known(self, path: str, place: NamePlace) -> str:
         """The name that a path stands for, or the path; empty for a /dev/dm-N that `dmsetup ls` has not."""
         minor = MINOR.fullmatch(path) if path.startswith("/dev/dm-") else None
         if minor and self._ls is None:
@@ -48,14 +48,14 @@ class Names:
         return self._of_minor.get(minor[1], "") if minor else of_path(path)
 
     @functools.lru_cache(MOST_KEPT)
-    def device(self, path: str, place: Place) -> str:
+    def device(self, path: str, place: NamePlace) -> str:
         name = self.known(path, place)
         if not FORM.fullmatch(name):
             refuse(place, f"no name of a device, give it as dmsetup ls prints it: '{quoting.shown(path)}'")
         return name
 
 
-def refuse(place: Place, reason: str) -> NoReturn:
+def refuse(place: NamePlace, reason: str) -> NoReturn:
     if isinstance(place, str):
         raise Refusal(place, reason)
     place.refuse(reason)

@@ -20,7 +20,7 @@ from dmremap_tools.base.refusal import Refusal
 from dmremap_tools.explaining.refusals import CopiedCommand
 from dmremap_tools.model.loaded_stack import Stack
 from dmremap_tools.model.device import Image, Missing, Part as DiskPart
-from dmremap_tools.model.mapping import Mapped, Tables, copy_store
+from dmremap_tools.model.mapping import MappedDevice as Mapped, Tables, copy_store
 
 TAKEN, NOT_TAKEN, TAKEN_NOW = "taken", "not taken yet", "taken now"
 SNAPSHOT, ORIGIN = "snapshot", "snapshot-origin"

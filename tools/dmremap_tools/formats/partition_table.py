@@ -28,7 +28,7 @@ FIRST_LOGICAL, LAST_LOGICAL, MOST_EMPTY = 5, 255, 100
 # The number that Linux gives a partition, and where its bytes are on the disk.
 Partition = NamedTuple("Partition", [("number", int), ("start", int), ("size", int)])
 # An entry of an MBR: its first byte, the type of a partition, its first sector, and its sectors.
-Entry = NamedTuple("Entry", [("flags", int), ("kind", int), ("start", int), ("size", int)])
+PartitionEntry = NamedTuple("PartitionEntry", [("flags", int), ("kind", int), ("start", int), ("size", int)])
 # A partition table: its kind, which copy was read of a GPT, the bytes of a sector, its partitions, what it takes
 # itself: starts and ends in bytes, how it is damaged, and the end of the disk, if it says that.
 Table = namedtuple("Table", "kind copy sector partitions taken fault end", defaults=(None, None))
@@ -90,7 +90,7 @@ def _gpt_at(image: Readable, place: int, sector: int, copy: str) -> Optional[Tab
     return Table("GPT", copy, sector, partitions, taken, None, (max(other, belongs) + 1) * sector)
 
 
-def _mbr_of(image: Readable, entries: List[Entry], size: int) -> Table:
+def _mbr_of(image: Readable, entries: List[PartitionEntry], size: int) -> Table:
     """The partitions of an MBR, whatever their type, and those inside all of its extended ones, as far as the image
     goes. All of them count in sectors of so many bytes. What a table inside says of partitions counts from itself, and
     what it says of the next table from the first. As with Linux, its third and fourth entry count only inside of the
@@ -117,12 +117,12 @@ def _mbr_of(image: Readable, entries: List[Entry], size: int) -> Table:
     return Table("MBR", "", size, partitions, [(it * size, it * size + SECTOR) for it in starts])
 
 
-def _entries_in(sector: bytes) -> List[Entry]:
+def _entries_in(sector: bytes) -> List[PartitionEntry]:
     """The four entries of a sector with an MBR, or none."""
     if len(sector) < SECTOR or sector[-2:] != MBR_MAGIC:
         return []
-    return list(map(Entry._make, MBR_ENTRY.iter_unpack(sector[MBR_ENTRIES:-2])))
+    return list(map(PartitionEntry._make, MBR_ENTRY.iter_unpack(sector[MBR_ENTRIES:-2])))
 
 
-def _is_extended(entry: Entry) -> bool:
+def _is_extended(entry: PartitionEntry) -> bool:
     return bool(entry.size) and entry.kind in EXTENDED

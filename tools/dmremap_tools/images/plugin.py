@@ -14,13 +14,13 @@ from dmremap_tools.base.numbers import SECTOR
 from dmremap_tools.base.refusal import Refusal
 from dmremap_tools.formats import rescue_map
 from dmremap_tools.model.device import ZEROS, joined
-from dmremap_tools.model.pile import Pile, Target
+from dmremap_tools.model.pile import Pile, NamedDevice
 
 API_VERSION = 2
 # Of how many bytes a client is told at once what reads as zeros, and in how many extents: it goes on asking.
 MOST_BYTES, MOST_EXTENTS = 1 << 26, 1 << 10
 _given: Dict[str, List[str]] = {}
-_target: Target
+_target: NamedDevice
 
 
 def thread_model() -> int:

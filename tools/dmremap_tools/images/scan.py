@@ -38,7 +38,7 @@ from dmremap_tools.model.md_array import Array
 from dmremap_tools.model.pile import Found, Pile, Spot
 
 EXAMPLE = "dmremap-tools scan disk1.img disk2.img /dev/sdc"
-Row = Dict[str, Any]
+JsonObject = Dict[str, Any]
 UNITS = ("bytes", "KiB", "MiB", "GiB", "TiB", "PiB", "EiB")
 COPIES = {"first": " (first copy)", "backup": " (backup copy, as the first is damaged)"}
 # How many columns the name of a volume gets at least, and its length, its kind and what begins there.
@@ -68,7 +68,7 @@ def run(words: Namespace) -> Optional[int]:
     return INCOMPLETE if whys else None
 
 
-def object_of(pile: Pile) -> Row:
+def object_of(pile: Pile) -> JsonObject:
     return {"images": [image_row(pile, spot) for spot in pile.spots() if spot.device is spot.image],
             "arrays": [array_row(pile, array) for array in pile.arrays],
             "luks": list(luks_rows(pile)),
@@ -77,7 +77,7 @@ def object_of(pile: Pile) -> Row:
                         "volumes": [volume_row(volume) for volume in group.volumes]} for group in pile.groups]}
 
 
-def luks_rows(pile: Pile) -> Iterator[Row]:
+def luks_rows(pile: Pile) -> Iterator[JsonObject]:
     """The containers in images and arrays, and those in volumes."""
     found = [(spot.place, *((spot.path, spot.partition) if spot.image else (None, 0)), container)
              for spot, container in pile.containers]
@@ -103,7 +103,7 @@ def ways_in(container: Container, name: str, image: Optional[str], partition: in
     return [f"{root} && dmremap-tools scan /dev/mapper/opened", " && ".join(copy) + " && dmremap-tools scan opened.img"]
 
 
-def image_row(pile: Pile, spot: Spot) -> Row:
+def image_row(pile: Pile, spot: Spot) -> JsonObject:
     table = pile.tables.get(spot.device)
     holds = [{"partition": found.spot.partition, "what": found.what, "why": found.note or None}
              for found in pile.found if found.spot.image is spot.image]
@@ -111,7 +111,7 @@ def image_row(pile: Pile, spot: Spot) -> Row:
     return {"image": spot.path, "bytes": spot.image.bytes, "table": row, "holds": holds}
 
 
-def array_row(pile: Pile, array: Array) -> Row:
+def array_row(pile: Pile, array: Array) -> JsonObject:
     members = [pile.spot_of[member.device].place for member in array.by_role.values()]
     stale = [pile.spot_of[member.device].place for member in array.stale]
     return {"name": array.label, "id": array.identity, "level": array.level, "members": members,
@@ -119,7 +119,7 @@ def array_row(pile: Pile, array: Array) -> Row:
             "why": array.note}
 
 
-def volume_row(volume: Volume) -> Row:
+def volume_row(volume: Volume) -> JsonObject:
     return {"name": volume.name, "id": volume.identity, "sectors": volume.sectors, "kind": volume.kind,
             "file_system": asked(volume.file_system, UNASKED), "state": asked(volume.state, UNKNOWN),
             "why": asked(volume.why, program.NOT_BUILT), "origin": volume.origin,

@@ -23,7 +23,7 @@ from dmremap_tools.base.refusal import Refusal
 from dmremap_tools.formats import rescue_map
 from dmremap_tools.model.device import Copies, Device, Image, Part, whole_run
 from dmremap_tools.model.layout import Layout
-from dmremap_tools.model.mapping import FILES, Mapped, Tables
+from dmremap_tools.model.mapping import FILES, MappedDevice, Tables
 from dmremap_tools.model.pile import Pile
 
 EXAMPLE = "dmremap-tools tables vg0 sda.img sdb.img --to vg0.tables"
@@ -134,7 +134,7 @@ class GroupTables(Tables):
             name = self._names.setdefault(device, f"disk{len(self.disks)}")
             self.disks[name] = device
             return name, start // SECTOR
-        if not isinstance(device, Mapped):
+        if not isinstance(device, MappedDevice):
             computed = f"{device.name} is computed, and no table can say how: use `save` or `serve`"
             raise Refusal(device.name, device.lack(0, device.size) or computed)
         called = self._arrays.setdefault(device, f"array-{len(self._arrays)}")

@@ -159,7 +159,7 @@ def with_free(spans: List[Span]) -> Iterator[str]:
             yield LINE % span
 
 
-def device_at(pile: Pile, place: paths.Place) -> Optional[Device]:
+def device_at(pile: Pile, place: paths.DiskPlace) -> Optional[Device]:
     """What begins at a place in an image of a pile, as the image or a partition; None where the image isn't there."""
     image = image_at(pile, place.path)
     devices = (spot.device for spot in pile.spots() if image and place.start in begins_in(pile, spot.device, image))

@@ -25,7 +25,7 @@ from dmremap_tools.base import given, names, numbers, pieces, program, requests,
 from dmremap_tools.base.refusal import Refusal, WrongWords
 from dmremap_tools.formats import store_places
 from dmremap_tools.model import loaded_stack
-from dmremap_tools.model.file_systems import Run
+from dmremap_tools.model.file_systems import SectorRun
 
 EXAMPLE = "dmremap-tools store table snaps.table snaps.disks"
 STATUS = re.compile(r"^([^ \n]+): 0 [0-9]+ snapshot (.*)$", re.M)
@@ -128,8 +128,8 @@ def write_sizes(path: str, chunk: int, kind: str) -> None:
         if not match:
             source.refuse_line(requests.NO_REQUEST)
         if match[1] == "W" and match[4] != "0":
-            chunks = Run(source.whole(match[3]), source.whole(match[4])).blocks(chunk)
-            for number, first, end in Run(chunks.start, chunks.stop - chunks.start).parts(PAGE):
+            chunks = SectorRun(source.whole(match[3]), source.whole(match[4])).blocks(chunk)
+            for number, first, end in SectorRun(chunks.start, chunks.stop - chunks.start).parts(PAGE):
                 pages[match[2], number][first % PAGE:first % PAGE + end - first] = b"\1" * (end - first)
                 if len(pages) > MOST_PAGES:
                     source.refuse(TOO_FAR)

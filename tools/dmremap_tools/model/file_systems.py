@@ -65,7 +65,7 @@ class NoSystem(Refusal):
     """Nothing is there that these programs read."""
 
 
-class Run(NamedTuple):
+class SectorRun(NamedTuple):
     """Sectors of the volume."""
 
     first: int
@@ -90,7 +90,7 @@ class FileSystem:
     inodes_at: Callable[[int, int, int], Optional[Iterable[int]]]
     other_use: Callable[[int], str]
 
-    def __init__(self, image: str, volume: str, runs: Sequence[Run]) -> None:
+    def __init__(self, image: str, volume: str, runs: Sequence[SectorRun]) -> None:
         self.image, self.volume, self.runs = image, volume, runs
         self.sectors = self.end = 0
         self.inodes: Dict[int, int] = {}
@@ -156,7 +156,7 @@ def refusal(image: str, name: str, complaints: Sequence[str], check: str) -> Ref
 
 
 class XfsSystem(FileSystem):
-    def __init__(self, image: str, volume: str, runs: Sequence[Run]) -> None:
+    def __init__(self, image: str, volume: str, runs: Sequence[SectorRun]) -> None:
         super().__init__(image, volume, runs)
         printed, complaints = self._ask(["sb 0", "print " + " ".join(Geometry._fields)])
         figures = {name: int(figure) for name, figure in XFS_FIGURE.findall(printed)}
@@ -224,7 +224,7 @@ class XfsSystem(FileSystem):
         return asked([program.found(XFS_DB), *options, "--", self.image], map(str.encode, commands))
 
 
-def system_in(place: paths.Place, volume: str, runs: Sequence[Run]) -> FileSystem:
+def system_in(place: paths.DiskPlace, volume: str, runs: Sequence[SectorRun]) -> FileSystem:
     """The file system in an image of a volume, with the files that have these runs of sectors looked up."""
     disk, at = Lenient(image_of(place.path)), place.start
     image = place.path + f"?offset={at}" * bool(at)
@@ -250,7 +250,7 @@ class ExtSystem(FileSystem):
     """Where a system has what is its own, is as `stats` of debugfs prints it. It `is_sure` that each block in use is an
     inode's, or its own by what is known here."""
 
-    def __init__(self, image: str, volume: str, runs: Sequence[Run]) -> None:
+    def __init__(self, image: str, volume: str, runs: Sequence[SectorRun]) -> None:
         super().__init__(image, volume, runs)
         complaints: List[str] = []
         failed: Optional[streams.OutputFailed] = None

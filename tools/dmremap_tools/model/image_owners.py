@@ -8,10 +8,10 @@ from dmremap_tools.base.numbers import SECTOR
 from dmremap_tools.formats.luks_header import Container
 from dmremap_tools.formats.partition_table import Table
 from dmremap_tools.model.device import ALL, Device, Part
-from dmremap_tools.model.mapping import Mapped
+from dmremap_tools.model.mapping import MappedDevice
 from dmremap_tools.model.md_array import Array
 from dmremap_tools.model.md_superblock import Member
-from dmremap_tools.model.owners import Ground, Groups, Run, all_of, chunks_of, claimed, filled, free, unknown
+from dmremap_tools.model.owners import Ground, GroupOwners, OwnedRun, all_of, chunks_of, claimed, filled, free, unknown
 from dmremap_tools.model.pile import Pile
 
 
@@ -20,7 +20,7 @@ class Owners:
 
     def __init__(self, pile: Pile) -> None:
         pile.search()
-        self._pile, groups = pile, Groups(pile.groups)
+        self._pile, groups = pile, GroupOwners(pile.groups)
         self._known: Dict[Device, Ground] = {}
         for array in pile.arrays:
             for member in array.members:
@@ -42,13 +42,13 @@ class Owners:
         if table.fault:
             return all_of(unknown(table.fault))
         copies = itertools.chain([table.kind], itertools.repeat(f"backup of the {table.kind}" if table.copy else "MBR"))
-        claims = [Run(start // SECTOR, end // SECTOR, name) for (start, end), name in zip(table.taken, copies)]
+        claims = [OwnedRun(start // SECTOR, end // SECTOR, name) for (start, end), name in zip(table.taken, copies)]
         claims += [self._within(part.start, part.size, part) for part in table.partitions.values()]
         return claimed(claims, free(device, "no partition has it"))
 
-    def _within(self, start: int, size: int, device: Device) -> Run:
+    def _within(self, start: int, size: int, device: Device) -> OwnedRun:
         """What has sectors in which a device lies."""
-        return Run(start // SECTOR, (start + size) // SECTOR, device.name, 0, self.on(device))
+        return OwnedRun(start // SECTOR, (start + size) // SECTOR, device.name, 0, self.on(device))
 
     def _of_other(self, device: Device) -> Ground:
         """Who has sectors of a device that is none of these."""
@@ -71,8 +71,8 @@ def of_container(device: Device, container: Container) -> Ground:
     if start is None:
         return all_of(f"{name} container: {container.fault}")
     end = device.size // SECTOR if container.length is None else start + container.length
-    claims = [Run(0, max(start, container.header), f"{name} header")]
-    claims += [Run(start, end, f"{name} data, encrypted")] * (start >= container.header)
+    claims = [OwnedRun(0, max(start, container.header), f"{name} header")]
+    claims += [OwnedRun(start, end, f"{name} data, encrypted")] * (start >= container.header)
     return claimed(claims, free(device, "the container doesn't say that it has it"))
 
 
@@ -85,16 +85,16 @@ def of_member(array: Array, member: Member, above: Ground) -> Ground:
         data = all_of(f"a member of {array.label} that is stale or was being rebuilt")
     else:
         data = filled(functools.partial(of_data, array, member, above), rest)
-    return claimed([Run(start, start + array.length(member), "", 0, data)], rest)
+    return claimed([OwnedRun(start, start + array.length(member), "", 0, data)], rest)
 
 
-def of_data(array: Array, member: Member, above: Ground, first: int, end: int) -> Iterator[Run]:
+def of_data(array: Array, member: Member, above: Ground, first: int, end: int) -> Iterator[OwnedRun]:
     """Who has sectors of a member's data: sectors of the array, or parity."""
     device, chunks = array.device, functools.partial(chunks_of, name=array.label, above=above)
     if array.level == "raid1":
-        yield Run(first, end, array.label, first, above)
+        yield OwnedRun(first, end, array.label, first, above)
     elif array.level in ("linear", "raid0"):
-        for line in device.source.devices[device.key].lines if isinstance(device, Mapped) else ():
+        for line in device.source.devices[device.key].lines if isinstance(device, MappedDevice) else ():
             columns, chunk = len(line.places()), int(line.words[1]) if line.target == "striped" else ALL
             for place, (disk, start, count) in enumerate(line.spans()):
                 part = device.source.disks[disk]

@@ -11,7 +11,7 @@ from dmremap_tools.base.refusal import Refusal
 from dmremap_tools.model import integrity, pools, raid_volume
 from dmremap_tools.model.config_text import Node, shown
 from dmremap_tools.model.device import Device, Extent, Missing
-from dmremap_tools.model.mapping import Mapped, NoProgram, Tables, snapshot_of
+from dmremap_tools.model.mapping import MappedDevice, NoProgram, Tables, snapshot_of
 from dmremap_tools.model.physical_volume import Text
 from dmremap_tools.model.volume_group import Group, Record, Segment, Volume
 
@@ -37,7 +37,7 @@ ODD = "restore an older text by vgcfgrestore on copies of the disks (`metadata -
 # What devices are called in tables.
 NUMBERS = itertools.count()
 # Sectors of a physical volume: its id, the first one, and the one after the last.
-Use = Tuple[str, int, int]
+UsedSectors = Tuple[str, int, int]
 
 
 class Layout:
@@ -110,7 +110,7 @@ class Layout:
         """The bytes that the segments of a volume have."""
         key = self.key_of(name)
         self.tables.add_waiting()
-        return Mapped(self.path(name), self.tables, key)
+        return MappedDevice(self.path(name), self.tables, key)
 
     def lower(self, segment: Segment, field: bytes) -> Optional[Device]:
         """The bytes of the volume that a field of a segment names, or None where it has none."""
@@ -211,7 +211,7 @@ class Layout:
             found += self.group.volumes.keys() & lower - set(found)
         return found[1:]
 
-    def uses(self, name: bytes) -> Set[Use]:
+    def uses(self, name: bytes) -> Set[UsedSectors]:
         """What a volume and what it lies on use of physical volumes."""
         found, sectors = set(), self.extent // SECTOR
         volumes = [self.group.volumes[lower] for lower in (name, *self.below(name))]

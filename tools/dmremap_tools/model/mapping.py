@@ -225,7 +225,7 @@ class Child:
         raise Refusal(quoting.shown(self._name), f"{said} (status {status}): see what `dmremap-tools explain` says")
 
 
-class Mapped(Device):
+class MappedDevice(Device):
     """A device of tables. One that is a snapshot has `chunks_used`, which says how many are in its store."""
 
     chunks_used: Optional[int] = None
@@ -294,12 +294,12 @@ def snapshot_of(layout: Any, record: Record) -> Device:
     source.add(NAME, [tables.Line(0, layout.size_of(origin) // SECTOR, "snapshot", words)])
     try:
         chunks = source.child_of(NAME).chunks[NAME]
-    except store_places.Unread as refusal:
+    except store_places.RefusedStore as refusal:
         raise Refusal(name, refusal.word == "read" and kept.lack(0, kept.size) or f"the store: {refusal.why}")
     fault = INVALID_SNAPSHOT if chunks is None else store_fault(kept, chunk, record.is_merging)
     if fault:
         raise Refusal(name, fault)
-    made = Mapped(name, source, NAME)
+    made = MappedDevice(name, source, NAME)
     made.chunks_used = chunks
     return made
 

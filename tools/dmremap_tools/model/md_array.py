@@ -9,7 +9,7 @@ from dmremap_tools.base.refusal import Refusal
 from dmremap_tools.model import md_chunks, md_superblock
 from dmremap_tools.model.device import (Agreed, Copies, Device, Doubt, Extent, Missing, Part, Run, blocks_of, copied,
                                         cut, joint)
-from dmremap_tools.model.mapping import Mapped, Tables
+from dmremap_tools.model.mapping import MappedDevice, Tables
 from dmremap_tools.model.md_superblock import Member, level_name
 
 # Sectors of a chunk, and members of an array that is followed.
@@ -179,7 +179,7 @@ class Array(md_chunks.Shape):
         if self.level == "raid10" and not is_whole:
             return CopiedChunks(self, self._data, self._dirty)
         self.tables.add("array", list(self.lines()) or self.refuse(NO_CHUNK))
-        return Mapped(self.label, self.tables, "array")
+        return MappedDevice(self.label, self.tables, "array")
 
     def source(self, roles: Iterable[int]) -> Optional[int]:
         """Of the members with these roles the first that is in the array, from which others are filled."""

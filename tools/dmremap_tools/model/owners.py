@@ -38,10 +38,10 @@ POOL_DATA, CACHE = (b"pool", b"data"), (b"cache_pool", b"cache_vol")
 Above = NamedTuple("Above", [("volume", bytes), ("segment", Segment), ("field", bytes), ("place", int), ("start", int)])
 # Sectors up to an end, the name of what has them, which of its own they begin with, where it counts them, and who has
 # these. Without a name nothing is said of them, as of an origin's that its snapshots read.
-Run = namedtuple("Run", "first end name sector above", defaults=("", None, None))
+OwnedRun = namedtuple("OwnedRun", "first end name sector above", defaults=("", None, None))
 FIRST = operator.itemgetter(0)
 # Who has sectors of a device, from the first one up to an end. What no run has goes no further up.
-Ground = Callable[[int, int], Iterable[Run]]
+Ground = Callable[[int, int], Iterable[OwnedRun]]
 # Sectors that go one way up: the first, how many, and each thing that has them, with which of its own they begin.
 Step = Tuple[str, Optional[int]]
 Way = NamedTuple("Way", [("first", int), ("count", int), ("steps", Tuple[Step, ...])])
@@ -70,10 +70,10 @@ def ways(ground: Ground, first: int, end: int) -> Iterator[Way]:
 
 def ways_at_once(ground: Ground, first: int, end: int, depth: int = 0) -> Iterator[Way]:
     """The same of so few sectors that their runs can be listed."""
-    found = ground(first, end) if depth < DEEPEST else [Run(first, end, unknown("it lies on itself"))]
+    found = ground(first, end) if depth < DEEPEST else [OwnedRun(first, end, unknown("it lies on itself"))]
     runs = list(dict.fromkeys(found))
     if len(runs) != 1 or runs[0][:2] != (first, end):
-        runs = sorted(runs + [Run(*gap) for gap in gaps(runs, first, end)], key=FIRST)
+        runs = sorted(runs + [OwnedRun(*gap) for gap in gaps(runs, first, end)], key=FIRST)
     for run in runs:
         start, count = run.sector or 0, run.end - run.first
         above = run.above and ways_at_once(run.above, start, start + count, depth + bool(run.name))
@@ -82,7 +82,7 @@ def ways_at_once(ground: Ground, first: int, end: int, depth: int = 0) -> Iterat
             yield Way(run.first + way.first - start, way.count, (*own, *way.steps))
 
 
-def gaps(runs: Iterable[Run], first: int, end: int) -> Iterator[Tuple[int, int]]:
+def gaps(runs: Iterable[OwnedRun], first: int, end: int) -> Iterator[Tuple[int, int]]:
     """Those of some sectors that no run has."""
     for begin, stop, *_ in sorted(runs, key=FIRST):
         if first < begin and first < end:
@@ -98,26 +98,26 @@ def unknown(why: str) -> str:
 
 
 def all_of(name: str) -> Ground:
-    return lambda first, end: [Run(first, end, name)]
+    return lambda first, end: [OwnedRun(first, end, name)]
 
 
-def within(claims: Iterable[Run], first: int, end: int) -> Iterator[Run]:
+def within(claims: Iterable[OwnedRun], first: int, end: int) -> Iterator[OwnedRun]:
     """What claims have of some sectors."""
     for run in claims:
         begin, stop = max(first, run.first), min(end, run.end)
         if begin < stop:
             sector = None if run.sector is None else run.sector + begin - run.first
-            yield Run(begin, stop, run.name, sector, run.above)
+            yield OwnedRun(begin, stop, run.name, sector, run.above)
 
 
-def claimed(claims: Iterable[Run], rest: Ground) -> Ground:
+def claimed(claims: Iterable[OwnedRun], rest: Ground) -> Ground:
     """The ground of some claims, and of what none of them has."""
     return filled(lambda first, end: within(claims, first, end), rest)
 
 
 def filled(ground: Ground, rest: Ground) -> Ground:
     """A ground, and another one of the sectors that it says nothing of."""
-    def both(first: int, end: int) -> Iterator[Run]:
+    def both(first: int, end: int) -> Iterator[OwnedRun]:
         runs = list(ground(first, end))
         yield from runs
         for gap in gaps(runs, first, end):
@@ -134,28 +134,28 @@ def free(device: Device, what: str) -> Ground:
             return unknown(gap.why)
         return "nobody" if is_empty else unknown(f"{what}, and yet something is written there")
 
-    def ground(first: int, end: int) -> Iterator[Run]:
+    def ground(first: int, end: int) -> Iterator[OwnedRun]:
         windows = ((start, min(end, start + WINDOW)) for start in range(first, end, WINDOW))
         for name, same in itertools.groupby(windows, name_of):
             begin, *_, stop = itertools.chain.from_iterable(same)
-            yield Run(begin, stop, name)
+            yield OwnedRun(begin, stop, name)
     return ground
 
 
 def chunks_of(first: int, end: int, chunk: int, numbers: Callable[[int], Iterable[Optional[int]]], name: str,
-              above: Ground, parity: str = "", begin: int = 0, to: int = 0, length: int = ALL) -> Iterator[Run]:
+              above: Ground, parity: str = "", begin: int = 0, to: int = 0, length: int = ALL) -> Iterator[OwnedRun]:
     """Sectors of a column that begins at one: `numbers` says which chunks of so many sectors of what has them are in a
     row of the column, or None for parity."""
     for row, skipped, count in blocks_of(first - begin, end - first, chunk):
         at = begin + row * chunk + skipped
         for number in numbers(row):
             if number is None:
-                yield Run(at, at + count, parity)
+                yield OwnedRun(at, at + count, parity)
             elif number * chunk + skipped < length:
-                yield Run(at, at + count, name, to + number * chunk + skipped, above)
+                yield OwnedRun(at, at + count, name, to + number * chunk + skipped, above)
 
 
-class Stack:
+class TextOwners:
     """The volumes of a text, from below. `doubt` says why nobody can be sure what is free."""
 
     def __init__(self, side: Layout, doubt: Optional[str]) -> None:
@@ -197,9 +197,9 @@ class Stack:
         if not is_named and segment.kind not in BARE:
             yield f"nothing is known of the type {shown(segment.kind or b'none')} of {shown(name)}"
 
-    def _runs(self, name: bytes, first: int, end: int) -> Iterator[Run]:
+    def _runs(self, name: bytes, first: int, end: int) -> Iterator[OwnedRun]:
         if name in self._visible and name not in self._stores:
-            yield Run(first, end)
+            yield OwnedRun(first, end)
         for ground in self._grounds(name):
             yield from ground(first, end)
         for record in self.group.records:
@@ -238,12 +238,12 @@ class Stack:
         users = [other.volume for other in self._above.get(pool, ()) if other.field in (b"thin_pool", *CACHE)]
         readers = dict.fromkeys([upper] if field == b"origin" else users)
 
-        def ground(first: int, end: int) -> Iterator[Run]:
+        def ground(first: int, end: int) -> Iterator[OwnedRun]:
             runs = [run for reader in readers for run in self._read(reader, lower, first, end)]
             yield from runs
             # Where nobody can be sure of a volume, it is told as well what is sure.
             for gap in gaps([run for run in runs if run.above], first, end):
-                yield Run(*gap, self._part(ROLES.get(field, "part"), upper))
+                yield OwnedRun(*gap, self._part(ROLES.get(field, "part"), upper))
         return ground
 
     def _part(self, role: str, name: bytes) -> str:
@@ -256,7 +256,7 @@ class Stack:
         seen = [shown(other) for other in found if other in self._visible]
         return f"{role} of {self.path(name)}" + (f", below {', '.join(seen)}" if seen else "")
 
-    def _read(self, upper: bytes, lower: bytes, first: int, end: int) -> Iterator[Run]:
+    def _read(self, upper: bytes, lower: bytes, first: int, end: int) -> Iterator[OwnedRun]:
         """The sectors of a volume that another one reads, which its own layer says. A snapshot's are its own."""
         called, over = self.side.path(upper), None if upper in self._stores else self.on(upper)
         try:
@@ -268,13 +268,13 @@ class Stack:
                     begin, until = max(extent.start, starts[row]), min(stop, starts[row] + sizes[row])
                     if begin < until:
                         sector = (places[row] + begin - starts[row]) // SECTOR
-                        yield Run((begin + moved) // SECTOR, (until + moved) // SECTOR, called, sector, over)
+                        yield OwnedRun((begin + moved) // SECTOR, (until + moved) // SECTOR, called, sector, over)
         except NoProgram:
             raise
         except Refusal as refusal:
             why = refusal.why
         if why and why != INVALID_SNAPSHOT:
-            yield Run(first, end, unknown(f"whether {called} has it: {why}"))
+            yield OwnedRun(first, end, unknown(f"whether {called} has it: {why}"))
 
 
 def reading_of(device: Device) -> Tuple[Optional[str], Dict[Device, List["array[int]"]]]:
@@ -289,29 +289,29 @@ def reading_of(device: Device) -> Tuple[Optional[str], Dict[Device, List["array[
     return lacks, {source: [array("Q", each) for each in zip(*sorted(found))] for source, found in rows.items()}
 
 
-class Groups:
+class GroupOwners:
     """All groups, to be asked for the sectors of physical volumes."""
 
     def __init__(self, groups: Sequence[Group]) -> None:
         doubts = {group.side: group.doubt for group in groups if group.state != REMOVED}
-        self._stacks = [Stack(side, doubt) for side, doubt in doubts.items()]
-        self._removed: Dict[str, List[Run]] = {}
+        self._stacks = [TextOwners(side, doubt) for side, doubt in doubts.items()]
+        self._removed: Dict[str, List[OwnedRun]] = {}
         for volume in (volume for group in groups for volume in group.volumes if volume.is_removed):
             for identity, first, end in volume.side.uses(volume.key):
-                self._removed.setdefault(identity, []).append(Run(first, end, f"{volume.path}, removed"))
+                self._removed.setdefault(identity, []).append(OwnedRun(first, end, f"{volume.path}, removed"))
 
     def of(self, volume: PhysicalVolume) -> Ground:
         """Who has the sectors of a physical volume."""
         sector, area = volume.label.sector, "metadata area of LVM"
-        claims = [Run(sector, sector + 1, "label of LVM")]
-        claims += [Run(at // SECTOR, -(-(at + size) // SECTOR), area) for at, size in volume.label.areas]
+        claims = [OwnedRun(sector, sector + 1, "label of LVM")]
+        claims += [OwnedRun(at // SECTOR, -(-(at + size) // SECTOR), area) for at, size in volume.label.areas]
         keys = [(stack, key) for stack in self._stacks for key, identity in stack.side.physical_ids.items()
                 if identity == volume.identity]
         grounds = [self._extents(stack, key, volume) for stack, key in keys]
         grounds = grounds or [self._and_once(without_group(volume), volume)]
         return claimed(claims, lambda first, end: [run for ground in grounds for run in ground(first, end)])
 
-    def _extents(self, stack: Stack, key: bytes, volume: PhysicalVolume) -> Ground:
+    def _extents(self, stack: TextOwners, key: bytes, volume: PhysicalVolume) -> Ground:
         """Who has the sectors of a physical volume by the text of one group."""
         group, node = stack.side.name, stack.group.physicals[key]
         start, count = node.value(b"pe_start", int), node.value(b"pe_count", int)
@@ -319,13 +319,13 @@ class Groups:
             return all_of(unknown(f"the text of {group} doesn't say where the extents of {shown(key)} are"))
         free = unknown(f"no volume of {group} has it, but {stack.doubt}") if stack.doubt else f"free in {group}"
         extents = filled(stack.on(key), self._and_once(free, volume))
-        return claimed([Run(start, start + count * stack.extent, "", start, extents)],
+        return claimed([OwnedRun(start, start + count * stack.extent, "", start, extents)],
                        all_of(f"physical volume of {group}, outside of its extents"))
 
     def _and_once(self, name: str, volume: PhysicalVolume) -> Ground:
         """The same for all, and the volumes that were removed, and had some of the sectors."""
         once = self._removed.get(volume.identity, ())
-        return lambda first, end: [Run(first, end, name), *within(once, first, end)]
+        return lambda first, end: [OwnedRun(first, end, name), *within(once, first, end)]
 
 
 def without_group(volume: PhysicalVolume) -> str:

@@ -127,7 +127,8 @@ Label = NamedTuple("Label", [
     ("sector", int), ("identity", bytes), ("size", int), ("areas", List[Run]), ("is_used", Optional[bool])])
 # An area with its text, or with what is wrong with it, and what its header says of a text: how many bytes it has, and
 # their sum.
-Area = NamedTuple("Area", [("start", int), ("text", Optional[Text]), ("fault", Optional[str]), ("told", bytes)])
+MetadataArea = NamedTuple("MetadataArea", [
+    ("start", int), ("text", Optional[Text]), ("fault", Optional[str]), ("told", bytes)])
 
 
 def text_of(content: bytes) -> Text:
@@ -195,7 +196,7 @@ def _label_in(sector: bytes, place: int) -> Label:
     return Label(place, b"-".join(letters), size, areas[:MOST_AREAS], bool(flags & IN_USE) if version >= 2 else None)
 
 
-def area_at(image: Lenient, start: int, size: int, end: int) -> Area:
+def area_at(image: Lenient, start: int, size: int, end: int) -> MetadataArea:
     """The area at this place, of at most so many bytes, with its valid text, or with what is wrong with it. The volume
     ends at `end`."""
     header = image.read(start, SECTOR)
@@ -212,12 +213,12 @@ def area_at(image: Lenient, start: int, size: int, end: int) -> Area:
         (not (SECTOR <= offset < ring and length <= ring - SECTOR), "its header names a place outside of it"))
     fault = next((why for is_so, why in faults if is_so), None)
     if fault:
-        return Area(start, None, fault, told)
+        return MetadataArea(start, None, fault, told)
     before_end = min(length, ring - offset)
     text = image.read(start + offset, before_end) + image.read(start + SECTOR, length - before_end)
     if len(text) < length or checksum(text) != stored:
-        return Area(start, None, MISSING if len(text) < length else "the sum of its text is wrong", told)
-    return Area(start, text_of(text.rstrip(b"\0")), None, told)
+        return MetadataArea(start, None, MISSING if len(text) < length else "the sum of its text is wrong", told)
+    return MetadataArea(start, text_of(text.rstrip(b"\0")), None, told)
 
 
 def header_fault(header: bytes, start: int) -> Optional[str]:

@@ -73,7 +73,7 @@ class Spot(NamedTuple):
 
 
 # What is meant by a name: what it is called, its bytes, and the ids of what it lies on, if that has some.
-Target = NamedTuple("Target", [("name", str), ("device", Device), ("size", int), ("ids", List[str])])
+NamedDevice = NamedTuple("NamedDevice", [("name", str), ("device", Device), ("size", int), ("ids", List[str])])
 # What a spot is: a word for it, and what is to be said of it.
 Found = NamedTuple("Found", [("spot", Spot), ("what", str), ("note", str)])
 
@@ -374,7 +374,7 @@ class Pile:
         for member in array.members:
             self._say(self.spot_of[member.device], "md member", OLDER_ARRAY.format(array.label, spot.device.name))
 
-    def target(self, name: str) -> Target:
+    def target(self, name: str) -> NamedDevice:
         """What a name means. One that means nothing, or several things, is refused, with what to say instead."""
         device, shown = self.device_named(name), quoting.shown(name)
         if device:
@@ -386,7 +386,7 @@ class Pile:
                 path = quoting.shown(self._volume_named(name).path)
             except Refusal:
                 ids = [array.identity for array in self.arrays if array.device is device]
-                return Target(name, device, device.size, ids)
+                return NamedDevice(name, device, device.size, ids)
             raise Refusal(shown, f"both an image and a volume are called so: say ./{shown}, or {path}")
         try:
             is_whole = self._volume_named(name).why() is None
@@ -396,7 +396,7 @@ class Pile:
             self.search()
         volume = self._volume_named(name)
         ids = [volume.identity, *sorted(volume.side.physical_ids.values()), volume.side.text.key().hex()[:16]]
-        return Target(volume.path, volume.device(), volume.sectors * SECTOR, ids)
+        return NamedDevice(volume.path, volume.device(), volume.sectors * SECTOR, ids)
 
     def device_named(self, name: str) -> Optional[Device]:
         """The image, the partition or the array of this name."""

@@ -8,7 +8,7 @@ from typing import Dict, Iterable, Iterator, List, Optional, Tuple
 
 from dmremap_tools.base import quoting, streams, written
 from dmremap_tools.base.numbers import SECTOR
-from dmremap_tools.base.paths import Place
+from dmremap_tools.base.paths import DiskPlace
 from dmremap_tools.base.refusal import Refusal
 from dmremap_tools.model.config_text import Document, shown
 from dmremap_tools.model.device import Device, Image, Lenient, Part
@@ -52,7 +52,8 @@ def disks_of(path: str) -> Iterator[Tuple[str, int, Optional[bytes]]]:
         yield name, size, node.value(b"id", bytes)
 
 
-def by_ids(text: Optional[str], places: Dict[str, Place], sizes: Dict[str, int], asked: str) -> Dict[str, Place]:
+def by_ids(text: Optional[str], places: Dict[str, DiskPlace], sizes: Dict[str, int],
+           asked: str) -> Dict[str, DiskPlace]:
     """The places of disks, of which some may be whole disks that have a physical volume on a partition. Without `text`,
     the metadata of their group, they are what was given. `sizes` has the sectors of each disk, and `asked` is dmremap.
     Refuses an image of another disk, and one of which nothing says where the disk is."""
@@ -107,7 +108,7 @@ def begins_in(pile: Pile, device: Device, image: Image) -> Iterator[int]:
             yield from (begin + member.superblock.start * SECTOR for begin in begins_in(pile, member.device, image))
 
 
-def place_of_volume(pile: Pile, image: Image, name: str, identity: bytes, place: Place) -> Place:
+def place_of_volume(pile: Pile, image: Image, name: str, identity: bytes, place: DiskPlace) -> DiskPlace:
     """Where an image has the physical volume with this id: in all of it, or at a place that was given. That place
     itself where nothing says which volume is there. Refuses the image of another volume, and one in question."""
     members = [(begin, member) for member in pile.members for begin in begins_in(pile, member.device, image)]
@@ -127,7 +128,7 @@ def place_of_volume(pile: Pile, image: Image, name: str, identity: bytes, place:
     if mine is not None and whys.get(mine):
         raise Refusal(image.name, whys[mine] or "")
     if mine is not None:
-        return Place(place.path, mine, True)
+        return DiskPlace(place.path, mine, True)
     if found:
         wrong, ids = f"it isn't {quoting.shown(name)}, whose id is {shown(identity)}", map(shown, found.values())
         raise Refusal(image.name, f"{wrong}, but has the id {' or '.join(ids)}: give the path of that")
@@ -147,7 +148,7 @@ def label_at(image: Image, begin: int) -> Optional[Label]:
     return label_of(Lenient(Part(image.name, image, begin, max(0, image.size - begin))))[0]
 
 
-def check_places(places: Dict[str, Place], pile: Pile, are_volumes: bool = False) -> None:
+def check_places(places: Dict[str, DiskPlace], pile: Pile, are_volumes: bool = False) -> None:
     """Refuses places behind the superblocks of members that don't have all data of their arrays, or of which another
     one here is newer; or behind one that is damaged, so that nothing says of which level the array is. The names are
     those of disks. Where they are physical volumes or arrays, a place at which a member begins is the same."""

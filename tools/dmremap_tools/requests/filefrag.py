@@ -50,7 +50,7 @@ INNER = re.compile(r" *[0-9]+ - +[0-9]+ +[0-9]+ +[0-9]+")
 MOST_LEVELS = 64
 LIST_ANEW = "make the text anew by `debugfs -R 'ex /FILE' IMAGE`"
 # The sector of the file, that of the device, and how many there are; at the end of a file its bytes and ENDED.
-Extent = Tuple[int, int, int]
+FileExtent = Tuple[int, int, int]
 ENDED = (-1, 0)
 
 
@@ -93,7 +93,7 @@ def run(words: Namespace) -> None:
     streams.out.write(tables.text_of([device], False))
 
 
-def lines_of(source: streams.Lines, extents: Iterable[Extent], disk: str) -> Iterator[tables.Line]:
+def lines_of(source: streams.Lines, extents: Iterable[FileExtent], disk: str) -> Iterator[tables.Line]:
     end = files = size = 0
     for at, first, count in extents:
         if (first, count) == ENDED:
@@ -109,7 +109,7 @@ def lines_of(source: streams.Lines, extents: Iterable[Extent], disk: str) -> Ite
         yield tables.Line(end, size - end, "zero", [])
 
 
-def read_filefrag(source: streams.Lines, known: Set[str]) -> Iterator[Extent]:
+def read_filefrag(source: streams.Lines, known: Set[str]) -> Iterator[FileExtent]:
     """The extents as they come. `opened` is the line that the list of a file began with."""
     opened, is_known, is_last = "", False, False
     files = size = block = number = after = 0
@@ -151,7 +151,7 @@ def read_filefrag(source: streams.Lines, known: Set[str]) -> Iterator[Extent]:
         source.refuse("no file: " + ANEW)
 
 
-def read_list(source: streams.Lines, block: int, size: int) -> Iterator[Extent]:
+def read_list(source: streams.Lines, block: int, size: int) -> Iterator[FileExtent]:
     """The extents that debugfs lists of a file of so many bytes. Each node of the tree has entries 1 to N."""
     # By level, the last entry, and how many its node has.
     entries: Dict[int, Tuple[int, int]] = {}
@@ -193,7 +193,8 @@ def refuse_if(source: streams.Lines, text: str, anew: str, faults: Dict[str, boo
             source.refuse(f"{why}, {anew}: {quoting.shown(text)}")
 
 
-def in_sectors(source: streams.Lines, text: str, block: int, extent: Extent, is_unwritten: bool) -> Iterator[Extent]:
+def in_sectors(source: streams.Lines, text: str, block: int, extent: FileExtent,
+               is_unwritten: bool) -> Iterator[FileExtent]:
     """An extent that is counted in blocks, in sectors, unless it is one that is told."""
     if is_unwritten:
         streams.tell("unwritten, so that it reads as zeros: " + quoting.shown(text))

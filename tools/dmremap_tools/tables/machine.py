@@ -62,7 +62,7 @@ SD_MAJORS = [str(it) for it in (8, *range(65, 72), *range(128, 136))]
 PARTITION = re.compile(r"(?:.*/)?(?:(?:s|v|xv|h)d[a-z]+|.*[0-9]p|.*-part)[0-9]{1,10}")
 
 
-class Found(tables.Device):
+class MachineDevice(tables.Device):
     """A device that `dmsetup ls` has, and why it is left out, if it is. `origins` has what it is a snapshot of, whether
     dmremap can follow it or not, and `level`, once it is judged, how many devices stand on each other up to it."""
 
@@ -101,13 +101,13 @@ class Found(tables.Device):
         return all(line.target in targets for line in self.lines)
 
 
-class Stack:
+class Machine:
     """The devices by their numbers, and the length and the path of each number that lsblk has."""
 
-    def __init__(self, devices: Dict[str, Found], sizes: Dict[str, Optional[int]], of: Dict[str, str]) -> None:
+    def __init__(self, devices: Dict[str, MachineDevice], sizes: Dict[str, Optional[int]], of: Dict[str, str]) -> None:
         self.devices, self._sizes, self._paths, self._counted = devices, sizes, of, 0
 
-    def kept(self, numbered: Iterable[str]) -> List[Found]:
+    def kept(self, numbered: Iterable[str]) -> List[MachineDevice]:
         """The devices with these numbers, but for disks and those that are left out."""
         return [self.devices[it] for it in numbered if it in self.devices and not self.devices[it].why]
 
@@ -159,7 +159,7 @@ class Stack:
                 else:
                     device.why = TOO_DEEP
 
-    def _fault(self, device: Found) -> str:
+    def _fault(self, device: MachineDevice) -> str:
         if device.end() != self._sizes.get(device.number, device.end()):
             return "lsblk and its table differ in its length"
         for lower, start, count in (span for line in device.lines for span in line.spans()):
@@ -205,14 +205,14 @@ def add_words(parser: argparse.ArgumentParser) -> None:
 def run(words: argparse.Namespace) -> None:
     numbers.check_sector_size(words.sector_size)
     beside = streams.beside(words.disks)
-    devices = {number: Found(name, number) for name, number in names.read_ls(words.ls)}
+    devices = {number: MachineDevice(name, number) for name, number in names.read_ls(words.ls)}
     stored = [it.partition("=")[0] for it in words.store]
     statuses = names.rows_of(words.status, streams.rows(words.status), ROW, "dmsetup status")
     # Of each snapshot, whether nothing was copied to its store yet, or that is read.
     is_known = {name: len(status) == 5 and status[3].split("/")[0] == status[4]
                 for name, status in ((name, line.split()) for name, line in statuses if line) if status[2] == "snapshot"}
     is_known.update(dict.fromkeys(stored, True))
-    stack = Stack(devices, *lengths_of(words))
+    stack = Machine(devices, *lengths_of(words))
     is_concise = read_tables(words.table, devices)
     for name in stored:
         if not any(it.origins and it.name == name for it in devices.values()):
@@ -239,7 +239,7 @@ def run(words: argparse.Namespace) -> None:
     streams.out.write(tables.text_of(kept, is_concise))
 
 
-def read_tables(path: str, devices: Dict[str, Found]) -> bool:
+def read_tables(path: str, devices: Dict[str, MachineDevice]) -> bool:
     """Gives the devices their flags and lines, and says whether the text of these is the concise form."""
     rows = streams.rows(path)
     is_concise = any(map(IS_CONCISE.search, rows))
@@ -306,7 +306,7 @@ def partitions_of(image: Image, sector: int) -> Tuple[str, List[Partition]]:
     return (table.kind, table.partitions) if table else ("", [])
 
 
-def sectors_at(place: paths.Place, image: Image, partitions: List[Partition]) -> int:
+def sectors_at(place: paths.DiskPlace, image: Image, partitions: List[Partition]) -> int:
     """The sectors of an image, or of the partition or the physical volume in it that begins at a place. Refuses a place
     at which neither does."""
     if not place.start:
@@ -320,7 +320,7 @@ def sectors_at(place: paths.Place, image: Image, partitions: List[Partition]) ->
     return sizes[0] // numbers.SECTOR
 
 
-def say_left_out(stack: Stack, kept: List[Found], disks: Dict[str, Optional[int]]) -> None:
+def say_left_out(stack: Machine, kept: List[MachineDevice], disks: Dict[str, Optional[int]]) -> None:
     """Says what is left out, what is encrypted, and which copies answers lack."""
     left_out = [it for it in stack.devices.values() if it.why]
     for device in stack.devices.values():
