@@ -42,6 +42,13 @@ class ToldToEnd(BaseException):
     """A signal told the command to end: its number."""
 
 
+class HelpFormatter(argparse.RawDescriptionHelpFormatter):
+    """Formats a help for so many columns, however wide the terminal is."""
+
+    def __init__(self, prog: str) -> None:
+        super().__init__(prog, width=COLUMNS - 2)
+
+
 class Parser(argparse.ArgumentParser):
     """Reads the words of a command. Help goes to standard output, as everything else that is asked for."""
 
@@ -126,7 +133,7 @@ def _answer_signals(action: "signal.Handlers | Callable[[int, object], object]")
 
 def parser_of(command: "commands.Command", module: ModuleType, name: str) -> Parser:
     text = "%s\n\nexample:\n%s" % (_wrapped(module.__doc__ or ""), _example(module.EXAMPLE))
-    parser = Parser(prog=name, description=text, allow_abbrev=False, formatter_class=argparse.RawDescriptionHelpFormatter)
+    parser = Parser(prog=name, description=text, allow_abbrev=False, formatter_class=HelpFormatter)
     module.add_words(parser)
     return parser
 

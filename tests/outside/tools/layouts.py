@@ -101,7 +101,7 @@ def check_full(tally, program, top):
     tally.same("stores of no table", got, 1, "", "dmremap-tools store: none: No such file or directory\n")
     for words, usage, why in (
             (["lvm", "none", "none"], "usage: FORMAT FILE [DISKS] [--requests REQUESTS]\n", "give DISKS, or leave it out with lvm"),
-            ([], "", "give FORMAT, FILE and DISKS, or --size REQUESTS"), (["--size", "none", "lvm", "none"], "", "--size needs no FORMAT, FILE and DISKS")):
+            ([], "", "give FORMAT, FILE and DISKS, or --writes REQUESTS"), (["--writes", "none", "lvm", "none"], "", "--writes needs no FORMAT, FILE and DISKS")):
         tally.same("stores by %s" % words, tool_calls.call(top, ["store", *words]), 2, "", "%sdmremap-tools store: %s\n" % (usage, why))
     got = tool_calls.call(top, ["store", "table", program.file("full/table", table), program.file("full/disks", disks), "--program", "no/where"])
     tally.same("stores by no program", got, 1, "", "dmremap-tools store: no/where: No such file or directory\n")
@@ -160,7 +160,7 @@ def check_sizes(tally, program, top):
         status = statuses_after(program, "s: 0 4096 snapshot base cow %s %d\n" % (kind, chunk), "base 4096\ncow 9999\n", requests)["s"]
         used, own = re.fullmatch(r"(\d+)/9999 (\d+)", status).groups()
         chunks = {at // chunk for it in requests if it[0] == "W" for first, count in [map(int, it.split()[2:])] for at in range(first, first + count)}
-        got = tool_calls.call(top, ["store", "--size", "-", "--kind", kind, "--chunk", str(chunk)], given="".join(requests))
+        got = tool_calls.call(top, ["store", "--writes", "-", "--kind", kind, "--chunk", str(chunk)], given="".join(requests))
         tally.same("the store that %d writes in chunks of %d fill" % (len(requests), chunk), got, 0, "s %d %s %s\n" % (len(chunks), used, own))
 
 

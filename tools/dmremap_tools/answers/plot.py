@@ -45,7 +45,7 @@ class Moments:
             while self._times.number < number:
                 row = next(self._rows, "")
                 if not TIME.fullmatch(row):
-                    source.refuse_where("no time of the request, give what `trace --times` wrote",
+                    source.refuse_where("no time of the request, give what `trace --write-times` wrote",
                                         lambda it: it.request == number)
                 self._begun = float(row) if self._begun is None else self._begun
                 self.last = max(self.last, float(row) - self._begun)

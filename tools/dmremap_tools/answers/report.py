@@ -9,8 +9,8 @@ Takes the output of `dmremap map`. Prints lines that begin with what they say:
     time SECONDS                            with --times: from the first request to the last
 
 A copy is a read and a write, and a fill a write; neither counts for `seek` and `split`. A kernel also writes the list of a
-snapshot's store, which answers leave out: the disk of a store does more than is counted here. With --disks the lines are in the
-order of DISKS; disks that it lacks are refused, and so are pieces past their ends.
+snapshot's store, which answers leave out: the disk of a store does more than is counted here. With --lengths the lines are in
+the order of DISKS; disks that it lacks are refused, and so are pieces past their ends.
 
 --plot draws a field for each disk: to the right the numbers of the requests, or with --times their times; upwards the sectors.
 Reads are blue and writes red, the more the darker.
@@ -46,17 +46,17 @@ Use = Tuple[str, str, List[int], List[int]]
 def add_words(parser: ArgumentParser) -> None:
     parser.add_argument("file", metavar="PIECES", nargs="?", default="-",
                         help="what dmremap map printed; else standard input")
-    parser.add_argument("--disks", metavar="DISKS", help="the disks with their lengths, for the order")
-    parser.add_argument("--plot", metavar="OUT.svg", help="a picture to write; it needs --disks")
-    parser.add_argument("--times", metavar="TIMES", help="what trace --times wrote: line N is the time of request N, in seconds")
+    parser.add_argument("--lengths", metavar="DISKS", help="the disks with their lengths, for the order")
+    parser.add_argument("--plot", metavar="OUT.svg", help="a picture to write; it needs --lengths")
+    parser.add_argument("--times", metavar="TIMES", help="what trace --write-times wrote: line N is the time of request N, in seconds")
     parser.add_argument("--compare", metavar="LOWER", help="requests of a trace of the disks")
 
 
 def run(words: Namespace) -> None:
-    if words.plot is not None and words.disks is None:
-        raise WrongWords("--plot needs --disks")
+    if words.plot is not None and words.lengths is None:
+        raise WrongWords("--plot needs --lengths")
     picture = streams.beside(words.plot) if words.plot is not None else None
-    sizes = tables.read_disks(words.disks) if words.disks is not None else None
+    sizes = tables.read_disks(words.lengths) if words.lengths is not None else None
     moments = Moments(words.times)
     fields = DiskFields(sizes, moments) if picture and sizes is not None else None
     compared = Compared(words.compare) if words.compare is not None else None

@@ -8,7 +8,7 @@ With --requests, prints one more for each: the request that makes it invalid, an
 all as new. dmremap is run over the first half of the requests, then over less or more of them, and so on: about twenty times
 for a million requests.
 
-With --size in place of FORMAT, FILE and DISKS, prints for each device that is written how much of a store that fills: its name,
+With --writes in place of FORMAT, FILE and DISKS, prints for each device that is written how much of a store that fills: its name,
 how many chunks a snapshot of it takes, how many sectors of the store are used, and how many of these are the header and the
 chunk numbers. Writes to the snapshot and to its origin take the same chunks. Refuses what dmremap refuses, and a FILE without
 snapshots.
@@ -42,20 +42,20 @@ def add_words(parser: ArgumentParser) -> None:
     parser.add_argument("disks", metavar="DISKS", nargs="?", help="with table and concise")
     asked = parser.add_mutually_exclusive_group()
     asked.add_argument("--requests", metavar="REQUESTS", help="requests to the snapshots or their origins")
-    asked.add_argument("--size", metavar="REQUESTS", help="the writes of a day, say, to devices that have no snapshot yet")
-    parser.add_argument("--chunk", type=numbers.word, default=8, metavar="SECTORS", help="with --size: the chunk, a power of two; else 8")
-    parser.add_argument("--kind", choices=("P", "N", "K"), default="P", help="with --size: the kind of the snapshot; else P")
+    asked.add_argument("--writes", metavar="REQUESTS", help="the writes of a day, say, to devices that have no snapshot yet")
+    parser.add_argument("--chunk", type=numbers.word, default=8, metavar="SECTORS", help="with --writes: the chunk, a power of two; else 8")
+    parser.add_argument("--kind", choices=("P", "N", "K"), default="P", help="with --writes: the kind of the snapshot; else P")
     loaded_stack.add_words(parser)
 
 
 def run(words: Namespace) -> None:
-    if words.size is not None:
+    if words.writes is not None:
         if words.form is not None:
-            raise WrongWords("--size needs no FORMAT, FILE and DISKS")
-        write_sizes(words.size, words.chunk, words.kind)
+            raise WrongWords("--writes needs no FORMAT, FILE and DISKS")
+        write_sizes(words.writes, words.chunk, words.kind)
         return
     if words.file is None:
-        raise WrongWords("give FORMAT, FILE and DISKS, or --size REQUESTS")
+        raise WrongWords("give FORMAT, FILE and DISKS, or --writes REQUESTS")
     text = streams.plain_bytes(words.requests) if words.requests is not None else None
     source = given.given_in(words, "FORMAT FILE [DISKS] [--requests REQUESTS]")
     with tempfile.TemporaryDirectory(prefix="dmremap-tools-") as folder:

@@ -10,7 +10,7 @@ With --debugfs SUPER, FILE is what `debugfs -R 'ex /FILE' IMAGE` prints of an ex
 `dumpe2fs -h IMAGE` prints; it gives the size of a block. Files without a list of extents are refused: those of ext2 and ext3,
 and small ones that are kept in their inode.
 
-With --device, prints the file as a device of that name, such as an image on a volume as a disk: table text, whose lines lie on
+With --name, prints the file as a device of that name, such as an image on a volume as a disk: table text, whose lines lie on
 VOLUME, or on the disk that --on names. Where the file has no place, the line is `zero`. The last sector is whole. With
 --debugfs, --size gives the bytes of the file, as `debugfs -R 'stat /FILE' IMAGE` prints. A file of more lines than dmremap
 takes is refused, unless --part names the sectors that are wanted.
@@ -60,18 +60,18 @@ def add_words(parser: ArgumentParser) -> None:
     kinds = parser.add_mutually_exclusive_group()
     kinds.add_argument("--addresses", action="store_true", help="for files of btrfs; VOLUME is the device of its addresses")
     kinds.add_argument("--debugfs", metavar="SUPER", help="what dumpe2fs -h printed; FILE is what debugfs printed")
-    parser.add_argument("--device", metavar="NAME", help="the file as a device of this name")
-    parser.add_argument("--on", metavar="DISK", help="with --device: what the file system lies on, a disk or /dev/mapper/NAME")
-    parser.add_argument("--size", metavar="BYTES", help="with --device and --debugfs: how many bytes the file has")
+    parser.add_argument("--name", metavar="NAME", help="the file as a device of this name")
+    parser.add_argument("--on", metavar="DISK", help="with --name: what the file system lies on, a disk or /dev/mapper/NAME")
+    parser.add_argument("--size", metavar="BYTES", help="with --name and --debugfs: how many bytes the file has")
     made_device.add_words(parser)
     names.add_words(parser)
 
 
 def run(words: Namespace) -> None:
-    if words.device is None and (words.on is not None or words.size is not None or words.part is not None):
-        raise WrongWords("--on, --size and --part are for --device")
-    if words.device is not None and (words.size is None) == (words.debugfs is not None):
-        raise WrongWords("--device needs --size with --debugfs, and has the size without it")
+    if words.name is None and (words.on is not None or words.size is not None or words.part is not None):
+        raise WrongWords("--on, --size and --part are for --name")
+    if words.name is not None and (words.size is None) == (words.debugfs is not None):
+        raise WrongWords("--name needs --size with --debugfs, and has the size without it")
     name = names.Names(words.ls).device(words.volume, "VOLUME")
     source = streams.Lines(words.file)
     if words.debugfs is None:
@@ -83,13 +83,13 @@ def run(words: Namespace) -> None:
         if not blocks:
             printed.refuse("no line 'Block size': give what `dumpe2fs -h` prints")
         extents = read_list(source, blocks[-1], size)
-    if words.device is None:
+    if words.name is None:
         for _, first, count in extents:
             if (first, count) != ENDED:
                 requests.write(source, "R", name, first, count)
         return
     disk = made_device.disk_in(words.on, "--on") if words.on is not None else names.MAPPER + name
-    device = made_device.device_of(words.device, "", lines_of(source, extents, disk), made_device.part_of(words))
+    device = made_device.device_of(words.name, "", lines_of(source, extents, disk), made_device.part_of(words))
     streams.out.write(tables.text_of([device], False))
 
 

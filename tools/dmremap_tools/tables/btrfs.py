@@ -17,7 +17,7 @@ from dmremap_tools.base import numbers, streams, tables
 from dmremap_tools.base import made_device
 from dmremap_tools.base.refusal import Refusal
 
-EXAMPLE = "dmremap-tools btrfs --name btrfs --device 1 /dev/sda chunks.txt > btrfs.table"
+EXAMPLE = "dmremap-tools btrfs --name btrfs --disk 1 /dev/sda chunks.txt > btrfs.table"
 BLOCK = re.compile(r"(?:leaf|node) (\d{1,20}) (?:level \d+ )?items (\d{1,5}) free.* owner (\S+)")
 POINTER = re.compile(r"\s*key \(.*\) block (\d{1,20}) .*")
 CHUNK_TREE = ("CHUNK_TREE", "3")
@@ -66,7 +66,7 @@ class Chunk:
         words: List[str] = []
         for device, offset in columns:
             if device not in disks:
-                self.refuse(f"device {device} of the file system isn't given: add --device {device} DISK")
+                self.refuse(f"device {device} of the file system isn't given: add --disk {device} DISK")
             words += [disks[device], str(self.sectors(offset))]
         first, count = self.sectors(start), self.sectors(length)
         if len(columns) == 1:
@@ -79,7 +79,7 @@ class Chunk:
 
 def add_words(parser: ArgumentParser) -> None:
     parser.add_argument("--name", metavar="NAME", required=True, help="the device of the addresses")
-    parser.add_argument("--device", metavar=("NUMBER", "DISK"), nargs=2, action="append", required=True,
+    parser.add_argument("--disk", metavar=("NUMBER", "DISK"), nargs=2, action="append", required=True,
                         help="a device of the file system")
     parser.add_argument("--copy", metavar="N", type=numbers.word, default=0, help="which copy, counted from 0")
     made_device.add_words(parser)
@@ -87,7 +87,7 @@ def add_words(parser: ArgumentParser) -> None:
 
 
 def run(words: Namespace) -> None:
-    disks = {number: made_device.disk_in(disk, "--device") for number, disk in words.device}
+    disks = {number: made_device.disk_in(disk, "--disk") for number, disk in words.disk}
     chunks = sorted(read(words.chunks), key=lambda it: it.start)
     if not chunks:
         raise Refusal(streams.name_of(words.chunks), "no chunks of a btrfs file system: " + ANEW)

@@ -12,7 +12,7 @@ raid4, raid5 and raid6 in all their layouts, and of raid10 of all kinds. A read 
 one if that one is missing; a write is of each copy that is there.
 
 --path names a member's disk in the table, if that isn't its path. Metadata 0.90 of linear and raid0 doesn't say how
-long the members are: --size does. A member that is a spare, was away, or was dropped is left out. Refuses members that
+long the members are: --sectors does. A member that is a spare, was away, or was dropped is left out. Refuses members that
 differ in what they say of the array, that ran apart from each other, that are being reshaped or rebuilt, that have a
 journal or a wrong checksum, and what needs one that is missing. In answers it refuses writes beside parity, copies and
 fills, and what lies past the end.
@@ -47,14 +47,14 @@ def add_words(parser: argparse.ArgumentParser) -> None:
     parser.add_argument("--copy", metavar="N", type=numbers.word, help="which copy, counted from 0")
     parser.add_argument("--path", metavar="MEMBER=DISK", action="append", default=[],
                         help="the name of a member's disk")
-    parser.add_argument("--size", metavar="MEMBER=SECTORS", action="append", default=[], help="how long a member is")
+    parser.add_argument("--sectors", metavar="MEMBER=SECTORS", action="append", default=[], help="how long a member is")
     parser.add_argument("examined", metavar="EXAMINED", nargs="?", help="what mdadm --examine printed")
     parser.add_argument("file", metavar="PIECES", nargs="?", help="with --follow, answers; else standard input")
 
 
 def run(words: argparse.Namespace) -> None:
-    given = _said_of_members(words.size, "--size MEMBER=SECTORS")
-    sizes = {path: numbers.check_length("--size", streams.whole("--size", size)) for path, size in given.items()}
+    given = _said_of_members(words.sectors, "--sectors MEMBER=SECTORS")
+    sizes = {path: numbers.check_length("--sectors", streams.whole("--sectors", size)) for path, size in given.items()}
     files = [word for word in (words.examined, words.file) if word is not None]
     if not words.member and not files or words.member and len(files) > 1:
         raise WrongWords("give EXAMINED, or the members with --member")
@@ -144,7 +144,7 @@ class NamedArray(Array):
     def whole(self, role: int) -> int:
         member = self.member(role)
         if member.superblock.length == examine.UNSAID:
-            self.refuse("metadata 0.90 doesn't say how long a member is, give --size %s=SECTORS"
+            self.refuse("metadata 0.90 doesn't say how long a member is, give --sectors %s=SECTORS"
                         % quoting.shown(member.device.name))
         return super().whole(role)
 

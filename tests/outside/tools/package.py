@@ -1,13 +1,15 @@
-"""The folders of dmremap-tools: each imports those alone that the package's docstring draws for it, all of them above it there,
-so that there is no ring."""
+"""The package of dmremap-tools: each folder imports those alone that its docstring draws for it, all of them above it there, so
+that there is no ring; and an option that several commands have takes the same in each."""
 
 import ast
 import glob
+import importlib
 import os
 import re
 
 import dmremap_tools
-from harness import Case
+from dmremap_tools import commands, main
+from harness import Case, run
 
 PACKAGE = "dmremap_tools"
 # A folder, what it is for, and which folders it imports.
@@ -44,5 +46,23 @@ def imported_by(folder, folders):
     return found & set(folders) - {os.path.basename(folder)}
 
 
-class Folders(Case, checks=[check_folders]):
-    """The folders of the package."""
+def check_options(tally):
+    taken = {}
+    for command in commands.COMMANDS:
+        module = importlib.import_module("%s.%s" % (PACKAGE, command.module))
+        for action in main.parser_of(command, module, command.name)._actions:
+            value = action.metavar if action.nargs != 0 else None
+            for option in action.option_strings:
+                # Of MEMBER=SECTORS it is the latter that is taken.
+                taken.setdefault(option, set()).add(value.rpartition("=")[2] if isinstance(value, str) else value)
+    for option, values in taken.items():
+        tally.holds("what %s takes" % option, len(values) == 1, "it takes %s" % values)
+
+
+def check_columns(tally, top):
+    got = [run([os.path.join(top, "dmremap-tools"), "owner", "--help"], env=dict(os.environ, COLUMNS=str(columns))) for columns in (80, 200)]
+    tally.same("the help on a wide terminal", got[1], 0, got[0].out)
+
+
+class Package(Case, checks=[check_folders, check_options, check_columns]):
+    """Folders and options."""
