@@ -67,8 +67,8 @@ def pixels(columns: Dict[int, bytearray]) -> List[bytes]:
     places, blank = [4 * (place - first) for place in columns], bytes(4 * (max(columns) + 1 - first))
     rows: List[bytes] = []
     for read, written in zip(reversed(cells[:ROWS]), reversed(cells[ROWS:])):
-        row = bytearray(blank) if any(read) or any(written) else blank
-        for place, colour in zip(places, map(pixel, read, written)) if row is not blank else ():
+        row = bytearray(blank)
+        for place, colour in zip(places, map(pixel, read, written)) if any(read) or any(written) else ():
             row[place:place + 4] = colour
         rows.append(row)
     return rows
@@ -94,7 +94,9 @@ class DiskFields:
 
     def columns(self, requests: List[int]) -> Iterator[Tuple[int, int, int]]:
         """Which of some requests, from one up to another, stand in which column."""
-        places: Sequence[float] = [self._moments.of[it] for it in requests] if self._moments.are_times else requests
+        places: Sequence[float] = requests
+        if self._moments.are_times:
+            places = [self._moments.of[it] for it in requests]
         first = self._moments.first
         while places[-1] - first >= self._step * COLUMNS:
             self._step *= 2

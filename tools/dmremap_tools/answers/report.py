@@ -61,9 +61,9 @@ def run(words: Namespace) -> None:
     fields = DiskFields(sizes, moments) if picture and sizes is not None else None
     compared = Compared(words.compare) if words.compare is not None else None
     report, source = Report(sizes, fields, compared), pieces.Answers(words.file)
-    for requests, *done in source.by_blocks():
+    for requests, moves, copied, others in source.by_blocks():
         moments.take(source, requests)
-        report.take(source, *done)
+        report.take(source, moves, copied, others)
     if source.number == source.statuses:
         streams.tell("no piece came")
     report.write()
@@ -84,10 +84,10 @@ class Report:
         # By disk and what is done, the pieces and the sectors; and of lengths with so many binary digits, the pieces.
         self._counts: Dict[Tuple[str, str], int] = Counter()
         self._sectors: Dict[Tuple[str, str], int] = Counter()
-        self._lengths: Dict[Tuple[str, str], Dict[int, int]] = defaultdict(Counter)
+        self._lengths: Dict[Tuple[str, str], "Counter[int]"] = defaultdict(Counter)
         # By disk: the end of the last piece, how far all moves were together, and how many there were.
         self._heads: Dict[str, List[int]] = {}
-        self._splits: Dict[int, int] = Counter()
+        self._splits: "Counter[int]" = Counter()
         # The last request, and its pieces so far.
         self._request = self._pieces = 0
 

@@ -122,7 +122,7 @@ def names_in(path: str) -> List[str]:
     return [path, "/dev/" + path, short, path if name == path else names.MAPPER + name, names.MAPPER + short]
 
 
-def text_of(devices: List[Device], is_concise: bool) -> str:
+def text_of(devices: Sequence[Device], is_concise: bool) -> str:
     """Devices as table text or in the concise form, as dmremap reads it."""
     if is_concise:
         return ";".join(",".join([it.name, "", "", it.flags, *map(str, it.lines)]) for it in devices) + "\n"

@@ -74,7 +74,7 @@ class Place:
         self._descriptor: Optional[int] = None
         with self.failing():
             self._there = self._look(is_word)
-            self.known = identity(self._there) if self._there else None
+            self.known: Optional[Identity] = identity(self._there) if self._there else None
             self.is_special = self._there is not None and not self.known
             if not self.is_special:
                 self.path = os.path.realpath(self.path) if is_word else self.path

@@ -49,7 +49,7 @@ def container_in(image: Readable) -> Optional[Container]:
         ends = [key + -(-key_bytes * stripes // SECTOR) for key, stripes in SLOT.iter_unpack(head[SLOTS])]
         fault = TOO_SHORT if start * SECTOR >= image.size else None
         return Container(1, _text(uuid), start, None, max(-(-FIRST_BYTES // SECTOR), *ends), fault)
-    newest: Optional[Header] = max(headers, key=lambda it: it.sequence, default=None)
+    newest = max(headers, key=lambda it: it.sequence) if headers else None
     if newest is not next(iter(headers), None):
         streams.tell(f"{image.path}: its second header of LUKS is newer: that is read")
     found = _container_of(newest) if newest else Container(version, fault=DAMAGED)

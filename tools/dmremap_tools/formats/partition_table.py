@@ -98,7 +98,8 @@ def _mbr_of(image: Readable, entries: List[PartitionEntry], size: int) -> Table:
     runs = [(number, it.start, it.size) for number, it in enumerate(entries, 1) if it.size and it.kind not in EXTENDED]
     starts, seen, following = [0], set(), FIRST_LOGICAL
     for outer in filter(_is_extended, entries):
-        table, empty = outer, 0
+        table: Optional[PartitionEntry] = outer
+        empty = 0
         while table and table.start not in seen and empty < MOST_EMPTY:
             seen.add(table.start)
             inside = _entries_in(image.read(table.start * size, SECTOR))

@@ -59,7 +59,7 @@ def run(words: Namespace) -> None:
             for line in lines_of(place, target.name, runs):
                 streams.out.write(line + "\n")
     unmapped = "" if words.map else "; no map was given: only sectors that the images lack"
-    streams.out.write(f"{sum(run.count for run in runs)} sectors lost of {target.size // SECTOR}{unmapped}\n")
+    streams.out.write(f"{sum(run.length for run in runs)} sectors lost of {target.size // SECTOR}{unmapped}\n")
 
 
 def place_of(target: NamedDevice) -> Optional[DiskPlace]:
@@ -89,7 +89,7 @@ def lines_of(place: DiskPlace, volume: str, runs: Sequence[SectorRun]) -> "list[
     try:
         system = system_in(place, volume, runs)
     except NoSystem:
-        return [f"{sum(run.count for run in runs)} sectors: no file system"]
+        return [f"{sum(run.length for run in runs)} sectors: no file system"]
     counts: "Counter[str]" = Counter()
     for each in runs:
         for block, first, end in each.parts(system.sectors):

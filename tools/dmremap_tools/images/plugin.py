@@ -37,7 +37,7 @@ def get_ready() -> None:
     try:
         words = Namespace(map=_given.get("map", []), map_of_other_length="map_of_other_length" in _given)
         unread = rescue_map.unread_in(words, _given["image"])
-        _target = Pile(_given["image"], _given.get("program", [None])[-1], unread).target(_given["volume"][-1])
+        _target = Pile(_given["image"], next(reversed(_given.get("program", [])), None), unread).target(_given["volume"][-1])
     except Refusal as refusal:
         streams.tell(f"dmremap-tools serve: {refusal}")
         os._exit(1)

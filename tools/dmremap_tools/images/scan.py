@@ -32,10 +32,10 @@ from dmremap_tools.base.refusal import INCOMPLETE, Refusal
 from dmremap_tools.formats import partition_table
 from dmremap_tools.formats.luks_header import Container, container_in
 from dmremap_tools.model import md_superblock
-from dmremap_tools.model.device import Device, Lenient
+from dmremap_tools.model.device import Device, Image, Lenient
 from dmremap_tools.model.groups import UNKNOWN, WHOLE, Group, Volume
 from dmremap_tools.model.md_array import Array
-from dmremap_tools.model.pile import Found, Pile, Spot
+from dmremap_tools.model.pile import Found, Pile
 
 EXAMPLE = "dmremap-tools scan disk1.img disk2.img /dev/sdc"
 JsonObject = Dict[str, Any]
@@ -69,7 +69,7 @@ def run(words: Namespace) -> Optional[int]:
 
 
 def object_of(pile: Pile) -> JsonObject:
-    return {"images": [image_row(pile, spot) for spot in pile.spots() if spot.device is spot.image],
+    return {"images": [image_row(pile, spot.image) for spot in pile.spots() if spot.image and spot.device is spot.image],
             "arrays": [array_row(pile, array) for array in pile.arrays],
             "luks": list(luks_rows(pile)),
             "groups": [{"name": group.name, "id": group.identity, "seqno": group.seqno, "state": group.state,
@@ -79,15 +79,20 @@ def object_of(pile: Pile) -> JsonObject:
 
 def luks_rows(pile: Pile) -> Iterator[JsonObject]:
     """The containers in images and arrays, and those in volumes."""
-    found = [(spot.place, *((spot.path, spot.partition) if spot.image else (None, 0)), container)
-             for spot, container in pile.containers]
-    volumes = (volume for group in pile.groups for volume in group.volumes
-               if asked(volume.file_system, UNASKED) == "luks")
-    found += [(volume.path, None, 0, container_in(Lenient(volume.device()))) for volume in volumes]
-    for name, image, partition, container in found:
-        yield {"name": name, "image": image or name, "partition": partition, "version": container.version,
-               "id": container.identity, "start": container.start, "sectors": container.length,
-               "why": container.fault, "ways": ways_in(container, name, image, partition)}
+    for spot, container in pile.containers:
+        yield luks_row(container, spot.place, spot.path if spot.image else None, spot.partition if spot.image else 0)
+    for volume in (volume for group in pile.groups for volume in group.volumes):
+        is_luks = asked(volume.file_system, UNASKED) == "luks"
+        inner = container_in(Lenient(volume.device())) if is_luks else None
+        if inner:
+            yield luks_row(inner, volume.path, None, 0)
+
+
+def luks_row(container: Container, name: str, image: Optional[str], partition: int) -> JsonObject:
+    """A container by its name, and the image and the partition that it is, if it is in one."""
+    return {"name": name, "image": image or name, "partition": partition, "version": container.version,
+            "id": container.identity, "start": container.start, "sectors": container.length,
+            "why": container.fault, "ways": ways_in(container, name, image, partition)}
 
 
 def ways_in(container: Container, name: str, image: Optional[str], partition: int) -> List[str]:
@@ -103,12 +108,13 @@ def ways_in(container: Container, name: str, image: Optional[str], partition: in
     return [f"{root} && dmremap-tools scan /dev/mapper/opened", " && ".join(copy) + " && dmremap-tools scan opened.img"]
 
 
-def image_row(pile: Pile, spot: Spot) -> JsonObject:
-    table = pile.tables.get(spot.device)
+def image_row(pile: Pile, image: Image) -> JsonObject:
+    """An image: its partition table, if it has one, and what lies in it."""
+    table = pile.tables.get(image)
     holds = [{"partition": found.spot.partition, "what": found.what, "why": found.note or None}
-             for found in pile.found if found.spot.image is spot.image]
+             for found in pile.found if found.spot.image is image]
     row = table and {"kind": table.kind, "copy": table.copy, "sector": table.sector, "why": table.fault}
-    return {"image": spot.path, "bytes": spot.image.bytes, "table": row, "holds": holds}
+    return {"image": image.path, "bytes": image.bytes, "table": row, "holds": holds}
 
 
 def array_row(pile: Pile, array: Array) -> JsonObject:

@@ -157,7 +157,7 @@ class GroupTables(Tables):
             streams.tell(f"dmremap reads the text of {quoting.shown(self._layout.name)} in its images")
             streams.out.write(f"dmremap map images {shlex.quote(listed)}\n")
             return
-        places = {name: absolute(image) for name, image in self.disks.items()}
+        places = {name: absolute(image) for name, image in self.disks.items() if isinstance(image, Image)}
         file, disks, listed = map(shlex.quote, self.write(folder, places))
         has_snapshots = any(line.target == "snapshot" for line in self.lines())
         streams.out.write(f"dmremap map table {file} {disks}" + f" --paths {listed}" * has_snapshots + "\n")

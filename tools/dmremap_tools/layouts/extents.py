@@ -38,7 +38,7 @@ def run(words: argparse.Namespace) -> None:
         with pieces.Mapped(begun.words, asked) as mapped:
             for piece in itertools.chain(mapped.answers, [None]):
                 follows = last and (last.what, last.disk, last.start + last.count if last.disk else 0)
-                if piece and (piece.what, piece.disk, piece.start) == follows:
+                if last and piece and (piece.what, piece.disk, piece.start) == follows:
                     last = last._replace(count=last.count + piece.count)
                     continue
                 if last:

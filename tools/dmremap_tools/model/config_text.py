@@ -5,7 +5,7 @@ that are missing or left over, keys in quotes, other white space."""
 import functools
 import itertools
 import re
-from typing import Dict, Iterator, List, NamedTuple, Optional, Tuple, Union
+from typing import Dict, Iterator, List, NamedTuple, Optional, Tuple, Type, TypeVar, Union
 
 from dmremap_tools.base import quoting
 from dmremap_tools.base.refusal import Refusal
@@ -25,6 +25,8 @@ ANEW = "take the text anew, from /etc/lvm/backup"
 MOST_PARTS, BLOCK = 150000, 1 << 16
 # An integer, the bytes of a string, or None for a number that is neither whole nor in range.
 Value = Union[int, bytes, None]
+# What a value is asked for as.
+Kind = TypeVar("Kind", int, bytes)
 # A token, and where it begins. The one at the end is empty.
 Token = Tuple[bytes, int]
 
@@ -65,6 +67,11 @@ class Node:
     def child(self, key: bytes) -> Optional["Node"]:
         return (self.children or {}).get(key)
 
+    def add(self, node: "Node") -> None:
+        """Puts a field or a section into this one, in the place of another that has its key."""
+        self.children = {} if self.children is None else self.children
+        self.children[node.key] = node
+
     def sections(self) -> List["Node"]:
         return [it for it in (self.children or {}).values() if it.children is not None]
 
@@ -78,7 +85,7 @@ class Node:
         child = self.child(key)
         return [it.value for it in child.items] if child else []
 
-    def value(self, key: bytes, kind: type) -> Value:
+    def value(self, key: bytes, kind: Type[Kind]) -> Optional[Kind]:
         """The value of a field that has one, if it is of this kind, or None."""
         values = self.values(key)
         return values[0] if len(values) == 1 and isinstance(values[0], kind) else None
@@ -111,10 +118,11 @@ class Document:
         text, end, token, number = b"{", 0, TOKEN.match, NUMBER.match
         while text:
             found, may_be_number = token(self.content, end), text in BEFORE_VALUE
+            assert found, "a token stands everywhere, at the end an empty one"
             text, (start, end) = found[1], found.span(1)
-            if may_be_number and number(text):
-                text = number(text)[0]
-                end = start + len(text)
+            figure = number(text) if may_be_number else None
+            if figure:
+                text, end = figure[0], start + len(figure[0])
             elif text in QUOTES:
                 raise self.refused(start, "a string without an end: " + ANEW)
             yield text, start
@@ -128,9 +136,9 @@ class Document:
                 opened.pop().end = start + 1
             elif text:
                 node = self._node(text, start, tokens, len(opened))
-                section, before = opened[-1], opened[-1].children.get(node.key)
+                section, before = opened[-1], opened[-1].child(node.key)
                 self.twice += [(section, before)] if before else []
-                section.children[node.key] = node
+                section.add(node)
                 opened += [node] if node.children is not None else []
         if len(opened) > 1:
             raise self.refused(len(self.content), f"the end is missing: {shown(opened[-1].key)}, "

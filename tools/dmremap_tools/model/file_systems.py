@@ -47,7 +47,7 @@ NCHECK = "ncheck" + " %d" % ROOT * 1000
 # Where copies of the superblock are, by the size of a block.
 COPIES = ((4096, 32768), (4096, 98304), (1024, 8193), (1024, 24577), (2048, 16384), (2048, 49152), (65536, 65528))
 # The options that debugfs is tried with: without any, and without bitmaps and sums, with the copies of the superblock.
-TRIES = [[], ["-c", "-n"], *(["-c", "-n", "-s", str(copy), "-b", str(size)] for size, copy in COPIES)]
+TRIES: List[List[str]] = [[], ["-c", "-n"], *(["-c", "-n", "-s", str(copy), "-b", str(size)] for size, copy in COPIES)]
 FIGURE = re.compile(r"^([A-Z][A-Za-z ]+):\s+(.*)$", re.M)
 GROUP = re.compile(r"^ Group +([0-9]{1,10}): block bitmap at {0}, inode bitmap at {0}, inode table at {0}$"
                    .replace("{0}", "([0-9]{1,20})"), re.M)
@@ -69,17 +69,17 @@ class SectorRun(NamedTuple):
     """Sectors of the volume."""
 
     first: int
-    count: int
+    length: int
 
     def parts(self, sectors: int) -> Iterator[Tuple[int, int, int]]:
         """Its part of each block of so many sectors: the block, the first sector of the part, and the one after its last."""
-        end = self.first + self.count
+        end = self.first + self.length
         for block in self.blocks(sectors):
             yield block, max(self.first, block * sectors), min(end, (block + 1) * sectors)
 
     def blocks(self, sectors: int) -> range:
         """The blocks of so many sectors that it lies in."""
-        return range(self.first // sectors, (self.first + self.count - 1) // sectors + 1)
+        return range(self.first // sectors, (self.first + self.length - 1) // sectors + 1)
 
 
 class FileSystem:
@@ -330,7 +330,7 @@ class ExtSystem(FileSystem):
         self.inodes, done = {}, 0
         blocks = self.blocks()
         for some, printed, said in self._ask_for("icheck", blocks):
-            rows = dict(match.groups() for match in map(OWNED.fullmatch, printed.split("\n")) if match)
+            rows = {match[1]: match[2] for match in map(OWNED.fullmatch, printed.split("\n")) if match}
             complaints += said[:MOST_COMPLAINTS]
             if {int(it) for it in rows} != set(some):
                 return False

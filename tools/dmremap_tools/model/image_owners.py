@@ -2,13 +2,13 @@
 
 import functools
 import itertools
-from typing import Dict, Iterator, List
+from typing import Callable, Dict, Iterable, Iterator, List, Optional
 
 from dmremap_tools.base.numbers import SECTOR
 from dmremap_tools.formats.luks_header import Container
 from dmremap_tools.formats.partition_table import Table
 from dmremap_tools.model.device import ALL, Device, Part
-from dmremap_tools.model.mapping import MappedDevice
+from dmremap_tools.model.mapping import MappedDevice, Tables
 from dmremap_tools.model.md_array import Array
 from dmremap_tools.model.md_superblock import Member
 from dmremap_tools.model.owners import Ground, GroupOwners, OwnedRun, all_of, chunks_of, claimed, filled, free, unknown
@@ -94,20 +94,22 @@ def of_data(array: Array, member: Member, above: Ground, first: int, end: int) -
     if array.level == "raid1":
         yield OwnedRun(first, end, array.label, first, above)
     elif array.level in ("linear", "raid0"):
-        for line in device.source.devices[device.key].lines if isinstance(device, MappedDevice) else ():
+        tables = device.source if isinstance(device, MappedDevice) else Tables()
+        for line in tables.lines():
             columns, chunk = len(line.places()), int(line.words[1]) if line.target == "striped" else ALL
             for place, (disk, start, count) in enumerate(line.spans()):
-                part = device.source.disks[disk]
+                part = tables.disks[disk]
                 if isinstance(part, Part) and part.lower is member.device:
                     begin, until = max(first, start), min(end, start + (count or 0))
                     yield from chunks(begin, until, chunk, lambda row: [row * columns + place], begin=start,
                                       to=line.start)
     else:
         role = next(role for role, other in array.by_role.items() if other is member)
-        is_copied, until = array.level == "raid10", min(end, array.chunks * array.chunk)
-        yield from chunks(first, until, array.chunk,
-                          lambda row: copies_in(array, role, row) if is_copied else [array.number(role, row)],
-                          parity=f"parity of {array.label}")
+        numbers: Callable[[int], Iterable[Optional[int]]] = lambda row: [array.number(role, row)]
+        if array.level == "raid10":
+            numbers = functools.partial(copies_in, array, role)
+        until = min(end, array.chunks * array.chunk)
+        yield from chunks(first, until, array.chunk, numbers, parity=f"parity of {array.label}")
 
 
 def copies_in(array: Array, role: int, row: int) -> List[int]:

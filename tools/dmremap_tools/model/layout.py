@@ -9,7 +9,7 @@ from dmremap_tools.base import names, tables
 from dmremap_tools.base.numbers import SECTOR
 from dmremap_tools.base.refusal import Refusal
 from dmremap_tools.model import integrity, pools, raid_volume
-from dmremap_tools.model.config_text import Node, shown
+from dmremap_tools.model.config_text import Node, Value, shown
 from dmremap_tools.model.device import Device, Extent, Missing
 from dmremap_tools.model.mapping import MappedDevice, NoProgram, Tables, snapshot_of
 from dmremap_tools.model.physical_volume import Text
@@ -163,10 +163,11 @@ class Layout:
             return tables.Line(first, length, "linear", self._area(name, *legs[moved == segment.count], length))
         maker = LAYERS.get(kind.partition(b"+RESHAPE")[0])
         if maker is None:
-            legs = [self.path(leg) for leg, _ in areas_of(segment) if leg in self.group.volumes]
+            names_of_legs = [leg for leg, _ in areas_of(segment) if isinstance(leg, bytes)]
+            sides = [self.path(leg) for leg in names_of_legs if leg in self.group.volumes]
             what = f"its {which} is of type {shown(kind)}, which isn't followed"
-            if len(legs) > 1:
-                raise Refusal(self.path(name), f"{what}: save {legs[0]}, or if it was in sync {' or '.join(legs[1:])}")
+            if len(sides) > 1:
+                raise Refusal(self.path(name), f"{what}: save {sides[0]}, or if it was in sync {' or '.join(sides[1:])}")
             raise Refusal(self.path(name), f"{what}: {NEXT}")
         size = length * SECTOR
         device = Deferred(self.path(name), size, functools.partial(maker, self, self.path(name), segment, size))
@@ -218,7 +219,7 @@ class Layout:
         for segment in (segment for volume in volumes for segment in volume.segments):
             length = (segment.count or 0) // (len(segment.stripes) or 1) * sectors
             for area, start in segment.stripes or areas_of(segment):
-                if area in self.group.physicals and isinstance(start, int):
+                if isinstance(area, bytes) and area in self.group.physicals and isinstance(start, int):
                     first = (self.group.physicals[area].value(b"pe_start", int) or 0) + start * sectors
                     found.add((self.physical_ids[area], first, first + length))
         return found
@@ -255,7 +256,7 @@ def lower_in(volume: Volume) -> Iterator[object]:
                 yield from segment.node.values(key)
 
 
-def areas_of(segment: Segment) -> List[Tuple[object, object]]:
+def areas_of(segment: Segment) -> List[Tuple[Value, Value]]:
     """The legs of a mirror: pairs of a name and an extent."""
     values = segment.node.values(b"mirrors")
     return list(zip(values[::2], values[1::2]))

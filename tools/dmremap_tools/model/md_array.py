@@ -33,8 +33,8 @@ def put_together(members: Sequence[Member]) -> "Array":
     first, *others = map(Array, sides)
     if not others:
         return first
-    why, devices = Doubt(apart(sides)), [side.device for side in (first, *others)]
-    first.device, first.apart = Agreed(first.label, devices, why) if all(devices) else None, why
+    why, devices = Doubt(apart(sides)), [side.device for side in (first, *others) if side.device]
+    first.device, first.apart = Agreed(first.label, devices, why) if len(devices) == len(sides) else None, why
     first.why = None if first.device else why
     for side in others:
         first.members, first.stale = [*first.members, *side.members], [*first.stale, *side.members]
@@ -275,7 +275,7 @@ class CopiedChunks(Device):
             yield role, row * self._chunk
 
     @functools.cached_property
-    def is_whole(self) -> bool:
+    def is_whole(self) -> bool:  # type: ignore[override]
         """Where each member has all of its bytes or none, as many chunks as there are members tell it."""
         length = self._array.chunks * self._chunk
         whole = [role for role, member in enumerate(self._members) if member.lack(0, length) is None]

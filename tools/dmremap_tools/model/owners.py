@@ -161,7 +161,7 @@ class TextOwners:
     def __init__(self, side: Layout, doubt: Optional[str]) -> None:
         self.side, self.group, self.extent = side, side.group, side.group.extent_size or 0
         self._above: Dict[bytes, List[Above]] = {}
-        self._visible = set(side.visible())
+        self._visible, self._named = set(side.visible()), side.group.physicals.keys() | side.group.volumes.keys()
         self._stores = {record.store for record in side.group.records}
         self._reading = functools.lru_cache(None)(lambda name: reading_of(side.volume(name)))
         self._grounds = functools.lru_cache(None)(lambda name: [self._through(name, it) for it in self._above.get(name, ())])
@@ -186,9 +186,8 @@ class TextOwners:
             values, has_starts = segment.node.values(field), field in (b"stripes", b"mirrors")
             pairs = zip(values[::2], values[1::2]) if has_starts else zip(values, itertools.repeat(0))
             for place, (lower, start) in enumerate(pairs):
-                physical = self.group.physicals.get(lower)
-                is_known = (physical or lower in self.group.volumes) and isinstance(start, int) and start >= 0
-                if is_known:
+                if isinstance(lower, bytes) and lower in self._named and isinstance(start, int) and start >= 0:
+                    physical = self.group.physicals.get(lower)
                     sector = start * self.extent + (physical.value(b"pe_start", int) or 0 if physical else 0)
                     self._above.setdefault(lower, []).append(Above(name, segment, field, place, sector))
                     is_named = True
@@ -226,8 +225,8 @@ class TextOwners:
             stop = begin - -length // columns
             return lambda first, end: chunks(max(first, begin), min(end, stop), chunk, lambda row: [row * columns + place])
         if numbers:
-            parity = self._part("parity", upper)
-            return lambda first, end: chunks(first, end, chunk, lambda row: [numbers(leg, row)], parity=parity)
+            parity, of_leg = self._part("parity", upper), functools.partial(numbers, leg)
+            return lambda first, end: chunks(first, end, chunk, lambda row: [of_leg(row)], parity=parity)
         if field in (b"raids", b"raid0_lvs"):
             return all_of(self._part("part" if is_leg else "superblock", upper))
         if field in SNAPSHOT and not kind.startswith(b"cache"):
@@ -248,7 +247,8 @@ class TextOwners:
 
     def _part(self, role: str, name: bytes) -> str:
         """What is a part of a volume, and which volumes that a user sees are above that."""
-        found, waiting = [], [name]
+        found: List[bytes] = []
+        waiting = [name]
         while waiting:
             uppers = dict.fromkeys(above.volume for above in self._above.get(waiting.pop(), ()))
             new = [upper for upper in uppers if upper not in found]

@@ -65,8 +65,9 @@ class Text(NamedTuple):
     def said_time(self) -> Optional[bytes]:
         """The same in words, or None where the text isn't there to its end."""
         time = TIME.search(self.content)
-        is_whole = time and self.content.find(CONTENTS, 0, time.start() + 1) >= 0
-        return (time[2] or b"no time") if is_whole else None
+        if not time or self.content.find(CONTENTS, 0, time.start() + 1) < 0:
+            return None
+        return time[2] or b"no time"
 
     @functools.lru_cache(MOST_KEPT)
     def body(self) -> bytes:
@@ -189,7 +190,8 @@ def _label_in(sector: bytes, place: int) -> Label:
     at, = struct.unpack_from("<L", sector, 20)
     letters, (size,) = IDENTITY_FORM.unpack_from(sector, at), struct.unpack_from("<Q", sector, at + 32)
     # Pairs of a start and a size in bytes; each list ends with one that begins at 0.
-    pairs = struct.iter_unpack("<QQ", sector[at + 40:SECTOR - (SECTOR - at - 40) % 16])
+    rows = struct.iter_unpack("<QQ", sector[at + 40:SECTOR - (SECTOR - at - 40) % 16])
+    pairs = ((start, length) for start, length in rows)
     data, areas = (list(itertools.takewhile(lambda pair: pair[0], pairs)) for _ in range(2))
     at += 40 + 16 * (len(data) + len(areas) + 2)
     version, flags = struct.unpack_from("<LL", sector, at) if at + 8 <= SECTOR else (0, 0)
@@ -280,7 +282,7 @@ class PhysicalVolume:
                 fault = "its text doesn't begin as that of a group"
             elif text and text.fault():
                 fault = f"its text can't be read: {text.fault()}"
-            if not fault:
+            if text and not fault:
                 self.current.append(text)
                 self.told.update({text.key(): told} if told else {})
             elif fault not in (EMPTY, NO_COPY):

@@ -128,7 +128,7 @@ class Pile:
         """Looks through the whole of the images in which nothing sound was found."""
         waiting, self._unknown, known = self._unknown, [], len(self.volumes)
         for spot in waiting:
-            for volume in physical_volume.volumes_within(spot.image):
+            for volume in physical_volume.volumes_within(spot.image) if spot.image else ():
                 inner = self.spot_of[volume.device] = Spot(volume.device, spot.image)
                 volume.question = self._question_of(spot)
                 self.volumes.append(volume)
@@ -175,7 +175,7 @@ class Pile:
         as some of them, or longer than this one, where another one of that length has nothing that is known."""
         times = -(-end // image.size)
         is_multiple = 1 < times <= MOST_STRIPES and end > times * (image.size - image.size // SLACK)
-        alike = (spot.image for spot in self._unknown if spot.image is not image)
+        alike = (spot.image for spot in self._unknown if spot.image and spot.image is not image)
         return end > image.size and (is_multiple or any(other.size == image.size for other in alike))
 
     def _question_of(self, spot: Spot) -> Optional[str]:
@@ -298,7 +298,7 @@ class Pile:
         known = None if known == "lvm2" else known
         leftover = None if known else physical_volume.leftover_in(spot.device, spot.device is spot.image)
         volume = leftover.volume() if leftover else None
-        if volume:
+        if leftover and volume:
             volume.question = question
             self.volumes.append(volume)
             self._say(spot, "physical volume", question or leftover.fault)
@@ -460,8 +460,8 @@ def known_in(device: Device) -> Optional[str]:
 def volumes_of(table: Table) -> Tuple[List[Part], List[Part]]:
     """The partitions in which physical volumes are, and those of them that are just as long as these."""
     labels = {part: physical_volume.label_of(Lenient(part))[0] for part in table.partitions.values()}
-    found = [part for part, label in labels.items() if label]
-    return found, [part for part in found if labels[part].size == part.size]
+    found = {part: label for part, label in labels.items() if label}
+    return list(found), [part for part, label in found.items() if label.size == part.size]
 
 
 def place_of(device: Device) -> int:

@@ -185,4 +185,6 @@ def fault_of(member: Member, pile: Pile) -> Optional[str]:
     alike = (it for it in pile.members if it.superblock.array == mine.array)
     newer = ((pile.spot_of[it.device].path, it.superblock.events) for it in alike)
     ages = (OLDER.format(mine.events, path, events) for path, events in newer if events > mine.events)
-    return BAD if mine.features & BAD_BLOCKS else next(ages, None)
+    if mine.features & BAD_BLOCKS:
+        return BAD
+    return next(ages, None)

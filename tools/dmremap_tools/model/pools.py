@@ -167,11 +167,11 @@ def thin_device(name: str, meta: Device, superblock: PoolSuperblock, number: int
                       "lists what is left")
     if root.why:
         raise Refusal(name, root.why)
-    block = superblock.data_block_size * SECTOR
+    tree, block = root.value, superblock.data_block_size * SECTOR
     past = f"{name}: a block lies past the end of its pool: {ONE_TIME}"
 
     def entries(first: int, end: int) -> Iterator[Entry]:
-        for key, stop, value, why in entries_of(meta, root.value, (first, end)):
+        for key, stop, value, why in entries_of(meta, tree, (first, end)):
             place = value >> TIME_BITS
             yield Entry(key, stop, place, why or (past if (place + 1) * block > data.size else None))
     return Overlaid(name, lower, data, block, entries, size)
@@ -214,9 +214,9 @@ def cache_of(layout: Any, segment: Segment, pool: bytes) -> Tuple[Optional[Devic
         keys = (b"metadata_start", b"metadata_len", b"data_start", b"data_len")
         runs = [segment.node.value(key, int) for key in keys]
         places = [run * SECTOR for run in runs if run is not None and run >= 0]
-        if len(places) == 4:
-            whole = layout.plain(pool)
-            return Part(whole.name, whole, *places[:2]), Part(whole.name, whole, *places[2:]), segment
+        if len(places) == len(keys):
+            whole, (start, size, data_start, data_size) = layout.plain(pool), places
+            return Part(whole.name, whole, start, size), Part(whole.name, whole, data_start, data_size), segment
     elif volume and len(volume.segments) == 1:
         inner = volume.segments[0]
         return layout.lower(inner, b"metadata"), layout.lower(inner, b"data"), inner

@@ -164,7 +164,9 @@ def read_list(source: streams.Lines, block: int, size: int) -> Iterator[FileExte
             continue
         text = line.strip(" ")
         entry = ENTRY.fullmatch(text) if is_listed else None
-        level, depth, number, count = map(source.whole, entry.groups()[:4]) if entry else (1, 0, 0, 0)
+        if not entry:
+            source.refuse(f"not a line of ex, {LIST_ANEW}: {quoting.shown(text)}")
+        level, depth, number, count = map(source.whole, entry.groups()[:4])
         refuse_if(source, text, LIST_ANEW, {"not a line of ex": level > depth or depth > MOST_LEVELS})
         last, most = entries.get(level, (0, 0))
         is_next = number == (last + 1 if last < most else 1) and number <= count

@@ -117,7 +117,7 @@ def read(path: str) -> List[Chunk]:
             awaited.update(pointer.groups() if pointer else ())
         if block or pointer or item:
             is_chunk = item is not None and item[2] == "CHUNK_ITEM"
-            if is_chunk:
+            if item and is_chunk:
                 chunks.append(Chunk(f"{source.name}:{source.number}", int(item[3])))
         elif is_chunk:
             chunks[-1].take(row)

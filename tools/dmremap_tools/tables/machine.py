@@ -199,7 +199,9 @@ def add_words(parser: argparse.ArgumentParser) -> None:
     numbers.add_sector_size(parser, "with --paths, the bytes of a sector of images with an MBR, which doesn't say so")
     for name, command in (("ls", "dmsetup ls"), ("status", "dmsetup status"), ("lsblk", names.LSBLK_COMMAND),
                           ("table", "dmsetup table --concise")):
-        parser.add_argument(name, metavar=name.upper(), nargs="?" if name == "lsblk" else None, help="what `%s` prints" % command)
+        nargs = "?" if name == "lsblk" else None
+        parser.add_argument(name, metavar=name.upper(), nargs=nargs,  # type: ignore[arg-type]
+                            help=f"what `{command}` prints")
 
 
 def run(words: argparse.Namespace) -> None:
@@ -233,7 +235,7 @@ def run(words: argparse.Namespace) -> None:
     say_left_out(stack, kept, disks)
     if not kept:
         raise Refusal(streams.name_of(words.table), "no device is left that dmremap can follow: see above what was left out")
-    beside.write("".join("%s %d\n" % it for it in disks.items()))
+    beside.write("".join(f"{disk} {sectors}\n" for disk, sectors in disks.items()))
     for device in kept:
         device.lines = [line.with_lowers(stack.lower) for line in device.lines]
     streams.out.write(tables.text_of(kept, is_concise))
@@ -246,9 +248,9 @@ def read_tables(path: str, devices: Dict[str, MachineDevice]) -> bool:
     found = []
     for place, row in enumerate(re.split(r"(?<!\\);", "\n".join(rows).rstrip("\n")) if is_concise else (), 1):
         match = DEVICE.fullmatch(row)
-        name, minor, flags, lines = match.groups("") if match else [""] * 4
+        name, minor, flags, listed = match.groups("") if match else [""] * 4
         told = f"device {place} of {streams.name_of(path)}, which `dmsetup ls` has not: {quoting.shown(row)}"
-        found.append((re.sub(r"\\([,;\\])", r"\1", name), minor, flags, re.split(r",(?=\d+ \d+ \S)", lines), told))
+        found.append((re.sub(r"\\([,;\\])", r"\1", name), minor, flags, re.split(r",(?=\d+ \d+ \S)", listed), told))
     for name, line in names.rows_of(path, rows, ROW, "dmsetup table") if not is_concise else ():
         found.append((name, "", "", [line], quoting.shown(name) + ", which `dmsetup ls` has not"))
     # In the concise form a number has to fit its name.
@@ -279,15 +281,15 @@ def lengths_of(words: argparse.Namespace) -> Tuple[Dict[str, Optional[int]], Dic
         known, length = sizes.get(number), sectors_at(place, image, partitions)
         sizes[number] = length
         if place.is_said and known not in (None, length):
-            raise Refusal(quoting.shown(path), "lsblk says that %s has %d sectors, and there it has %d: give its own image"
-                          % (quoting.shown(number), known, length))
+            raise Refusal(quoting.shown(path), f"lsblk says that {quoting.shown(number)} has {known} sectors, and there it has "
+                          f"{length}: give its own image")
         if place.is_said or length == known:
             continue
         major, _, minor = number.partition(":")
         is_of_sd = major in SD_MAJORS and minor.isdecimal()
         is_disk = is_of_sd and int(minor) % 16 == 0
         is_partition = is_of_sd and not is_disk or bool(PARTITION.fullmatch(number))
-        if known in (it.size // numbers.SECTOR for it in partitions):
+        if any(known == it.size // numbers.SECTOR for it in partitions):
             sizes[number] = known
         elif kind and (is_partition or known is None and not is_disk):
             raise Refusal(quoting.shown(path), f"the image of a whole disk ({kind}), and {quoting.shown(number)} "
