@@ -18,6 +18,7 @@ class Command(NamedTuple):
 
     @property
     def module(self) -> str:
+        """The module below the package that has it."""
         return f"{self.group}.{self.name.replace('-', '_')}"
 
 
@@ -50,6 +51,7 @@ COMMANDS: List[Command] = [
 
 
 def find(name: str) -> Optional[Command]:
+    """The command of this name, or None."""
     return next((it for it in COMMANDS if it.name == name), None)
 
 

@@ -99,6 +99,7 @@ def run(words: List[str]) -> int:
 
 
 def _run(command: "commands.Command | None", name: str, words: List[str]) -> int:
+    """Runs a command with the words behind its name, or prints the overview, and returns the status."""
     if command:
         module = importlib.import_module("dmremap_tools." + command.module)
         try:
@@ -127,11 +128,13 @@ def _told_to_end(number: int, _: object) -> NoReturn:
 
 
 def _answer_signals(action: "signal.Handlers | Callable[[int, object], object]") -> None:
+    """Sets what a signal that tells the command to end does, where it isn't passed over."""
     for number in _heard:
         signal.signal(number, action)
 
 
 def parser_of(command: "commands.Command", module: ModuleType, name: str) -> Parser:
+    """The parser of a command, whose help has the module's docstring and its example."""
     text = "%s\n\nexample:\n%s" % (_wrapped(module.__doc__ or ""), _example(module.EXAMPLE))
     parser = Parser(prog=name, description=text, allow_abbrev=False, formatter_class=HelpFormatter)
     module.add_words(parser)

@@ -24,6 +24,7 @@ class Compared:
         self._ahead = self._places = 0
 
     def answer(self, uses: Sequence[str], starts: List[int], ends: List[int]) -> None:
+        """Adds what was answered: R or W with the disk, and the first sector of each and the one after its last."""
         for use, start, end in zip(uses, starts, ends):
             self._add(use, start, end, 1)
             self._ahead += end - start
@@ -55,6 +56,8 @@ class Compared:
             self._ahead -= count
 
     def _add(self, use: str, start: int, end: int, times: int) -> None:
+        """Counts sectors of a use from one up to another so many times more. Refuses it where the two differ at too
+        many places."""
         steps = self._steps[use]
         self._places -= len(steps)
         for place, step in ((start, times), (end, -times)):

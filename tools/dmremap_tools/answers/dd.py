@@ -37,6 +37,7 @@ def run(words: Namespace) -> None:
     devices, operations = set(), set()
 
     def asked() -> Iterator[str]:
+        """The requests as lines, while their devices and operations are noted."""
         lines = streams.Lines(words.requests)
         for operation, name, first, count in requests.read(lines, names.Names().device, requests.NO_REQUEST):
             devices.add(name)
@@ -64,6 +65,7 @@ class Writer:
         self._known = written.identity_at(image) if image is not None else None
 
     def take(self, piece: pieces.Piece) -> None:
+        """Writes the line for a piece. Refuses one without sectors of a disk, and a write without an image."""
         if piece.what == "error" or (piece.what in ("W", "drop") and self.image is None):
             is_error = piece.what == "error"
             self.source.refuse_line("no sectors of a disk, leave them out" if is_error else "a write, give --image")

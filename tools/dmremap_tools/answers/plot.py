@@ -36,6 +36,7 @@ class Moments:
         self.of: Dict[int, float] = {}
 
     def take(self, source: pieces.Answers, requests: List[int]) -> None:
+        """Takes the moments of some requests. Refuses the answers where TIMES has none of a request."""
         if self._times is None:
             self.last = requests[-1] if requests else self.last
             return
@@ -54,6 +55,7 @@ class Moments:
 
 @functools.lru_cache(maxsize=None)
 def pixel(read: int, written: int) -> bytes:
+    """Four bytes of a cell, red, green, blue and how dense it is, by how often it was read and written."""
     most = read + written
     if not most:
         return bytes(4)
@@ -130,6 +132,7 @@ class DiskFields:
             counts[first + cell] = min(DARKEST, counts[first + cell] + times)
 
     def draw(self, out: streams.Output) -> None:
+        """Writes the picture: a field for each disk in which something was done, in the order of DISKS."""
         width, high = COLUMNS * CELL, ROWS * CELL
         reach = f"{self._moments.last:g} seconds" if self._moments.are_times else f"requests 1 to {self._moments.last}"
         shown = [it for it in self._sizes if it in self._fields]

@@ -93,6 +93,7 @@ class Report:
 
     def take(self, source: pieces.Answers, moves: pieces.Moves, copied: pieces.Moves, others: List[Tuple[str, str]]
              ) -> None:
+        """Counts the pieces of some requests: those for which heads move, those that copy, and those without a disk."""
         if moves.requests:
             counts = Counter(moves.requests)
             counts[self._request] += self._pieces
@@ -107,6 +108,7 @@ class Report:
             self._sectors["-", what] += times * int(length)
 
     def write(self) -> None:
+        """Writes the lines: totals, lengths, seeks and splits."""
         rank = {disk: place for place, disk in enumerate(self._sizes or ())}
         uses = sorted(self._counts, key=lambda use: (rank.get(use[0], -1), use))
         for disk, what in uses:

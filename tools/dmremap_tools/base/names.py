@@ -38,6 +38,7 @@ class Names:
 
     @functools.cached_property
     def _of_minor(self) -> Dict[str, str]:
+        """The names of devices by their minor numbers, as digits."""
         return {number.partition(":")[2]: name for name, number in read_ls(self._ls or "")}
 
     def known(self, path: str, place: NamePlace) -> str:
@@ -49,6 +50,7 @@ class Names:
 
     @functools.lru_cache(MOST_KEPT)
     def device(self, path: str, place: NamePlace) -> str:
+        """The name that a path stands for, which is refused if it is none of a device."""
         name = self.known(path, place)
         if not FORM.fullmatch(name):
             refuse(place, f"no name of a device, give it as dmsetup ls prints it: '{quoting.shown(path)}'")
@@ -56,6 +58,7 @@ class Names:
 
 
 def refuse(place: NamePlace, reason: str) -> NoReturn:
+    """Refuses what stands at a place."""
     if isinstance(place, str):
         raise Refusal(place, reason)
     place.refuse(reason)

@@ -20,12 +20,14 @@ class DiskPlace(NamedTuple):
     is_said: bool = False
 
     def check_sectors(self, disk: str) -> None:
+        """Refuses a place of a disk within a sector."""
         if self.start % SECTOR:
             raise Refusal("--paths", f"{quoting.shown(disk)} begins at byte {self.start}, within a sector: "
                           "give a multiple of 512")
 
 
 def place_of(path: str) -> DiskPlace:
+    """The place that a path of PATHS says, with or without an offset in bytes."""
     match = PLACED.fullmatch(path)
     return DiskPlace(match[1], int(match[2]), True) if match else DiskPlace(path)
 

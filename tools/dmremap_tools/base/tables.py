@@ -30,6 +30,7 @@ class Line:
         return range(2, most, 2) if self.target == "striped" else range(min(most, LOWERS.get(self.target, 0)))
 
     def lowers(self) -> List[str]:
+        """The disks and devices that its words name, with some twice."""
         return [self.words[it] for it in self.places()]
 
     def spans(self) -> Iterator[Tuple[str, int, Optional[int]]]:
@@ -71,9 +72,11 @@ class Device:
         self.lines: List[Line] = []
 
     def end(self) -> int:
+        """The sector after its last one."""
         return self.lines[-1].start + self.lines[-1].length
 
     def lowers(self) -> List[str]:
+        """What its lines name."""
         return [lower for line in self.lines for lower in line.lowers()]
 
 

@@ -69,6 +69,7 @@ def headers_in(image: Readable) -> List[Header]:
 
 
 def _header_at(image: Readable, place: int) -> Optional[Header]:
+    """The header of version 2 at a byte of an image, or None where none is sound there."""
     head = image.read(place, BINARY)
     if len(head) < BINARY:
         return None

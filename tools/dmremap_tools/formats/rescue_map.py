@@ -91,6 +91,7 @@ def sectors(size: int) -> int:
 
 
 def size_of(path: str) -> int:
+    """The bytes of the image at a path."""
     try:
         with open(path, "rb", opener=lambda name, flags: os.open(name, flags | os.O_NONBLOCK)) as file:
             return disk_image.length_of(file, quoting.shown(path))

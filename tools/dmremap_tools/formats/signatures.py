@@ -54,6 +54,7 @@ OTHERS = ("DM_integrity", "DM_verity_hash", "DM_snapshot_cow", "LVM1_member", "b
 
 
 def is_foreign(kind: str) -> bool:
+    """Whether libblkid calls so what has a device for itself and isn't followed here."""
     return kind in OTHERS or kind.endswith(MEMBER) and kind != FOLLOWED
 
 

@@ -29,6 +29,7 @@ WHYS = {
 
 
 def is_chunk(chunk: int) -> bool:
+    """Whether a kernel takes chunks of so many sectors."""
     return 0 < chunk <= KERNELS_MOST and chunk & (chunk - 1) == 0
 
 

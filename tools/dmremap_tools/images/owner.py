@@ -91,6 +91,7 @@ def asked(words: Namespace) -> Iterator[Tuple[str, int, int]]:
 
 
 def write(name: str, first: int, count: int, *steps: Step) -> None:
+    """Writes the line of some sectors of a device, with what has them, from below."""
     said = [quoting.escaped(step) + ("" if sector is None else f" {sector}")
             for step, sector in steps or ((unknown("nothing says who has it"), None),)]
     streams.out.write(f"{quoting.escaped(name)} {first} {count} = {' = '.join(said)}\n")

@@ -29,10 +29,12 @@ def thread_model() -> int:
 
 
 def config(key: str, value: str) -> None:
+    """Takes a word KEY=VALUE of the command line."""
     _given.setdefault(key, []).append(value)
 
 
 def get_ready() -> None:
+    """Looks at the images once all words came. A refusal ends the server with status 1."""
     global _target
     try:
         words = Namespace(map=_given.get("map", []), map_of_other_length="map_of_other_length" in _given)
@@ -70,6 +72,7 @@ def answered(ask: Callable[..., Any]) -> Callable[..., Any]:
 
 @answered
 def pread(handle: int, buffer: bytearray, offset: int, flags: int) -> None:
+    """Fills a buffer with the bytes of the disk from an offset on."""
     buffer[:] = _target.device.read(offset, len(buffer))
 
 

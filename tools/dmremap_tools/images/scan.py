@@ -69,6 +69,7 @@ def run(words: Namespace) -> Optional[int]:
 
 
 def object_of(pile: Pile) -> JsonObject:
+    """All that was found, as `--json` prints it."""
     return {"images": [image_row(pile, spot.image) for spot in pile.spots() if spot.image and spot.device is spot.image],
             "arrays": [array_row(pile, array) for array in pile.arrays],
             "luks": list(luks_rows(pile)),
@@ -118,6 +119,7 @@ def image_row(pile: Pile, image: Image) -> JsonObject:
 
 
 def array_row(pile: Pile, array: Array) -> JsonObject:
+    """An array: which members it has, lacks, and leaves out."""
     members = [pile.spot_of[member.device].place for member in array.by_role.values()]
     stale = [pile.spot_of[member.device].place for member in array.stale]
     return {"name": array.label, "id": array.identity, "level": array.level, "members": members,
@@ -126,6 +128,7 @@ def array_row(pile: Pile, array: Array) -> JsonObject:
 
 
 def volume_row(volume: Volume) -> JsonObject:
+    """A volume of a group, with its file system and what is missing of it."""
     return {"name": volume.name, "id": volume.identity, "sectors": volume.sectors, "kind": volume.kind,
             "file_system": asked(volume.file_system, UNASKED), "state": asked(volume.state, UNKNOWN),
             "why": asked(volume.why, program.NOT_BUILT), "origin": volume.origin,
@@ -142,6 +145,7 @@ def asked(ask: Callable[[], Any], otherwise: Any) -> Any:
 
 
 def lines_of(pile: Pile) -> Iterator[str]:
+    """The tree: images with what they hold, arrays, groups, and containers."""
     on = pile.found_on
     for spot in (spot for spot in pile.spots() if spot.device is spot.image):
         table, inner = pile.tables.get(spot.device), held_by(pile, spot.device)
@@ -179,6 +183,7 @@ def held_by(pile: Pile, device: Device) -> List[str]:
 
 
 def what_is(pile: Pile, on: Dict[Device, List[Found]], device: Device) -> str:
+    """What lies on a device, in words; `on` has what was found by the devices."""
     for array in pile.arrays:
         if any(member.device is device for member in [*array.by_role.values(), *array.stale]):
             return f"member of {array.label}"
@@ -193,6 +198,7 @@ def what_is(pile: Pile, on: Dict[Device, List[Found]], device: Device) -> str:
 
 
 def group_lines(group: Group) -> Iterator[str]:
+    """The lines of a group: what it is, where it lies, and its volumes."""
     former = f", formerly {quoting.some(group.former_names)}" if group.former_names else ""
     yield f"group {quoting.shown(group.name)}: {group.state}, seqno {group.seqno}, id {group.identity}{former}"
     yield f"  on {shown_list(group.places) or 'none of these images'}"
@@ -228,6 +234,7 @@ def held_in(volume: Volume) -> Optional[str]:
 
 
 def shown_list(words: List[str]) -> str:
+    """Texts side by side, fit to be shown."""
     return ", ".join(map(quoting.shown, words))
 
 

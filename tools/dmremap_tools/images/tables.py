@@ -96,6 +96,7 @@ class GroupTables(Tables):
         return made
 
     def _plain(self, name: bytes, called: str) -> Devices:
+        """The tables of what the segments of a volume have, under another name for it."""
         return self._renamed(self._layout.tables, self._layout.key_of(name), called)
 
     def _renamed(self, source: Tables, key: str, called: str) -> Devices:

@@ -108,6 +108,7 @@ def clashing_in(ranges: List[Span]) -> Set[int]:
 
 
 def draw(span: Span, x: float, y: int, wide: float, colour: str, edge: str) -> None:
+    """Draws a range at a place, so many pixels wide, with its name where there is room for that."""
     streams.out.write('<g><title>%s</title><rect x="%.2f" y="%d" width="%.2f" height="24" fill="%s" stroke="%s"/>\n' % (
         svg.escaped("%s (%s): sectors %d to %d, %s" % (
             span.device, span.kind, span.first, span.end - 1, svg.size_of(span.end - span.first))),

@@ -71,6 +71,7 @@ def show(name: str, indent: str, lines: Dict[str, List[tables.Line]], shown: Set
 
 
 def draw(devices: List[tables.Device]) -> None:
+    """Prints devices as a graph of Graphviz."""
     steps: Dict[str, None] = {}
     for device in devices:
         name = node(device.name)
@@ -86,4 +87,5 @@ def draw(devices: List[tables.Device]) -> None:
 
 
 def node(text: str) -> str:
+    """The name of a node, in quotes."""
     return '"%s"' % text.replace("\\", "\\\\").replace('"', '\\"')

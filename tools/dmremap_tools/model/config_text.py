@@ -40,6 +40,7 @@ class Item(NamedTuple):
 
     @property
     def value(self) -> Value:
+        """What it says: a number as C reads it, or a string without its quotes and backslashes."""
         if not NUMBER.match(self.text):
             return unquoted(self.text)
         octal = OCTAL.match(self.text)
@@ -62,9 +63,11 @@ class Node:
 
     @property
     def is_list(self) -> bool:
+        """Whether its values stand in brackets."""
         return not self.items or self.items[0].start > self.value_at
 
     def child(self, key: bytes) -> Optional["Node"]:
+        """The field or the section of this key in a section, or None."""
         return (self.children or {}).get(key)
 
     def add(self, node: "Node") -> None:
@@ -73,6 +76,7 @@ class Node:
         self.children[node.key] = node
 
     def sections(self) -> List["Node"]:
+        """The sections in a section, in their order."""
         return [it for it in (self.children or {}).values() if it.children is not None]
 
     def sections_in(self, key: bytes) -> List["Node"]:
@@ -103,14 +107,17 @@ class Document:
 
     @functools.cached_property
     def _lines(self) -> List[int]:
+        """How many lines end before each block of the text."""
         starts = range(0, len(self.content), BLOCK)
         return [0, *itertools.accumulate(self.content.count(b"\n", start, start + BLOCK) for start in starts)]
 
     def line_at(self, at: int) -> int:
+        """The number of the line that has a byte, from 1 on."""
         block = at // BLOCK
         return 1 + self._lines[block] + self.content.count(b"\n", block * BLOCK, at)
 
     def refused(self, at: int, why: str) -> Refusal:
+        """The refusal of the text for what stands at a byte."""
         return Refusal(f"{self.path}:{self.line_at(at)}", why)
 
     def tokens(self) -> Iterator[Token]:
@@ -165,6 +172,7 @@ class Document:
         return node
 
     def _read_values(self, node: Node, tokens: Iterator[Token]) -> None:
+        """Reads the values of a field, which follow its equals sign."""
         text, start = next(tokens)
         is_list, node.value_at, last = text == b"[", start, None
         for text, start in tokens if is_list else [(text, start)]:
@@ -183,6 +191,7 @@ class Document:
         node.end = start + len(text)
 
     def _count_part(self, at: int) -> None:
+        """Counts a key or a value at a byte. Refuses a text that has too many."""
         self._parts += 1
         if self._parts > MOST_PARTS:
             raise self.refused(at, f"more than {MOST_PARTS} keys and values: give the text of one group, "
@@ -197,4 +206,5 @@ def unquoted(text: bytes) -> bytes:
 
 
 def shown(content: bytes) -> str:
+    """Bytes of a text, fit to be shown in a message."""
     return quoting.shown(content.decode("utf-8", "surrogateescape"))

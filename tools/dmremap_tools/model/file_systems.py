@@ -110,6 +110,7 @@ class FileSystem:
         return ["inode table: " + path for it in files for path in self._paths(it)] or ["inode table"]
 
     def _paths(self, inode: int) -> List[str]:
+        """The paths of an inode, or its number where it has none that is known."""
         return list(map(quoting.printable, self.names.get(inode, []))) or ["inode %d" % inode]
 
     def folders(self, paths: Iterable[str]) -> Set[str]:
@@ -156,6 +157,8 @@ def refusal(image: str, name: str, complaints: Sequence[str], check: str) -> Ref
 
 
 class XfsSystem(FileSystem):
+    """Its blocks are asked for in `blockuse` of xfs_db, and the paths of its inodes in `ncheck`."""
+
     def __init__(self, image: str, volume: str, runs: Sequence[SectorRun]) -> None:
         super().__init__(image, volume, runs)
         printed, complaints = self._ask(["sb 0", "print " + " ".join(Geometry._fields)])
@@ -171,6 +174,7 @@ class XfsSystem(FileSystem):
         self.names = self._read_names(sorted({*filter(None, self.inodes.values()), *self.tabled()}))
 
     def inodes_at(self, block: int, first: int, end: int) -> Optional[range]:
+        """The numbers of inodes have their group and its block in the upper bits."""
         if self._kinds.get(block) != "inode":
             return None
         geometry = self._geometry
@@ -181,6 +185,7 @@ class XfsSystem(FileSystem):
         return range(begin + (first * SECTOR - at) // geometry.inodesize, begin + stop)
 
     def other_use(self, block: int) -> str:
+        """By the type that xfs_db gives the block."""
         kind = self._kinds[block]
         if kind == "unknown":
             return "no inode"
@@ -220,6 +225,7 @@ class XfsSystem(FileSystem):
         return found
 
     def _ask(self, commands: Sequence[str]) -> Tuple[str, List[str]]:
+        """What xfs_db prints for these commands, and what it complains of."""
         options = ["-r", *(["-f"] if os.path.isfile(self.image) else []), "-c", "source /dev/stdin"]
         return asked([program.found(XFS_DB), *options, "--", self.image], map(str.encode, commands))
 
@@ -287,6 +293,7 @@ class ExtSystem(FileSystem):
         return [it for it in found if it == ROOT or it >= self._first_inode]
 
     def other_use(self, block: int) -> str:
+        """By where the system keeps what is its own, and by its bitmaps where these can be read."""
         group, place = divmod(block - self._first, self._per_group)
         if place < self._head and group in self._backups or block < self._first or block in self._bitmaps:
             return "in use"
@@ -297,6 +304,7 @@ class ExtSystem(FileSystem):
         return "no inode" if self._is_sure else "in use"
 
     def folders(self, paths: Iterable[str]) -> Set[str]:
+        """Those that `stat` of debugfs calls folders."""
         files = [it for it in paths if it.startswith("/")]
         answers = self._ask_many("stat " + quoted(it) for it in files)
         return {file for file, answer in zip(files, answers) if FOLDER.search(answer)}

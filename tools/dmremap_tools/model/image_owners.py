@@ -36,9 +36,11 @@ class Owners:
                 self._known[volume.device] = all_of(unknown(volume.question))
 
     def on(self, device: Device) -> Ground:
+        """Who has the sectors of a device, which is looked up once it is asked for."""
         return lambda first, end: (self._known.get(device) or self._of_other(device))(first, end)
 
     def _of_table(self, device: Device, table: Table) -> Ground:
+        """Who has the sectors of a disk with a partition table."""
         if table.fault:
             return all_of(unknown(table.fault))
         copies = itertools.chain([table.kind], itertools.repeat(f"backup of the {table.kind}" if table.copy else "MBR"))
@@ -67,6 +69,7 @@ class Owners:
 
 
 def of_container(device: Device, container: Container) -> Ground:
+    """Who has the sectors of a LUKS container: its header, and its encrypted data."""
     name, start = f"LUKS{container.version}", container.start
     if start is None:
         return all_of(f"{name} container: {container.fault}")

@@ -31,6 +31,7 @@ Journal = NamedTuple("Journal", [
 
 
 def integrity_of(layout: Any, name: str, segment: Segment, size: int) -> Device:
+    """The device of a segment with integrity. Refuses metadata that isn't as the text says, or has no journal."""
     data, meta = (layout.lower(segment, key) for key in (b"origin", b"meta_dev"))
     if not data or not meta:
         raise Refusal(name, f"its text doesn't say where its metadata is: {OTHER_LEG}")
@@ -63,6 +64,7 @@ def integrity_of(layout: Any, name: str, segment: Segment, size: int) -> Device:
 
 
 def section_of(journal: Journal, section: int) -> bytes:
+    """The bytes of a section of a journal."""
     return journal.meta.read(JOURNAL_START * SECTOR + section * journal.size, journal.size)
 
 

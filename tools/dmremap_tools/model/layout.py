@@ -63,6 +63,7 @@ class Layout:
 
     @functools.cached_property
     def physical(self) -> Dict[bytes, Device]:
+        """The devices of the physical volumes, by their keys."""
         return {key: self._find(identity) for key, identity in self.physical_ids.items()}
 
     @functools.cached_property
@@ -76,6 +77,7 @@ class Layout:
         return dict.fromkeys(deep, f"it lies on itself, or on others in more than {MOST_LEVELS} levels: {ODD}")
 
     def path(self, name: bytes) -> str:
+        """A volume by its group and its name, for messages."""
         return f"{self.name}/{shown(name)}"
 
     def refuse(self, name: bytes, why: str) -> NoReturn:
@@ -96,6 +98,8 @@ class Layout:
                 and (name in self.origins or b"VISIBLE" in volume.node.values(b"status"))]
 
     def _volume(self, name: bytes) -> Device:
+        """The bytes of a volume as its user sees them: of a snapshot, or of an origin that one is merged into, by its
+        store."""
         record = self.records.get(name)
         if record is None or record.is_merging:
             record = next((other for other in self.group.records if other.is_merging and other.origin == name), None)
@@ -134,10 +138,12 @@ class Layout:
         return key
 
     def size_of(self, name: bytes) -> int:
+        """The bytes of a volume; 0 where the text has none of this name."""
         volume = self.group.volumes.get(name)
         return volume.extents * self.extent if volume else 0
 
     def _lines(self, volume: Volume) -> Iterator[tables.Line]:
+        """The lines of a volume. Refuses one whose segments don't follow each other."""
         start = 0
         if not volume.segments or volume.extents > MOST_EXTENTS:
             self.refuse(volume.name, "its text says no length")
@@ -149,6 +155,7 @@ class Layout:
             start += count
 
     def _line(self, volume: Volume, segment: Segment, first: int, length: int) -> tables.Line:
+        """The line of a segment, in sectors of its volume. Refuses a type that isn't followed."""
         name, which, kind = volume.name, shown(segment.node.key), segment.kind or b"none"
         if kind in (b"zero", b"error"):
             return tables.Line(first, length, kind.decode(), [])
@@ -174,6 +181,7 @@ class Layout:
         return tables.Line(first, length, "linear", [self.tables.disk(device), "0"])
 
     def _striped(self, name: bytes, segment: Segment, first: int, length: int) -> tables.Line:
+        """The line of a linear or striped segment."""
         columns, which = len(segment.stripes), f"its {shown(segment.node.key)}"
         if not columns or columns != (segment.node.value(b"stripe_count", int) or columns):
             self.refuse(name, f"{which} has other stripes than it counts")
@@ -234,6 +242,7 @@ class Deferred(Device):
 
     @functools.cached_property
     def _made(self) -> Device:
+        """The device, once it is asked for, or one that says why there is none."""
         try:
             return self._make()
         except NoProgram:

@@ -26,6 +26,7 @@ class Stack(NamedTuple):
     group: Optional[str] = None
 
     def by_path(self) -> Dict[str, tables.Device]:
+        """The devices by their paths below /dev/mapper."""
         return {names.MAPPER + it.name: it for it in self.devices}
 
     def length(self, name: str, file: str) -> int:

@@ -92,6 +92,7 @@ class Array(md_chunks.Shape):
 
     @property
     def missing(self) -> int:
+        """How many members are missing."""
         return self.count - len(self.by_role)
 
     @property
@@ -283,6 +284,7 @@ class CopiedChunks(Device):
         return not self._dirty and all(any(role in whole for role, _ in self._copies_of(it)) for it in numbers)
 
     def _extents(self, start: int, size: int) -> Iterator[Extent]:
+        """Each part of a chunk from the first of its copies that is there and in step."""
         for begin, end, run in cut(self._dirty, start, start + size):
             for number, offset, count in blocks_of(begin, end - begin, self._chunk):
                 copies = list(self._copies_of(number))

@@ -162,6 +162,7 @@ class Computed(Device):
         self._rows, self._shape, self._members, self._role = rows, rows.shape, rows.members, role
 
     def lack(self, start: int, size: int) -> Optional[str]:
+        """Why some of its bytes can't be computed, or None."""
         try:
             for part in self._rows.parts(start, size):
                 self._gone(*part)
@@ -220,11 +221,13 @@ def added(parts: Sequence[bytes]) -> bytes:
 
 
 def times(content: bytes, power: int) -> bytes:
+    """Bytes times a power of g, which may be negative, place by place."""
     return content.translate(_times(power % 255))
 
 
 @functools.lru_cache(None)
 def _times(power: int) -> bytes:
+    """What each byte is times a power of g."""
     return bytes([0] + [POWERS[(LOGARITHMS[value] + power) % 255] for value in range(1, 256)])
 
 

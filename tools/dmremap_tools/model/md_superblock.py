@@ -53,6 +53,7 @@ Member = NamedTuple("Member", [("device", Device), ("superblock", Superblock)])
 
 
 def level_name(superblock: Superblock) -> str:
+    """The level of an array as mdadm calls it."""
     return NAMES.get(superblock.level, f"level {superblock.level}")
 
 

@@ -94,10 +94,12 @@ def gaps(runs: Iterable[OwnedRun], first: int, end: int) -> Iterator[Tuple[int, 
 
 
 def unknown(why: str) -> str:
+    """What is said of sectors whose owner nobody can be sure of."""
     return f"unknown: {why}"
 
 
 def all_of(name: str) -> Ground:
+    """The ground of which one thing has all."""
     return lambda first, end: [OwnedRun(first, end, name)]
 
 
@@ -128,6 +130,7 @@ def filled(ground: Ground, rest: Ground) -> Ground:
 def free(device: Device, what: str) -> Ground:
     """The ground of what nothing claims: nobody has zeros. What else is there may be in use, as a boot loader."""
     def name_of(window: Tuple[int, int]) -> str:
+        """Who has the sectors of a window: nobody, or why that isn't known."""
         try:
             is_empty = not device.read(window[0] * SECTOR, (window[1] - window[0]) * SECTOR).strip(b"\0")
         except Gap as gap:
@@ -174,6 +177,7 @@ class TextOwners:
         self.doubt = next(filter(None, doubts), None)
 
     def path(self, name: bytes) -> str:
+        """What a volume is called, which is the store of a snapshot where that has its name."""
         return ("store of " if name in self._stores else "") + self.side.path(name)
 
     def _add(self, name: bytes, segment: Segment) -> Iterator[str]:
@@ -197,6 +201,7 @@ class TextOwners:
             yield f"nothing is known of the type {shown(segment.kind or b'none')} of {shown(name)}"
 
     def _runs(self, name: bytes, first: int, end: int) -> Iterator[OwnedRun]:
+        """Who has sectors of a volume or a physical volume: itself where a user sees it, and what lies on it."""
         if name in self._visible and name not in self._stores:
             yield OwnedRun(first, end)
         for ground in self._grounds(name):
@@ -329,6 +334,7 @@ class GroupOwners:
 
 
 def without_group(volume: PhysicalVolume) -> str:
+    """What is said of a physical volume that no current text of a group names."""
     if volume.faults:
         return unknown(volume.faults[0])
     if volume.current:

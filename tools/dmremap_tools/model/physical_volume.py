@@ -114,6 +114,7 @@ class Text(NamedTuple):
                 yield (node.value(b"id", bytes) or b"").decode("ascii", "replace")
 
     def summary(self) -> str:
+        """It in a line: the group, the number, the time, and the volumes."""
         name, time = f"{self.group} seqno {self.seqno}" if self.group else "another text", self.said_time()
         nodes = self.node().sections_in(b"logical_volumes") if not self.fault() else []
         volumes = quoting.some([shown(it.key) for it in nodes]) or "none"
@@ -139,6 +140,7 @@ def text_of(content: bytes) -> Text:
 
 
 def _beginnings(content: bytes) -> Iterator[Text]:
+    """Where texts begin in some bytes, each without its own."""
     for match in BEGINNING.finditer(content):
         name = NAME.search(content, max(0, match.start() - LONGEST_NAME), match.start())
         if name:
@@ -158,6 +160,7 @@ def texts_of_ring(start: int, ring: bytes, is_ring: bool = True) -> List[Text]:
 
 
 def checksum(content: bytes) -> int:
+    """The sum of some bytes, as lvm2 makes it."""
     return zlib.crc32(content, INITIAL ^ 0xFFFFFFFF) ^ 0xFFFFFFFF
 
 
@@ -175,6 +178,7 @@ def label_of(image: Lenient) -> Tuple[Optional[Label], List[str]]:
 
 
 def label_fault(sector: bytes, place: int) -> Optional[str]:
+    """What is wrong with a sector that begins as a label, or None; `place` is its number."""
     if len(sector) < SECTOR:
         return "is cut off"
     belongs, stored, offset, kind = struct.unpack_from("<QLL8s", sector, 8)

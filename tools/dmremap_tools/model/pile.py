@@ -453,6 +453,7 @@ class Pile:
 
 
 def known_in(device: Device) -> Optional[str]:
+    """What begins a device by its magic, or a sound label of LVM; None where nothing does."""
     image = Lenient(device)
     return "lvm2" if physical_volume.label_of(image)[0] else file_system_of(image)
 

@@ -177,6 +177,7 @@ class Legs:
         return MappedDevice(self._name, made, "legs")
 
     def _check_even(self, columns: int, size: int) -> None:
+        """Refuses a segment that so many columns don't divide."""
         if not self._chunk or size % (columns * self._chunk * SECTOR):
             raise Refusal(self._name, f"it isn't divided evenly by its stripes, so that no kernel takes it: {NEXT}")
 

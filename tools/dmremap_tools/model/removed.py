@@ -76,6 +76,7 @@ class Later:
         return (fault for fault, age in self._faults if is_after(age, text))
 
     def _ages(self) -> Iterator[Tuple[Text, Age]]:
+        """Each text that is known, with its group and its time."""
         for identity, holders in self._known.items():
             for text, volumes in holders.values():
                 yield text, Age(identity, text.seqno, text.time, bool(volumes))

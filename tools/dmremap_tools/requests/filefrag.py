@@ -94,6 +94,7 @@ def run(words: Namespace) -> None:
 
 
 def lines_of(source: streams.Lines, extents: Iterable[FileExtent], disk: str) -> Iterator[tables.Line]:
+    """The lines of a device that is a file: where its extents lie, and zeros between. Refuses several files."""
     end = files = size = 0
     for at, first, count in extents:
         if (first, count) == ENDED:
@@ -190,6 +191,7 @@ def read_list(source: streams.Lines, block: int, size: int) -> Iterator[FileExte
 
 
 def refuse_if(source: streams.Lines, text: str, anew: str, faults: Dict[str, bool]) -> None:
+    """Refuses a line for the first of these faults that it has; `anew` says how to make the text again."""
     for why, is_so in faults.items():
         if is_so:
             source.refuse(f"{why}, {anew}: {quoting.shown(text)}")

@@ -42,9 +42,11 @@ class Chunk:
         raise Refusal(self.where, why)
 
     def sectors(self, count: int) -> int:
+        """So many bytes in sectors, which are refused if they are no whole ones."""
         return count // numbers.SECTOR if count % numbers.SECTOR == 0 else self.refuse("no whole sectors (%d bytes): %s" % (count, ANEW))
 
     def take(self, row: str) -> None:
+        """Takes what a line of the text says of the chunk."""
         length, count, stripe = LENGTH.fullmatch(row), COUNT.fullmatch(row), STRIPE.fullmatch(row)
         if length:
             self.length, self.size, self.profile = int(length[1]), int(length[2]), length[3].split("|")[-1].upper()
@@ -54,6 +56,8 @@ class Chunk:
             self.stripes.append((stripe[1], int(stripe[2])))
 
     def line(self, disks: Dict[str, str], copy: int) -> tables.Line:
+        """The line of one of its copies. Refuses a chunk of which the text lacks something, and a copy or a device that
+        isn't there."""
         start, length, copies = self.start, self.length, self.copies()
         if not length or not self.stripes or len(self.stripes) != self.count:
             self.refuse(f"a stripe of the chunk at {start} is missing: {ANEW}")
@@ -74,6 +78,7 @@ class Chunk:
         return tables.Line(first, count, "striped", [str(len(columns)), str(self.sectors(self.size)), *words])
 
     def copies(self) -> int:
+        """How many copies there are of each byte."""
         return 1 if self.profile in ("RAID0", *PARITY) else self.each if self.profile == "RAID10" else self.count
 
 
@@ -127,6 +132,7 @@ def read(path: str) -> List[Chunk]:
 
 
 def lines_of(chunks: List[Chunk], disks: Dict[str, str], copy: int) -> Iterator[tables.Line]:
+    """The lines of the addresses, with `error` where no chunk is. Refuses chunks that overlap."""
     end = 0
     for chunk in chunks:
         line = chunk.line(disks, copy)

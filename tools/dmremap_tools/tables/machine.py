@@ -74,9 +74,11 @@ class MachineDevice(tables.Device):
         self.origins: List[str] = []
 
     def leave(self, why: str) -> None:
+        """Leaves it out, for the first reason that there is."""
         self.why = self.why or why
 
     def add(self, text: str) -> None:
+        """Adds a line of its table, START LENGTH TARGET .., or leaves the device out if dmremap takes no such line."""
         words = text.split()
         start, length = [numbers.read(it) for it in words[:2]] if len(words) > 2 else (None, None)
         if start is None or length is None:
@@ -98,6 +100,7 @@ class MachineDevice(tables.Device):
             self.leave(quoting.shown(text))
 
     def has(self, *targets: str) -> bool:
+        """Whether all its lines are of these targets."""
         return all(line.target in targets for line in self.lines)
 
 
@@ -160,6 +163,7 @@ class Machine:
                     device.why = TOO_DEEP
 
     def _fault(self, device: MachineDevice) -> str:
+        """Why dmremap would refuse a device that stands on others, or nothing."""
         if device.end() != self._sizes.get(device.number, device.end()):
             return "lsblk and its table differ in its length"
         for lower, start, count in (span for line in device.lines for span in line.spans()):
@@ -179,6 +183,8 @@ class Machine:
         return self._fault_of_store(*device.lines[0].words[1:]) if device.has("snapshot") else ""
 
     def _fault_of_store(self, store: str, kind: str, said: str) -> str:
+        """Why it would refuse a snapshot for its store, whose kind and sectors of a chunk are as its line says, or
+        nothing."""
         chunk, length = int(said), self.length(store) or 0
         if chunk & (chunk - 1) or not 0 < chunk <= MOST_IN_CHUNK:
             return f"its chunks have {chunk} sectors"

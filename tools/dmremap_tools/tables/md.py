@@ -113,6 +113,7 @@ class NamedArray(Array):
             self.refuse(apart([first, *others]) if others else self.why or "")
 
     def _made(self) -> Optional[Device]:
+        """Its bytes aren't read."""
         return None
 
     def _why_left_out(self, member: Member) -> str:
@@ -142,6 +143,7 @@ class NamedArray(Array):
         return [disk, str(start + row)]
 
     def whole(self, role: int) -> int:
+        """The same, where metadata 0.90 may not say how long a member is."""
         member = self.member(role)
         if member.superblock.length == examine.UNSAID:
             self.refuse("metadata 0.90 doesn't say how long a member is, give --sectors %s=SECTORS"
