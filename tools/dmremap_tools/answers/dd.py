@@ -53,7 +53,7 @@ def run(words: Namespace) -> None:
             writer = Writer(mapped.answers, image, begun.places)
             streams.out.write("set -e\n")
             for piece in mapped.answers:
-                writer.take(piece)
+                writer.write_line(piece)
 
 
 class Writer:
@@ -64,7 +64,7 @@ class Writer:
         self.at = 0
         self._known = written.identity_at(image) if image is not None else None
 
-    def take(self, piece: pieces.Piece) -> None:
+    def write_line(self, piece: pieces.Piece) -> None:
         """Writes the line for a piece. Refuses one without sectors of a disk, and a write without an image."""
         if piece.what == "error" or (piece.what in ("W", "drop") and self.image is None):
             is_error = piece.what == "error"
@@ -72,16 +72,16 @@ class Writer:
         in_image = self.image, self.at
         origin: Tuple[Optional[str], int] = in_image if piece.what == "W" else ("/dev/zero", 0)
         if piece.what in ("copy", "R"):
-            origin = self._place(piece.disk, piece.start, piece.count)
+            origin = self._dd_operand(piece.disk, piece.start, piece.count)
         name, start = (piece.disk, piece.start) if piece.what == "W" else (piece.to, piece.to_start)
-        target = self._place(name, start) if name else in_image
+        target = self._dd_operand(name, start) if name else in_image
         self.at += 0 if piece.to else piece.count
         if piece.what != "drop":
             line = f"dd if={quoting.for_shell(origin[0] or '')} bs=512 skip={origin[1]} count={piece.count} status=none"
             seek = f" of={quoting.for_shell(target[0])} seek={target[1]} conv=notrunc" if target[0] is not None else ""
             streams.out.write(f"{line}{seek}\n")
 
-    def _place(self, name: str, start: int, read: int = 0) -> Tuple[str, int]:
+    def _dd_operand(self, name: str, start: int, read: int = 0) -> Tuple[str, int]:
         """Where sectors are. `dd` says nothing of a file that ends before those that it reads, so that is refused."""
         path, first, end = self._disk(name)
         if read and end is not None and end < (first + start + read) * numbers.SECTOR:

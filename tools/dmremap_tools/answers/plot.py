@@ -35,7 +35,7 @@ class Moments:
         self._begun: Optional[float] = None
         self.of: Dict[int, float] = {}
 
-    def take(self, source: pieces.Answers, requests: List[int]) -> None:
+    def take_moments(self, source: pieces.Answers, requests: List[int]) -> None:
         """Takes the moments of some requests. Refuses the answers where TIMES has none of a request."""
         if self._times is None:
             self.last = requests[-1] if requests else self.last

@@ -62,8 +62,8 @@ def run(words: Namespace) -> None:
     compared = Compared(words.compare) if words.compare is not None else None
     report, source = Report(sizes, fields, compared), pieces.Answers(words.file)
     for requests, moves, copied, others in source.by_blocks():
-        moments.take(source, requests)
-        report.take(source, moves, copied, others)
+        moments.take_moments(source, requests)
+        report.count_pieces(source, moves, copied, others)
     if source.number == source.statuses:
         streams.tell("no piece came")
     report.write()
@@ -72,7 +72,7 @@ def run(words: Namespace) -> None:
     if picture and fields:
         fields.draw(picture)
     if compared:
-        compared.check()
+        compared.refuse_if_different()
 
 
 class Report:
@@ -91,8 +91,8 @@ class Report:
         # The last request, and its pieces so far.
         self._request = self._pieces = 0
 
-    def take(self, source: pieces.Answers, moves: pieces.Moves, copied: pieces.Moves, others: List[Tuple[str, str]]
-             ) -> None:
+    def count_pieces(self, source: pieces.Answers, moves: pieces.Moves, copied: pieces.Moves,
+                     others: List[Tuple[str, str]]) -> None:
         """Counts the pieces of some requests: those for which heads move, those that copy, and those without a disk."""
         if moves.requests:
             counts = Counter(moves.requests)
@@ -144,7 +144,7 @@ class Report:
                 if self._fields:
                     self._fields.mark(source, place, disk, what, firsts, lasts)
             if self._compared:
-                self._compared.answer(list(map(" ".join, zip(whats, disks))), starts, ends)
+                self._compared.add_answers(list(map(" ".join, zip(whats, disks))), starts, ends)
         if len(self._counts) > MOST_TOTALS:
             raise Refusal(source.name, f"pieces on more than {MOST_TOTALS // 2} disks: give those of fewer")
 

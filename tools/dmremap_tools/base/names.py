@@ -45,7 +45,7 @@ class Names:
         """The name that a path stands for, or the path; empty for a /dev/dm-N that `dmsetup ls` has not."""
         minor = MINOR.fullmatch(path) if path.startswith("/dev/dm-") else None
         if minor and self._ls is None:
-            refuse(place, f"which device is {path}? Give --ls LS")
+            refuse_at(place, f"which device is {path}? Give --ls LS")
         return self._of_minor.get(minor[1], "") if minor else of_path(path)
 
     @functools.lru_cache(MOST_KEPT)
@@ -53,11 +53,11 @@ class Names:
         """The name that a path stands for, which is refused if it is none of a device."""
         name = self.known(path, place)
         if not FORM.fullmatch(name):
-            refuse(place, f"no name of a device, give it as dmsetup ls prints it: '{quoting.shown(path)}'")
+            refuse_at(place, f"no name of a device, give it as dmsetup ls prints it: '{quoting.shown(path)}'")
         return name
 
 
-def refuse(place: NamePlace, reason: str) -> NoReturn:
+def refuse_at(place: NamePlace, reason: str) -> NoReturn:
     """Refuses what stands at a place."""
     if isinstance(place, str):
         raise Refusal(place, reason)

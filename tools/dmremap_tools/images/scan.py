@@ -83,7 +83,7 @@ def luks_rows(pile: Pile) -> Iterator[JsonObject]:
     for spot, container in pile.containers:
         yield luks_row(container, spot.place, spot.path if spot.image else None, spot.partition if spot.image else 0)
     for volume in (volume for group in pile.groups for volume in group.volumes):
-        is_luks = asked(volume.file_system, UNASKED) == "luks"
+        is_luks = asked_or(volume.file_system, UNASKED) == "luks"
         inner = container_in(Lenient(volume.device())) if is_luks else None
         if inner:
             yield luks_row(inner, volume.path, None, 0)
@@ -130,12 +130,12 @@ def array_row(pile: Pile, array: Array) -> JsonObject:
 def volume_row(volume: Volume) -> JsonObject:
     """A volume of a group, with its file system and what is missing of it."""
     return {"name": volume.name, "id": volume.identity, "sectors": volume.sectors, "kind": volume.kind,
-            "file_system": asked(volume.file_system, UNASKED), "state": asked(volume.state, UNKNOWN),
-            "why": asked(volume.why, program.NOT_BUILT), "origin": volume.origin,
-            "chunks_used": asked(volume.chunks_used, None)}
+            "file_system": asked_or(volume.file_system, UNASKED), "state": asked_or(volume.state, UNKNOWN),
+            "why": asked_or(volume.why, program.NOT_BUILT), "origin": volume.origin,
+            "chunks_used": asked_or(volume.chunks_used, None)}
 
 
-def asked(ask: Callable[[], Any], otherwise: Any) -> Any:
+def asked_or(ask: Callable[[], Any], otherwise: Any) -> Any:
     """What is found out of a volume, or something else where that takes dmremap and there is none."""
     try:
         return ask()
@@ -152,7 +152,7 @@ def lines_of(pile: Pile) -> Iterator[str]:
         if table:
             count = f"{len(table.partitions)} partition" + "s" * (len(table.partitions) != 1)
             fault = f": {table.fault}" if table.fault else ""
-            own = f"; and {what_is(pile, on, spot.device)}" if spot.device in on else ""
+            own = f"; and {contents_of(pile, on, spot.device)}" if spot.device in on else ""
             yield f"{quoting.shown(spot.place)}: {table.kind}{COPIES.get(table.copy, '')}, {count}{fault}{own}"
             yield from (f"  {line}" for line in inner)
         else:
@@ -178,11 +178,11 @@ def held_by(pile: Pile, device: Device) -> List[str]:
     """What lies on a device, in words: a line for each partition, or one for all of it."""
     table, found = pile.tables.get(device), pile.found_on
     if not table:
-        return [what_is(pile, found, device)]
-    return [f"{number}: {what_is(pile, found, partition)}" for number, partition in table.partitions.items()]
+        return [contents_of(pile, found, device)]
+    return [f"{number}: {contents_of(pile, found, partition)}" for number, partition in table.partitions.items()]
 
 
-def what_is(pile: Pile, on: Dict[Device, List[Found]], device: Device) -> str:
+def contents_of(pile: Pile, on: Dict[Device, List[Found]], device: Device) -> str:
     """What lies on a device, in words; `on` has what was found by the devices."""
     for array in pile.arrays:
         if any(member.device is device for member in [*array.by_role.values(), *array.stale]):
@@ -211,7 +211,7 @@ def group_lines(group: Group) -> Iterator[str]:
         notes = [origin, chunks, row["state"] if row["state"] != WHOLE else "", row["why"] or ""]
         line = " ".join(column.ljust(width) for column, width in zip(columns, COLUMNS))
         yield f"  {line} {': '.join(filter(None, notes))}".rstrip()
-        inner = asked(functools.partial(held_in, volume), None) if row["why"] is None else None
+        inner = asked_or(functools.partial(held_in, volume), None) if row["why"] is None else None
         if inner:
             name = shlex.quote(f"{group.name}/{volume.name}")
             way = quoting.escaped(f"dmremap-tools save {name} inner.img IMAGE.. && dmremap-tools scan inner.img")

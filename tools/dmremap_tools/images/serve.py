@@ -66,7 +66,8 @@ def run(words: Namespace) -> None:
     asked = os.path.abspath(shutil.which(program.dmremap(words.program)) or "dmremap")
     plugin = os.path.join(os.path.dirname(os.path.abspath(__file__)), "plugin.py")
     given = [f"program={asked}", f"volume={words.volume}", *(f"image={os.path.abspath(path)}" for path in words.images)]
-    maps = [f"map={os.path.abspath(image)}={os.path.abspath(path)}" for image, path in rescue_map.pairs(words.map, words.images)]
+    pairs = rescue_map.images_with_maps(words.map, words.images)
+    maps = [f"map={os.path.abspath(image)}={os.path.abspath(path)}" for image, path in pairs]
     given += [*maps, "map_of_other_length=1"] if words.map_of_other_length else maps
     with tempfile.TemporaryDirectory(prefix="dmremap-tools-") as folder:
         path = os.path.abspath(words.socket or os.path.join(folder, "socket"))

@@ -29,7 +29,7 @@ def add_words(parser: ArgumentParser) -> None:
 
 
 def run(words: Namespace) -> None:
-    bars = read(words.spans)
+    bars = read_spans(words.spans)
     lanes = [lanes_of(ranges) for ranges, _ in bars.values()]
     numbers = {name: place for place, name in enumerate(dict.fromkeys(it.device for ranges, _ in bars.values() for it in ranges))}
     legend, rows = legend_of(numbers)
@@ -48,11 +48,11 @@ def run(words: Namespace) -> None:
             span = ranges[place]
             x, wide = MARGIN + width * span.first / size, max(0.5, width * (span.end - span.first) / size)
             edge = "red" if place in clashing else "#555"
-            draw(span, x, top + 7 + LANE * of_ranges[place], wide, svg.colour(numbers[span.device]), edge)
+            draw_range(span, x, top + 7 + LANE * of_ranges[place], wide, svg.colour(numbers[span.device]), edge)
     streams.out.write('<g transform="translate(0,%d)">\n%s</g>\n</svg>\n' % (end, legend))
 
 
-def read(path: str) -> Dict[str, Tuple[List[Span], int]]:
+def read_spans(path: str) -> Dict[str, Tuple[List[Span], int]]:
     """The ranges of each disk or device, and how long it is."""
     source = streams.Lines(path)
     ranges: Dict[str, List[Span]] = {}
@@ -107,7 +107,7 @@ def clashing_in(ranges: List[Span]) -> Set[int]:
     return found
 
 
-def draw(span: Span, x: float, y: int, wide: float, colour: str, edge: str) -> None:
+def draw_range(span: Span, x: float, y: int, wide: float, colour: str, edge: str) -> None:
     """Draws a range at a place, so many pixels wide, with its name where there is room for that."""
     streams.out.write('<g><title>%s</title><rect x="%.2f" y="%d" width="%.2f" height="24" fill="%s" stroke="%s"/>\n' % (
         svg.escaped("%s (%s): sectors %d to %d, %s" % (

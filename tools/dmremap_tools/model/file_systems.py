@@ -85,10 +85,10 @@ class SectorRun(NamedTuple):
 class FileSystem:
     """A file system in an image, in which runs of sectors of a volume are asked for. Each kind finds out how many `sectors`
     a block has, the block after the last, the inodes that have blocks, the paths of inodes, and which are in use. It says
-    which inodes lie in sectors of a block, if that is one of a table of them, and what `other_use` there is of a block."""
+    which inodes lie in sectors of a block, if that is one of a table of them, and how a block is used without an inode."""
 
     inodes_at: Callable[[int, int, int], Optional[Iterable[int]]]
-    other_use: Callable[[int], str]
+    use_without_inode: Callable[[int], str]
 
     def __init__(self, image: str, volume: str, runs: Sequence[SectorRun]) -> None:
         self.image, self.volume, self.runs = image, volume, runs
@@ -105,7 +105,7 @@ class FileSystem:
             return self._paths(self.inodes[block])
         inodes = self.inodes_at(block, first, end)
         if inodes is None:
-            return [self.other_use(block)]
+            return [self.use_without_inode(block)]
         files = [it for it in inodes if it in self.used_inodes or self.names.get(it)]
         return ["inode table: " + path for it in files for path in self._paths(it)] or ["inode table"]
 
@@ -135,7 +135,7 @@ class FileSystem:
         return sorted(found)
 
 
-def asked(words: Sequence[str], lines: Iterable[bytes]) -> Tuple[str, List[str]]:
+def answer_of(words: Sequence[str], lines: Iterable[bytes]) -> Tuple[str, List[str]]:
     """What a program prints that gets these lines, and what it complains of."""
     with tempfile.TemporaryFile() as file:
         file.writelines(line + b"\n" for line in lines)
@@ -144,13 +144,13 @@ def asked(words: Sequence[str], lines: Iterable[bytes]) -> Tuple[str, List[str]]
     return printed, said.splitlines()
 
 
-def tell(complaints: Sequence[str], name: str = "debugfs") -> None:
+def tell_complaints(complaints: Sequence[str], name: str = "debugfs") -> None:
     """Says what a program complains of, as far as that is not too much."""
     for complaint in complaints[:MOST_COMPLAINTS]:
         streams.tell(f"{name}: {quoting.shown(complaint)}")
 
 
-def refusal(image: str, name: str, complaints: Sequence[str], check: str) -> Refusal:
+def unreadable(image: str, name: str, complaints: Sequence[str], check: str) -> Refusal:
     """The refusal of an image that a program can't read, with the command that checks it."""
     reason = "; ".join(map(quoting.shown, complaints[:MOST_COMPLAINTS])) or "not enough"
     return Refusal(quoting.shown(image), f"{name} says: {reason}; see `{check}`")
@@ -167,7 +167,7 @@ class XfsSystem(FileSystem):
         is_block = SECTOR <= it.blocksize <= 1 << 16 and it.blocksize % SECTOR == 0
         is_inode = 0 < it.inodesize <= it.blocksize and max(it.agblklog, it.inopblog) < 64
         if len(figures) < len(it) or not is_block or not is_inode or not it.agblocks:
-            raise refusal(image, XFS_DB, complaints, "xfs_repair -n")
+            raise unreadable(image, XFS_DB, complaints, "xfs_repair -n")
         self.sectors, self.end = it.blocksize // SECTOR, it.dblocks
         self._kinds: Dict[int, str] = {}
         self._read_uses(self.blocks())
@@ -184,7 +184,7 @@ class XfsSystem(FileSystem):
         stop = -(-(end * SECTOR - at) // geometry.inodesize)
         return range(begin + (first * SECTOR - at) // geometry.inodesize, begin + stop)
 
-    def other_use(self, block: int) -> str:
+    def use_without_inode(self, block: int) -> str:
         """By the type that xfs_db gives the block."""
         kind = self._kinds[block]
         if kind == "unknown":
@@ -205,8 +205,8 @@ class XfsSystem(FileSystem):
             block = int(group) * per_group + int(place)
             self._kinds[block], self.inodes[block] = kind, int(inode or 0)
         if not self._kinds.keys() >= set(blocks):
-            raise refusal(self.image, XFS_DB, complaints or printed.splitlines(), "xfs_repair -n")
-        tell(complaints, XFS_DB)
+            raise unreadable(self.image, XFS_DB, complaints or printed.splitlines(), "xfs_repair -n")
+        tell_complaints(complaints, XFS_DB)
 
     def _read_names(self, inodes: Sequence[int]) -> Dict[int, List[str]]:
         """The path of each of these inodes that has one. A line that nobody can foretell stands between two answers, as
@@ -227,7 +227,7 @@ class XfsSystem(FileSystem):
     def _ask(self, commands: Sequence[str]) -> Tuple[str, List[str]]:
         """What xfs_db prints for these commands, and what it complains of."""
         options = ["-r", *(["-f"] if os.path.isfile(self.image) else []), "-c", "source /dev/stdin"]
-        return asked([program.found(XFS_DB), *options, "--", self.image], map(str.encode, commands))
+        return answer_of([program.found(XFS_DB), *options, "--", self.image], map(str.encode, commands))
 
 
 def system_in(place: paths.DiskPlace, volume: str, runs: Sequence[SectorRun]) -> FileSystem:
@@ -272,8 +272,8 @@ class ExtSystem(FileSystem):
             if is_answered:
                 break
         else:
-            raise failed or refusal(image, "debugfs", complaints, "e2fsck -n")
-        tell([str(failed)] * bool(failed) + complaints)
+            raise failed or unreadable(image, "debugfs", complaints, "e2fsck -n")
+        tell_complaints([str(failed)] * bool(failed) + complaints)
         if self._options:
             streams.tell("read by debugfs with " + " ".join(self._options))
         tabled = self.tabled()
@@ -292,7 +292,7 @@ class ExtSystem(FileSystem):
         found = range(group * self._per_table + begin + 1, group * self._per_table + stop + 1)
         return [it for it in found if it == ROOT or it >= self._first_inode]
 
-    def other_use(self, block: int) -> str:
+    def use_without_inode(self, block: int) -> str:
         """By where the system keeps what is its own, and by its bitmaps where these can be read."""
         group, place = divmod(block - self._first, self._per_group)
         if place < self._head and group in self._backups or block < self._first or block in self._bitmaps:
@@ -306,7 +306,7 @@ class ExtSystem(FileSystem):
     def folders(self, paths: Iterable[str]) -> Set[str]:
         """Those that `stat` of debugfs calls folders."""
         files = [it for it in paths if it.startswith("/")]
-        answers = self._ask_many("stat " + quoted(it) for it in files)
+        answers = self._ask_many("stat " + debugfs_word(it) for it in files)
         return {file for file, answer in zip(files, answers) if FOLDER.search(answer)}
 
     def _take_layout(self, printed: str) -> bool:
@@ -356,12 +356,13 @@ class ExtSystem(FileSystem):
         """The paths of each of these inodes, which may be none."""
         found: Dict[int, List[str]] = {it: [] for it in inodes}
         for _, printed, complaints in self._ask_for(NCHECK, [it for inode in inodes for it in (ROOT, inode)]):
-            tell(complaints)
+            tell_complaints(complaints)
             for match in map(NAMED.fullmatch, printed.split("\n")):
                 if match and int(match[1]) in found:
                     found[int(match[1])].append(match[2])
         pairs = [(inode, path) for inode, paths in found.items() for path in paths]
-        answers = itertools.chain(self._ask_many("imap " + quoted(path) for _, path in pairs), itertools.repeat(""))
+        said = self._ask_many("imap " + debugfs_word(path) for _, path in pairs)
+        answers = itertools.chain(said, itertools.repeat(""))
         for inode in {it for (it, _), answer in zip(pairs, answers) if LEADS_TO.findall(answer)[:1] != [str(it)]}:
             found[inode] = self._names_alone(inode)
         if ROOT in found:
@@ -374,7 +375,7 @@ class ExtSystem(FileSystem):
         printed = ("\n" + self._ask("-R", "%s %d" % (NCHECK, inode))[0]).partition(begin)[2]
         paths: List[str] = []
         for path in (re.sub("^/+", "/", it) for it in printed[:-1].split(begin)):
-            if paths and LEADS_TO.findall(self._ask("-R", "imap " + quoted(path))[0])[:1] != [str(inode)]:
+            if paths and LEADS_TO.findall(self._ask("-R", "imap " + debugfs_word(path))[0])[:1] != [str(inode)]:
                 paths[-1] += begin + path
             else:
                 paths.append(path)
@@ -382,7 +383,7 @@ class ExtSystem(FileSystem):
 
     def _ask(self, *request: str, lines: Iterable[bytes] = ()) -> Tuple[str, List[str]]:
         """What debugfs answers to -R and a request, or to -f and lines of requests, and what it complains of."""
-        printed, said = asked([program.found("debugfs"), *self._options, *request, "--", self.image], lines)
+        printed, said = answer_of([program.found("debugfs"), *self._options, *request, "--", self.image], lines)
         complaints = [it[len(ECHO):] if it.startswith(ECHO) else it for it in said]
         return printed, [it for it in complaints if not it.startswith("debugfs ") and not it.endswith(NOT_OPEN)]
 
@@ -406,6 +407,6 @@ class ExtSystem(FileSystem):
             yield from ("\n" + printed).split("\n" + ECHO)[1:]
 
 
-def quoted(path: str) -> str:
+def debugfs_word(path: str) -> str:
     """A path as a word of a request."""
     return '"%s"' % path.replace('"', '""')

@@ -11,7 +11,8 @@ from dmremap_tools.model.device import ALL, Device, Part
 from dmremap_tools.model.mapping import MappedDevice, Tables
 from dmremap_tools.model.md_array import Array
 from dmremap_tools.model.md_superblock import Member
-from dmremap_tools.model.owners import Ground, GroupOwners, OwnedRun, all_of, chunks_of, claimed, filled, free, unknown
+from dmremap_tools.model.owners import (Ground, GroupOwners, OwnedRun, chunks_of, claimed, filled, owned_by_one,
+                                        owners_of_unclaimed, unknown_owner)
 from dmremap_tools.model.pile import Pile
 
 
@@ -24,16 +25,16 @@ class Owners:
         self._known: Dict[Device, Ground] = {}
         for array in pile.arrays:
             for member in array.members:
-                self._known[member.device] = of_member(array, member, self.on(array.device or member.device))
+                self._known[member.device] = owners_of_member(array, member, self.on(array.device or member.device))
         for device, table in pile.tables.items():
             self._known[device] = self._of_table(device, table)
         for spot, container in pile.containers:
-            self._known[spot.device] = of_container(spot.device, container)
+            self._known[spot.device] = owners_of_container(spot.device, container)
         for volume in pile.volumes:
             if volume.question is None:
                 self._known[volume.device] = groups.of(volume)
             elif volume.device not in pile.tables:
-                self._known[volume.device] = all_of(unknown(volume.question))
+                self._known[volume.device] = owned_by_one(unknown_owner(volume.question))
 
     def on(self, device: Device) -> Ground:
         """Who has the sectors of a device, which is looked up once it is asked for."""
@@ -42,11 +43,11 @@ class Owners:
     def _of_table(self, device: Device, table: Table) -> Ground:
         """Who has the sectors of a disk with a partition table."""
         if table.fault:
-            return all_of(unknown(table.fault))
+            return owned_by_one(unknown_owner(table.fault))
         copies = itertools.chain([table.kind], itertools.repeat(f"backup of the {table.kind}" if table.copy else "MBR"))
         claims = [OwnedRun(start // SECTOR, end // SECTOR, name) for (start, end), name in zip(table.taken, copies)]
         claims += [self._within(part.start, part.size, part) for part in table.partitions.values()]
-        return claimed(claims, free(device, "no partition has it"))
+        return claimed(claims, owners_of_unclaimed(device, "no partition has it"))
 
     def _within(self, start: int, size: int, device: Device) -> OwnedRun:
         """What has sectors in which a device lies."""
@@ -60,38 +61,38 @@ class Owners:
         found = next((found for found in self._pile.found if found.spot.device is device), None)
         if claims:
             around = "nothing says what is around the physical volumes that looking through it found"
-            made = claimed(claims, all_of(unknown(around)))
+            made = claimed(claims, owned_by_one(unknown_owner(around)))
         elif found is None or found.what in ("unknown", "foreign"):
-            made = all_of(unknown(found.note if found else "it was looked into no more"))
+            made = owned_by_one(unknown_owner(found.note if found else "it was looked into no more"))
         else:
-            made = all_of(f"{found.what}: {found.note}" if found.note else found.what)
+            made = owned_by_one(f"{found.what}: {found.note}" if found.note else found.what)
         return self._known.setdefault(device, made)
 
 
-def of_container(device: Device, container: Container) -> Ground:
+def owners_of_container(device: Device, container: Container) -> Ground:
     """Who has the sectors of a LUKS container: its header, and its encrypted data."""
     name, start = f"LUKS{container.version}", container.start
     if start is None:
-        return all_of(f"{name} container: {container.fault}")
+        return owned_by_one(f"{name} container: {container.fault}")
     end = device.size // SECTOR if container.length is None else start + container.length
     claims = [OwnedRun(0, max(start, container.header), f"{name} header")]
     claims += [OwnedRun(start, end, f"{name} data, encrypted")] * (start >= container.header)
-    return claimed(claims, free(device, "the container doesn't say that it has it"))
+    return claimed(claims, owners_of_unclaimed(device, "the container doesn't say that it has it"))
 
 
-def of_member(array: Array, member: Member, above: Ground) -> Ground:
+def owners_of_member(array: Array, member: Member, above: Ground) -> Ground:
     """Who has the sectors of a member of an array: that, or the superblock with what it keeps free."""
-    start, rest = member.superblock.start, all_of(f"superblock of {array.label}, with what it keeps free")
+    start, rest = member.superblock.start, owned_by_one(f"superblock of {array.label}, with what it keeps free")
     if array.device is None:
-        data = all_of(f"{array.label}, which isn't followed: {array.why}")
+        data = owned_by_one(f"{array.label}, which isn't followed: {array.why}")
     elif not any(other is member for other in array.by_role.values()):
-        data = all_of(f"a member of {array.label} that is stale or was being rebuilt")
+        data = owned_by_one(f"a member of {array.label} that is stale or was being rebuilt")
     else:
-        data = filled(functools.partial(of_data, array, member, above), rest)
+        data = filled(functools.partial(owners_of_array_data, array, member, above), rest)
     return claimed([OwnedRun(start, start + array.length(member), "", 0, data)], rest)
 
 
-def of_data(array: Array, member: Member, above: Ground, first: int, end: int) -> Iterator[OwnedRun]:
+def owners_of_array_data(array: Array, member: Member, above: Ground, first: int, end: int) -> Iterator[OwnedRun]:
     """Who has sectors of a member's data: sectors of the array, or parity."""
     device, chunks = array.device, functools.partial(chunks_of, name=array.label, above=above)
     if array.level == "raid1":

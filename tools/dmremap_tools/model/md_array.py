@@ -84,8 +84,8 @@ class Array(md_chunks.Shape):
         self.apart: Optional[str] = None
         self.device: Optional[Device] = None
         try:
-            self._take()
-            self._check()
+            self._sort_members()
+            self._check_supported()
             self.device = self._made()
         except Refusal as refusal:
             self.why = refusal.why
@@ -112,7 +112,7 @@ class Array(md_chunks.Shape):
         """Says why nobody can say its bytes."""
         self.device, self.why = None, why
 
-    def _take(self) -> None:
+    def _sort_members(self) -> None:
         """Those with the most events, or one less, count, in the role that the freshest superblock gives them. Of one
         that was being filled what it has counts where no other one is there."""
         best, twice = self.best.superblock, None
@@ -137,7 +137,7 @@ class Array(md_chunks.Shape):
     def refuse(self, why: str) -> NoReturn:
         raise Refusal(self.label, why)
 
-    def _check(self) -> None:
+    def _check_supported(self) -> None:
         """Refuses what isn't followed."""
         superblock, copies = self.best.superblock, self.copies.near * self.copies.far
         if superblock.level not in md_superblock.NAMES:
@@ -215,11 +215,11 @@ class Array(md_chunks.Shape):
             why = f"{name} is missing, and {member.device.name} was being filled in its place: give its image"
         return Part(name, member.device, first, length, joint(runs), why)
 
-    def spot(self, role: int, row: int = 0) -> List[str]:
+    def disk_words(self, role: int, row: int = 0) -> List[str]:
         """A member's disk, and a sector of its data, as words of a line."""
         return [self.tables.disk(self._data[role]), str(row)]
 
-    def whole(self, role: int) -> int:
+    def whole_chunk_sectors(self, role: int) -> int:
         """The sectors of a member of linear or raid0 that make whole chunks; one that is missing is refused."""
         if role not in self.by_role:
             self.refuse(f"member {role} of {self.label} is missing, and nothing else has its bytes: give its image")
@@ -235,11 +235,11 @@ class Array(md_chunks.Shape):
             if self.sectors:
                 yield self.striped(0, self.sectors, [role for role, _ in found], found[0][1] * self.chunk)
             return
-        size = {role: self.whole(role) for role in range(self.count)}
+        size = {role: self.whole_chunk_sectors(role) for role in range(self.count)}
         row = start = 0
         if self.level == "linear":
             for role in size:
-                yield tables.Line(start, size[role], "linear", self.spot(role))
+                yield tables.Line(start, size[role], "linear", self.disk_words(role))
                 start += size[role]
             return
         for end in sorted(set(size.values()) - {0}):
@@ -254,7 +254,7 @@ class Array(md_chunks.Shape):
 
     def striped(self, start: int, length: int, roles: Sequence[int], row: int) -> tables.Line:
         """A line of whole rows over the members of these roles."""
-        spots = [word for role in roles for word in self.spot(role, row)]
+        spots = [word for role in roles for word in self.disk_words(role, row)]
         if len(roles) == 1:
             return tables.Line(start, length, "linear", spots)
         if len(roles) > tables.MOST_COLUMNS:

@@ -70,7 +70,7 @@ def ways(ground: Ground, first: int, end: int) -> Iterator[Way]:
 
 def ways_at_once(ground: Ground, first: int, end: int, depth: int = 0) -> Iterator[Way]:
     """The same of so few sectors that their runs can be listed."""
-    found = ground(first, end) if depth < DEEPEST else [OwnedRun(first, end, unknown("it lies on itself"))]
+    found = ground(first, end) if depth < DEEPEST else [OwnedRun(first, end, unknown_owner("it lies on itself"))]
     runs = list(dict.fromkeys(found))
     if len(runs) != 1 or runs[0][:2] != (first, end):
         runs = sorted(runs + [OwnedRun(*gap) for gap in gaps(runs, first, end)], key=FIRST)
@@ -93,17 +93,17 @@ def gaps(runs: Iterable[OwnedRun], first: int, end: int) -> Iterator[Tuple[int, 
         yield first, end
 
 
-def unknown(why: str) -> str:
+def unknown_owner(why: str) -> str:
     """What is said of sectors whose owner nobody can be sure of."""
     return f"unknown: {why}"
 
 
-def all_of(name: str) -> Ground:
+def owned_by_one(name: str) -> Ground:
     """The ground of which one thing has all."""
     return lambda first, end: [OwnedRun(first, end, name)]
 
 
-def within(claims: Iterable[OwnedRun], first: int, end: int) -> Iterator[OwnedRun]:
+def claims_within(claims: Iterable[OwnedRun], first: int, end: int) -> Iterator[OwnedRun]:
     """What claims have of some sectors."""
     for run in claims:
         begin, stop = max(first, run.first), min(end, run.end)
@@ -114,7 +114,7 @@ def within(claims: Iterable[OwnedRun], first: int, end: int) -> Iterator[OwnedRu
 
 def claimed(claims: Iterable[OwnedRun], rest: Ground) -> Ground:
     """The ground of some claims, and of what none of them has."""
-    return filled(lambda first, end: within(claims, first, end), rest)
+    return filled(lambda first, end: claims_within(claims, first, end), rest)
 
 
 def filled(ground: Ground, rest: Ground) -> Ground:
@@ -127,15 +127,15 @@ def filled(ground: Ground, rest: Ground) -> Ground:
     return both
 
 
-def free(device: Device, what: str) -> Ground:
+def owners_of_unclaimed(device: Device, what: str) -> Ground:
     """The ground of what nothing claims: nobody has zeros. What else is there may be in use, as a boot loader."""
     def name_of(window: Tuple[int, int]) -> str:
         """Who has the sectors of a window: nobody, or why that isn't known."""
         try:
             is_empty = not device.read(window[0] * SECTOR, (window[1] - window[0]) * SECTOR).strip(b"\0")
         except Gap as gap:
-            return unknown(gap.why)
-        return "nobody" if is_empty else unknown(f"{what}, and yet something is written there")
+            return unknown_owner(gap.why)
+        return "nobody" if is_empty else unknown_owner(f"{what}, and yet something is written there")
 
     def ground(first: int, end: int) -> Iterator[OwnedRun]:
         windows = ((start, min(end, start + WINDOW)) for start in range(first, end, WINDOW))
@@ -223,7 +223,7 @@ class TextOwners:
         chunks = functools.partial(chunks_of, name=self.path(upper), above=self.on(upper), begin=begin, to=to,
                                    length=length)
         if field == b"stripes" and columns > 1 and not chunk:
-            return all_of(unknown(f"the text says no stripes of {self.path(upper)}"))
+            return owned_by_one(unknown_owner(f"the text says no stripes of {self.path(upper)}"))
         if field in (b"stripes", b"mirrors") or is_leg and kind == b"raid1" or (field, kind) == INTEGRITY:
             if field != b"stripes" or columns == 1:
                 columns, chunk, place = 1, ALL, 0
@@ -233,7 +233,7 @@ class TextOwners:
             parity, of_leg = self._part("parity", upper), functools.partial(numbers, leg)
             return lambda first, end: chunks(first, end, chunk, lambda row: [of_leg(row)], parity=parity)
         if field in (b"raids", b"raid0_lvs"):
-            return all_of(self._part("part" if is_leg else "superblock", upper))
+            return owned_by_one(self._part("part" if is_leg else "superblock", upper))
         if field in SNAPSHOT and not kind.startswith(b"cache"):
             # What a snapshot reads of its origin and of its store is found otherwise; a thin one reads its pool.
             return lambda first, end: ()
@@ -279,7 +279,7 @@ class TextOwners:
         except Refusal as refusal:
             why = refusal.why
         if why and why != INVALID_SNAPSHOT:
-            yield OwnedRun(first, end, unknown(f"whether {called} has it: {why}"))
+            yield OwnedRun(first, end, unknown_owner(f"whether {called} has it: {why}"))
 
 
 def reading_of(device: Device) -> Tuple[Optional[str], Dict[Device, List["array[int]"]]]:
@@ -321,25 +321,25 @@ class GroupOwners:
         group, node = stack.side.name, stack.group.physicals[key]
         start, count = node.value(b"pe_start", int), node.value(b"pe_count", int)
         if start is None or count is None or start < 0 or count < 0:
-            return all_of(unknown(f"the text of {group} doesn't say where the extents of {shown(key)} are"))
-        free = unknown(f"no volume of {group} has it, but {stack.doubt}") if stack.doubt else f"free in {group}"
+            return owned_by_one(unknown_owner(f"the text of {group} doesn't say where the extents of {shown(key)} are"))
+        free = unknown_owner(f"no volume of {group} has it, but {stack.doubt}") if stack.doubt else f"free in {group}"
         extents = filled(stack.on(key), self._and_once(free, volume))
         return claimed([OwnedRun(start, start + count * stack.extent, "", start, extents)],
-                       all_of(f"physical volume of {group}, outside of its extents"))
+                       owned_by_one(f"physical volume of {group}, outside of its extents"))
 
     def _and_once(self, name: str, volume: PhysicalVolume) -> Ground:
         """The same for all, and the volumes that were removed, and had some of the sectors."""
         once = self._removed.get(volume.identity, ())
-        return lambda first, end: [OwnedRun(first, end, name), *within(once, first, end)]
+        return lambda first, end: [OwnedRun(first, end, name), *claims_within(once, first, end)]
 
 
 def without_group(volume: PhysicalVolume) -> str:
     """What is said of a physical volume that no current text of a group names."""
     if volume.faults:
-        return unknown(volume.faults[0])
+        return unknown_owner(volume.faults[0])
     if volume.current:
         group = volume.current[0].group
-        return unknown(f"the current text of {group} doesn't name this physical volume, whose own is older")
+        return unknown_owner(f"the current text of {group} doesn't name this physical volume, whose own is older")
     if volume.label.is_used is False:
         return "physical volume of no group"
-    return unknown("nothing says to which group this physical volume belongs: give the images of the others")
+    return unknown_owner("nothing says to which group this physical volume belongs: give the images of the others")

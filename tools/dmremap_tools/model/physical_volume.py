@@ -239,7 +239,7 @@ def header_fault(header: bytes, start: int) -> Optional[str]:
     return None if belongs == start else f"its header says that it begins at byte {belongs}"
 
 
-def search(image: Lenient) -> List[Tuple[int, int, int, Optional[str]]]:
+def area_headers_in(image: Lenient) -> List[Tuple[int, int, int, Optional[str]]]:
     """What looks like the header of an area and is there to its end, in the first and the last bytes: where it is,
     where it says that its area begins, how many bytes that has, and what else is wrong with the header."""
     headers = set()
@@ -257,7 +257,7 @@ def older_texts(image: Lenient) -> List[Text]:
     """The texts in all areas, by the label, or else by their headers: those in force, older ones, and what is left of
     some."""
     label, texts = label_of(image)[0], []
-    found = [] if label else search(image)
+    found = [] if label else area_headers_in(image)
     places = label.areas if label else [(at, size) for at, belongs, size, fault in found if at == belongs and not fault]
     for start, size in [it for it in places if SECTOR < it[1] <= MOST_AREA][:MOST_AREAS]:
         texts += texts_of_ring(start + SECTOR, image.read(start + SECTOR, size - SECTOR))
@@ -355,7 +355,7 @@ def leftover_in(device: Device, is_disk: bool) -> Optional[Leftover]:
     damaged label tells, or an area that begins where lvm2 has the first."""
     image, first = Lenient(device), Lenient(Part(device.name, device, 0, FIRST_AREA + SECTOR))
     faults = label_of(image)[1]
-    found = search(image) if is_disk or faults or search(first) else []
+    found = area_headers_in(image) if is_disk or faults or area_headers_in(first) else []
     if not faults and not any(at == belongs for at, belongs, _, _ in found):
         return None
     areas = [(at, size) for at, belongs, size, fault in found if at == belongs and not fault]

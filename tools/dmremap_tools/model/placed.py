@@ -104,7 +104,7 @@ def begins_in(pile: Pile, device: Device, image: Image) -> Iterator[int]:
     elif isinstance(device, Part):
         yield from (begin + device.start for begin in begins_in(pile, device.lower, image))
     for member in (member for array in pile.arrays if array.device is device for member in array.by_role.values()):
-        if not fault_of(member, pile):
+        if not md_member_fault(member, pile):
             yield from (begin + member.superblock.start * SECTOR for begin in begins_in(pile, member.device, image))
 
 
@@ -139,7 +139,7 @@ def place_of_volume(pile: Pile, image: Image, name: str, identity: bytes, place:
     if any(each.device is image for each in pile.damaged):
         raise Refusal(image.name, note)
     for member in (member for begin, member in members if begin == place.start and member.superblock.start):
-        raise Refusal(image.name, fault_of(member, pile) or NO_VOLUME)
+        raise Refusal(image.name, md_member_fault(member, pile) or NO_VOLUME)
     return place
 
 
@@ -166,7 +166,7 @@ def check_places(places: Dict[str, DiskPlace], pile: Pile, are_volumes: bool = F
                 data = begin + member.superblock.start * SECTOR
                 is_beginning, is_behind = place.start in (begin, data), spot in behind
                 is_volume = are_volumes and (is_beginning or not place.is_said) and bool(label_at(image, data))
-                why = fault_of(member, pile) if is_behind or is_volume or is_array and is_beginning else None
+                why = md_member_fault(member, pile) if is_behind or is_volume or is_array and is_beginning else None
                 if why:
                     raise Refusal(quoting.shown(place.path), why)
                 is_array_place = is_array and not are_volumes and (is_behind or is_beginning)
@@ -175,7 +175,7 @@ def check_places(places: Dict[str, DiskPlace], pile: Pile, are_volumes: bool = F
                                   f"a member of one whose data begins at byte {data}: give that, as IMAGE?offset=BYTES")
 
 
-def fault_of(member: Member, pile: Pile) -> Optional[str]:
+def md_member_fault(member: Member, pile: Pile) -> Optional[str]:
     """Why the bytes of a member aren't those of its array, or None."""
     mine = member.superblock
     if not has_all(mine):

@@ -136,7 +136,7 @@ def read_trace(source: streams.Lines, known: Dict[str, str], kept: Kept, times: 
         if others + len(usual) == block.count("\n") and None not in {kind_of(it[2]) for it in usual}:
             events += len(usual)
             for event in usual:
-                take(source, event, known, kept, times)
+                print_request(source, event, known, kept, times)
             continue
         for line in filter(None, source.again(left)):
             found = event_in(source, line)
@@ -145,7 +145,7 @@ def read_trace(source: streams.Lines, known: Dict[str, str], kept: Kept, times: 
                 continue
             events += 1
             if found[2]:
-                take(source, found, known, kept, times)
+                print_request(source, found, known, kept, times)
     if not events:
         source.refuse("no request in the trace: give what `blkparse` prints of the devices")
     if passed:
@@ -153,7 +153,8 @@ def read_trace(source: streams.Lines, known: Dict[str, str], kept: Kept, times: 
     kept.tell("requests that are neither reads nor writes", ": a trace of the disks below them takes --lower")
 
 
-def take(source: streams.Lines, event: Sequence[str], known: Dict[str, str], kept: Kept, times: Optional[streams.Output]) -> None:
+def print_request(source: streams.Lines, event: Sequence[str], known: Dict[str, str], kept: Kept,
+                  times: Optional[streams.Output]) -> None:
     """Prints the request that an event tells of, and its time, or counts it as left out."""
     number, time, what, first, count = event
     name, start, sectors = known.get(number), source.whole(first), source.whole(count)

@@ -45,7 +45,7 @@ class Chunk:
         """So many bytes in sectors, which are refused if they are no whole ones."""
         return count // numbers.SECTOR if count % numbers.SECTOR == 0 else self.refuse("no whole sectors (%d bytes): %s" % (count, ANEW))
 
-    def take(self, row: str) -> None:
+    def take_row(self, row: str) -> None:
         """Takes what a line of the text says of the chunk."""
         length, count, stripe = LENGTH.fullmatch(row), COUNT.fullmatch(row), STRIPE.fullmatch(row)
         if length:
@@ -55,7 +55,7 @@ class Chunk:
         elif stripe:
             self.stripes.append((stripe[1], int(stripe[2])))
 
-    def line(self, disks: Dict[str, str], copy: int) -> tables.Line:
+    def table_line(self, disks: Dict[str, str], copy: int) -> tables.Line:
         """The line of one of its copies. Refuses a chunk of which the text lacks something, and a copy or a device that
         isn't there."""
         start, length, copies = self.start, self.length, self.copies()
@@ -93,7 +93,7 @@ def add_words(parser: ArgumentParser) -> None:
 
 def run(words: Namespace) -> None:
     disks = {number: made_device.disk_in(disk, "--disk") for number, disk in words.disk}
-    chunks = sorted(read(words.chunks), key=lambda it: it.start)
+    chunks = sorted(read_chunks(words.chunks), key=lambda it: it.start)
     if not chunks:
         raise Refusal(streams.name_of(words.chunks), "no chunks of a btrfs file system: " + ANEW)
     device = made_device.device_of(words.name, "", lines_of(chunks, disks, words.copy), made_device.part_of(words))
@@ -102,7 +102,7 @@ def run(words: Namespace) -> None:
     streams.out.write(tables.text_of([device], False))
 
 
-def read(path: str) -> List[Chunk]:
+def read_chunks(path: str) -> List[Chunk]:
     """The chunks that a text has. Each block of their tree says how many items or pointers it has, and a pointer names a block, so that a
     text without its end, or with a block that couldn't be read, is told from a whole one."""
     chunks: List[Chunk] = []
@@ -125,7 +125,7 @@ def read(path: str) -> List[Chunk]:
             if item and is_chunk:
                 chunks.append(Chunk(f"{source.name}:{source.number}", int(item[3])))
         elif is_chunk:
-            chunks[-1].take(row)
+            chunks[-1].take_row(row)
     if chunks and (any(lacking) or awaited or not lacking):
         source.refuse("the tree of chunks isn't all there: " + ANEW)
     return chunks
@@ -135,7 +135,7 @@ def lines_of(chunks: List[Chunk], disks: Dict[str, str], copy: int) -> Iterator[
     """The lines of the addresses, with `error` where no chunk is. Refuses chunks that overlap."""
     end = 0
     for chunk in chunks:
-        line = chunk.line(disks, copy)
+        line = chunk.table_line(disks, copy)
         if line.start < end:
             chunk.refuse("it begins before the end of another: " + ANEW)
         if line.start > end:

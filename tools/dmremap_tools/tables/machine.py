@@ -73,16 +73,16 @@ class MachineDevice(tables.Device):
         self.is_described = self.is_encrypted = self.is_store = False
         self.origins: List[str] = []
 
-    def leave(self, why: str) -> None:
+    def leave_out(self, why: str) -> None:
         """Leaves it out, for the first reason that there is."""
         self.why = self.why or why
 
-    def add(self, text: str) -> None:
+    def add_line(self, text: str) -> None:
         """Adds a line of its table, START LENGTH TARGET .., or leaves the device out if dmremap takes no such line."""
         words = text.split()
         start, length = [numbers.read(it) for it in words[:2]] if len(words) > 2 else (None, None)
         if start is None or length is None:
-            return self.leave("a line of its table is none: " + quoting.shown(text))
+            return self.leave_out("a line of its table is none: " + quoting.shown(text))
         target, words = words[2], words[3:]
         if target in ("snapshot", "snapshot-merge"):
             self.origins += words[:1]
@@ -91,15 +91,15 @@ class MachineDevice(tables.Device):
             target, words = "linear", words[3:5]
         line = tables.Line(start, length, target, words)
         if start != (self.end() if self.lines else 0):
-            self.leave("its lines don't follow each other")
+            self.leave_out("its lines don't follow each other")
         self.lines.append(line)
         if target not in tables.TARGETS:
-            self.leave(quoting.shown(target))
+            self.leave_out(quoting.shown(target))
         elif (line.fault() or not 0 < length <= numbers.LONGEST_DEVICE - start
               or not all(map(MAJOR_MINOR.fullmatch, line.lowers()))):
-            self.leave(quoting.shown(text))
+            self.leave_out(quoting.shown(text))
 
-    def has(self, *targets: str) -> bool:
+    def has_only(self, *targets: str) -> bool:
         """Whether all its lines are of these targets."""
         return all(line.target in targets for line in self.lines)
 
@@ -114,7 +114,7 @@ class Machine:
         """The devices with these numbers, but for disks and those that are left out."""
         return [self.devices[it] for it in numbered if it in self.devices and not self.devices[it].why]
 
-    def length(self, number: str) -> Optional[int]:
+    def sectors_of(self, number: str) -> Optional[int]:
         """The sectors of a device or a disk, or None where nothing says so."""
         device = self.devices.get(number)
         if device and device.lines and (not device.why or number not in self._sizes):
@@ -140,7 +140,7 @@ class Machine:
         for number in self.devices.keys() - asked:
             self.devices[number].why = NOT_ASKED
 
-    def settle(self) -> None:
+    def judge(self) -> None:
         """Leaves out what dmremap would refuse. Each device is judged once, after those that it stands on."""
         begun: Set[str] = set()
         waiting = list(self.devices.values())[::-1]
@@ -152,9 +152,9 @@ class Machine:
                 waiting.pop()
             elif device.number in begun:
                 device.level = 1 + max((it.level for it in lowers), default=0)
-                is_plain = device.flags != "ro" and device.has("linear", "striped")
+                is_plain = device.flags != "ro" and device.has_only("linear", "striped")
                 device.is_store = is_plain and all(it.is_store for it in lowers)
-                device.why = TOO_DEEP if device.level > DEEPEST else self._fault(device)
+                device.why = TOO_DEEP if device.level > DEEPEST else self._fault_of_lines(device)
             else:
                 begun.add(device.number)
                 if begun.isdisjoint(it.number for it in left):
@@ -162,30 +162,30 @@ class Machine:
                 else:
                     device.why = TOO_DEEP
 
-    def _fault(self, device: MachineDevice) -> str:
+    def _fault_of_lines(self, device: MachineDevice) -> str:
         """Why dmremap would refuse a device that stands on others, or nothing."""
         if device.end() != self._sizes.get(device.number, device.end()):
             return "lsblk and its table differ in its length"
         for lower, start, count in (span for line in device.lines for span in line.spans()):
-            length = self.length(lower)
+            length = self.sectors_of(lower)
             if not length:
                 return f"lsblk has no length of {lower}"
             if length > numbers.LONGEST_DEVICE:
                 return f"dmremap takes no disk as long as {lower}"
             if start + (count or 0) > length:
                 return f"it goes past the end of {quoting.shown(self.lower(lower))}"
-        if device.has("linear", "striped", "zero", "error"):
+        if device.has_only("linear", "striped", "zero", "error"):
             return ""
         if len(device.lines) > 1:
             return "a snapshot beside other lines"
-        if device.end() != self.length(device.lowers()[0]):
+        if device.end() != self.sectors_of(device.lowers()[0]):
             return "it is not as long as its origin"
-        return self._fault_of_store(*device.lines[0].words[1:]) if device.has("snapshot") else ""
+        return self._fault_of_store(*device.lines[0].words[1:]) if device.has_only("snapshot") else ""
 
     def _fault_of_store(self, store: str, kind: str, said: str) -> str:
         """Why it would refuse a snapshot for its store, whose kind and sectors of a chunk are as its line says, or
         nothing."""
-        chunk, length = int(said), self.length(store) or 0
+        chunk, length = int(said), self.sectors_of(store) or 0
         if chunk & (chunk - 1) or not 0 < chunk <= MOST_IN_CHUNK:
             return f"its chunks have {chunk} sectors"
         if not all(it.is_store for it in self.kept([store])):
@@ -228,16 +228,16 @@ def run(words: argparse.Namespace) -> None:
             raise Refusal("--store", f"no snapshot {quoting.shown(name)}: give a name that LS has")
     for device in devices.values():
         if not device.lines:
-            device.leave("no table")
+            device.leave_out("no table")
         if device.origins and not is_known.get(device.name):
-            device.leave("its store has copies, and nothing says of which chunks" if device.name in is_known
+            device.leave_out("its store has copies, and nothing says of which chunks" if device.name in is_known
                          else "`dmsetup status` says nothing of it")
     if words.only:
         stack.keep_only(words.only)
-    stack.settle()
+    stack.judge()
     kept = stack.kept(devices)
     lowers = [it for device in kept for it in device.lowers() if not stack.kept([it])]
-    disks = {stack.lower(it): stack.length(it) for it in lowers}
+    disks = {stack.lower(it): stack.sectors_of(it) for it in lowers}
     say_left_out(stack, kept, disks)
     if not kept:
         raise Refusal(streams.name_of(words.table), "no device is left that dmremap can follow: see above what was left out")
@@ -268,7 +268,7 @@ def read_tables(path: str, devices: Dict[str, MachineDevice]) -> bool:
             continue
         device.flags, device.is_described = flags, True
         for line in filter(None, lines):
-            device.add(line)
+            device.add_line(line)
     return is_concise
 
 
@@ -339,7 +339,7 @@ def say_left_out(stack: Machine, kept: List[MachineDevice], disks: Dict[str, Opt
         elif device.is_encrypted and not device.why:
             streams.tell(f"encrypted: the sectors below {device.name}, whose lines of crypt are linear here")
     for device in kept:
-        origin = device.lowers()[0] if device.has("snapshot-origin") else ""
+        origin = device.lowers()[0] if device.has_only("snapshot-origin") else ""
         of_it = [it for it in left_out if origin in it.origins] + [it for it in left_out if not it.is_described]
         for other in of_it if origin else ():
             streams.tell(f"kept: {device.name}, without {quoting.shown(other.name)}, which {'is' if other.origins else 'may be'} a snapshot "

@@ -58,7 +58,10 @@ def run(words: argparse.Namespace) -> None:
     files = [word for word in (words.examined, words.file) if word is not None]
     if not words.member and not files or words.member and len(files) > 1:
         raise WrongWords("give EXAMINED, or the members with --member")
-    place, members = ("--member", members_in(words.member)) if words.member else examine.members(files.pop(0), sizes)
+    if words.member:
+        place, members = "--member", members_in(words.member)
+    else:
+        place, members = examine.printed_members(files.pop(0), sizes)
     array = NamedArray(place, members, _said_of_members(words.path, "--path MEMBER=DISK"), sizes)
     if words.name is not None:
         name = names.Names().device(words.name, "--name")
@@ -130,7 +133,7 @@ class NamedArray(Array):
         return self.by_role[role]
 
     @functools.lru_cache(maxsize=None)
-    def beginning(self, role: int) -> Tuple[str, int]:
+    def data_start(self, role: int) -> Tuple[str, int]:
         """A member's disk, and its first sector of data."""
         member = self.member(role)
         name = self._disks.get(member.device.name, member.device.name)
@@ -138,24 +141,24 @@ class NamedArray(Array):
             self.refuse("no name of a disk, give --path %s=DISK" % quoting.shown(name))
         return name, member.superblock.start
 
-    def spot(self, role: int, row: int = 0) -> List[str]:
-        disk, start = self.beginning(role)
+    def disk_words(self, role: int, row: int = 0) -> List[str]:
+        disk, start = self.data_start(role)
         return [disk, str(start + row)]
 
-    def whole(self, role: int) -> int:
+    def whole_chunk_sectors(self, role: int) -> int:
         """The same, where metadata 0.90 may not say how long a member is."""
         member = self.member(role)
         if member.superblock.length == examine.UNSAID:
             self.refuse("metadata 0.90 doesn't say how long a member is, give --sectors %s=SECTORS"
                         % quoting.shown(member.device.name))
-        return super().whole(role)
+        return super().whole_chunk_sectors(role)
 
     def lines_of(self, copy: Optional[int]) -> Iterator[tables.Line]:
         """The lines of the array, of this copy or of the first that is there."""
         near, far, is_offset = self.copies
         if self.level == "raid1":
             role = min(self.by_role) if copy is None else copy
-            return iter([tables.Line(0, self.best.superblock.used, "linear", self.spot(role))])
+            return iter([tables.Line(0, self.best.superblock.used, "linear", self.disk_words(role))])
         if self.level in ("raid5", "raid6"):
             self.refuse(f"{self.level}, whose chunks {FOLLOW}")
         if not self.is_tabled:
@@ -210,7 +213,7 @@ def _followed_runs(array: NamedArray, piece: pieces.Piece, first: int) -> Iterat
             places = [array.place(number, copy) for copy in order]
             role, row = next((it for it in places if it[0] in array.by_role), places[0])
             if piece.what == "R" or role in array.by_role:
-                disk, start = array.beginning(role)
+                disk, start = array.data_start(role)
                 yield disk, start + row * array.chunk + at, count
 
 
