@@ -7,8 +7,7 @@ from collections import Counter
 from operator import add
 from typing import Dict, Iterator, List, Optional, Sequence, Tuple
 
-from dmremap_tools.base import pieces, streams
-from dmremap_tools.base import svg
+from dmremap_tools.base import pieces, streams, svg
 from dmremap_tools.base.refusal import Refusal
 
 COLUMNS, ROWS, CELL, MARGIN = 450, 150, 2, 20

@@ -12,8 +12,7 @@ import itertools
 from argparse import ArgumentParser, Namespace
 from typing import Dict, List, Set, Tuple
 
-from dmremap_tools.base import quoting, streams
-from dmremap_tools.base import svg
+from dmremap_tools.base import quoting, streams, svg
 from dmremap_tools.base.refusal import Refusal
 from dmremap_tools.layouts.spans import END, MEET, Span, kind_of
 

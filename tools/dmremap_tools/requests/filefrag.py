@@ -23,8 +23,7 @@ import re
 from argparse import ArgumentParser, Namespace
 from typing import Dict, Iterable, Iterator, Set, Tuple
 
-from dmremap_tools.base import names, numbers, quoting, requests, streams, tables
-from dmremap_tools.base import made_device
+from dmremap_tools.base import made_device, names, numbers, quoting, requests, streams, tables
 from dmremap_tools.base.refusal import WrongWords
 
 EXAMPLE = "filefrag -s -v -b512 /mnt/report.odt | dmremap-tools filefrag vg0-lv0 | dmremap map lvm vg0.backup"

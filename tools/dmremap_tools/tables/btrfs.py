@@ -13,8 +13,7 @@ import re
 from argparse import ArgumentParser, Namespace
 from typing import Dict, Iterator, List, NoReturn, Set
 
-from dmremap_tools.base import numbers, streams, tables
-from dmremap_tools.base import made_device
+from dmremap_tools.base import made_device, numbers, streams, tables
 from dmremap_tools.base.refusal import Refusal
 
 EXAMPLE = "dmremap-tools btrfs --name btrfs --disk 1 /dev/sda chunks.txt > btrfs.table"

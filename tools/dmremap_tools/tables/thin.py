@@ -17,8 +17,7 @@ metadata that is damaged, a device that it doesn't have, and blocks past the end
 from argparse import ArgumentParser, Namespace
 from typing import Iterator, List
 
-from dmremap_tools.base import numbers, quoting, streams, tables
-from dmremap_tools.base import made_device
+from dmremap_tools.base import made_device, numbers, quoting, streams, tables
 from dmremap_tools.base.numbers import SECTOR
 from dmremap_tools.base.refusal import Refusal, WrongWords
 from dmremap_tools.model.device import ZEROS, Device, Image, Missing, joined
