@@ -42,6 +42,13 @@ class ToldToEnd(BaseException):
     """A signal told the command to end: its number."""
 
 
+class HelpFormatter(argparse.RawDescriptionHelpFormatter):
+    """Formats a help for so many columns, however wide the terminal is."""
+
+    def __init__(self, prog: str) -> None:
+        super().__init__(prog, width=COLUMNS - 2)
+
+
 class Parser(argparse.ArgumentParser):
     """Reads the words of a command. Help goes to standard output, as everything else that is asked for."""
 
@@ -92,6 +99,7 @@ def run(words: List[str]) -> int:
 
 
 def _run(command: "commands.Command | None", name: str, words: List[str]) -> int:
+    """Runs a command with the words behind its name, or prints the overview, and returns the status."""
     if command:
         module = importlib.import_module("dmremap_tools." + command.module)
         try:
@@ -120,13 +128,15 @@ def _told_to_end(number: int, _: object) -> NoReturn:
 
 
 def _answer_signals(action: "signal.Handlers | Callable[[int, object], object]") -> None:
+    """Sets what a signal that tells the command to end does, where it isn't passed over."""
     for number in _heard:
         signal.signal(number, action)
 
 
 def parser_of(command: "commands.Command", module: ModuleType, name: str) -> Parser:
+    """The parser of a command, whose help has the module's docstring and its example."""
     text = "%s\n\nexample:\n%s" % (_wrapped(module.__doc__ or ""), _example(module.EXAMPLE))
-    parser = Parser(prog=name, description=text, allow_abbrev=False, formatter_class=argparse.RawDescriptionHelpFormatter)
+    parser = Parser(prog=name, description=text, allow_abbrev=False, formatter_class=HelpFormatter)
     module.add_words(parser)
     return parser
 

@@ -37,14 +37,14 @@ READERS = [
     good("spans", ["--free"], ["d 9\ne 5\n", "a: 0 4 linear d 4\nb: 0 1 linear d 6\n"],
          "d 0 4 unnamed\nd 4 8 a 0 linear\nd 6 7 b 0 linear\nd 8 9 unnamed\ne 0 5 unnamed\n"),
     *(good("spans", it, ["", ""], "", "no disk and no device came\n") for it in ([], ["--free"], ["--clashes"], ["--align"])),
-    good("store", ["--size", "1"], [""], "", "no line came\n"),
+    good("store", ["--writes", "1"], [""], "", "no line came\n"),
     good("tree", [], [""], "", "no device came\n"),
     # Snapshots share an origin; a span that ended is met by none, also when it began late.
     good("spans", ["--clashes"], ["d 64\nx 99\ny 99\n", SHARED],
          "d 0 63 o p\nd 2 2 o a\nd 2 2 p a\nd 2 2 s a\nd 2 2 t a\nd 3 3 o b\nd 3 3 p b\nd 3 3 s b\nd 3 3 t b\n"),
     good("spans", ["--align"], ["d 9999\n", "a: 0 6953 linear d 2047\nb: 0 1952 linear d 2048\n"], "a begins at sector 2047 of d\n"),
-    good("spans", ["--align", "--to", "8"], ["d 99\n", "a: 0 8 linear d 0\nb: 0 8 zero\nb: 8 8 linear d 12\n"], "b begins at sector 12 of d\n"),
-    ("spans", ["--align", "--to", "0"], ["d 9\n", ""], "refused\n", "dmremap-tools spans: --to: give one sector or more\n", 2),
+    good("spans", ["--align", "--multiple", "8"], ["d 99\n", "a: 0 8 linear d 0\nb: 0 8 zero\nb: 8 8 linear d 12\n"], "b begins at sector 12 of d\n"),
+    ("spans", ["--align", "--multiple", "0"], ["d 9\n", ""], "refused\n", "dmremap-tools spans: --multiple: give one sector or more\n", 2),
     lost("picture", [], ["d 4 8 a\n"], "1:1: not a line of spans, give what `spans` prints: d 4 8 a"),
     lost("picture", [], ["refused\n"], "1:1: not a line of spans, give what `spans` prints: refused"),
     lost("picture", [], ["d 8 4 a 0 linear\n"], "1:1: not a line of spans, give what `spans` prints: d 8 4 a 0 linear"),
@@ -75,11 +75,11 @@ PICTURES = [
 ]
 
 STORES = [
-    good("store", ["--size", "1"], ["R a 0 800\nW a 0 9\nW b 8 8\nW a 16 8\n"], "a 3 40 16\nb 1 24 16\n"),
-    good("store", ["--kind", "N", "--chunk", "4", "--size", "1"], ["W a 3 2\n"], "a 2 8 0\n"),
-    lost("store", ["--size", "1"], ["W a 0 8\nx\n"], "1:2: not a request, give R or W, a device, a sector and how many: x"),
-    lost("store", ["--size", "1"], ["W a 18446744073709551616 8\n"], "1:1: give a whole number below 2^64, and not '18446744073709551616'"),
-    lost("store", ["--size", "1"], ["W a 0 18446744073709551615\n"], "1:1: the chunks lie too far apart to be counted in 128 MiB: give a larger --chunk"),
+    good("store", ["--writes", "1"], ["R a 0 800\nW a 0 9\nW b 8 8\nW a 16 8\n"], "a 3 40 16\nb 1 24 16\n"),
+    good("store", ["--kind", "N", "--chunk", "4", "--writes", "1"], ["W a 3 2\n"], "a 2 8 0\n"),
+    lost("store", ["--writes", "1"], ["W a 0 8\nx\n"], "1:2: not a request, give R or W, a device, a sector and how many: x"),
+    lost("store", ["--writes", "1"], ["W a 18446744073709551616 8\n"], "1:1: give a whole number below 2^64, and not '18446744073709551616'"),
+    lost("store", ["--writes", "1"], ["W a 0 18446744073709551615\n"], "1:1: the chunks lie too far apart to be counted in 128 MiB: give a larger --chunk"),
 ]
 
 
@@ -139,7 +139,7 @@ def check_full(tally, program, top):
     tally.same("stores of no table", got, 1, "", "dmremap-tools store: none: No such file or directory\n")
     for words, usage, why in (
             (["lvm", "none", "none"], "usage: FORMAT FILE [DISKS] [--requests REQUESTS]\n", "give DISKS, or leave it out with lvm"),
-            ([], "", "give FORMAT, FILE and DISKS, or --size REQUESTS"), (["--size", "none", "lvm", "none"], "", "--size needs no FORMAT, FILE and DISKS")):
+            ([], "", "give FORMAT, FILE and DISKS, or --writes REQUESTS"), (["--writes", "none", "lvm", "none"], "", "--writes needs no FORMAT, FILE and DISKS")):
         tally.same("stores by %s" % words, tool_calls.call(top, ["store", *words]), 2, "", "%sdmremap-tools store: %s\n" % (usage, why))
     got = tool_calls.call(top, ["store", "table", program.file("full/table", table), program.file("full/disks", disks), "--program", "no/where"])
     tally.same("stores by no program", got, 1, "", "dmremap-tools store: no/where: No such file or directory\n")
@@ -198,7 +198,7 @@ def check_sizes(tally, program, top):
         status = statuses_after(program, "s: 0 4096 snapshot base cow %s %d\n" % (kind, chunk), "base 4096\ncow 9999\n", requests)["s"]
         used, own = re.fullmatch(r"(\d+)/9999 (\d+)", status).groups()
         chunks = {at // chunk for it in requests if it[0] == "W" for first, count in [map(int, it.split()[2:])] for at in range(first, first + count)}
-        got = tool_calls.call(top, ["store", "--size", "-", "--kind", kind, "--chunk", str(chunk)], given="".join(requests))
+        got = tool_calls.call(top, ["store", "--writes", "-", "--kind", kind, "--chunk", str(chunk)], given="".join(requests))
         tally.same("the store that %d writes in chunks of %d fill" % (len(requests), chunk), got, 0, "s %d %s %s\n" % (len(chunks), used, own))
 
 

@@ -19,13 +19,13 @@ from tool_calls import TOOL, call, read, samples
 # that end in `<` are given as standard input.
 CALLS = {
     "filefrag": ["vg0-lv0", "extents.txt"],
-    "trace": ["--times", "beside", "ls.txt", "vg0.table", "blkparse.txt"],
+    "trace": ["--write-times", "beside", "ls.txt", "vg0.table", "blkparse.txt"],
     "cut": ["in-bytes"],
     "machine": ["--disks", "beside", "ls.txt", "status.txt", "lsblk.txt", "concise.txt"],
     "elsewhere": ["--paths", "paths.txt", "vg0.concise"],
     "metadata": ["vg0-head.img"],
     "lvm2-text": ["--program", "./dmremap", "vgm.backup"],
-    "report": ["--times", "times", "--disks", "stack.disks", "--plot", "beside", "pieces.txt"],
+    "report": ["--times", "times", "--lengths", "stack.disks", "--plot", "beside", "pieces.txt"],
     "dd": ["--program", "./dmremap", "--image", "image", "--requests", "image.requests", "table", "image.table", "image.disks"],
     "spans": ["stack.disks", "stack.table"],
     "tree": ["stack.table"],
@@ -33,21 +33,21 @@ CALLS = {
     "store": ["--program", "./dmremap", "--fresh", "--requests", "writes", "table", "snap.table", "snap.disks"],
     "md": ["--name", "md0", "raid1.txt"],
     "thin": ["--data", "tdata", "--device", "1", "vg0-thin1", "4000", "thin.meta"],
-    "btrfs": ["--name", "fs", "--device", "1", "/dev/sda", "--device", "2", "/dev/sdb", "chunks.txt"],
+    "btrfs": ["--name", "fs", "--disk", "1", "/dev/sda", "--disk", "2", "/dev/sdb", "chunks.txt"],
     "picture": ["spans"],
 }
 # Other ways to call a command, in which it reads other inputs.
 WAYS = [
-    ("filefrag", ["--debugfs", "super.txt", "--device", "i", "--size", "31981568", "vg0-lv0", "ex.txt"]),
+    ("filefrag", ["--debugfs", "super.txt", "--name", "i", "--size", "31981568", "vg0-lv0", "ex.txt"]),
     ("cut", ["--bytes", "in-bytes"]),
     ("trace", ["--fio", "ls.txt", "vg0.table", "fio.log"]),
-    ("trace", ["--lower", "--times", "beside", "lower.lsblk", "lower.disks", "lower.txt"]),
+    ("trace", ["--lower", "--write-times", "beside", "lower.lsblk", "lower.disks", "lower.txt"]),
     ("report", ["--compare", "lower.requests", "lower.pieces"]),
     ("spans", ["--free", "stack.disks", "stack.table"]),
     ("spans", ["--clashes", "clashes.disks", "clashes.table"]),
-    ("spans", ["--align", "--to", "4096", "stack.disks", "stack.table"]),
+    ("spans", ["--align", "--multiple", "4096", "stack.disks", "stack.table"]),
     ("tree", ["--dot", "stack.table"]),
-    ("store", ["--size", "writes"]),
+    ("store", ["--writes", "writes"]),
     ("thin", ["--cache", "cdata", "--origin", "corig", "--name", "home", "--sectors", "1000", "cache.meta"]),
 ]
 # What is made beside the samples.
@@ -284,7 +284,7 @@ def check_many(tally, top, folder):
                for it in range(MANY)]
     with open(os.path.join(folder, "moments"), "w") as it:
         it.writelines("%d.25\n" % number for number in range(MANY))
-    traced = [(["trace", "--times", "beside", "ls.txt", "vg0.table"], lines, "hello\n") for lines in (queued, events)]
+    traced = [(["trace", "--write-times", "beside", "ls.txt", "vg0.table"], lines, "hello\n") for lines in (queued, events)]
     made = [(words, answers, "s: 0 8 snapshot 16/64 16\n") for words in (["report"], ["report", "--times", "moments"])]
     fio = ["trace", "--fio", "ls.txt", "vg0.table"]
     for words, lines, other in [*traced, (fio, ["fio version 2 iolog\n"] + logged, "/dev/mapper/vg0-lv0 sync\n"), *made]:
@@ -308,7 +308,7 @@ def queued_line(dice):
 def check_interrupt(tally, top, folder):
     """Who interrupts a command, or tells it to end, has it end in silence. It spoils what it printed, and what it began to write
     beside is gone. A signal that is passed over, as nohup wants it, does nothing."""
-    words = ["trace", "--times", "times beside", "ls.txt", "vg0.table"]
+    words = ["trace", "--write-times", "times beside", "ls.txt", "vg0.table"]
     for before in None, b"as before\n":
         for number, status in ENDS:
             if before:
@@ -357,25 +357,25 @@ def check_outputs(tally, top, folder):
     kept = read(os.path.join(folder, "e"))
     said = TOOL + " trace: %s: it is read, too: give another file to write\n"
     for name in "e", "./e", "linked", "another name":
-        got = call(top, ["trace", "--times", name, "ls.txt", "vg0.table", "e"], folder=folder)
+        got = call(top, ["trace", "--write-times", name, "ls.txt", "vg0.table", "e"], folder=folder)
         tally.same("an input that is written as " + name, got, 2, "refused\n", said % name)
         tally.holds("what is left of it", read(os.path.join(folder, "e")) == kept, "it is another")
-    got = call(top, ["trace", "--times", "e", "ls.txt", "vg0.table", "-"], given=kept, folder=folder)
+    got = call(top, ["trace", "--write-times", "e", "ls.txt", "vg0.table", "-"], given=kept, folder=folder)
     tally.holds("times of standard input", got.status == 0 and got.out.startswith(b"R vg0-lv0 "), "status %s, %r" % (got.status, got.err))
     write(folder, "damaged", kept.replace(b" + 8 ", b" x 8 "))
     write(folder, "precious", b"precious\n")
     os.chmod(os.path.join(folder, "precious"), 0o640)
     os.symlink("precious", os.path.join(folder, "to precious"))
-    got = call(top, ["trace", "--times", "to precious", "ls.txt", "vg0.table", "damaged"], folder=folder)
+    got = call(top, ["trace", "--write-times", "to precious", "ls.txt", "vg0.table", "damaged"], folder=folder)
     tally.holds("a refusal", got.status == REFUSED and read(os.path.join(folder, "precious")) == b"precious\n", "status %s" % got.status)
-    got = call(top, ["trace", "--times", "to precious", "ls.txt", "vg0.table", "another name"], folder=folder)
+    got = call(top, ["trace", "--write-times", "to precious", "ls.txt", "vg0.table", "another name"], folder=folder)
     is_so = os.path.islink(os.path.join(folder, "to precious")) and os.stat(os.path.join(folder, "precious")).st_mode & 0o777 == 0o640
     tally.holds("a link that was given", is_so and read(os.path.join(folder, "precious")).count(b"."), "status %s, %r" % (got.status, got.err))
     with open(os.path.join(folder, "both"), "wb") as both:
-        got = call(top, ["trace", "--times", "both", "ls.txt", "vg0.table", "another name"], folder=folder, stdout=both.fileno())
+        got = call(top, ["trace", "--write-times", "both", "ls.txt", "vg0.table", "another name"], folder=folder, stdout=both.fileno())
     tally.same("a file beside that is standard output", got, 2, "", TOOL + " trace: both: standard output goes there, too: give another file\n")
     for name, why in ("", "No such file or directory"), ("none/", "Is a directory"), ("none/it", "No such file or directory"), (".", "Is a directory"):
-        got = call(top, ["trace", "--times", name, "ls.txt", "vg0.table", "another name"], folder=folder)
+        got = call(top, ["trace", "--write-times", name, "ls.txt", "vg0.table", "another name"], folder=folder)
         tally.same("a file beside that is %r" % name, got, FULL, "refused\n", "%s trace: %s: %s\n" % (TOOL, name, why))
     os.unlink(os.path.join(folder, "both"))
     ran = subprocess.Popen([*tool(top), "trace", "--times", "both", "ls.txt", "vg0.table", "another name"], stdout=subprocess.PIPE,
@@ -389,7 +389,7 @@ def check_outputs(tally, top, folder):
 
 def check_unsaid(tally, top, folder):
     """Where the message of a refusal can't be written either, what was printed is spoiled all the same."""
-    words = ["trace", "--times", "beside", "ls.txt", "vg0.table"]
+    words = ["trace", "--write-times", "beside", "ls.txt", "vg0.table"]
     for closed, wanted in (2, b"refused\n"), (1, b""):
         write(folder, "beside", b"as before\n")
         got = run(tool(top) + words, given=b"253,0 0 7 0.5 4101 Q R x + 16 [fio]\n", folder=folder, before=lambda it=closed: os.close(it))

@@ -14,8 +14,8 @@ from typing import Dict, Iterable, Iterator, List, NamedTuple, Optional, Sequenc
 from dmremap_tools.base import quoting, streams, written
 from dmremap_tools.base.numbers import SECTOR
 from dmremap_tools.base.refusal import Refusal
-from dmremap_tools.layouts import rescue_map
-from dmremap_tools.layouts.rescue_map import BAD, FINISHED, UNTRIED, Area
+from dmremap_tools.formats import rescue_map
+from dmremap_tools.formats.rescue_map import BAD, FINISHED, UNTRIED, Area
 from dmremap_tools.model.device import BLOCK, ZEROS, Device, Extent, Image, Lenient, Missing, Run, cut, read_blocks
 
 OF = re.compile(r"# Of (.*) of ([0-9]+) sectors, from (.*?)(?:, with ([0-9]+) maps)?")

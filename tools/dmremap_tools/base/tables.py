@@ -29,6 +29,7 @@ class Line:
         return range(2, most, 2) if self.target == "striped" else range(min(most, LOWERS.get(self.target, 0)))
 
     def lowers(self) -> List[str]:
+        """The disks and devices that its words name, with some twice."""
         return [self.words[it] for it in self.places()]
 
     def spans(self) -> Iterator[Tuple[str, int, Optional[int]]]:
@@ -70,9 +71,11 @@ class Device:
         self.lines: List[Line] = []
 
     def end(self) -> int:
+        """The sector after its last one."""
         return self.lines[-1].start + self.lines[-1].length
 
     def lowers(self) -> List[str]:
+        """What its lines name."""
         return [lower for line in self.lines for lower in line.lowers()]
 
 
@@ -114,7 +117,7 @@ def line_of(place: str, text: str) -> Line:
     return line
 
 
-def text_of(devices: List[Device], is_concise: bool) -> str:
+def text_of(devices: Sequence[Device], is_concise: bool) -> str:
     """Devices as table text or in the concise form, as dmremap reads it."""
     if is_concise:
         return ";".join(",".join([it.name, "", "", it.flags, *map(str, it.lines)]) for it in devices) + "\n"

@@ -28,7 +28,7 @@ from dmremap_tools.explaining import typed_words
 from dmremap_tools.explaining.input_files import Explanation
 from dmremap_tools.explaining.refusals import CopiedCommand, explain_words
 from dmremap_tools.explaining.request_path import LevelQueries, RequestPath
-from dmremap_tools.layers import stack
+from dmremap_tools.model import loaded_stack as stack
 from dmremap_tools.model import mapping
 
 EXAMPLE = "dmremap-tools explain map lvm vg0.backup 'R vg0-lv0 8000 16'"

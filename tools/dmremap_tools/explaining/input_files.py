@@ -5,7 +5,8 @@ import errno
 import re
 from typing import Any, Dict, Iterator, List, NamedTuple, Optional, Sequence, Tuple
 
-from dmremap_tools.base import disk_image, quoting, streams
+from dmremap_tools.base import quoting, streams
+from dmremap_tools.formats import disk_image
 from dmremap_tools.base.given import MOST_TEXT
 from dmremap_tools.explaining import remedies
 

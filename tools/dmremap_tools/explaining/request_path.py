@@ -11,15 +11,16 @@ import itertools
 import os
 from typing import Any, Collection, Dict, Iterator, List, NamedTuple, Optional, Tuple
 
-from dmremap_tools.base import names, paths, quoting, store_places, streams, tables
+from dmremap_tools.base import names, paths, quoting, streams, tables
+from dmremap_tools.formats import store_places
 from dmremap_tools.base.given import put
 from dmremap_tools.base.numbers import SECTOR
 from dmremap_tools.base.pieces import Mapped as Answering, Piece
 from dmremap_tools.base.refusal import Refusal
 from dmremap_tools.explaining.refusals import CopiedCommand
-from dmremap_tools.layers.stack import Stack
+from dmremap_tools.model.loaded_stack import Stack
 from dmremap_tools.model.device import Image, Missing, Part as DiskPart
-from dmremap_tools.model.mapping import Mapped, Tables, copy_store
+from dmremap_tools.model.mapping import MappedDevice as Mapped, Tables, copy_store
 
 TAKEN, NOT_TAKEN, TAKEN_NOW = "taken", "not taken yet", "taken now"
 SNAPSHOT, ORIGIN = "snapshot", "snapshot-origin"

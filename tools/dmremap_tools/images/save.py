@@ -30,10 +30,10 @@ from dmremap_tools.base import given, names, quoting, streams
 from dmremap_tools.base.numbers import SECTOR
 from dmremap_tools.base.refusal import INCOMPLETE, Refusal, WrongWords
 from dmremap_tools.images.save_by_tables import target_of
-from dmremap_tools.layers import stack
-from dmremap_tools.layouts import rescue_map
+from dmremap_tools.model import loaded_stack as stack
+from dmremap_tools.formats import rescue_map
 from dmremap_tools.model.device import Extent, joined, lacking
-from dmremap_tools.model.pile import Pile, Target
+from dmremap_tools.model.pile import NamedDevice as Target, Pile
 
 EXAMPLE = "dmremap-tools save vg0/home home.img sda.img sdb.img --resume home.map"
 USAGE = "usage: GROUP/VOLUME OUT IMAGE.., or VOLUME TARGET FORMAT FILE [DISKS]"

@@ -9,15 +9,15 @@ from typing import Dict, Iterator, List, Set
 from dmremap_tools.answers.saved import ANY, Absent, head_of
 from dmremap_tools.base import given, names, quoting, streams, written
 from dmremap_tools.base.numbers import SECTOR
-from dmremap_tools.base.paths import Place
+from dmremap_tools.base.paths import DiskPlace as Place
 from dmremap_tools.base.refusal import Refusal
-from dmremap_tools.layers import stack
-from dmremap_tools.layouts import rescue_map
+from dmremap_tools.model import loaded_stack as stack
+from dmremap_tools.formats import rescue_map
 from dmremap_tools.model.device import ZEROS, Device, Entry, Image, Overlaid, Part, Run
-from dmremap_tools.model.mapping import LoadedTables, Mapped
-from dmremap_tools.model.pile import Target
+from dmremap_tools.model.mapping import LoadedTables, MappedDevice as Mapped
+from dmremap_tools.model.pile import NamedDevice as Target
 from dmremap_tools.requests import filefrag
-from dmremap_tools.requests.filefrag import Extent
+from dmremap_tools.requests.filefrag import FileExtent as Extent
 
 
 def target_of(words: Namespace, folder: str) -> Target:

@@ -20,10 +20,10 @@ from dmremap_tools.base.given import put
 from dmremap_tools.base.numbers import SECTOR
 from dmremap_tools.base.program import NoProgram
 from dmremap_tools.base.refusal import Refusal
-from dmremap_tools.layouts import rescue_map
+from dmremap_tools.formats import rescue_map
 from dmremap_tools.model.device import Copies, Device, Image, Part, whole_run
 from dmremap_tools.model.layout import Layout
-from dmremap_tools.model.mapping import FILES, Mapped, Tables
+from dmremap_tools.model.mapping import FILES, MappedDevice, Tables
 from dmremap_tools.model.pile import Pile
 
 EXAMPLE = "dmremap-tools tables vg0 sda.img sdb.img --to vg0.tables"
@@ -96,6 +96,7 @@ class GroupTables(Tables):
         return made
 
     def _plain(self, name: bytes, called: str) -> Devices:
+        """The tables of what the segments of a volume have, under another name for it."""
         return self._renamed(self._layout.tables, self._layout.key_of(name), called)
 
     def _renamed(self, source: Tables, key: str, called: str) -> Devices:
@@ -134,7 +135,7 @@ class GroupTables(Tables):
             name = self._names.setdefault(device, f"disk{len(self.disks)}")
             self.disks[name] = device
             return name, start // SECTOR
-        if not isinstance(device, Mapped):
+        if not isinstance(device, MappedDevice):
             computed = f"{device.name} is computed, and no table can say how: use `save` or `serve`"
             raise Refusal(device.name, device.lack(0, device.size) or computed)
         called = self._arrays.setdefault(device, f"array-{len(self._arrays)}")
@@ -157,7 +158,7 @@ class GroupTables(Tables):
             streams.tell(f"dmremap reads the text of {quoting.shown(self._layout.name)} in its images")
             streams.out.write(f"dmremap map images {shlex.quote(listed)}\n")
             return
-        places = {name: absolute(image) for name, image in self.disks.items()}
+        places = {name: absolute(image) for name, image in self.disks.items() if isinstance(image, Image)}
         file, disks, listed = map(shlex.quote, self.write(folder, places))
         has_snapshots = any(line.target == "snapshot" for line in self.lines())
         streams.out.write(f"dmremap map table {file} {disks}" + f" --paths {listed}" * has_snapshots + "\n")

@@ -9,7 +9,7 @@ With --free, lines `unnamed` stand between: sectors that no line names. They nee
 without a device, or a partition table, swap space, or a volume that isn't active or was left out; `owner` asks the images.
 --clashes prints, in place of the ranges, every two that have sectors in common; `dmremap check` prints the first two alone. A
 line has what they lie on, the first and the last sector, and both devices. Snapshots may share an origin. --align prints the
-lines of devices that begin at no multiple of 2048 sectors, which is 1 MiB, or of --to SECTORS.
+lines of devices that begin at no multiple of 2048 sectors, which is 1 MiB, or of --multiple SECTORS.
 """
 
 import heapq
@@ -40,14 +40,14 @@ def add_words(parser: ArgumentParser) -> None:
     shown = parser.add_mutually_exclusive_group()
     shown.add_argument("--free", action="store_true", help="what no line names, too")
     shown.add_argument("--clashes", action="store_true", help="every two lines that have sectors in common")
-    shown.add_argument("--align", action="store_true", help="what begins at no multiple of 1 MiB, or of --to")
-    parser.add_argument("--to", type=numbers.word, default=2048, metavar="SECTORS",
+    shown.add_argument("--align", action="store_true", help="what begins at no multiple of 1 MiB, or of --multiple")
+    parser.add_argument("--multiple", type=numbers.word, default=2048, metavar="SECTORS",
                         help="with --align: the number whose multiples are meant")
 
 
 def run(words: Namespace) -> None:
-    if words.to == 0:
-        raise WrongWords("--to: give one sector or more")
+    if words.multiple == 0:
+        raise WrongWords("--multiple: give one sector or more")
     devices = devices_in(words.file)
     ends = tables.read_disks(words.disks)
     sizes = {**ends, **{names.MAPPER + it.name: it.end() for it in devices}}
@@ -66,7 +66,7 @@ def run(words: Namespace) -> None:
     if words.clashes:
         lines = clashes_in(spans, streams.name_of(words.file))
     elif words.align:
-        begun = (it for it in spans if it.kind != END and it.first % words.to)
+        begun = (it for it in spans if it.kind != END and it.first % words.multiple)
         lines = (f"{it.device} begins at sector {it.first} of {it.on}\n" for it in begun)
     else:
         lines = with_free(spans) if words.free else (LINE % it for it in spans)

@@ -78,7 +78,8 @@ class Copy:
     def content(self, given: bytes) -> bytes:
         """The copy of what was given, in which each key has the line that it had, and U+FFFD stands for what is no
         UTF-8."""
-        content, made, end = self.document.content, [], 0
+        made: List[bytes] = []
+        content, end = self.document.content, 0
         if b"\0" in given:
             self.say(len(content), "left out: the NUL here, and what comes after it")
         for at, text in [*self._kept_parts(self.document.top), (len(content), b"")]:
@@ -165,7 +166,7 @@ def group_of(copy: Copy) -> Group:
     values of one key. It puts sections of one key together; here that isn't done."""
     document = copy.document
     for section, node in document.twice:
-        counting = section.children[node.key]
+        counting = (section.children or {})[node.key]
         if node.children is not None or counting.children is not None:
             raise document.refused(counting.start, f"{shown(node.key)} is there twice, first in line "
                                    f"{document.line_at(node.start)}: put the two together")
@@ -191,7 +192,7 @@ def drop_volumes(copy: Copy, group: Group) -> None:
             copy.drop(volume.node, volume.why)
     without: Dict[Volume, List[bytes]] = {}
     for record in group.records:
-        origin = group.volumes.get(record.origin)
+        origin = group.volumes.get(record.origin or b"")
         if record.volume.why and origin and not origin.why:
             without.setdefault(origin, []).append(record.store or record.volume.name)
     for origin, snapshots in without.items():
@@ -223,7 +224,8 @@ def mend_group(copy: Copy, group: Group) -> None:
         _mend_part(copy, volume)
     for node in group.physicals.values():
         _mend_physical(copy, group, node)
-    for kind in (it.node.child(b"type") for volume in staying for it in volume.segments if it.kind == LINEAR):
+    kinds = (it.node.child(b"type") for volume in staying for it in volume.segments if it.kind == LINEAR)
+    for kind in filter(None, kinds):
         kind.items = [Item(b'"%s"' % STRIPED, kind.start)]
 
 
@@ -251,7 +253,9 @@ def _mend_physical(copy: Copy, group: Group, node: Node) -> None:
     missing = (b"device", b'""', "so that the disk has this name"), (b"dev_size", b"%d" % least, f"and {long}")
     for key, value, why in missing:
         if node.child(key) is None:
-            node.children[key] = Node(key, node.value_at, node.value_at, node.level + 1)
-            copy.change_value(node.children[key], value, f"{name} has none, {why}")
-    if size is not None and size < least:
-        copy.change_value(node.child(b"dev_size"), b"%d" % least, f"{name} {long}, and not {size}")
+            added = Node(key, node.value_at, node.value_at, node.level + 1)
+            node.add(added)
+            copy.change_value(added, value, f"{name} has none, {why}")
+    field = node.child(b"dev_size")
+    if field and size is not None and size < least:
+        copy.change_value(field, b"%d" % least, f"{name} {long}, and not {size}")

@@ -29,7 +29,7 @@ from dmremap_tools.base.numbers import SECTOR
 from dmremap_tools.base.refusal import Refusal, WrongWords
 from dmremap_tools.model import md_superblock
 from dmremap_tools.model.device import Device, Image, Lenient, Part
-from dmremap_tools.model.physical_volume import (EMPTY, MISSING, SEARCHED, Area, PhysicalVolume, Text,
+from dmremap_tools.model.physical_volume import (EMPTY, MISSING, SEARCHED, MetadataArea as Area, PhysicalVolume, Text,
                                                  leftover_in, texts_of_ring, volume_in)
 from dmremap_tools.model.pile import Pile, place_of
 from dmremap_tools.model.placed import image_of

@@ -10,7 +10,8 @@ import os
 from array import array
 from typing import Any, Callable, Dict, Iterable, Iterator, List, NamedTuple, Optional, Sequence, Tuple, TypeVar
 
-from dmremap_tools.base import disk_image, quoting, streams, written
+from dmremap_tools.base import quoting, streams, written
+from dmremap_tools.formats import disk_image
 from dmremap_tools.base.numbers import SECTOR
 from dmremap_tools.base.refusal import Refusal
 

@@ -5,7 +5,7 @@ import functools
 import re
 from typing import Callable, Iterable, Iterator, List, NamedTuple, Optional, Sequence, Set, Tuple
 
-from dmremap_tools.base.disk_image import file_system_of
+from dmremap_tools.formats.disk_image import file_system_of
 from dmremap_tools.base.numbers import SECTOR
 from dmremap_tools.base.refusal import Refusal
 from dmremap_tools.model.config_text import shown

@@ -12,11 +12,12 @@ import tempfile
 import weakref
 from typing import Any, Callable, Dict, Iterator, List, NamedTuple, NoReturn, Optional, Sequence, Tuple
 
-from dmremap_tools.base import names, numbers, paths, program, quoting, store_places, tables
+from dmremap_tools.base import names, numbers, paths, program, quoting, tables
 from dmremap_tools.base.given import put
 from dmremap_tools.base.numbers import SECTOR
 from dmremap_tools.base.program import NoProgram
 from dmremap_tools.base.refusal import Refusal
+from dmremap_tools.formats import store_places
 from dmremap_tools.model.config_text import shown
 from dmremap_tools.model.device import ZEROS, Device, Extent, Gap, Image, Lenient, Missing, whole_run
 from dmremap_tools.model.volume_group import Record
@@ -224,7 +225,7 @@ class Child:
         raise Refusal(quoting.shown(self._name), f"{said} (status {status}): see what `dmremap-tools explain` says")
 
 
-class Mapped(Device):
+class MappedDevice(Device):
     """A device of tables. One that is a snapshot has `chunks_used`, which says how many are in its store."""
 
     chunks_used: Optional[int] = None
@@ -293,12 +294,12 @@ def snapshot_of(layout: Any, record: Record) -> Device:
     source.add(NAME, [tables.Line(0, layout.size_of(origin) // SECTOR, "snapshot", words)])
     try:
         chunks = source.child_of(NAME).chunks[NAME]
-    except store_places.Unread as refusal:
+    except store_places.RefusedStore as refusal:
         raise Refusal(name, refusal.word == "read" and kept.lack(0, kept.size) or f"the store: {refusal.why}")
     fault = INVALID_SNAPSHOT if chunks is None else store_fault(kept, chunk, record.is_merging)
     if fault:
         raise Refusal(name, fault)
-    made = Mapped(name, source, NAME)
+    made = MappedDevice(name, source, NAME)
     made.chunks_used = chunks
     return made
 

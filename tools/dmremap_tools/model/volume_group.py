@@ -3,7 +3,8 @@
 import collections
 from typing import Dict, List, NamedTuple, Optional, Tuple
 
-from dmremap_tools.base import names, store_places
+from dmremap_tools.base import names
+from dmremap_tools.formats import store_places
 from dmremap_tools.model.config_text import Node, Value, shown
 
 # The types of segments that dmremap reads, and what lvm2 calls the first of them as well.

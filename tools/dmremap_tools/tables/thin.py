@@ -17,10 +17,9 @@ metadata that is damaged, a device that it doesn't have, and blocks past the end
 from argparse import ArgumentParser, Namespace
 from typing import Iterator, List
 
-from dmremap_tools.base import numbers, quoting, streams, tables
+from dmremap_tools.base import made_device, numbers, quoting, streams, tables
 from dmremap_tools.base.numbers import SECTOR
 from dmremap_tools.base.refusal import Refusal, WrongWords
-from dmremap_tools.layers import parts
 from dmremap_tools.model.device import ZEROS, Device, Image, Missing, joined
 from dmremap_tools.model.pools import CACHE, THIN, cached_device, superblock_of, thin_device
 
@@ -38,7 +37,7 @@ def add_words(parser: ArgumentParser) -> None:
     parser.add_argument("--origin", metavar="DISK", help="what is cached: the same")
     parser.add_argument("--name", metavar="NAME", help="the cached device")
     parser.add_argument("--sectors", metavar="SECTORS", type=numbers.word, help="its length")
-    parts.add_words(parser)
+    made_device.add_words(parser)
     parser.add_argument("metadata", metavar="METADATA", help="the metadata of the pool or cache, or an image of it")
 
 
@@ -50,8 +49,8 @@ def run(words: Namespace) -> None:
         made = [cached(words)]
     else:
         raise WrongWords("give --data and --device, or --cache, --origin, --name and --sectors")
-    name, part = quoting.shown(words.metadata), parts.part_of(words)
-    devices = [parts.device_of(it.name, "ro", lines_of(it, name), part) for it in made]
+    name, part = quoting.shown(words.metadata), made_device.part_of(words)
+    devices = [made_device.device_of(it.name, "ro", lines_of(it, name), part) for it in made]
     streams.out.write(tables.text_of(devices, True))
 
 
@@ -59,9 +58,9 @@ def thin_devices(words: Namespace) -> List[Device]:
     """The devices of a pool that are asked for."""
     wanted = [(streams.whole("--device", number), name, streams.whole("--device", sectors))
               for number, name, sectors in words.device]
-    below = {streams.whole("--external", number): parts.disk_in(disk, "--external") for number, disk in words.external}
+    below = {streams.whole("--external", number): made_device.disk_in(disk, "--external") for number, disk in words.external}
     sizes = [numbers.check_length("--device", sectors) * SECTOR for _, _, sectors in wanted]
-    data, meta = parts.disk_in(words.data, "--data"), Image(words.metadata)
+    data, meta = made_device.disk_in(words.data, "--data"), Image(words.metadata)
     superblock = superblock_of(meta, THIN)
     if words.metadata_snap and not superblock.held_root:
         raise Refusal(meta.name, "its pool holds no metadata for others: make it by `dmsetup message POOL 0 "
@@ -74,7 +73,7 @@ def thin_devices(words: Namespace) -> List[Device]:
 
 def cached(words: Namespace) -> Device:
     """The device over its cache."""
-    cache, origin = Device(parts.disk_in(words.cache, "--cache")), Device(parts.disk_in(words.origin, "--origin"))
+    cache, origin = Device(made_device.disk_in(words.cache, "--cache")), Device(made_device.disk_in(words.origin, "--origin"))
     meta, size = Image(words.metadata), numbers.check_length("--sectors", words.sectors) * SECTOR
     return cached_device(words.name, meta, superblock_of(meta, CACHE), origin, cache, size)
 

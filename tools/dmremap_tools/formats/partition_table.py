@@ -6,9 +6,9 @@ import zlib
 from collections import namedtuple
 from typing import List, NamedTuple, Optional
 
-from dmremap_tools.base.disk_image import Readable
 from dmremap_tools.base.numbers import SECTOR
 from dmremap_tools.base.refusal import Refusal
+from dmremap_tools.formats.disk_image import Readable
 
 GPT = b"EFI PART"
 # A GPT lies in the second sector, of which a disk may have either size.
@@ -28,7 +28,7 @@ FIRST_LOGICAL, LAST_LOGICAL, MOST_EMPTY = 5, 255, 100
 # The number that Linux gives a partition, and where its bytes are on the disk.
 Partition = NamedTuple("Partition", [("number", int), ("start", int), ("size", int)])
 # An entry of an MBR: its first byte, the type of a partition, its first sector, and its sectors.
-Entry = NamedTuple("Entry", [("flags", int), ("kind", int), ("start", int), ("size", int)])
+PartitionEntry = NamedTuple("PartitionEntry", [("flags", int), ("kind", int), ("start", int), ("size", int)])
 # A partition table: its kind, which copy was read of a GPT, the bytes of a sector, its partitions, what it takes
 # itself: starts and ends in bytes, how it is damaged, and the end of the disk, if it says that.
 Table = namedtuple("Table", "kind copy sector partitions taken fault end", defaults=(None, None))
@@ -86,7 +86,7 @@ def _gpt_at(image: Readable, place: int, sector: int, copy: str) -> Optional[Tab
     return Table("GPT", copy, sector, partitions, taken, None, (max(other, belongs) + 1) * sector)
 
 
-def _mbr_of(image: Readable, entries: List[Entry], size: int) -> Table:
+def _mbr_of(image: Readable, entries: List[PartitionEntry], size: int) -> Table:
     """The partitions of an MBR, whatever their type, and those inside all of its extended ones, as far as the image
     goes. All of them count in sectors of so many bytes. What a table inside says of partitions counts from itself, and
     what it says of the next table from the first. As with Linux, its third and fourth entry count only inside of the
@@ -94,7 +94,8 @@ def _mbr_of(image: Readable, entries: List[Entry], size: int) -> Table:
     runs = [(number, it.start, it.size) for number, it in enumerate(entries, 1) if it.size and it.kind not in EXTENDED]
     starts, seen, following = [0], set(), FIRST_LOGICAL
     for outer in filter(_is_extended, entries):
-        table, empty = outer, 0
+        table: Optional[PartitionEntry] = outer
+        empty = 0
         while table and table.start not in seen and empty < MOST_EMPTY:
             seen.add(table.start)
             inside = _entries_in(image.read(table.start * size, SECTOR))
@@ -113,12 +114,12 @@ def _mbr_of(image: Readable, entries: List[Entry], size: int) -> Table:
     return Table("MBR", "", size, partitions, [(it * size, it * size + SECTOR) for it in starts])
 
 
-def _entries_in(sector: bytes) -> List[Entry]:
+def _entries_in(sector: bytes) -> List[PartitionEntry]:
     """The four entries of a sector with an MBR, or none."""
     if len(sector) < SECTOR or sector[-2:] != MBR_MAGIC:
         return []
-    return list(map(Entry._make, MBR_ENTRY.iter_unpack(sector[MBR_ENTRIES:-2])))
+    return list(map(PartitionEntry._make, MBR_ENTRY.iter_unpack(sector[MBR_ENTRIES:-2])))
 
 
-def _is_extended(entry: Entry) -> bool:
+def _is_extended(entry: PartitionEntry) -> bool:
     return bool(entry.size) and entry.kind in EXTENDED

@@ -50,6 +50,7 @@ def broken_part(said: Any, area: int) -> Optional[str]:
 
 
 def _fits(value: Any, form: Any) -> bool:
+    """Whether a value of JSON has a form: a type, NUMBER, STRINGS, or an object with at least these members."""
     if isinstance(form, dict):
         return isinstance(value, dict) and all(_fits(value.get(name), inner) for name, inner in form.items())
     if form is STRINGS:

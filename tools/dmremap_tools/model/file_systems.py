@@ -15,9 +15,9 @@ from collections import namedtuple
 from typing import Callable, Collection, Dict, Iterable, Iterator, List, NamedTuple, Optional, Sequence, Set, Tuple
 
 from dmremap_tools.base import paths, program, quoting, streams
-from dmremap_tools.base.disk_image import EXT_AT, EXT_MAGIC
 from dmremap_tools.base.numbers import SECTOR
 from dmremap_tools.base.refusal import Refusal
+from dmremap_tools.formats.disk_image import EXT_AT, EXT_MAGIC
 from dmremap_tools.model.device import Lenient
 from dmremap_tools.model.placed import image_of
 
@@ -47,7 +47,7 @@ NCHECK = "ncheck" + " %d" % ROOT * 1000
 # Where copies of the superblock are, by the size of a block.
 COPIES = ((4096, 32768), (4096, 98304), (1024, 8193), (1024, 24577), (2048, 16384), (2048, 49152), (65536, 65528))
 # The options that debugfs is tried with: without any, and without bitmaps and sums, with the copies of the superblock.
-TRIES = [[], ["-c", "-n"], *(["-c", "-n", "-s", str(copy), "-b", str(size)] for size, copy in COPIES)]
+TRIES: List[List[str]] = [[], ["-c", "-n"], *(["-c", "-n", "-s", str(copy), "-b", str(size)] for size, copy in COPIES)]
 FIGURE = re.compile(r"^([A-Z][A-Za-z ]+):\s+(.*)$", re.M)
 GROUP = re.compile(r"^ Group +([0-9]{1,10}): block bitmap at {0}, inode bitmap at {0}, inode table at {0}$"
                    .replace("{0}", "([0-9]{1,20})"), re.M)
@@ -65,32 +65,32 @@ class NoSystem(Refusal):
     """Nothing is there that these programs read."""
 
 
-class Run(NamedTuple):
+class SectorRun(NamedTuple):
     """Sectors of the volume."""
 
     first: int
-    count: int
+    length: int
 
     def parts(self, sectors: int) -> Iterator[Tuple[int, int, int]]:
         """Its part of each block of so many sectors: the block, the first sector of the part, and the one after its last."""
-        end = self.first + self.count
+        end = self.first + self.length
         for block in self.blocks(sectors):
             yield block, max(self.first, block * sectors), min(end, (block + 1) * sectors)
 
     def blocks(self, sectors: int) -> range:
         """The blocks of so many sectors that it lies in."""
-        return range(self.first // sectors, (self.first + self.count - 1) // sectors + 1)
+        return range(self.first // sectors, (self.first + self.length - 1) // sectors + 1)
 
 
 class FileSystem:
     """A file system in an image, in which runs of sectors of a volume are asked for. Each kind finds out how many `sectors`
     a block has, the block after the last, the inodes that have blocks, the paths of inodes, and which are in use. It says
-    which inodes lie in sectors of a block, if that is one of a table of them, and what `other_use` there is of a block."""
+    which inodes lie in sectors of a block, if that is one of a table of them, and how a block is used without an inode."""
 
     inodes_at: Callable[[int, int, int], Optional[Iterable[int]]]
-    other_use: Callable[[int], str]
+    use_without_inode: Callable[[int], str]
 
-    def __init__(self, image: str, volume: str, runs: Sequence[Run]) -> None:
+    def __init__(self, image: str, volume: str, runs: Sequence[SectorRun]) -> None:
         self.image, self.volume, self.runs = image, volume, runs
         self.sectors = self.end = 0
         self.inodes: Dict[int, int] = {}
@@ -105,11 +105,12 @@ class FileSystem:
             return self._paths(self.inodes[block])
         inodes = self.inodes_at(block, first, end)
         if inodes is None:
-            return [self.other_use(block)]
+            return [self.use_without_inode(block)]
         files = [it for it in inodes if it in self.used_inodes or self.names.get(it)]
         return ["inode table: " + path for it in files for path in self._paths(it)] or ["inode table"]
 
     def _paths(self, inode: int) -> List[str]:
+        """The paths of an inode, or its number where it has none that is known."""
         return list(map(quoting.printable, self.names.get(inode, []))) or ["inode %d" % inode]
 
     def folders(self, paths: Iterable[str]) -> Set[str]:
@@ -134,7 +135,7 @@ class FileSystem:
         return sorted(found)
 
 
-def asked(words: Sequence[str], lines: Iterable[bytes]) -> Tuple[str, List[str]]:
+def answer_of(words: Sequence[str], lines: Iterable[bytes]) -> Tuple[str, List[str]]:
     """What a program prints that gets these lines, and what it complains of."""
     with tempfile.TemporaryFile() as file:
         file.writelines(line + b"\n" for line in lines)
@@ -143,20 +144,22 @@ def asked(words: Sequence[str], lines: Iterable[bytes]) -> Tuple[str, List[str]]
     return printed, said.splitlines()
 
 
-def tell(complaints: Sequence[str], name: str = "debugfs") -> None:
+def tell_complaints(complaints: Sequence[str], name: str = "debugfs") -> None:
     """Says what a program complains of, as far as that is not too much."""
     for complaint in complaints[:MOST_COMPLAINTS]:
         streams.tell(f"{name}: {quoting.shown(complaint)}")
 
 
-def refusal(image: str, name: str, complaints: Sequence[str], check: str) -> Refusal:
+def unreadable(image: str, name: str, complaints: Sequence[str], check: str) -> Refusal:
     """The refusal of an image that a program can't read, with the command that checks it."""
     reason = "; ".join(map(quoting.shown, complaints[:MOST_COMPLAINTS])) or "not enough"
     return Refusal(quoting.shown(image), f"{name} says: {reason}; see `{check}`")
 
 
 class XfsSystem(FileSystem):
-    def __init__(self, image: str, volume: str, runs: Sequence[Run]) -> None:
+    """Its blocks are asked for in `blockuse` of xfs_db, and the paths of its inodes in `ncheck`."""
+
+    def __init__(self, image: str, volume: str, runs: Sequence[SectorRun]) -> None:
         super().__init__(image, volume, runs)
         printed, complaints = self._ask(["sb 0", "print " + " ".join(Geometry._fields)])
         figures = {name: int(figure) for name, figure in XFS_FIGURE.findall(printed)}
@@ -164,13 +167,14 @@ class XfsSystem(FileSystem):
         is_block = SECTOR <= it.blocksize <= 1 << 16 and it.blocksize % SECTOR == 0
         is_inode = 0 < it.inodesize <= it.blocksize and max(it.agblklog, it.inopblog) < 64
         if len(figures) < len(it) or not is_block or not is_inode or not it.agblocks:
-            raise refusal(image, XFS_DB, complaints, "xfs_repair -n")
+            raise unreadable(image, XFS_DB, complaints, "xfs_repair -n")
         self.sectors, self.end = it.blocksize // SECTOR, it.dblocks
         self._kinds: Dict[int, str] = {}
         self._read_uses(self.blocks())
         self.names = self._read_names(sorted({*filter(None, self.inodes.values()), *self.tabled()}))
 
     def inodes_at(self, block: int, first: int, end: int) -> Optional[range]:
+        """The numbers of inodes have their group and its block in the upper bits."""
         if self._kinds.get(block) != "inode":
             return None
         geometry = self._geometry
@@ -180,7 +184,8 @@ class XfsSystem(FileSystem):
         stop = -(-(end * SECTOR - at) // geometry.inodesize)
         return range(begin + (first * SECTOR - at) // geometry.inodesize, begin + stop)
 
-    def other_use(self, block: int) -> str:
+    def use_without_inode(self, block: int) -> str:
+        """By the type that xfs_db gives the block."""
         kind = self._kinds[block]
         if kind == "unknown":
             return "no inode"
@@ -200,8 +205,8 @@ class XfsSystem(FileSystem):
             block = int(group) * per_group + int(place)
             self._kinds[block], self.inodes[block] = kind, int(inode or 0)
         if not self._kinds.keys() >= set(blocks):
-            raise refusal(self.image, XFS_DB, complaints or printed.splitlines(), "xfs_repair -n")
-        tell(complaints, XFS_DB)
+            raise unreadable(self.image, XFS_DB, complaints or printed.splitlines(), "xfs_repair -n")
+        tell_complaints(complaints, XFS_DB)
 
     def _read_names(self, inodes: Sequence[int]) -> Dict[int, List[str]]:
         """The path of each of these inodes that has one. A line that nobody can foretell stands between two answers, as
@@ -220,11 +225,12 @@ class XfsSystem(FileSystem):
         return found
 
     def _ask(self, commands: Sequence[str]) -> Tuple[str, List[str]]:
+        """What xfs_db prints for these commands, and what it complains of."""
         options = ["-r", *(["-f"] if os.path.isfile(self.image) else []), "-c", "source /dev/stdin"]
-        return asked([program.found(XFS_DB), *options, "--", self.image], map(str.encode, commands))
+        return answer_of([program.found(XFS_DB), *options, "--", self.image], map(str.encode, commands))
 
 
-def system_in(place: paths.Place, volume: str, runs: Sequence[Run]) -> FileSystem:
+def system_in(place: paths.DiskPlace, volume: str, runs: Sequence[SectorRun]) -> FileSystem:
     """The file system in an image of a volume, with the files that have these runs of sectors looked up."""
     disk, at = Lenient(image_of(place.path)), place.start
     image = place.path + f"?offset={at}" * bool(at)
@@ -250,7 +256,7 @@ class ExtSystem(FileSystem):
     """Where a system has what is its own, is as `stats` of debugfs prints it. It `is_sure` that each block in use is an
     inode's, or its own by what is known here."""
 
-    def __init__(self, image: str, volume: str, runs: Sequence[Run]) -> None:
+    def __init__(self, image: str, volume: str, runs: Sequence[SectorRun]) -> None:
         super().__init__(image, volume, runs)
         complaints: List[str] = []
         failed: Optional[streams.OutputFailed] = None
@@ -266,8 +272,8 @@ class ExtSystem(FileSystem):
             if is_answered:
                 break
         else:
-            raise failed or refusal(image, "debugfs", complaints, "e2fsck -n")
-        tell([str(failed)] * bool(failed) + complaints)
+            raise failed or unreadable(image, "debugfs", complaints, "e2fsck -n")
+        tell_complaints([str(failed)] * bool(failed) + complaints)
         if self._options:
             streams.tell("read by debugfs with " + " ".join(self._options))
         tabled = self.tabled()
@@ -286,7 +292,8 @@ class ExtSystem(FileSystem):
         found = range(group * self._per_table + begin + 1, group * self._per_table + stop + 1)
         return [it for it in found if it == ROOT or it >= self._first_inode]
 
-    def other_use(self, block: int) -> str:
+    def use_without_inode(self, block: int) -> str:
+        """By where the system keeps what is its own, and by its bitmaps where these can be read."""
         group, place = divmod(block - self._first, self._per_group)
         if place < self._head and group in self._backups or block < self._first or block in self._bitmaps:
             return "in use"
@@ -297,8 +304,9 @@ class ExtSystem(FileSystem):
         return "no inode" if self._is_sure else "in use"
 
     def folders(self, paths: Iterable[str]) -> Set[str]:
+        """Those that `stat` of debugfs calls folders."""
         files = [it for it in paths if it.startswith("/")]
-        answers = self._ask_many("stat " + quoted(it) for it in files)
+        answers = self._ask_many("stat " + debugfs_word(it) for it in files)
         return {file for file, answer in zip(files, answers) if FOLDER.search(answer)}
 
     def _take_layout(self, printed: str) -> bool:
@@ -330,7 +338,7 @@ class ExtSystem(FileSystem):
         self.inodes, done = {}, 0
         blocks = self.blocks()
         for some, printed, said in self._ask_for("icheck", blocks):
-            rows = dict(match.groups() for match in map(OWNED.fullmatch, printed.split("\n")) if match)
+            rows = {match[1]: match[2] for match in map(OWNED.fullmatch, printed.split("\n")) if match}
             complaints += said[:MOST_COMPLAINTS]
             if {int(it) for it in rows} != set(some):
                 return False
@@ -348,12 +356,13 @@ class ExtSystem(FileSystem):
         """The paths of each of these inodes, which may be none."""
         found: Dict[int, List[str]] = {it: [] for it in inodes}
         for _, printed, complaints in self._ask_for(NCHECK, [it for inode in inodes for it in (ROOT, inode)]):
-            tell(complaints)
+            tell_complaints(complaints)
             for match in map(NAMED.fullmatch, printed.split("\n")):
                 if match and int(match[1]) in found:
                     found[int(match[1])].append(match[2])
         pairs = [(inode, path) for inode, paths in found.items() for path in paths]
-        answers = itertools.chain(self._ask_many("imap " + quoted(path) for _, path in pairs), itertools.repeat(""))
+        said = self._ask_many("imap " + debugfs_word(path) for _, path in pairs)
+        answers = itertools.chain(said, itertools.repeat(""))
         for inode in {it for (it, _), answer in zip(pairs, answers) if LEADS_TO.findall(answer)[:1] != [str(it)]}:
             found[inode] = self._names_alone(inode)
         if ROOT in found:
@@ -366,7 +375,7 @@ class ExtSystem(FileSystem):
         printed = ("\n" + self._ask("-R", "%s %d" % (NCHECK, inode))[0]).partition(begin)[2]
         paths: List[str] = []
         for path in (re.sub("^/+", "/", it) for it in printed[:-1].split(begin)):
-            if paths and LEADS_TO.findall(self._ask("-R", "imap " + quoted(path))[0])[:1] != [str(inode)]:
+            if paths and LEADS_TO.findall(self._ask("-R", "imap " + debugfs_word(path))[0])[:1] != [str(inode)]:
                 paths[-1] += begin + path
             else:
                 paths.append(path)
@@ -374,7 +383,7 @@ class ExtSystem(FileSystem):
 
     def _ask(self, *request: str, lines: Iterable[bytes] = ()) -> Tuple[str, List[str]]:
         """What debugfs answers to -R and a request, or to -f and lines of requests, and what it complains of."""
-        printed, said = asked([program.found("debugfs"), *self._options, *request, "--", self.image], lines)
+        printed, said = answer_of([program.found("debugfs"), *self._options, *request, "--", self.image], lines)
         complaints = [it[len(ECHO):] if it.startswith(ECHO) else it for it in said]
         return printed, [it for it in complaints if not it.startswith("debugfs ") and not it.endswith(NOT_OPEN)]
 
@@ -398,6 +407,6 @@ class ExtSystem(FileSystem):
             yield from ("\n" + printed).split("\n" + ECHO)[1:]
 
 
-def quoted(path: str) -> str:
+def debugfs_word(path: str) -> str:
     """A path as a word of a request."""
     return '"%s"' % path.replace('"', '""')

@@ -8,9 +8,9 @@ import struct
 from typing import Callable, Dict, Iterator, List, NamedTuple, Tuple, Union
 
 from dmremap_tools.base import program
-from dmremap_tools.base.disk_image import BCACHE, BCACHE_AT, BCACHE_SECTOR, ZFS_AT, ZFS_MAGIC, Readable
 from dmremap_tools.base.numbers import SECTOR
 from dmremap_tools.base.refusal import Refusal
+from dmremap_tools.formats.disk_image import BCACHE, BCACHE_AT, BCACHE_SECTOR, ZFS_AT, ZFS_MAGIC, Readable
 
 # What a signature is of, and the byte at which it is.
 Signature = NamedTuple("Signature", [("kind", str), ("at", int)])
@@ -51,6 +51,7 @@ OTHERS = ("DM_integrity", "DM_verity_hash", "DM_snapshot_cow", "LVM1_member", "b
 
 
 def is_foreign(kind: str) -> bool:
+    """Whether libblkid calls so what has a device for itself and isn't followed here."""
     return kind in OTHERS or kind.endswith(MEMBER) and kind != FOLLOWED
 
 

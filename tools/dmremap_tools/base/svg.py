@@ -14,15 +14,18 @@ STYLE = 'font-family="DejaVu Sans Mono, monospace" font-size="12"'
 
 
 def head(width: int, height: int) -> str:
+    """What a picture of so many pixels begins with."""
     return ('<svg xmlns="http://www.w3.org/2000/svg" xmlns:xlink="http://www.w3.org/1999/xlink" width="%d" height="%d" %s>\n'
             '<rect width="100%%" height="100%%" fill="white"/>\n' % (width, height, STYLE))
 
 
 def text(x: float, y: float, content: str) -> str:
+    """Text whose base line begins at a place."""
     return '<text x="%.2f" y="%.2f">%s</text>\n' % (x, y, escaped(content))
 
 
 def escaped(content: str) -> str:
+    """Text as SVG has it."""
     return quoting.escaped(content).replace("&", "&amp;").replace("<", "&lt;").replace(">", "&gt;").replace('"', "&quot;")
 
 

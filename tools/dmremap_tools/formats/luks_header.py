@@ -6,9 +6,10 @@ import struct
 from collections import namedtuple
 from typing import NamedTuple, Optional
 
-from dmremap_tools.base import luks_text, numbers, streams
-from dmremap_tools.base.disk_image import Readable
+from dmremap_tools.base import numbers, streams
 from dmremap_tools.base.numbers import SECTOR
+from dmremap_tools.formats import luks_text
+from dmremap_tools.formats.disk_image import Readable
 
 MAGIC, SECOND_MAGIC = b"LUKS\xba\xbe", b"SKUL\xba\xbe"
 # Where the second header of version 2 may lie: the sizes that the first may have.
@@ -63,6 +64,7 @@ def container_in(image: Readable) -> Optional[Container]:
 
 
 def _header_at(image: Readable, place: int) -> Optional[Header]:
+    """The header of version 2 at a byte of an image, or None where none is sound there."""
     head = image.read(place, BINARY)
     if len(head) < BINARY:
         return None

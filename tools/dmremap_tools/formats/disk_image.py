@@ -61,6 +61,7 @@ class Readable(Protocol):
 
 
 def length_of(file: BinaryIO, path: str) -> int:
+    """The bytes of a file or a disk. Refuses what can't be read at any place, as a pipe."""
     try:
         return file.seek(0, 2)
     except OSError:

@@ -37,9 +37,9 @@ import re
 from typing import Dict, Iterable, List, Optional, Set, Tuple
 
 from dmremap_tools.base import names, numbers, paths, quoting, streams, tables
-from dmremap_tools.base.partition_table import Partition, backup_of, table_of
 from dmremap_tools.base.refusal import Refusal, WrongWords
-from dmremap_tools.base.store_places import MOST, is_chunk, places
+from dmremap_tools.formats.partition_table import Partition, backup_of, table_of
+from dmremap_tools.formats.store_places import MOST, is_chunk, places
 from dmremap_tools.model.device import Image, Lenient
 from dmremap_tools.model.physical_volume import label_of
 from dmremap_tools.model.placed import GIVE, check_places, image_of, label_at, pile_at
@@ -62,7 +62,7 @@ SD_MAJORS = [str(it) for it in (8, *range(65, 72), *range(128, 136))]
 PARTITION = re.compile(r"(?:.*/)?(?:(?:s|v|xv|h)d[a-z]+|.*[0-9]p|.*-part)[0-9]{1,10}")
 
 
-class Found(tables.Device):
+class MachineDevice(tables.Device):
     """A device that `dmsetup ls` has, and why it is left out, if it is. `origins` has what it is a snapshot of, whether
     dmremap can follow it or not, and `level`, once it is judged, how many devices stand on each other up to it."""
 
@@ -73,14 +73,16 @@ class Found(tables.Device):
         self.is_described = self.is_encrypted = self.is_store = False
         self.origins: List[str] = []
 
-    def leave(self, why: str) -> None:
+    def leave_out(self, why: str) -> None:
+        """Leaves it out, for the first reason that there is."""
         self.why = self.why or why
 
-    def add(self, text: str) -> None:
+    def add_line(self, text: str) -> None:
+        """Adds a line of its table, START LENGTH TARGET .., or leaves the device out if dmremap takes no such line."""
         words = text.split()
         start, length = [numbers.read(it) for it in words[:2]] if len(words) > 2 else (None, None)
         if start is None or length is None:
-            return self.leave("a line of its table is none: " + quoting.shown(text))
+            return self.leave_out("a line of its table is none: " + quoting.shown(text))
         target, words = words[2], words[3:]
         if target in ("snapshot", "snapshot-merge"):
             self.origins += words[:1]
@@ -89,29 +91,30 @@ class Found(tables.Device):
             target, words = "linear", words[3:5]
         line = tables.Line(start, length, target, words)
         if start != (self.end() if self.lines else 0):
-            self.leave("its lines don't follow each other")
+            self.leave_out("its lines don't follow each other")
         self.lines.append(line)
         if target not in tables.TARGETS:
-            self.leave(quoting.shown(target))
+            self.leave_out(quoting.shown(target))
         elif (line.fault() or not 0 < length <= numbers.LONGEST_DEVICE - start
               or not all(map(MAJOR_MINOR.fullmatch, line.lowers()))):
-            self.leave(quoting.shown(text))
+            self.leave_out(quoting.shown(text))
 
-    def has(self, *targets: str) -> bool:
+    def has_only(self, *targets: str) -> bool:
+        """Whether all its lines are of these targets."""
         return all(line.target in targets for line in self.lines)
 
 
-class Stack:
+class Machine:
     """The devices by their numbers, and the length and the path of each number that lsblk has."""
 
-    def __init__(self, devices: Dict[str, Found], sizes: Dict[str, Optional[int]], of: Dict[str, str]) -> None:
+    def __init__(self, devices: Dict[str, MachineDevice], sizes: Dict[str, Optional[int]], of: Dict[str, str]) -> None:
         self.devices, self._sizes, self._paths, self._counted = devices, sizes, of, 0
 
-    def kept(self, numbered: Iterable[str]) -> List[Found]:
+    def kept(self, numbered: Iterable[str]) -> List[MachineDevice]:
         """The devices with these numbers, but for disks and those that are left out."""
         return [self.devices[it] for it in numbered if it in self.devices and not self.devices[it].why]
 
-    def length(self, number: str) -> Optional[int]:
+    def sectors_of(self, number: str) -> Optional[int]:
         """The sectors of a device or a disk, or None where nothing says so."""
         device = self.devices.get(number)
         if device and device.lines and (not device.why or number not in self._sizes):
@@ -137,7 +140,7 @@ class Stack:
         for number in self.devices.keys() - asked:
             self.devices[number].why = NOT_ASKED
 
-    def settle(self) -> None:
+    def judge(self) -> None:
         """Leaves out what dmremap would refuse. Each device is judged once, after those that it stands on."""
         begun: Set[str] = set()
         waiting = list(self.devices.values())[::-1]
@@ -149,9 +152,9 @@ class Stack:
                 waiting.pop()
             elif device.number in begun:
                 device.level = 1 + max((it.level for it in lowers), default=0)
-                is_plain = device.flags != "ro" and device.has("linear", "striped")
+                is_plain = device.flags != "ro" and device.has_only("linear", "striped")
                 device.is_store = is_plain and all(it.is_store for it in lowers)
-                device.why = TOO_DEEP if device.level > DEEPEST else self._fault(device)
+                device.why = TOO_DEEP if device.level > DEEPEST else self._fault_of_lines(device)
             else:
                 begun.add(device.number)
                 if begun.isdisjoint(it.number for it in left):
@@ -159,27 +162,30 @@ class Stack:
                 else:
                     device.why = TOO_DEEP
 
-    def _fault(self, device: Found) -> str:
+    def _fault_of_lines(self, device: MachineDevice) -> str:
+        """Why dmremap would refuse a device that stands on others, or nothing."""
         if device.end() != self._sizes.get(device.number, device.end()):
             return "lsblk and its table differ in its length"
         for lower, start, count in (span for line in device.lines for span in line.spans()):
-            length = self.length(lower)
+            length = self.sectors_of(lower)
             if not length:
                 return f"lsblk has no length of {lower}"
             if length > numbers.LONGEST_DEVICE:
                 return f"dmremap takes no disk as long as {lower}"
             if start + (count or 0) > length:
                 return f"it goes past the end of {quoting.shown(self.lower(lower))}"
-        if device.has("linear", "striped", "zero", "error"):
+        if device.has_only("linear", "striped", "zero", "error"):
             return ""
         if len(device.lines) > 1:
             return "a snapshot beside other lines"
-        if device.end() != self.length(device.lowers()[0]):
+        if device.end() != self.sectors_of(device.lowers()[0]):
             return "it is not as long as its origin"
-        return self._fault_of_store(*device.lines[0].words[1:]) if device.has("snapshot") else ""
+        return self._fault_of_store(*device.lines[0].words[1:]) if device.has_only("snapshot") else ""
 
     def _fault_of_store(self, store: str, kind: str, said: str) -> str:
-        chunk, length = int(said), self.length(store) or 0
+        """Why it would refuse a snapshot for its store, whose kind and sectors of a chunk are as its line says, or
+        nothing."""
+        chunk, length = int(said), self.sectors_of(store) or 0
         if not is_chunk(chunk):
             return f"its chunks have {chunk} sectors"
         if not all(it.is_store for it in self.kept([store])):
@@ -199,20 +205,22 @@ def add_words(parser: argparse.ArgumentParser) -> None:
     numbers.add_sector_size(parser, "with --paths, the bytes of a sector of images with an MBR, which doesn't say so")
     for name, command in (("ls", "dmsetup ls"), ("status", "dmsetup status"), ("lsblk", names.LSBLK_COMMAND),
                           ("table", "dmsetup table --concise")):
-        parser.add_argument(name, metavar=name.upper(), nargs="?" if name == "lsblk" else None, help="what `%s` prints" % command)
+        nargs = "?" if name == "lsblk" else None
+        parser.add_argument(name, metavar=name.upper(), nargs=nargs,  # type: ignore[arg-type]
+                            help=f"what `{command}` prints")
 
 
 def run(words: argparse.Namespace) -> None:
     numbers.check_sector_size(words.sector_size)
     beside = streams.beside(words.disks)
-    devices = {number: Found(name, number) for name, number in names.read_ls(words.ls)}
+    devices = {number: MachineDevice(name, number) for name, number in names.read_ls(words.ls)}
     stored = [it.partition("=")[0] for it in words.store]
     statuses = names.rows_of(words.status, streams.rows(words.status), ROW, "dmsetup status")
     # Of each snapshot, whether nothing was copied to its store yet, or that is read.
     is_known = {name: len(status) == 5 and status[3].split("/")[0] == status[4]
                 for name, status in ((name, line.split()) for name, line in statuses if line) if status[2] == "snapshot"}
     is_known.update(dict.fromkeys(stored, True))
-    stack = Stack(devices, *lengths_of(words))
+    stack = Machine(devices, *lengths_of(words))
     is_concise = read_tables(words.table, devices)
     for name in stored:
         if not any(it.origins and it.name == name for it in devices.values()):
@@ -220,35 +228,35 @@ def run(words: argparse.Namespace) -> None:
             raise Refusal("--store", f"no snapshot {quoting.shown(name)}: give a name that LS has")
     for device in devices.values():
         if not device.lines:
-            device.leave("no table")
+            device.leave_out("no table")
         if device.origins and not is_known.get(device.name):
-            device.leave("its store has copies, and nothing says of which chunks" if device.name in is_known
+            device.leave_out("its store has copies, and nothing says of which chunks" if device.name in is_known
                          else "`dmsetup status` says nothing of it")
     if words.only:
         stack.keep_only(words.only)
-    stack.settle()
+    stack.judge()
     kept = stack.kept(devices)
     lowers = [it for device in kept for it in device.lowers() if not stack.kept([it])]
-    disks = {stack.lower(it): stack.length(it) for it in lowers}
+    disks = {stack.lower(it): stack.sectors_of(it) for it in lowers}
     say_left_out(stack, kept, disks)
     if not kept:
         raise Refusal(streams.name_of(words.table), "no device is left that dmremap can follow: see above what was left out")
-    beside.write("".join("%s %d\n" % it for it in disks.items()))
+    beside.write("".join(f"{disk} {sectors}\n" for disk, sectors in disks.items()))
     for device in kept:
         device.lines = [line.with_lowers(stack.lower) for line in device.lines]
     streams.out.write(tables.text_of(kept, is_concise))
 
 
-def read_tables(path: str, devices: Dict[str, Found]) -> bool:
+def read_tables(path: str, devices: Dict[str, MachineDevice]) -> bool:
     """Gives the devices their flags and lines, and says whether the text of these is the concise form."""
     rows = streams.rows(path)
     is_concise = any(map(IS_CONCISE.search, rows))
     found = []
     for place, row in enumerate(re.split(r"(?<!\\);", "\n".join(rows).rstrip("\n")) if is_concise else (), 1):
         match = DEVICE.fullmatch(row)
-        name, minor, flags, lines = match.groups("") if match else [""] * 4
+        name, minor, flags, listed = match.groups("") if match else [""] * 4
         told = f"device {place} of {streams.name_of(path)}, which `dmsetup ls` has not: {quoting.shown(row)}"
-        found.append((re.sub(r"\\([,;\\])", r"\1", name), minor, flags, re.split(r",(?=\d+ \d+ \S)", lines), told))
+        found.append((re.sub(r"\\([,;\\])", r"\1", name), minor, flags, re.split(r",(?=\d+ \d+ \S)", listed), told))
     for name, line in names.rows_of(path, rows, ROW, "dmsetup table") if not is_concise else ():
         found.append((name, "", "", [line], quoting.shown(name) + ", which `dmsetup ls` has not"))
     # In the concise form a number has to fit its name.
@@ -260,7 +268,7 @@ def read_tables(path: str, devices: Dict[str, Found]) -> bool:
             continue
         device.flags, device.is_described = flags, True
         for line in filter(None, lines):
-            device.add(line)
+            device.add_line(line)
     return is_concise
 
 
@@ -279,15 +287,15 @@ def lengths_of(words: argparse.Namespace) -> Tuple[Dict[str, Optional[int]], Dic
         known, length = sizes.get(number), sectors_at(place, image, partitions)
         sizes[number] = length
         if place.is_said and known not in (None, length):
-            raise Refusal(quoting.shown(path), "lsblk says that %s has %d sectors, and there it has %d: give its own image"
-                          % (quoting.shown(number), known, length))
+            raise Refusal(quoting.shown(path), f"lsblk says that {quoting.shown(number)} has {known} sectors, and there it has "
+                          f"{length}: give its own image")
         if place.is_said or length == known:
             continue
         major, _, minor = number.partition(":")
         is_of_sd = major in SD_MAJORS and minor.isdecimal()
         is_disk = is_of_sd and int(minor) % 16 == 0
         is_partition = is_of_sd and not is_disk or bool(PARTITION.fullmatch(number))
-        if known in (it.size // numbers.SECTOR for it in partitions):
+        if any(known == it.size // numbers.SECTOR for it in partitions):
             sizes[number] = known
         elif kind and (is_partition or known is None and not is_disk):
             raise Refusal(quoting.shown(path), f"the image of a whole disk ({kind}), and {quoting.shown(number)} "
@@ -306,7 +314,7 @@ def partitions_of(image: Image, sector: int) -> Tuple[str, List[Partition]]:
     return (table.kind, table.partitions) if table else ("", [])
 
 
-def sectors_at(place: paths.Place, image: Image, partitions: List[Partition]) -> int:
+def sectors_at(place: paths.DiskPlace, image: Image, partitions: List[Partition]) -> int:
     """The sectors of an image, or of the partition or the physical volume in it that begins at a place. Refuses a place
     at which neither does."""
     if not place.start:
@@ -320,7 +328,7 @@ def sectors_at(place: paths.Place, image: Image, partitions: List[Partition]) ->
     return sizes[0] // numbers.SECTOR
 
 
-def say_left_out(stack: Stack, kept: List[Found], disks: Dict[str, Optional[int]]) -> None:
+def say_left_out(stack: Machine, kept: List[MachineDevice], disks: Dict[str, Optional[int]]) -> None:
     """Says what is left out, what is encrypted, and which copies answers lack."""
     left_out = [it for it in stack.devices.values() if it.why]
     for device in stack.devices.values():
@@ -331,7 +339,7 @@ def say_left_out(stack: Stack, kept: List[Found], disks: Dict[str, Optional[int]
         elif device.is_encrypted and not device.why:
             streams.tell(f"encrypted: the sectors below {device.name}, whose lines of crypt are linear here")
     for device in kept:
-        origin = device.lowers()[0] if device.has("snapshot-origin") else ""
+        origin = device.lowers()[0] if device.has_only("snapshot-origin") else ""
         of_it = [it for it in left_out if origin in it.origins] + [it for it in left_out if not it.is_described]
         for other in of_it if origin else ():
             streams.tell(f"kept: {device.name}, without {quoting.shown(other.name)}, which {'is' if other.origins else 'may be'} a snapshot "

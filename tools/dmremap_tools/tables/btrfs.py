@@ -13,11 +13,10 @@ import re
 from argparse import ArgumentParser, Namespace
 from typing import Dict, Iterator, List, NoReturn, Set
 
-from dmremap_tools.base import numbers, streams, tables
+from dmremap_tools.base import made_device, numbers, streams, tables
 from dmremap_tools.base.refusal import Refusal
-from dmremap_tools.layers import parts
 
-EXAMPLE = "dmremap-tools btrfs --name btrfs --device 1 /dev/sda chunks.txt > btrfs.table"
+EXAMPLE = "dmremap-tools btrfs --name btrfs --disk 1 /dev/sda chunks.txt > btrfs.table"
 BLOCK = re.compile(r"(?:leaf|node) (\d{1,20}) (?:level \d+ )?items (\d{1,5}) free.* owner (\S+)")
 POINTER = re.compile(r"\s*key \(.*\) block (\d{1,20}) .*")
 CHUNK_TREE = ("CHUNK_TREE", "3")
@@ -42,9 +41,11 @@ class Chunk:
         raise Refusal(self.where, why)
 
     def sectors(self, count: int) -> int:
+        """So many bytes in sectors, which are refused if they are no whole ones."""
         return count // numbers.SECTOR if count % numbers.SECTOR == 0 else self.refuse("no whole sectors (%d bytes): %s" % (count, ANEW))
 
-    def take(self, row: str) -> None:
+    def take_row(self, row: str) -> None:
+        """Takes what a line of the text says of the chunk."""
         length, count, stripe = LENGTH.fullmatch(row), COUNT.fullmatch(row), STRIPE.fullmatch(row)
         if length:
             self.length, self.size, self.profile = int(length[1]), int(length[2]), length[3].split("|")[-1].upper()
@@ -53,7 +54,9 @@ class Chunk:
         elif stripe:
             self.stripes.append((stripe[1], int(stripe[2])))
 
-    def line(self, disks: Dict[str, str], copy: int) -> tables.Line:
+    def table_line(self, disks: Dict[str, str], copy: int) -> tables.Line:
+        """The line of one of its copies. Refuses a chunk of which the text lacks something, and a copy or a device that
+        isn't there."""
         start, length, copies = self.start, self.length, self.copies()
         if not length or not self.stripes or len(self.stripes) != self.count:
             self.refuse(f"a stripe of the chunk at {start} is missing: {ANEW}")
@@ -66,7 +69,7 @@ class Chunk:
         words: List[str] = []
         for device, offset in columns:
             if device not in disks:
-                self.refuse(f"device {device} of the file system isn't given: add --device {device} DISK")
+                self.refuse(f"device {device} of the file system isn't given: add --disk {device} DISK")
             words += [disks[device], str(self.sectors(offset))]
         first, count = self.sectors(start), self.sectors(length)
         if len(columns) == 1:
@@ -74,30 +77,31 @@ class Chunk:
         return tables.Line(first, count, "striped", [str(len(columns)), str(self.sectors(self.size)), *words])
 
     def copies(self) -> int:
+        """How many copies there are of each byte."""
         return 1 if self.profile in ("RAID0", *PARITY) else self.each if self.profile == "RAID10" else self.count
 
 
 def add_words(parser: ArgumentParser) -> None:
     parser.add_argument("--name", metavar="NAME", required=True, help="the device of the addresses")
-    parser.add_argument("--device", metavar=("NUMBER", "DISK"), nargs=2, action="append", required=True,
+    parser.add_argument("--disk", metavar=("NUMBER", "DISK"), nargs=2, action="append", required=True,
                         help="a device of the file system")
     parser.add_argument("--copy", metavar="N", type=numbers.word, default=0, help="which copy, counted from 0")
-    parts.add_words(parser)
+    made_device.add_words(parser)
     parser.add_argument("chunks", metavar="CHUNKS", help="what dump-tree printed")
 
 
 def run(words: Namespace) -> None:
-    disks = {number: parts.disk_in(disk, "--device") for number, disk in words.device}
-    chunks = sorted(read(words.chunks), key=lambda it: it.start)
+    disks = {number: made_device.disk_in(disk, "--disk") for number, disk in words.disk}
+    chunks = sorted(read_chunks(words.chunks), key=lambda it: it.start)
     if not chunks:
         raise Refusal(streams.name_of(words.chunks), "no chunks of a btrfs file system: " + ANEW)
-    device = parts.device_of(words.name, "", lines_of(chunks, disks, words.copy), parts.part_of(words))
+    device = made_device.device_of(words.name, "", lines_of(chunks, disks, words.copy), made_device.part_of(words))
     if words.copy >= max(1, *(it.copies() for it in chunks)):
         raise Refusal(streams.name_of(words.chunks), "no chunk has a copy %d, counted from 0: give a lower --copy" % words.copy)
     streams.out.write(tables.text_of([device], False))
 
 
-def read(path: str) -> List[Chunk]:
+def read_chunks(path: str) -> List[Chunk]:
     """The chunks that a text has. Each block of their tree says how many items or pointers it has, and a pointer names a block, so that a
     text without its end, or with a block that couldn't be read, is told from a whole one."""
     chunks: List[Chunk] = []
@@ -117,19 +121,20 @@ def read(path: str) -> List[Chunk]:
             awaited.update(pointer.groups() if pointer else ())
         if block or pointer or item:
             is_chunk = item is not None and item[2] == "CHUNK_ITEM"
-            if is_chunk:
+            if item and is_chunk:
                 chunks.append(Chunk(f"{source.name}:{source.number}", int(item[3])))
         elif is_chunk:
-            chunks[-1].take(row)
+            chunks[-1].take_row(row)
     if chunks and (any(lacking) or awaited or not lacking):
         source.refuse("the tree of chunks isn't all there: " + ANEW)
     return chunks
 
 
 def lines_of(chunks: List[Chunk], disks: Dict[str, str], copy: int) -> Iterator[tables.Line]:
+    """The lines of the addresses, with `error` where no chunk is. Refuses chunks that overlap."""
     end = 0
     for chunk in chunks:
-        line = chunk.line(disks, copy)
+        line = chunk.table_line(disks, copy)
         if line.start < end:
             chunk.refuse("it begins before the end of another: " + ANEW)
         if line.start > end:

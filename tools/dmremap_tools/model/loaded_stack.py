@@ -7,9 +7,10 @@ import os
 import stat
 from typing import Dict, Iterable, Iterator, List, NamedTuple, Optional, Set, Tuple
 
-from dmremap_tools.base import names, paths, program, quoting, store_places, streams, tables
+from dmremap_tools.base import names, paths, program, quoting, streams, tables
 from dmremap_tools.base.given import Given, put
 from dmremap_tools.base.refusal import Refusal
+from dmremap_tools.formats import store_places
 from dmremap_tools.model.placed import by_ids, disks_of, image_of
 
 NEXT = "--paths says where disks are, and --fresh takes every snapshot as new"
@@ -25,6 +26,7 @@ class Stack(NamedTuple):
     group: Optional[str] = None
 
     def by_path(self) -> Dict[str, tables.Device]:
+        """The devices by their paths below /dev/mapper."""
         return {names.MAPPER + it.name: it for it in self.devices}
 
     def length(self, name: str, file: str) -> int:
@@ -59,7 +61,7 @@ class Stack(NamedTuple):
 
 
 # The words with which dmremap maps; the whole stack, and where its disks are.
-Started = NamedTuple("Started", [("words", List[str]), ("loaded", Stack), ("places", Dict[str, paths.Place])])
+Started = NamedTuple("Started", [("words", List[str]), ("loaded", Stack), ("places", Dict[str, paths.DiskPlace])])
 
 
 def load(asked: str, given: Given, folder: str) -> Stack:
@@ -100,13 +102,13 @@ def start(words: argparse.Namespace, source: Given, devices: Optional[Iterable[s
             raise Refusal("the store of " + device.name, "it isn't persistent, so no disk says what is in it; --fresh takes it as new")
     if snapshots:
         lowest = part.below(it.lines[0].words[1] for it in snapshots)[1]
-        stores = {disk: places.get(disk) or paths.Place(disk) for disk in sorted(lowest)}
+        stores = {disk: places.get(disk) or paths.DiskPlace(disk) for disk in sorted(lowest)}
         here = {disk: place for disk, place in stores.items() if os.path.exists(place.path)}
         command += ["--paths", os.path.join(folder, "PATHS")]
         put(command[-1], rows_of(here))
         try:
             found = store_places.chunks_in(command, snapshots)
-        except store_places.Unread as refusal:
+        except store_places.RefusedStore as refusal:
             absent = quoting.some([quoting.shown(disk) for disk in stores if disk not in here])
             which = f" ({absent})" if refusal.word == "missing" else ""
             raise Refusal(refusal.where, f"{refusal.why}{which}; {NEXT}")
@@ -117,7 +119,7 @@ def start(words: argparse.Namespace, source: Given, devices: Optional[Iterable[s
     return Started(command, loaded, places)
 
 
-def rows_of(places: Dict[str, paths.Place]) -> Iterator[str]:
+def rows_of(places: Dict[str, paths.DiskPlace]) -> Iterator[str]:
     """PATHS, with these disks."""
     for disk, place in places.items():
         row = paths.line(disk, place.path, place.start)

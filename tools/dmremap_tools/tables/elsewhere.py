@@ -20,7 +20,7 @@ from typing import Dict, List, Optional
 
 from dmremap_tools.base import names, numbers, paths, quoting, streams, tables
 from dmremap_tools.base.refusal import Refusal, WrongWords
-from dmremap_tools.layers.stack import Stack
+from dmremap_tools.model.loaded_stack import Stack
 from dmremap_tools.model.placed import check_places, pile_at
 
 EXAMPLE = "dmremap concise lvm vg0.backup | dmremap-tools elsewhere --paths paths.txt > here.concise"
@@ -58,11 +58,12 @@ def run(words: argparse.Namespace) -> None:
         raise Refusal(streams.name_of(words.paths), "a device needs a path of its own: make one by losetup -r -o "
                       f"{place.start} {quoting.shown(place.path)}")
     path_of = {disk: place.path for disk, place in places.items()}
-    streams.out.write(tables.text_of(moved(name + ":1", devices, path_of, words.prefix, words.missing), True))
+    made = devices_elsewhere(name + ":1", devices, path_of, words.prefix, words.missing)
+    streams.out.write(tables.text_of(made, True))
 
 
-def moved(source: str, devices: List[tables.Device], path_of: Dict[str, str], prefix: str, target: Optional[str]
-          ) -> List[tables.Device]:
+def devices_elsewhere(source: str, devices: List[tables.Device], path_of: Dict[str, str], prefix: str,
+                      target: Optional[str]) -> List[tables.Device]:
     """Devices with other names and paths, after those of one line that stand for disks that are missing, as long as they are used.
     `source` is the text that names the disks."""
     taken = {prefix + device.name for device in devices}

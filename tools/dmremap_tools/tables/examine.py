@@ -43,7 +43,7 @@ class Printed:
     def refuse(self, why: str) -> NoReturn:
         raise Refusal(self.place, why)
 
-    def get(self, *keys: str) -> str:
+    def field(self, *keys: str) -> str:
         """The field that has the first of these keys; it is refused if there is none."""
         for key in keys:
             if key in self.fields:
@@ -52,14 +52,14 @@ class Printed:
 
     def number(self, *keys: str) -> int:
         """The number that such a field has, of sectors or of KiB."""
-        match = AMOUNT.fullmatch(self.get(*keys))
+        match = AMOUNT.fullmatch(self.field(*keys))
         if not match:
-            self.refuse("no number, %s: %s : %s" % (ANEW, keys[0], quoting.shown(self.get(*keys))))
+            self.refuse("no number, %s: %s : %s" % (ANEW, keys[0], quoting.shown(self.field(*keys))))
         return int(match[1])
 
     def superblock(self, number: int, sizes: Dict[str, int]) -> Superblock:
         """The superblock of the member that is printed as the one of this number; `sizes` has the sectors of paths."""
-        version, count, text = self.get("Version"), self.number("Raid Devices"), self.get("Raid Level")
+        version, count, text = self.field("Version"), self.number("Raid Devices"), self.field("Raid Level")
         is_old, level = bool(OLD_VERSION.fullmatch(version)), LEVELS.get(text)
         if version not in ("1.0", "1.1", "1.2") and not is_old:
             self.refuse(f"metadata of version {quoting.shown(version)}, and only 0.90 and 1.0 to 1.2 are known: "
@@ -68,9 +68,9 @@ class Printed:
             self.refuse(f"an md array of {quoting.shown(text)}, which nothing here follows: {START}")
         if not 0 < count <= MOST_DEVICES:
             self.refuse(f"no array has {count} devices: {ANEW}")
-        events = EVENTS.fullmatch(self.get("Events"))
+        events = EVENTS.fullmatch(self.field("Events"))
         if not events:
-            self.refuse("no number, %s: Events : %s" % (ANEW, quoting.shown(self.get("Events"))))
+            self.refuse("no number, %s: Events : %s" % (ANEW, quoting.shown(self.field("Events"))))
         features, (role, roles) = self._features(), self._roles(is_old, count)
         start = self.number("Data Offset") if "Data Offset" in self.fields else 0
         length, used = UNSAID if is_old else self.number("Avail Dev Size"), 0
@@ -81,9 +81,9 @@ class Printed:
         elif level > MIRRORED:
             used = 2 * self.number("Used Dev Size") if is_old else self.number("Used Dev Size", "Avail Dev Size")
         has_chunk = level not in (LINEAR, MIRRORED)
-        chunk = CHUNK.fullmatch(self.get("Chunk Size") if has_chunk else self.fields.get("Rounding", ""))
+        chunk = CHUNK.fullmatch(self.field("Chunk Size") if has_chunk else self.fields.get("Rounding", ""))
         return Superblock(
-            OLD if is_old else version, 0, self.get("Array UUID", "UUID").encode(), level, self._layout(text),
+            OLD if is_old else version, 0, self.field("Array UUID", "UUID").encode(), level, self._layout(text),
             2 * int(chunk[1]) if chunk else 0, count, start, length, used, int(events[1] or 0) << 32 | int(events[2]),
             MOST_DEVICES + number if role is None else role, role, roles, features, "", CLEAN, (0, 0, 0), 0, 0)
 
@@ -94,7 +94,7 @@ class Printed:
             mine = next((role for key, role, is_active in states if key == "this" and is_active), -1)
             gone = {role for key, role, is_active in states if key != "this" and not is_active}
         else:
-            match = ROLE.fullmatch(self.get("Device Role"))
+            match = ROLE.fullmatch(self.field("Device Role"))
             mine = int(match[1]) if match else -1
             # R is one that is being replaced, and whole until it is.
             letters = self.fields.get("Array State", "").split(" ")[0]
@@ -112,7 +112,7 @@ class Printed:
 
     def _features(self) -> int:
         """Its feature map. Refuses it if its sum is wrong, or data lies elsewhere than its fields say."""
-        if not self.get("Checksum").endswith(" - correct"):
+        if not self.field("Checksum").endswith(" - correct"):
             self.refuse("its sum is wrong: leave it out, or " + ANEW)
         said = self.fields.get("Feature Map", "0x0")
         features = int(said, 16) if FEATURES.fullmatch(said) else UNKNOWN
@@ -124,7 +124,7 @@ class Printed:
         return features
 
 
-def members(path: str, sizes: Dict[str, int]) -> Tuple[str, List[Member]]:
+def printed_members(path: str, sizes: Dict[str, int]) -> Tuple[str, List[Member]]:
     """Where a text begins to speak of an array, and the members that it has, each a device called by its path."""
     found: List[Printed] = []
     for number, row in enumerate(streams.rows(path), 1):

@@ -6,8 +6,9 @@ import re
 from argparse import ArgumentParser, Namespace
 from typing import Dict, List, NamedTuple, Sequence, Tuple
 
-from dmremap_tools.base import disk_image, numbers, quoting, streams, written
+from dmremap_tools.base import numbers, quoting, streams, written
 from dmremap_tools.base.refusal import Refusal, WrongWords
+from dmremap_tools.formats import disk_image
 
 FINISHED, BAD, UNTRIED = "+", "-", "?"
 # A map says first where ddrescue stands. An area has a position, a size and a status.
@@ -43,7 +44,7 @@ def add_words(parser: ArgumentParser) -> None:
                         help="take a map that begins or ends elsewhere than its image does")
 
 
-def pairs(given: Sequence[str], images: Sequence[str]) -> List[Tuple[str, str]]:
+def images_with_maps(given: Sequence[str], images: Sequence[str]) -> List[Tuple[str, str]]:
     """The image and the map of each word IMAGE=MAP. Both may have a `=` in them."""
     found: Dict[object, Tuple[str, str]] = {}
     for word in given:
@@ -59,17 +60,17 @@ def pairs(given: Sequence[str], images: Sequence[str]) -> List[Tuple[str, str]]:
 def unread_in(words: Namespace, images: Sequence[str]) -> Dict[str, List[Tuple[int, int]]]:
     """The runs of bytes that the maps of images don't have as finished, in whole sectors, by the images' paths."""
     found: Dict[str, List[Tuple[int, int]]] = {}
-    for path, map_path in pairs(words.map, images):
-        runs = unread(map_path, path, words.map_of_other_length)
+    for path, map_path in images_with_maps(words.map, images):
+        runs = unread_by_map(map_path, path, words.map_of_other_length)
         same = (image for image in images if written.identity_at(image) == written.identity_at(path))
         found.update(dict.fromkeys([path, *same], runs))
     return found
 
 
-def unread(map_path: str, image: str, is_any_length: bool) -> List[Tuple[int, int]]:
+def unread_by_map(map_path: str, image: str, is_any_length: bool) -> List[Tuple[int, int]]:
     """Those of one map, up to the end of its image. One of another length is refused, unless `is_any_length`: what lies
     before and behind its rows wasn't read."""
-    areas, size = read(map_path), size_of(image)
+    areas, size = read(map_path), image_size(image)
     begin, end = (areas[0].begin, areas[-1].end) if areas else (0, 0)
     if (begin, sectors(end)) != (0, sectors(size)) and not is_any_length:
         said = f"it is of the bytes {begin} to {end}, and {quoting.shown(image)} has {size}"
@@ -89,7 +90,8 @@ def sectors(size: int) -> int:
     return -(-size // numbers.SECTOR)
 
 
-def size_of(path: str) -> int:
+def image_size(path: str) -> int:
+    """The bytes of the image at a path."""
     try:
         with open(path, "rb", opener=lambda name, flags: os.open(name, flags | os.O_NONBLOCK)) as file:
             return disk_image.length_of(file, quoting.shown(path))

@@ -12,7 +12,7 @@ raid4, raid5 and raid6 in all their layouts, and of raid10 of all kinds. A read 
 one if that one is missing; a write is of each copy that is there.
 
 --path names a member's disk in the table, if that isn't its path. Metadata 0.90 of linear and raid0 doesn't say how
-long the members are: --size does. A member that is a spare, was away, or was dropped is left out. Refuses members that
+long the members are: --sectors does. A member that is a spare, was away, or was dropped is left out. Refuses members that
 differ in what they say of the array, that ran apart from each other, that are being reshaped or rebuilt, that have a
 journal or a wrong checksum, and what needs one that is missing. In answers it refuses writes beside parity, copies and
 fills, and what lies past the end.
@@ -25,11 +25,11 @@ from typing import Dict, Iterator, List, Optional, Sequence, Tuple
 
 from dmremap_tools.base import names, numbers, pieces, quoting, requests, streams, tables
 from dmremap_tools.base.refusal import Refusal, WrongWords
-from dmremap_tools.layers import examine
 from dmremap_tools.model.device import Device, Image, blocks_of
 from dmremap_tools.model.md_array import Array, apart, sides_of
 from dmremap_tools.model.md_chunks import PARITY
 from dmremap_tools.model.md_superblock import BAD_BLOCKS, OLD, Member, found_in, outermost
+from dmremap_tools.tables import examine
 
 # The name of a disk, a sector of it, and how many follow.
 DiskRun = Tuple[str, int, int]
@@ -47,18 +47,21 @@ def add_words(parser: argparse.ArgumentParser) -> None:
     parser.add_argument("--copy", metavar="N", type=numbers.word, help="which copy, counted from 0")
     parser.add_argument("--path", metavar="MEMBER=DISK", action="append", default=[],
                         help="the name of a member's disk")
-    parser.add_argument("--size", metavar="MEMBER=SECTORS", action="append", default=[], help="how long a member is")
+    parser.add_argument("--sectors", metavar="MEMBER=SECTORS", action="append", default=[], help="how long a member is")
     parser.add_argument("examined", metavar="EXAMINED", nargs="?", help="what mdadm --examine printed")
     parser.add_argument("file", metavar="PIECES", nargs="?", help="with --follow, answers; else standard input")
 
 
 def run(words: argparse.Namespace) -> None:
-    given = _said_of_members(words.size, "--size MEMBER=SECTORS")
-    sizes = {path: numbers.check_length("--size", streams.whole("--size", size)) for path, size in given.items()}
+    given = _said_of_members(words.sectors, "--sectors MEMBER=SECTORS")
+    sizes = {path: numbers.check_length("--sectors", streams.whole("--sectors", size)) for path, size in given.items()}
     files = [word for word in (words.examined, words.file) if word is not None]
     if not words.member and not files or words.member and len(files) > 1:
         raise WrongWords("give EXAMINED, or the members with --member")
-    place, members = ("--member", members_in(words.member)) if words.member else examine.members(files.pop(0), sizes)
+    if words.member:
+        place, members = "--member", members_in(words.member)
+    else:
+        place, members = examine.printed_members(files.pop(0), sizes)
     array = NamedArray(place, members, _said_of_members(words.path, "--path MEMBER=DISK"), sizes)
     if words.name is not None:
         name = names.Names().device(words.name, "--name")
@@ -113,6 +116,7 @@ class NamedArray(Array):
             self.refuse(apart([first, *others]) if others else self.why or "")
 
     def _made(self) -> Optional[Device]:
+        """Its bytes aren't read."""
         return None
 
     def _why_left_out(self, member: Member) -> str:
@@ -129,7 +133,7 @@ class NamedArray(Array):
         return self.by_role[role]
 
     @functools.lru_cache(maxsize=None)
-    def beginning(self, role: int) -> Tuple[str, int]:
+    def data_start(self, role: int) -> Tuple[str, int]:
         """A member's disk, and its first sector of data."""
         member = self.member(role)
         name = self._disks.get(member.device.name, member.device.name)
@@ -137,23 +141,24 @@ class NamedArray(Array):
             self.refuse("no name of a disk, give --path %s=DISK" % quoting.shown(name))
         return name, member.superblock.start
 
-    def spot(self, role: int, row: int = 0) -> List[str]:
-        disk, start = self.beginning(role)
+    def disk_words(self, role: int, row: int = 0) -> List[str]:
+        disk, start = self.data_start(role)
         return [disk, str(start + row)]
 
-    def whole(self, role: int) -> int:
+    def whole_chunk_sectors(self, role: int) -> int:
+        """The same, where metadata 0.90 may not say how long a member is."""
         member = self.member(role)
         if member.superblock.length == examine.UNSAID:
-            self.refuse("metadata 0.90 doesn't say how long a member is, give --size %s=SECTORS"
+            self.refuse("metadata 0.90 doesn't say how long a member is, give --sectors %s=SECTORS"
                         % quoting.shown(member.device.name))
-        return super().whole(role)
+        return super().whole_chunk_sectors(role)
 
     def lines_of(self, copy: Optional[int]) -> Iterator[tables.Line]:
         """The lines of the array, of this copy or of the first that is there."""
         near, far, is_offset = self.copies
         if self.level == "raid1":
             role = min(self.by_role) if copy is None else copy
-            return iter([tables.Line(0, self.best.superblock.used, "linear", self.spot(role))])
+            return iter([tables.Line(0, self.best.superblock.used, "linear", self.disk_words(role))])
         if self.level in ("raid5", "raid6"):
             self.refuse(f"{self.level}, whose chunks {FOLLOW}")
         if not self.is_tabled:
@@ -208,7 +213,7 @@ def _followed_runs(array: NamedArray, piece: pieces.Piece, first: int) -> Iterat
             places = [array.place(number, copy) for copy in order]
             role, row = next((it for it in places if it[0] in array.by_role), places[0])
             if piece.what == "R" or role in array.by_role:
-                disk, start = array.beginning(role)
+                disk, start = array.data_start(role)
                 yield disk, start + row * array.chunk + at, count
 
 

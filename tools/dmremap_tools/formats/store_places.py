@@ -29,6 +29,7 @@ WHYS = {
 
 
 def is_chunk(chunk: int) -> bool:
+    """Whether chunks may have so many sectors."""
     return 0 < chunk <= MOST_IN_CHUNK and chunk & (chunk - 1) == 0
 
 
@@ -40,7 +41,7 @@ def places(chunk: Optional[int], length: int) -> int:
     return count - count // (32 * chunk + 1)
 
 
-class Unread(Refusal):
+class RefusedStore(Refusal):
     """A store that dmremap refuses, for this word."""
 
     def __init__(self, snapshot: str, word: str) -> None:
@@ -55,7 +56,7 @@ def chunks_in(words: Sequence[str], devices: Iterable[tables.Device]) -> Dict[st
     printed, said = program.ask_quietly([*words, "--status"])
     refused = REFUSED.fullmatch(said.strip())
     if refused:
-        raise Unread(refused[1], refused[2])
+        raise RefusedStore(refused[1], refused[2])
     if said:
         raise Refusal(quoting.shown(words[0]), quoting.shown(said.strip()))
     return {match[1]: (int(match[2]) - int(match[3])) // chunks[match[1]] if match[2] else None
