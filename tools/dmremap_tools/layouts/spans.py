@@ -70,8 +70,8 @@ def run(words: Namespace) -> None:
         lines = (f"{it.device} begins at sector {it.first} of {it.on}\n" for it in begun)
     else:
         lines = with_free(spans) if words.free else (LINE % it for it in spans)
-    for line in lines:
-        streams.out.write(line)
+    for row in lines:
+        streams.out.write(row)
 
 
 def kind_of(span: Span) -> str:

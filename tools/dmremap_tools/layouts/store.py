@@ -25,7 +25,7 @@ from dmremap_tools.base import given, names, numbers, pieces, program, requests,
 from dmremap_tools.base.refusal import Refusal, WrongWords
 from dmremap_tools.formats import store_places
 from dmremap_tools.model import loaded_stack
-from dmremap_tools.model.file_systems import SectorRun
+from dmremap_tools.model.device import blocks_of
 
 EXAMPLE = "dmremap-tools store table snaps.table snaps.disks"
 STATUS = re.compile(r"^([^ \n]+): 0 [0-9]+ snapshot (.*)$", re.M)
@@ -128,9 +128,10 @@ def write_sizes(path: str, chunk: int, kind: str) -> None:
         if not match:
             source.refuse_line(requests.NO_REQUEST)
         if match[1] == "W" and match[4] != "0":
-            chunks = SectorRun(source.whole(match[3]), source.whole(match[4])).blocks(chunk)
-            for number, first, end in SectorRun(chunks.start, chunks.stop - chunks.start).parts(PAGE):
-                pages[match[2], number][first % PAGE:first % PAGE + end - first] = b"\1" * (end - first)
+            start, count = source.whole(match[3]), source.whole(match[4])
+            first, last = start // chunk, (start + count - 1) // chunk
+            for number, begin, times in blocks_of(first, last + 1 - first, PAGE):
+                pages[match[2], number][begin:begin + times] = b"\1" * times
                 if len(pages) > MOST_PAGES:
                     source.refuse(TOO_FAR)
     source.tell_if_none()
