@@ -31,7 +31,7 @@ from dmremap_tools.base import program, streams
 from dmremap_tools.base.numbers import SECTOR
 from dmremap_tools.base.paths import DiskPlace
 from dmremap_tools.formats import rescue_map
-from dmremap_tools.model.device import Image, joined, lacking, read_blocks
+from dmremap_tools.model.device import Image, blocks_of, joined, lacking, read_blocks
 from dmremap_tools.model.file_systems import NoSystem, SectorRun, system_in
 from dmremap_tools.model.pile import Pile, NamedDevice
 
@@ -51,7 +51,7 @@ def run(words: Namespace) -> None:
     pile = Pile(words.images, words.program, rescue_map.unread_in(words, words.images))
     target = pile.target(words.volume)
     lost = lacking(target.device, target.size)
-    runs = [SectorRun(begin // SECTOR, (end - begin) // SECTOR) for begin, end in lost]
+    runs = [(begin // SECTOR, (end - begin) // SECTOR) for begin, end in lost]
     if runs:
         with tempfile.TemporaryDirectory(prefix="dmremap-tools-") as folder:
             saved = DiskPlace(words.saved) if words.saved else place_of(target)
@@ -59,7 +59,7 @@ def run(words: Namespace) -> None:
             for line in lines_of(place, target.name, runs):
                 streams.out.write(line + "\n")
     unmapped = "" if words.map else "; no map was given: only sectors that the images lack"
-    streams.out.write(f"{sum(run.length for run in runs)} sectors lost of {target.size // SECTOR}{unmapped}\n")
+    streams.out.write(f"{sum(count for _, count in runs)} sectors lost of {target.size // SECTOR}{unmapped}\n")
 
 
 def place_of(target: NamedDevice) -> Optional[DiskPlace]:
@@ -89,11 +89,11 @@ def lines_of(place: DiskPlace, volume: str, runs: Sequence[SectorRun]) -> "list[
     try:
         system = system_in(place, volume, runs)
     except NoSystem:
-        return [f"{sum(run.length for run in runs)} sectors: no file system"]
+        return [f"{sum(count for _, count in runs)} sectors: no file system"]
     counts: "Counter[str]" = Counter()
     for each in runs:
-        for block, first, end in each.parts(system.sectors):
-            for file in system.users(block, first, end):
-                counts[file] += end - first
+        for part in blocks_of(*each, system.sectors):
+            for file in system.users(*part):
+                counts[file] += part[2]
     folders = system.folders(file[len(TABLE):] if file.startswith(TABLE) else file for file in counts)
     return [f"{count} sectors: {'folder ' if file in folders else ''}{file}" for file, count in sorted(counts.items())]

@@ -12,13 +12,13 @@ import os
 import re
 import tempfile
 from collections import namedtuple
-from typing import Callable, Collection, Dict, Iterable, Iterator, List, NamedTuple, Optional, Sequence, Set, Tuple
+from typing import Callable, Collection, Dict, Iterable, Iterator, List, Optional, Sequence, Set, Tuple
 
 from dmremap_tools.base import paths, program, quoting, streams
 from dmremap_tools.base.numbers import SECTOR
 from dmremap_tools.base.refusal import Refusal
 from dmremap_tools.formats.disk_image import EXT_AT, EXT_MAGIC
-from dmremap_tools.model.device import Lenient
+from dmremap_tools.model.device import Lenient, blocks_of
 from dmremap_tools.model.placed import image_of
 
 MOST_BLOCKS = MOST_INODES = 1000000
@@ -59,27 +59,12 @@ UNSURE = {"bigalloc", "meta_bg"}
 # With one of these only some groups have a superblock: with the first these are, and the second says which.
 SPARSE_FEATURES = {"sparse_super", "sparse_super2"}
 SPARSE = {0, *(base ** power for base in (3, 5, 7) for power in range(41))}
+# Sectors of a volume: the first, and how many.
+SectorRun = Tuple[int, int]
 
 
 class NoSystem(Refusal):
     """Nothing is there that these programs read."""
-
-
-class SectorRun(NamedTuple):
-    """Sectors of the volume."""
-
-    first: int
-    length: int
-
-    def parts(self, sectors: int) -> Iterator[Tuple[int, int, int]]:
-        """Its part of each block of so many sectors: the block, the first sector of the part, and the one after its last."""
-        end = self.first + self.length
-        for block in self.blocks(sectors):
-            yield block, max(self.first, block * sectors), min(end, (block + 1) * sectors)
-
-    def blocks(self, sectors: int) -> range:
-        """The blocks of so many sectors that it lies in."""
-        return range(self.first // sectors, (self.first + self.length - 1) // sectors + 1)
 
 
 class FileSystem:
@@ -97,13 +82,13 @@ class FileSystem:
         self.names: Dict[int, List[str]] = {}
         self.used_inodes: Set[int] = set()
 
-    def users(self, block: int, first: int, end: int) -> List[str]:
-        """The files that have these sectors of a block, or words for what has it else."""
+    def users(self, block: int, offset: int, count: int) -> List[str]:
+        """The files that have so many sectors of a block from one of its own on, or words for what has it else."""
         if block >= self.end:
             return ["past its end"]
         if self.inodes.get(block):
             return self._paths(self.inodes[block])
-        inodes = self.inodes_at(block, first, end)
+        inodes = self.inodes_at(block, offset, count)
         if inodes is None:
             return [self.use_without_inode(block)]
         files = [it for it in inodes if it in self.used_inodes or self.names.get(it)]
@@ -119,7 +104,7 @@ class FileSystem:
 
     def blocks(self) -> List[int]:
         """The blocks that are asked for, each once, up to the end of the file system."""
-        found = [run.blocks(self.sectors) for run in self.runs]
+        found = [range(first // self.sectors, (first + count - 1) // self.sectors + 1) for first, count in self.runs]
         if sum(blocks.stop - blocks.start for blocks in found) > MOST_BLOCKS:
             raise Refusal(self.volume, f"more than {MOST_BLOCKS} blocks of it are lost: ask for the maps of fewer images")
         return sorted({block for blocks in found for block in blocks if block < self.end})
@@ -128,7 +113,7 @@ class FileSystem:
         """The inodes in the sectors that are asked for."""
         found: Set[int] = set()
         for run in self.runs:
-            for part in run.parts(self.sectors):
+            for part in blocks_of(*run, self.sectors):
                 found.update(self.inodes_at(*part) or ())
             if len(found) > MOST_INODES:
                 raise Refusal(self.volume, f"more than {MOST_INODES} inodes are lost: ask for the maps of fewer images")
@@ -173,16 +158,15 @@ class XfsSystem(FileSystem):
         self._read_uses(self.blocks())
         self.names = self._read_names(sorted({*filter(None, self.inodes.values()), *self.tabled()}))
 
-    def inodes_at(self, block: int, first: int, end: int) -> Optional[range]:
+    def inodes_at(self, block: int, offset: int, count: int) -> Optional[range]:
         """The numbers of inodes have their group and its block in the upper bits."""
         if self._kinds.get(block) != "inode":
             return None
         geometry = self._geometry
         group, place = divmod(block, geometry.agblocks)
         begin = ((group << geometry.agblklog) | place) << geometry.inopblog
-        at = block * geometry.blocksize
-        stop = -(-(end * SECTOR - at) // geometry.inodesize)
-        return range(begin + (first * SECTOR - at) // geometry.inodesize, begin + stop)
+        stop = -(-(offset + count) * SECTOR // geometry.inodesize)
+        return range(begin + offset * SECTOR // geometry.inodesize, begin + stop)
 
     def use_without_inode(self, block: int) -> str:
         """By the type that xfs_db gives the block."""
@@ -281,15 +265,15 @@ class ExtSystem(FileSystem):
         self.used_inodes = self._used("testi <%d>", tabled)
         self._used_blocks = self._used("testb %d", [it for it in self.blocks() if it not in self.inodes])
 
-    def inodes_at(self, block: int, first: int, end: int) -> Optional[Iterable[int]]:
+    def inodes_at(self, block: int, offset: int, count: int) -> Optional[Iterable[int]]:
         """But for the root, inodes before the first aren't of files."""
         place = bisect.bisect_right(self._tables, (block, len(self._tables))) - 1
         if place < 0 or block >= self._tables[place][0] + self._table_blocks:
             return None
         start, group = self._tables[place]
-        begin = (first - start * self.sectors) * SECTOR // self._inode_size
-        stop = min(-(-(end - start * self.sectors) * SECTOR // self._inode_size), self._per_table)
-        found = range(group * self._per_table + begin + 1, group * self._per_table + stop + 1)
+        at = (block - start) * self.sectors + offset
+        begin, stop = at * SECTOR // self._inode_size, -(-(at + count) * SECTOR // self._inode_size)
+        found = range(group * self._per_table + begin + 1, group * self._per_table + min(stop, self._per_table) + 1)
         return [it for it in found if it == ROOT or it >= self._first_inode]
 
     def use_without_inode(self, block: int) -> str:
