@@ -11,7 +11,7 @@ import containers
 import models
 import physical_volumes
 import tool_calls
-from dmremap_tools.base import disk_image, signatures
+from dmremap_tools.formats import disk_image, signatures
 from dmremap_tools.model.device import Image, Lenient
 from harness import Case
 from models import A, B, DATA, EXTENT, MIB, SECTOR, content_of, disk, empty_pile, extents_of, linear, member, named, text, volume
