@@ -109,14 +109,14 @@ class ArrayMembers(Case):
             self.found("an older half after the newer, version " + version, wanted, ("b", newer), ("a", older))
         other = md_member(bytes(1 << 16), 16, level=1, events=99, array=b"another array...")
         self.program.file("members/c", other)
-        self.program.file("members/paths", "%s a?offset=8192\n/dev/sdb1 c?offset=8192\n" % NAME)
+        self.program.file("members/paths", "{0} {1}/a?offset=8192\n/dev/sdb1 {1}/c?offset=8192\n".format(NAME, self.folder))
         self.program.file("members/a", md_member(VOLUME, 16, level=1))
         got = self.call("elsewhere", "--losetup", "--paths", "paths", self.program.file("members/table", "v: 0 8 linear %s 8\n" % NAME))
         self.holds("halves of two arrays", got.status == 0, got.err)
         self.program.file("members/b", md_member(VOLUME, 16, level=1, events=8))
-        self.program.file("members/paths", "%s a?offset=8192\n/dev/sdb1 b\n" % NAME)
+        self.program.file("members/paths", "{0} {1}/a?offset=8192\n/dev/sdb1 {1}/b\n".format(NAME, self.folder))
         got = self.call("elsewhere", "--losetup", "--paths", "paths", "table")
-        self.refuses("an older half among disks", got, "%s elsewhere: a: %s" % (TOOL, OLDER % (7, "b", 8)))
+        self.refuses("an older half among disks", got, "{0} elsewhere: {1}/a: {2}".format(TOOL, self.folder, OLDER % (7, self.folder + "/b", 8)))
 
     def test_partitions(self):
         """Members on partitions, of which a disk may end with the superblock of its last one."""

@@ -779,7 +779,7 @@ def check_saving(tally, pile):
         got = pile.call("save", "vg0/home", *words[:1], "one", *words[1:])
         tally.holds("an image " + name, got.status in (1, 2) and pile.read("one") == before, "status %s, %r" % (got.status, got.err))
     pile.call("save", "vg0/home", "out", "one", "--resume", "map")
-    own = pile.read("map").split(b"\n")[0]
+    own = pile.read("map").splitlines(True)[0]
     tally.holds("what a map is of", own.startswith(b"# Of vg0/home of 40 sectors, from %s %s " % (dashed("h").encode(), dashed("a").encode())), own)
     pile.put("out", bytes(4096) + wanted[4096:8192] + bytes(size - 8192))
     pile.put("map", own + b"0x0 ?\n0x0 0x1000 ?\n0x1000 0x1000 +\n0x2000 0x%x ?\n" % (size - 0x2000))
