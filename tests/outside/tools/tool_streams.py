@@ -378,7 +378,7 @@ def check_outputs(tally, top, folder):
         got = call(top, ["trace", "--write-times", name, "ls.txt", "vg0.table", "another name"], folder=folder)
         tally.same("a file beside that is %r" % name, got, FULL, "refused\n", "%s trace: %s: %s\n" % (TOOL, name, why))
     os.unlink(os.path.join(folder, "both"))
-    ran = subprocess.Popen([*tool(top), "trace", "--times", "both", "ls.txt", "vg0.table", "another name"], stdout=subprocess.PIPE,
+    ran = subprocess.Popen([*tool(top), "trace", "--write-times", "both", "ls.txt", "vg0.table", "another name"], stdout=subprocess.PIPE,
                            stderr=subprocess.DEVNULL, cwd=folder)
     ran.stdout.read()
     tally.holds("a file beside, once standard output ends", os.path.exists(os.path.join(folder, "both")), "it isn't there yet")
