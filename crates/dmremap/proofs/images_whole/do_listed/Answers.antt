@@ -1,7 +1,8 @@
 use Rattle.std.proofs.Common.{◌≡◌, subst, sym}
 use Rattle.dmremap.specs.ImagesLoad.{ImagesOpen}
-use Rattle.dmremap.specs.ImagesWhole.{Does, LoadsBy}
+use Rattle.dmremap.specs.ImagesWhole.{LoadsBy}
 use Rattle.dmremap.specs.Load.{SoundAs}
+use Rattle.dmremap.specs.Streams.{Did}
 use Rattle.dmremap.proofs.ExitLemmas.{closed_requests, closed_unasked, exited}
 use Rattle.dmremap.proofs.ImagesLemmas.{task_more, unopened_exits, unopened_streams}
 use Rattle.dmremap.proofs.images_whole.do_listed.Goals as goal
@@ -29,7 +30,7 @@ returns-in-Ok-clause-exits g c = λ p held is seen.
     let done = c.do_task-exit.ensures in
     let loaded : LoadsBy (ImagesOpen p held) (SoundAs c.in-Ok.stack) = c.in-Ok.ensures.opened p held is seen in
     let did = task_more (λ load. load ≡ SoundAs c.in-Ok.stack) (LoadsBy (ImagesOpen p held)) (λ load same. subst (LoadsBy (ImagesOpen p held)) (sym same) loaded) c.args.task _ _ c.do_task-exit.result done.did.did in
-    Does end.0 (exited _ _ _ _ c.do_task-exit.result end.0 done.did.writes did end.1) end.2 (closed_unasked _ _ c.do_task-exit.result end.0 _ _ end.1.ends done.asked)
+    Did end.0 (exited _ _ _ _ c.do_task-exit.result end.0 done.did.writes did end.1) end.2 (closed_unasked _ _ c.do_task-exit.result end.0 _ _ end.1.ends done.asked)
 
 pub returns-in-Ok-clause-requests : goal.returns-in-Ok-clause-requests
 returns-in-Ok-clause-requests g c = let end = c.finish.ensures in closed_requests _ _ c.do_task-exit.result end.0 _ _ _ end.1.ends c.do_task-exit.ensures.asked end.2.is

@@ -17,6 +17,7 @@ loop-request-preserved c =
     let stack = c.args.replay.stack in
     let did = c.in_ok-play_whole.ensures in record {
       stack = did.stack ∙ l.invariant.stack;
+      start = did.start ∙ l.invariant.start;
       asked = played_more stack first l.request-index request l.replay.asked c.play_whole.new.replay.asked c.loop-request-test.true c.request-item.is l.invariant.asked
           (did.asked ∙ rw l.invariant.stack);
       tops = All-more (IsOfTop stack) first l.request-index request c.loop-request-test.true l.invariant.tops
