@@ -206,13 +206,13 @@ one_replay starts Gives one requests a b x y plain plain' is is' =
 
 -- What every job does
 
-pub one_other : (asked : JobWords) (source disks requests : Delivery) (a b : Exit) (x y : List ℕ) → IsPlain a → IsPlain b
-    → JobDoes asked source disks requests x a → JobDoes asked source disks requests y b → (a ≡ b) × (x ≡ y)
-one_other (map_words from paths earlier status) source disks requests a b x y plain plain' is is' = absurd is
-one_other (map_images_words paths earlier status) source disks requests a b x y plain plain' is is' = absurd is
-one_other (of_images_words paths task) source disks requests a b x y plain plain' is is' = absurd is
-one_other (replay_words from paths) source disks requests a b x y plain plain' is is' = absurd is
-one_other asked source disks requests a b x y plain plain' is is' = one_printed (JobSays asked source disks) (one_said asked source disks) a b x y plain plain' is is'
+pub one_other : (asked : JobWords) (source disks : Delivery) (a b : Exit) (x y : List ℕ) → IsPlain a → IsPlain b
+    → JobDoes asked source disks x a → JobDoes asked source disks y b → (a ≡ b) × (x ≡ y)
+one_other (map_words from paths earlier status) source disks a b x y plain plain' is is' = absurd is
+one_other (map_images_words paths earlier status) source disks a b x y plain plain' is is' = absurd is
+one_other (of_images_words paths task) source disks a b x y plain plain' is is' = absurd is
+one_other (replay_words from paths) source disks a b x y plain plain' is is' = absurd is
+one_other asked source disks a b x y plain plain' is is' = one_printed (JobSays asked source disks) (one_said asked source disks) a b x y plain plain' is is'
 
 -- What is done with any load does
 

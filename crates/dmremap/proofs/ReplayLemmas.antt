@@ -21,7 +21,7 @@ use Rattle.dm_replay.specs.RunText.{runs_text}
 use Rattle.dm_replay.proofs.NamedLemmas.{named_id, named_top, top_named}
 use Rattle.dmremap.specs.declared.exit.Exit.{Exit}
 use Rattle.dmremap.specs.declared.exit.Exit.TheVariants as exits
-use Rattle.dmremap.specs.OtherWhole.{ReplaysStack}
+use Rattle.dmremap.specs.ReplayWhole.{ReplaysStack}
 use Rattle.dmremap.specs.ReplayOutcome.{AreAnswered, HasPlayed, HasStopped, IsAnswer, IsCutReplay, IsPlayed, StopsAt, asked_of}
 use Rattle.dmremap.specs.Streams.{AskedBy, HasMetBy}
 

@@ -1,5 +1,5 @@
 -- What the commands but `map` do with the images of a list, by what these open and by the requests that were delivered.
-use Rattle.std.specs.Prelude.{ℕ, List}
+use Rattle.std.specs.Prelude.{ℕ, Bool, true, false, List}
 use Rattle.dm_table.specs.io.DeviceIo.{Delivery, InputPast, OutputPast}
 use Rattle.dmremap.specs.declared.exit.Exit.{Exit}
 use Rattle.dmremap.specs.declared.job.Task.{Task}
@@ -15,6 +15,11 @@ abbrev pub TaskDoes : Task → (Gives : Load → Type 0) → (requests : Deliver
 TaskDoes (Print form) Gives requests text exit = IsPrinted (LoadSays Gives form) text exit
 TaskDoes Check Gives requests text exit = IsPrinted (LoadReports Gives) text exit
 TaskDoes Replay Gives requests text exit = ReplaysLoad fresh_start Gives requests text exit
+
+-- what is done reads requests
+abbrev pub has_task_requests : Task → Bool
+has_task_requests Replay = true
+has_task_requests _ = false
 
 -- the loads among what is opened
 abbrev pub LoadsBy : (Opens : Opening → Type 0) → Load → Type 0

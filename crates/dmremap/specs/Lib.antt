@@ -11,6 +11,7 @@ pub mod OtherWhole
 pub mod PartFile
 pub mod Printing
 pub mod ReplayOutcome
+pub mod ReplayWhole
 pub mod StoredStart
 pub mod Streams
 pub mod Whole

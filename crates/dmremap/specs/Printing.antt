@@ -82,7 +82,7 @@ abbrev pub JobSays : JobWords → (source disks : Delivery) → Said → Type 0
 JobSays (map_words from paths earlier status) source disks said = ⊥
 JobSays (map_images_words paths earlier status) source disks said = ⊥
 JobSays (of_images_words paths task) source disks said = ⊥
-JobSays (replay_words from) source disks said = ⊥
+JobSays (replay_words from paths) source disks said = ⊥
 JobSays (print_words form from) source disks said = FilesSay form (format_of from) source disks said
 JobSays (check_words from) source disks said = CheckSays (format_of from) source disks said
 JobSays (name_words parts) source disks said = name_said (built parts) ≡ said

@@ -90,6 +90,10 @@ loading_app name parser = three_app name (format_rule parser) (required_rule (co
 abbrev pub map_app : ValueParser → App
 map_app parser = with_rule (with_rule (with_rule (loading_app (codes "map") parser) status_rule) before_rule) paths_rule
 
+-- `replay FORMAT FILE [DISKS] [--paths PATHS]`
+abbrev pub replay_app : ValueParser → App
+replay_app parser = with_rule (loading_app (codes "replay") parser) paths_rule
+
 -- `name VG LV [LAYER]`
 abbrev pub name_app : App
 name_app = three_app (codes "name") (required_rule (codes "vg")) (required_rule (codes "lv")) (optional_rule (codes "layer"))
@@ -116,7 +120,7 @@ with_commands line (command ∷ commands) = with_commands (with_subcommand line 
 abbrev pub command_line : ValueParser → App
 command_line parser = with_commands (with_rule bare_app version_rule)
     (map_app parser ∷ loading_app (codes "table") parser ∷ loading_app (codes "concise") parser
-    ∷ loading_app (codes "check") parser ∷ loading_app (codes "replay") parser ∷ name_app ∷ split_app ∷ [])
+    ∷ loading_app (codes "check") parser ∷ replay_app parser ∷ name_app ∷ split_app ∷ [])
 
 -- a parse reads the command as this one, if there was memory to make it
 abbrev pub HasApp : {E : Type 0} → App → Result Command E → Type 0
@@ -149,7 +153,7 @@ loading_job command rows from =
     if bytes_eq command (codes "map") then map_words from (first_of (codes "paths") rows) (first_of (codes "before") rows) (has_flag (codes "status") rows)
     else (if bytes_eq command (codes "table") then print_words Table from
     else (if bytes_eq command (codes "concise") then print_words Concise from
-    else (if bytes_eq command (codes "check") then check_words from else replay_words from)))
+    else (if bytes_eq command (codes "check") then check_words from else replay_words from (first_of (codes "paths") rows))))
 
 -- FORMAT is that of images
 abbrev pub is_of_images : List Row → Bool

@@ -173,7 +173,8 @@ Example
 pub(crate) const REPLAY_ABOUT: &str = "Plays requests, and prints what each sector reads or stores";
 
 pub(crate) const REPLAY_NOTES: &str = "\
-FILE, DISKS and the requests are those of `dmremap map`. Each request has to be
+FILE, DISKS and the requests are those of `dmremap map`, as is --paths: with it,
+the replay starts from what the stores of snapshots hold. Each request has to be
 for a device that no line uses, and `dmremap check` has to print `tidy`. For
 each request N, lines tell what its sectors read or store:
   N old DISK START LEN      what was there before, from START of the disk on
@@ -183,7 +184,7 @@ each request N, lines tell what its sectors read or store:
 
 Exit status
   0  all requests were answered
-  1  FILE or DISKS was refused, or two lines claim one sector
+  1  FILE, DISKS, PATHS or a store was refused, or two lines claim one sector
   2  the words were refused
   3  a request was bad, or of no such device
   4  the requests could not be read

@@ -11,9 +11,8 @@ ghost use Rattle.dmremap.specs.declared.exit.Exit.{Exit};
 ghost use Rattle.dmremap.specs.Done.{HasDone};
 ghost use Rattle.dmremap.specs.Exit.{IsPlain};
 ghost use Rattle.dmremap.specs.ImagesLoad.{AreImagesUsed, ImagesOpen, list_in};
-ghost use Rattle.dmremap.specs.ImagesWhole.{TaskExits, LoadsBy, TaskDoes};
+ghost use Rattle.dmremap.specs.ImagesWhole.{LoadsBy, TaskDoes, TaskExits, has_task_requests};
 ghost use Rattle.dmremap.specs.Load.{SoundAs};
-ghost use Rattle.dmremap.specs.OtherWhole.{has_task_requests};
 ghost use Rattle.dmremap.specs.Streams.{AskedBy, MessagesTold, OutputWritten, RequestsRead};
 ghost use Rattle.dmremap.specs.Whole.{Opening};
 

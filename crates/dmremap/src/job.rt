@@ -81,8 +81,12 @@ pub enum Job<'a> {
     },
     /// Check the devices of a source, and print whether two of their lines claim one sector.
     Check(Source<'a>),
-    /// Replay the requests of the standard input on the disks of a source.
-    Replay(Source<'a>),
+    /// Replay the requests of the standard input on the disks of a source, from the state that the stores hold that lie
+    /// in the images of the list `paths`, if there is one.
+    Replay {
+        source: Source<'a>,
+        paths: Option<&'a str>,
+    },
     /// Print the device mapper's name of a volume, or of a layer of it.
     Name {
         vg: &'a str,
@@ -135,7 +139,7 @@ impl<'a> Job<'a> {
             Job::Map { source, .. }
             | Job::Print { source, .. }
             | Job::Check(source)
-            | Job::Replay(source) => Some(source),
+            | Job::Replay { source, .. } => Some(source),
             Job::MapImages { .. }
             | Job::OfImages { .. }
             | Job::Name { .. }

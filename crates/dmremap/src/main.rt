@@ -1,7 +1,7 @@
 //! dmremap maps block requests through device-mapper tables to the disks below.
 //!
 //! This file is the table of contents: `words` reads the command line, `map_whole`, `map_stored`,
-//! `map_images`, `other_whole` and `images_whole` do the work, and `main` joins them to the real files and streams and does nothing else.
+//! `map_images`, `replay_whole`, `other_whole` and `images_whole` do the work, and `main` joins them to the real files and streams and does nothing else.
 #![tactic(auto)]
 
 ghost use Rattle.std.specs.Prelude.{◌≡◌, true};
@@ -29,6 +29,7 @@ mod part_file;
 mod prepared;
 mod printing;
 mod replay_run;
+mod replay_whole;
 mod status;
 mod words;
 
@@ -46,6 +47,7 @@ use map_whole::map_whole;
 use next_step::Told;
 use other_whole::other_whole;
 use part_file::{DisksPart, EarlierPart, PartFile, PathsPart, SourcePart};
+use replay_whole::replay_whole;
 use status::STATUS_DONE;
 use std::io;
 use std::io::{Stdin, Stdout};
@@ -116,6 +118,7 @@ fn do_words(rt: &HostRuntime, told: &mut Told, words: &[&str]) -> Result<u8, Wor
             status,
         } => map_images_of(rt, told, paths, earlier, status),
         Job::OfImages { paths, task } => do_with_images(rt, told, paths, task),
+        Job::Replay { source, paths } => replay_files(rt, told, source, paths),
         job => Ok(do_other(rt, told, &job)),
     }
 }
@@ -185,6 +188,38 @@ fn map_files(
     ))
 }
 
+/// Replays the requests of the standard input on the disks of a source, from what the stores hold that lie in the images
+/// of a list, if there is one.
+fn replay_files(
+    rt: &HostRuntime,
+    told: &mut Told,
+    source: Source<'_>,
+    paths: Option<&str>,
+) -> Result<u8, WordsFault> {
+    let mut disks = disks_at(rt, source);
+    let mut images = FileImages::new(rt.alloc(), rt)?;
+    let mut paths: Option<File<'_, PathsPart>> = file_if(rt, paths);
+    Ok(replay_whole::<
+        File<'_, SourcePart>,
+        File<'_, DisksPart>,
+        File<'_, PathsPart>,
+        FileImages<'_>,
+        Requests,
+        Answers,
+        Messages<'_>,
+    >(
+        rt.alloc(),
+        source.format(),
+        &mut source_at(rt, source),
+        &mut disks,
+        &mut paths,
+        &mut images,
+        &mut Counted::new(rt.stdin()),
+        &mut Gathered::new(Counted::new(rt.stdout())),
+        &mut Counted::new(&mut *told),
+    ))
+}
+
 /// Maps the requests of the standard input through the tables of a group in images, after the requests of a file, if
 /// there are these.
 fn map_images_of(
@@ -244,12 +279,11 @@ fn do_other<'r>(rt: &'r HostRuntime, told: &mut Told, job: &'r Job<'r>) -> u8
         Some(source) => (Some(source_at(rt, source)), disks_at(rt, source)),
         None => (None, None),
     };
-    other_whole::<File<'_, SourcePart>, File<'_, DisksPart>, Requests, Answers, Messages<'_>>(
+    other_whole::<File<'_, SourcePart>, File<'_, DisksPart>, Answers, Messages<'_>>(
         rt.alloc(),
         job,
         &mut source,
         &mut disks,
-        &mut Counted::new(rt.stdin()),
         &mut Gathered::new(Counted::new(rt.stdout())),
         &mut Counted::new(&mut *told),
     )

@@ -18,6 +18,9 @@ ghost use Rattle.dmremap.specs.StoredStart.{AreImagesRead, IsBegunAt, PathsRead,
 ghost use Rattle.dmremap.specs.Streams.{MessagesTold, OutputWritten, RequestsRead};
 ghost use Rattle.dmremap.specs.Whole.{Start};
 
+#[cfg(test)]
+mod tests;
+
 use crate::exit::Exit;
 use crate::job::Format;
 use crate::load::load;

@@ -9,7 +9,7 @@ ghost use Rattle.clap.specs.Walk.{texts};
 ghost use Rattle.clap.specs.Words.{App, Rule, Text, app_of, first_of, found_of, kind_of, new_app, rows_of, rule_of, subcommand_rows_of, with_rule, with_subcommand};
 ghost use Rattle.clap.specs.declared.error.kind.ErrorKind.TheVariants as kind;
 ghost use Rattle.dmremap.specs.Job.{job_words, source_words};
-ghost use Rattle.dmremap.specs.Words.{HasApp, TakesFormats, bare_app, before_rule, command_line, flag_rule, format_named, format_rule, loading_app, map_app, name_app, optional_rule, paths_rule, required_rule, split_app, status_rule, version_rule};
+ghost use Rattle.dmremap.specs.Words.{HasApp, TakesFormats, bare_app, before_rule, command_line, flag_rule, format_named, format_rule, loading_app, map_app, name_app, optional_rule, paths_rule, replay_app, required_rule, split_app, status_rule, version_rule};
 ghost use Rattle.dmremap.specs.Words.{format_job, has_flag, has_lone_hyphen, images_job, is_of_images, job_in, list_at, loading_job, name_job, said_by, source_at, source_in, task_of, word_of};
 ghost use Rattle.dmremap.specs.Words.{IsCommandOf, IsFaultOf, IsJobOf, IsOfKind, IsRefusedFor, IsTaken, IsUntaken, explained_by, fault_from, is_unknown, status_of};
 ghost use Rattle.dmremap.specs.declared.words.WordsFault.TheVariants as fault;
@@ -131,7 +131,10 @@ fn loading_job<'a>(command: &str, found: &ArgMatches<'a>, source: Source<'a>) ->
             source,
         },
         "check" => Job::Check(source),
-        _ => Job::Replay(source),
+        _ => Job::Replay {
+            source,
+            paths: text_of(found, "paths"),
+        },
     }
 }
 
@@ -419,6 +422,14 @@ fn map_command<'a>(alloc: Global, parser: ValueParser<'a>) -> Result<Command<'a>
     with_word(command, paths_option(alloc))
 }
 
+/// `replay FORMAT FILE [DISKS] [--paths PATHS]`.
+fn replay_command<'a>(alloc: Global, parser: ValueParser<'a>) -> Result<Command<'a>, AllocError>
+    ensures { HasApp (replay_app parser.entry) result }
+{
+    let command = loading_command(alloc, parser, "replay", help::REPLAY_ABOUT, help::REPLAY_NOTES);
+    with_word(command, paths_option(alloc))
+}
+
 /// `name VG LV [LAYER]`.
 fn name_command<'a>(alloc: Global) -> Result<Command<'a>, AllocError>
     ensures { HasApp name_app result }
@@ -480,16 +491,7 @@ fn program<'a>(alloc: Global) -> Result<Command<'a>, AllocError>
         line,
         loading_command(alloc, parser, "check", help::CHECK_ABOUT, help::CHECK_NOTES),
     );
-    let line = with_command(
-        line,
-        loading_command(
-            alloc,
-            parser,
-            "replay",
-            help::REPLAY_ABOUT,
-            help::REPLAY_NOTES,
-        ),
-    );
+    let line = with_command(line, replay_command(alloc, parser));
     let line = with_command(line, name_command(alloc));
     with_command(line, split_command(alloc))
 }

@@ -61,7 +61,7 @@ read_next old now later requests i request backs back within at write has same b
           ∙ append_assoc old.asked (reads_of old.stack before) (next old.stack ∷ [])
           ∙ ap (λ (all : List Asked). old.asked ++ all) (sym (map_push (λ (it : NumberedRequest). asked_of old.stack (read_of it)) before request));
       are = read_more old.stack old.start old.asked before backs request back has.are
-          (rw (← has.stack, ← has.start, ← has.asked) is);
+          (rw (← has.asked, ← has.stack, ← has.start) is);
     })
 
 -- and of one that isn't

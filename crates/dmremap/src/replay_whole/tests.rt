@@ -1,8 +1,17 @@
 //! The command `replay` over inputs and outputs in memory that go short or fail.
 //!
-//! What is answered to which requests is tested on the built program (`tests/outside`).
+//! What is answered to which requests, also from what stores hold, is tested on the built program (`tests/outside`).
 
 use super::*;
+use crate::job::TableForm;
+use dm_store::MemoryImages;
+use dm_table::{ShortIn, ShortOut};
+use std::process::Abort;
+
+/// More than any stream of a case has.
+const PLENTY: usize = 4096;
+
+const WRITE_MESSAGE: &[u8] = b"dmremap: output: write\n";
 
 /// How the output of a case fails: after this many bytes, or at its flush.
 #[derive(Clone, Copy)]
@@ -45,11 +54,14 @@ fn check(
         Some(count) => ShortIn::failing(bytes, 3, count.min(bytes.len())),
         None => ShortIn::new(bytes, 3),
     };
-    let got = other_whole(
+    let mut paths: Option<ShortIn<'_>> = None;
+    let got = replay_whole(
         alloc,
-        &Job::Replay(source_in(Format::Tables(TableForm::Table))),
-        &mut Some(ShortIn::new(tables.as_bytes(), PLENTY)),
+        Format::Tables(TableForm::Table),
+        &mut ShortIn::new(tables.as_bytes(), PLENTY),
         &mut Some(ShortIn::new(disks.as_bytes(), 1)),
+        &mut paths,
+        &mut MemoryImages::new(&[], 0),
         &mut requests,
         &mut written,
         &mut messages,
