@@ -117,13 +117,13 @@ def wide():
 
 
 SMALL = {"disks": ["%s %d\n" % (it, 1 << 31) for it in ("/dev/sda", "/dev/sdb", "/dev/sdc", "/dev/sdd", "d")], "ls": ["a\t(253:0)\n"], "table": ["a: 0 1048576 linear sda 0\n"], "wide": wide()}
-PLOT = ["--disks", "disks", "--plot", "plot.svg"]
+PLOT = ["--lengths", "disks", "--plot", "plot.svg"]
 ROWS = [
     (["cut", "--bytes"], in_bytes), (["cut"], in_bytes), (["trace", "ls", "table"], parsed), (["trace", "ls", "table"], traced),
-    (["trace", "--times", "beside", "ls", "table"], parsed), (["trace", "--fio", "ls", "table"], logged), (["filefrag", "a"], extents),
+    (["trace", "--write-times", "beside", "ls", "table"], parsed), (["trace", "--fio", "ls", "table"], logged), (["filefrag", "a"], extents),
     (["report"], pieces), (["report"], snapshot_pieces), (["report", *PLOT], pieces), (["report", "--times", "moments"], pieces),
     (["spans", "--free", "disks", "-"], spans), (["spans", "--clashes", "disks", "-"], spans), (["owner", "table", "-"], places),
-    (["owner", "wide", "-"], places), (["store", "--size", "-"], writes),
+    (["owner", "wide", "-"], places), (["store", "--writes", "-"], writes),
     (["lvm2-text", "-"], physicals), (["lvm2-text", "-"], chain),
 ]
 # Single inputs: what a command is called, its words, and its files.

@@ -27,6 +27,7 @@ TOP = os.path.dirname(os.path.dirname(HERE))
 # What the tests from outside have is used here too.
 sys.path += [os.path.join(TOP, *it) for it in (("tests", "outside"), ("tests", "outside", "documents"), ("tools",))]
 
+import cuts
 import departures
 import lvm2_texts
 import mappings
@@ -44,8 +45,9 @@ BUILT = os.path.join(TOP, "crates", "dmremap", "out", "dmremap")
 VECTORS = os.path.join(HERE, "vectors")
 # How many failures are told.
 TOLD = 60
-KINDS = {"mappings": mappings, "snapshots": snapshot_runs, "used snapshots": used_snapshots, "stores": stores, "tables": tables,
-         "volume groups": volume_groups, "names": names, "texts": texts, "states of groups": lvm2_texts}
+KINDS = {"mappings": mappings, "snapshots": snapshot_runs, "used snapshots": used_snapshots, "power cuts": cuts,
+         "stores": stores, "tables": tables, "volume groups": volume_groups, "names": names, "texts": texts,
+         "states of groups": lvm2_texts}
 
 
 def main():

@@ -13,6 +13,7 @@ from documents import anchors, text_of
 PLACES = {
     "the last place before an area": "MAPPING.md#4-snapshots",
     "a store of less than two chunks": "FORMATS.md#17-stores",
+    "other lists and chunk lengths": "FORMATS.md#what-a-store-holds",
     "a first write to a whole chunk": "MAPPING.md#4-snapshots",
     "a request that runs out of places partway": "MAPPING.md#4-snapshots",
     "a snapshot made after its origin was last resumed": "MAPPING.md#origins",

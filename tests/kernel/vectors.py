@@ -6,7 +6,8 @@ import os
 import re
 
 END = ".txt"
-# The files of a folder of vectors, but for the one with the versions.
+# The files of a folder of vectors that two recordings have alike: not that of the versions, nor that of power cuts, since writes
+# to several disks come in another order each time.
 KINDS = ["mappings", "snapshots", "stores", "tables", "groups", "names", "texts"]
 # A file holds experiments, each below a line `== NAME ==`; an experiment holds sections, each below a line `-- NAME --`.
 EXPERIMENT = re.compile(r"^== (.+) ==\n", re.M)

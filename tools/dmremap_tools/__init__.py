@@ -1,14 +1,27 @@
 """dmremap-tools: commands that connect dmremap with what other tools print, and make something of its answers.
 
+The folders, and what each imports, which are folders above it alone:
+
+    base        words, streams, texts and pictures, and how dmremap is asked
+    formats     what stands on disks and in images: base
+    model       what is found in images, as devices that have bytes: base formats
+    requests    commands that make requests: base
+    tables      commands that make FILE and DISKS: base formats model
+    metadata    commands about metadata of LVM: base model
+    layouts     commands about what lies where: base formats model
+    answers     commands that make something of answers: base formats model
+    images      commands that find everything in images: base formats model requests answers
+    explaining  why something is refused, and how an answer arises: base formats model metadata
+
 How to add a command:
 
-1. Write the module `GROUP/NAME.py`, with `_` for `-` in the name. Its docstring is what `--help` prints: what the
+1. Write the module `FOLDER/NAME.py`, with `_` for `-` in the name. Its docstring is what `--help` prints: what the
    command has, gets and refuses. Below stand
        EXAMPLE, a command line as a user would type it;
        add_words(parser), which adds arguments to an `argparse` parser;
        run(words), which does it: `words` has what was typed, by the names of these arguments. It may return the
            status INCOMPLETE of `refusal`, where the answer is there but has gaps that were told.
-2. Add a line to the list in `commands.py`: name, group, summary, and whether dmremap reads what it prints.
+2. Add a line to the list in `commands.py`: name, folder, summary, and whether dmremap reads what it prints.
 3. Add rows to a module in `tests/outside`, a call to those in `tests/outside/tools/tool_streams.py`, and a task to
    `docs/RECIPES.md`. Run `tools/derive`, which writes the manual and the completions.
 

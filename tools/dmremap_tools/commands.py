@@ -3,8 +3,8 @@
 from typing import List, NamedTuple, Optional
 
 # The folders of the commands, and how `--help` calls what is in them.
-GROUPS = {"images": "images of disks", "requests": "requests", "machines": "FILE and DISKS", "metadata": "metadata",
-          "answers": "answers", "layouts": "layouts", "layers": "arrays",
+GROUPS = {"images": "images of disks", "requests": "requests", "tables": "FILE and DISKS", "metadata": "metadata",
+          "answers": "answers", "layouts": "layouts",
           "explaining": "refusals and answers, explained"}
 
 
@@ -18,6 +18,7 @@ class Command(NamedTuple):
 
     @property
     def module(self) -> str:
+        """The module below the package that has it."""
         return f"{self.group}.{self.name.replace('-', '_')}"
 
 
@@ -31,10 +32,10 @@ COMMANDS: List[Command] = [
     Command("filefrag", "requests", "from the extents of files, as filefrag or debugfs prints them", True),
     Command("trace", "requests", "from a trace of blkparse, btrace, ftrace, perf or fio", True),
     Command("cut", "requests", "from requests that are too long, or in bytes", True),
-    Command("machine", "machines", "of a machine with device-mapper devices", True),
-    Command("elsewhere", "machines", "for dmsetup where disks have other paths, all read-only", True),
-    Command("thin", "machines", "thin or cached devices, from the metadata of their pool or cache", True),
-    Command("btrfs", "machines", "the addresses of a btrfs file system as a device", True),
+    Command("machine", "tables", "of a machine with device-mapper devices", True),
+    Command("elsewhere", "tables", "for dmsetup where disks have other paths, all read-only", True),
+    Command("thin", "tables", "thin or cached devices, from the metadata of their pool or cache", True),
+    Command("btrfs", "tables", "the addresses of a btrfs file system as a device", True),
     Command("metadata", "metadata", "the text of a group, from the head of a physical volume"),
     Command("lvm2-text", "metadata", "a copy of lvm2's metadata that dmremap reads"),
     Command("report", "answers", "what is done on each disk, how requests were split, a picture"),
@@ -44,12 +45,13 @@ COMMANDS: List[Command] = [
     Command("extents", "layouts", "where a whole device lies"),
     Command("store", "layouts", "whether the stores of snapshots can be full, and what fills them"),
     Command("picture", "layouts", "the disks and what lies on them, as a picture"),
-    Command("md", "layers", "the table of an md array, or answers followed on through one", True),
+    Command("md", "tables", "the table of an md array, or answers followed on through one", True),
     Command("explain", "explaining", "why dmremap refuses something, or how an answer arises"),
 ]
 
 
 def find(name: str) -> Optional[Command]:
+    """The command of this name, or None."""
     return next((it for it in COMMANDS if it.name == name), None)
 
 

@@ -14,7 +14,7 @@ from types import ModuleType
 from typing import Callable, Dict, List, NoReturn, Sequence, Tuple, Type
 
 from dmremap_tools import commands
-from dmremap_tools.base import quoting, streams, written
+from dmremap_tools.base import near_names, quoting, streams, written
 from dmremap_tools.base.refusal import Refusal, WrongWords
 
 TOOL = "dmremap-tools"
@@ -42,6 +42,13 @@ class ToldToEnd(BaseException):
     """A signal told the command to end: its number."""
 
 
+class HelpFormatter(argparse.RawDescriptionHelpFormatter):
+    """Formats a help for so many columns, however wide the terminal is."""
+
+    def __init__(self, prog: str) -> None:
+        super().__init__(prog, width=COLUMNS - 2)
+
+
 class Parser(argparse.ArgumentParser):
     """Reads the words of a command. Help goes to standard output, as everything else that is asked for."""
 
@@ -49,12 +56,14 @@ class Parser(argparse.ArgumentParser):
         streams.out.write(self.format_help())
 
     def parsed(self, words: List[str]) -> argparse.Namespace:
-        """The words of a command, with options in any place, unless they end in those of another program."""
+        """The words of a command, with options in any place. If they end in those of another program, so do options that
+        aren't the command's own."""
         self._words = words
         try:
             typed, others = self.parse_known_intermixed_args(words)
         except TypeError:
             typed, others = self.parse_known_args(words)
+            typed.words, others = others + typed.words, []
         if others:
             self.error("unrecognized arguments: " + quoting.some([quoting.shown(it) for it in others], " "))
         return typed
@@ -92,6 +101,7 @@ def run(words: List[str]) -> int:
 
 
 def _run(command: "commands.Command | None", name: str, words: List[str]) -> int:
+    """Runs a command with the words behind its name, or prints the overview, and returns the status."""
     if command:
         module = importlib.import_module("dmremap_tools." + command.module)
         try:
@@ -120,13 +130,15 @@ def _told_to_end(number: int, _: object) -> NoReturn:
 
 
 def _answer_signals(action: "signal.Handlers | Callable[[int, object], object]") -> None:
+    """Sets what a signal that tells the command to end does, where it isn't passed over."""
     for number in _heard:
         signal.signal(number, action)
 
 
 def parser_of(command: "commands.Command", module: ModuleType, name: str) -> Parser:
+    """The parser of a command, whose help has the module's docstring and its example."""
     text = "%s\n\nexample:\n%s" % (_wrapped(module.__doc__ or ""), _example(module.EXAMPLE))
-    parser = Parser(prog=name, description=text, allow_abbrev=False, formatter_class=argparse.RawDescriptionHelpFormatter)
+    parser = Parser(prog=name, description=text, allow_abbrev=False, formatter_class=HelpFormatter)
     module.add_words(parser)
     return parser
 
@@ -164,13 +176,7 @@ def _next_step(words: List[str], why: str) -> List[str]:
         return []
     given = [part for it in words for part in (it, it.partition("=")[2])]
     path = next((it for it in given if it and why == "%s: %s" % (quoting.shown(it), os.strerror(errno.ENOENT))), "")
-    folder, name = os.path.split(path)
-    if folder and not os.path.isdir(folder):
-        return ["there is no folder %s: mend the path, or make the folder" % quoting.shown(folder)]
-    near = difflib.get_close_matches(name, os.listdir(folder or "."), 3)
-    if not near:
-        return ["there is no file of such a name: mend the path"]
-    return ["near are: " + quoting.some([quoting.shown(it) for it in near])]
+    return [near_names.missing_note(path)]
 
 
 def _end(status: int, message: str, is_fed: bool, usage: str = "", step: Sequence[str] = ()) -> int:

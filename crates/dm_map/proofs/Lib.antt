@@ -11,5 +11,6 @@ pub use Rattle.dm_map.proofs.pieces.LegUnits
 pub use Rattle.dm_map.proofs.state.ResolvedLines
 pub use Rattle.dm_map.proofs.state.Numbers
 pub use Rattle.dm_map.proofs.state.TableLemmas
+pub use Rattle.dm_map.proofs.walk.ChunkTaking
 pub use Rattle.dm_map.proofs.walk.LevelLemmas
 pub use Rattle.dm_map.proofs.walk.Rows

@@ -10,7 +10,7 @@ ghost use Rattle.dm_stack.specs.checks.Snapshots.{snapshots, IsSnapshot};
 ghost use Rattle.dm_stack.specs.checks.Depth.{stack_depth};
 ghost use Rattle.dm_map.specs.walk.Mapping.{request_step};
 ghost use Rattle.dm_map.specs.state.Counts.{no_counts, AreAdded};
-ghost use Rattle.dm_map.specs.state.Fitting.{IsWithinPlaces};
+ghost use Rattle.dm_map.specs.state.Fitting.{IsFitting, IsWithinPlaces};
 ghost use Rattle.dm_map.specs.declared.mapper.MapFault.TheVariants.{Sink};
 ghost use Rattle.dm_map.specs.Mapper.{with_looked, HasMapped};
 ghost use Rattle.dm_map.specs.walk.Path.{read_stretches};
@@ -238,9 +238,10 @@ impl<'s, T: Taken> Mapper<'s, T> {
         stretch
     }
 
-    /// Recalls that no snapshot took more chunks than its store has places.
+    /// Recalls that no snapshot took more chunks than its store has places, so that the stack can be in this state.
     pub fn recall_places(&self)
-        ensures { IsWithinPlaces self.now.stack self.now.state }
+        ensures within { IsWithinPlaces self.now.stack self.now.state }
+        ensures fits { IsFitting self.now.stack self.now.state }
     {
         self.walker.recall_places();
     }

@@ -9,7 +9,6 @@ pub mod PlayedLemmas
 pub mod RangeLemmas
 pub mod RerunLemmas
 pub mod RunLemmas
-pub mod RunTextLemmas
 pub mod StoredLemmas
 pub mod UnitPlays
 pub mod WorkedReplays

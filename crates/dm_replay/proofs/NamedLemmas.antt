@@ -1,6 +1,6 @@
 -- The device of a name, and what is said of it by its id.
 use Rattle.std.proofs.Common.{◌≡◌, ℕ, ◌<◌, Bool, true, false, List, [], ◌∷◌, None, Some, Result, Ok, Err, IfErr, get_or, length, subst, arith}
-use Rattle.std.specs.Prelude.{OnOk, position}
+use Rattle.std.specs.Prelude.{position}
 use Rattle.std.proofs.lemmas.Grind.{common_steps}
 use Rattle.std.proofs.lemmas.List.Quantifiers.{position-Some}
 use Rattle.dm_table.specs.declared.tables.table.DeviceSpec.{DeviceSpec}
@@ -34,21 +34,11 @@ pub top_named : (stack : Description) (name : List ℕ) (id : ℕ) → position 
 top_named stack name id named has =
     let same : has.id ≡ id = cc in
     subst (IsTop stack) same has.top
-  where
-    some_is : (one other : ℕ) → Some one ≡ Some other → one ≡ other
-    some_is one other e = cc
 
 pub none_named : (stack : Description) (name : List ℕ) → position (λ device. is_same device.name name) stack.devices ≡ None → HasTop stack name → ⊥
 none_named stack name none has = cc
-  where
-    differ : (id : ℕ) → None ≡ Some id → ⊥
-    differ id e = cc
 
 -- what is said of a result, said in another way
-
-pub answered_top : {X : Type 0} (result : Result X ReplayFault) (IsOfTop IsTheSame : Type 0) → (IsOfTop → IsTheSame) → OnOk result IsOfTop → OnOk result IsTheSame
-answered_top (Ok x) IsOfTop IsTheSame there is = there is
-answered_top (Err fault) IsOfTop IsTheSame there is = tt
 
 unanswered_by : (fault : ReplayFault) (IsOfTop IsTheSame : Type 0) (old new : Replaying) → (IsOfTop → IsTheSame) → (IsTheSame → IsOfTop) → IsUnanswered fault IsOfTop old new → IsUnanswered fault IsTheSame old new
 unanswered_by faults.Untidy IsOfTop IsTheSame old new there back is = is

@@ -33,21 +33,10 @@ same_len first (suc m) (suc n) more others e ends end =
 
 same_run : (run other : ValueRun) → first_answer run ≡ first_answer other → run_len run ≡ run_len other → run ≡ other
 same_run (runs.Old disk start len) (runs.Old disk' start' len') first is = cc
-same_run (runs.Old disk start len) (runs.Wrote request start' len') first is = absurd cc
-same_run (runs.Old disk start len) (runs.Zero len') first is = absurd cc
-same_run (runs.Old disk start len) (runs.Error len') first is = absurd cc
-same_run (runs.Wrote request start len) (runs.Old disk start' len') first is = absurd cc
 same_run (runs.Wrote request start len) (runs.Wrote request' start' len') first is = cc
-same_run (runs.Wrote request start len) (runs.Zero len') first is = absurd cc
-same_run (runs.Wrote request start len) (runs.Error len') first is = absurd cc
-same_run (runs.Zero len) (runs.Old disk start' len') first is = absurd cc
-same_run (runs.Zero len) (runs.Wrote request start' len') first is = absurd cc
 same_run (runs.Zero len) (runs.Zero len') first is = ap runs.Zero is
-same_run (runs.Zero len) (runs.Error len') first is = absurd cc
-same_run (runs.Error len) (runs.Old disk start' len') first is = absurd cc
-same_run (runs.Error len) (runs.Wrote request start' len') first is = absurd cc
-same_run (runs.Error len) (runs.Zero len') first is = absurd cc
 same_run (runs.Error len) (runs.Error len') first is = ap runs.Error is
+same_run run other first is = absurd cc
 
 abbrev AreSome : List ValueRun → Type 0
 AreSome all = AllByRecursion (λ run. 0 < run_len run) all

@@ -6,12 +6,13 @@ use Rattle.dm_stack.specs.declared.checks.graph.TheConstants.{MOST_DEPTH}
 use Rattle.dm_stack.specs.declared.id.Lower.TheVariants.{Device}
 use Rattle.dm_stack.specs.claims.Claims.{IsTidy, IsTop}
 use Rattle.dm_stack.specs.Description.{Description, device_len}
-use Rattle.dm_map.specs.own.Ample.{AreAlwaysExact, IsAmple}
+use Rattle.dm_map.specs.own.Ample.{AreAlwaysExact, AreNeverLost, IsAmple, IsIntact}
 use Rattle.dm_map.specs.own.Contents.{Stays, content, value_read}
 use Rattle.dm_map.specs.own.Requests.{AreAlone}
 use Rattle.dm_map.specs.own.Rows.{Rows}
 use Rattle.dm_map.specs.walk.Mapping.{request_step, sector_step}
 use Rattle.dm_map.specs.walk.SnapshotWrites.{read}
+use Rattle.dm_map.specs.state.Fitting.{IsFitting}
 use Rattle.dm_map.specs.state.State.{State}
 use Rattle.dm_map.specs.walk.Steps.{keep, steps}
 use Rattle.dm_map.specs.pieces.Units.{BlockUnit, Fails}
@@ -79,11 +80,11 @@ request_of_row stack state number device start len values rows each = by_end (na
     by_end true = errors_of_row number device start len values rows
     by_end false = reads_of_row stack state number device start len values rows each
 
-pub own_answers : (stack : Description) (all : List Asked) (asked : Asked) → AreAlone Value stack → IsTidy stack → AreOfTops stack all → IsTop stack asked.device → asked.halted_after ≡ None → asked.op ≡ ops.Read
-    → AreOfRow (rows_after stack all) asked.device asked.start (asked_answers stack (world_after stack all) asked)
-own_answers stack all asked law tidy each top whole reads =
-    let world = world_after stack all in let rows = rows_after stack all in
-    rw (whole, reads) (request_of_row stack world.state asked.number asked.device asked.start asked.len world.values rows (are_read stack world rows asked.device top (own_after stack all law tidy each)))
+pub own_answers : (stack : Description) (start : State) (all : List Asked) (asked : Asked) → AreAlone Value stack → IsTidy stack → IsFitting stack start → AreOfTops stack all → IsTop stack asked.device → asked.halted_after ≡ None → asked.op ≡ ops.Read
+    → AreOfRow (rows_after stack start all) asked.device asked.start (asked_answers stack (world_after stack start all) asked)
+own_answers stack start all asked law tidy fits each top whole reads =
+    let world = world_after stack start all in let rows = rows_after stack start all in
+    rw (whole, reads) (request_of_row stack world.state asked.number asked.device asked.start asked.len world.values rows (are_read stack world rows asked.device top (own_after stack start all law tidy fits each)))
 
 -- Without errors, where the stack can lose nothing
 
@@ -116,8 +117,8 @@ request_exactly : (stack : Description) (state : State) (number device start len
     → AreExactlyRow rows device start (played_answers number start (request_step stack ops.Read device start len state).units values)
 request_exactly stack state number device start len values rows inside each = rw (le-ltb (device_len stack device) (start + len) inside) (reads_exactly stack state number device start len values rows inside each)
 
-pub exact_answers : (stack : Description) (all : List Asked) (asked : Asked) → AreAlwaysExact Value stack → IsAmple stack → IsTidy stack → AreOfTops stack all → IsTop stack asked.device → asked.halted_after ≡ None → asked.op ≡ ops.Read → asked.start + asked.len ≤ device_len stack asked.device
-    → AreExactlyRow (rows_after stack all) asked.device asked.start (asked_answers stack (world_after stack all) asked)
-exact_answers stack all asked law ample tidy each top whole reads inside =
-    let world = world_after stack all in let rows = rows_after stack all in
-    rw (whole, reads) (request_exactly stack world.state asked.number asked.device asked.start asked.len world.values rows inside (are_exact stack world rows asked.device top (exact_after stack all law ample tidy each)))
+pub exact_answers : (stack : Description) (start : State) (all : List Asked) (asked : Asked) → AreNeverLost stack → AreAlwaysExact Value stack → IsAmple stack → IsIntact stack start → IsTidy stack → AreOfTops stack all → IsTop stack asked.device → asked.halted_after ≡ None → asked.op ≡ ops.Read → asked.start + asked.len ≤ device_len stack asked.device
+    → AreExactlyRow (rows_after stack start all) asked.device asked.start (asked_answers stack (world_after stack start all) asked)
+exact_answers stack start all asked lost law ample intact tidy each top whole reads inside =
+    let world = world_after stack start all in let rows = rows_after stack start all in
+    rw (whole, reads) (request_exactly stack world.state asked.number asked.device asked.start asked.len world.values rows inside (are_exact stack world rows asked.device top (exact_after stack start all lost law ample intact tidy each)))

@@ -1,16 +1,23 @@
 -- Worlds in which each top device has what it would have alone, or errors, and those without errors: they stay so where no claims meet.
-use Rattle.std.proofs.Common.{ℕ, List, [], ◌∷◌, Option, Some, None}
+use Rattle.std.proofs.Common.{◌≡◌, inl, ℕ, List, [], ◌∷◌, Option, Some, None, refl}
+use Rattle.dm_stack.specs.declared.checks.graph.TheConstants.{MOST_DEPTH}
+use Rattle.dm_stack.specs.declared.id.Lower.TheVariants.{Device}
 use Rattle.dm_stack.specs.claims.Claims.{IsTidy, IsTop}
 use Rattle.dm_stack.specs.Description.{Description}
-use Rattle.dm_map.specs.own.Ample.{AreAlwaysExact, AreExact, IsAmple}
-use Rattle.dm_map.specs.own.Contents.{played}
+use Rattle.dm_map.specs.own.Ample.{AreAlwaysExact, AreExact, AreNeverLost, IsAmple, IsIntact}
+use Rattle.dm_map.specs.own.Contents.{played, value_read}
 use Rattle.dm_map.specs.own.Requests.{AreAlone}
 use Rattle.dm_map.specs.own.Rows.{AreOwn, Rows, rows_played}
+use Rattle.dm_map.specs.pieces.Units.{BlockUnit, Fails}
+use Rattle.dm_map.specs.state.Fitting.{IsFitting}
+use Rattle.dm_map.specs.state.State.{State}
+use Rattle.dm_map.specs.walk.SnapshotWrites.{read}
+use Rattle.dm_map.proofs.ChunkOutcomes.{IsRead, Sector, Nothing, Fault, is_read}
 use Rattle.dm_replay.specs.declared.value.Value.{Value}
 use Rattle.dm_replay.specs.declared.value.Value.TheVariants as value
 use Rattle.dm_replay.specs.Histories.{Asked, World, asked_step, asked_units, first_world, left_state, next_world, played_of, world_after, world_from}
 use Rattle.dm_replay.specs.Replay.{AreOfTops}
-use Rattle.dm_replay.specs.Rows.{rows_after, rows_from}
+use Rattle.dm_replay.specs.Rows.{rows_after, rows_at, rows_from}
 use Rattle.dm_replay.specs.Values.{old_values}
 
 -- What each request of a top device keeps, all of them do
@@ -32,6 +39,9 @@ kept_from stack P world (asked ∷ later) rows keeps each was =
 abbrev pub IsOwn : Description → World → Rows Value → Type 0
 IsOwn stack world rows = AreOwn value.Zero stack world.state world.values rows
 
+own_at : (stack : Description) (start : State) → IsFitting stack start → IsOwn stack (first_world start) (rows_at stack start)
+own_at stack start fits = record { fits = fits; tops = λ top sector is_top. inl refl }
+
 own_next : (stack : Description) → AreAlone Value stack → IsTidy stack → Keeps stack (IsOwn stack)
 unfolding Keeps
 own_next stack law tidy world asked rows top was = by_stop asked.halted_after
@@ -42,8 +52,8 @@ own_next stack law tidy world asked rows top was = by_stop asked.halted_after
     by_stop None = law.request value.Zero (value.Wrote asked.number) asked.op world.state asked.device asked.start asked.len world.values rows tidy top was
     by_stop (Some count) = law.halted value.Zero (value.Wrote asked.number) asked.op world.state asked.device asked.start asked.len count world.values rows tidy top was
 
-pub own_after : (stack : Description) (all : List Asked) → AreAlone Value stack → IsTidy stack → AreOfTops stack all → IsOwn stack (world_after stack all) (rows_after stack all)
-own_after stack all law tidy each = kept_from stack (IsOwn stack) (first_world stack) all _ (own_next stack law tidy) each (law.start value.Zero old_values)
+pub own_after : (stack : Description) (start : State) (all : List Asked) → AreAlone Value stack → IsTidy stack → IsFitting stack start → AreOfTops stack all → IsOwn stack (world_after stack start all) (rows_after stack start all)
+own_after stack start all law tidy fits each = kept_from stack (IsOwn stack) (first_world start) all _ (own_next stack law tidy) each (own_at stack start fits)
 
 -- And those without errors
 
@@ -60,5 +70,17 @@ exact_next stack law ample tidy world asked rows top was = by_stop asked.halted_
     by_stop None = law.request value.Zero (value.Wrote asked.number) asked.op world.state asked.device asked.start asked.len world.values rows ample tidy top was
     by_stop (Some count) = law.halted value.Zero (value.Wrote asked.number) asked.op world.state asked.device asked.start asked.len count world.values rows ample tidy top was
 
-pub exact_after : (stack : Description) (all : List Asked) → AreAlwaysExact Value stack → IsAmple stack → IsTidy stack → AreOfTops stack all → IsExact stack (world_after stack all) (rows_after stack all)
-exact_after stack all law ample tidy each = kept_from stack (IsExact stack) (first_world stack) all _ (exact_next stack law ample tidy) each (law.start value.Zero old_values ample)
+exact_at : (stack : Description) (start : State) → AreNeverLost stack → IsAmple stack → IsIntact stack start → IsExact stack (first_world start) (rows_at stack start)
+exact_at stack start law ample intact = record {
+  own = own_at stack start intact.fits;
+  intact = intact;
+  tops = λ top sector is_top within. has_value (read stack start (Device top) sector) (is_read stack start MOST_DEPTH (Device top) sector) (law.reads start top sector ample intact within);
+}
+  where
+    has_value : (unit : BlockUnit) → IsRead unit → (unit ≡ Fails → ⊥) → (given : Value) × (value_read value.Zero old_values unit ≡ Some given) × (value_read value.Zero old_values unit ≡ Some given)
+    has_value unit (Sector disk at is) none = rw is (old_values disk at, refl, refl)
+    has_value unit (Nothing is) none = rw is (value.Zero, refl, refl)
+    has_value unit (Fault is) none = absurd (none is)
+
+pub exact_after : (stack : Description) (start : State) (all : List Asked) → AreNeverLost stack → AreAlwaysExact Value stack → IsAmple stack → IsIntact stack start → IsTidy stack → AreOfTops stack all → IsExact stack (world_after stack start all) (rows_after stack start all)
+exact_after stack start all lost law ample intact tidy each = kept_from stack (IsExact stack) (first_world start) all _ (exact_next stack law ample tidy) each (exact_at stack start lost ample intact)

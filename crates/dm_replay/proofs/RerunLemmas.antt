@@ -107,10 +107,10 @@ rerun-push stack state [] kept = refl
 rerun-push stack state (first ∷ all) kept = rerun-push stack (rerun_step stack first state) all kept
 
 -- of one request more, which may be a read
-pub rerun_more : (stack : Description) (op : Op) (write : KeptWrite) (writes : List KeptWrite) (before after : State) → rerun_from stack (start_state stack) writes ≡ before → (request_step stack op write.device write.start write.whole before).state ≡ after
-    → rerun_from stack (start_state stack) (with_request op write writes) ≡ after
-rerun_more stack ops.Read write writes before after is step = is ∙ sym (read_mapped stack write.device write.start write.whole before) ∙ step
-rerun_more stack ops.Write write writes before after is step = rerun-push stack (start_state stack) writes write ∙ ap (rerun_step stack write) is ∙ step
+pub rerun_more : (stack : Description) (start : State) (op : Op) (write : KeptWrite) (writes : List KeptWrite) (before after : State) → rerun_from stack start writes ≡ before → (request_step stack op write.device write.start write.whole before).state ≡ after
+    → rerun_from stack start (with_request op write writes) ≡ after
+rerun_more stack start ops.Read write writes before after is step = is ∙ sym (read_mapped stack write.device write.start write.whole before) ∙ step
+rerun_more stack start ops.Write write writes before after is step = rerun-push stack start writes write ∙ ap (rerun_step stack write) is ∙ step
 
 pub rerun_first : (stack sink : Description) (mapper : MapperView) (all : List KeptWrite) → mapper.failed ≡ false → mapper.stack ≡ stack → sink ≡ stack → mapper.state ≡ start_state stack → IsRerun stack sink mapper (take 0 all)
 unfolding rerun_from

@@ -46,9 +46,8 @@ some_push [] last each some = (some, tt)
 some_push (run ∷ runs) last each some = (each.0, some_push runs last each.1 some)
 
 apart_front : (runs : List ValueRun) (last : ValueRun) → NoneJoins (runs ++ last ∷ []) → NoneJoins runs
-apart_front [] last apart = tt
-apart_front (run ∷ []) last apart = tt
 apart_front (run ∷ after ∷ runs) last apart = (apart.0, apart_front (after ∷ runs) last apart.1)
+apart_front runs last apart = tt
 
 apart_push : (runs : List ValueRun) (last run : ValueRun) → NoneJoins (runs ++ last ∷ []) → (Joins last run → ⊥) → NoneJoins (runs ++ last ∷ [] ++ run ∷ [])
 apart_push [] last run apart differ = (differ, tt)

@@ -48,8 +48,7 @@ is_some None a e = absurd cc
 is_some (Some x) a e = search rules
 
 pub same_range : (o : Option RangeValues) (a b : RangeValues) → o ≡ Some a → o ≡ Some b → a ≡ b
-same_range None a b e f = absurd cc
-same_range (Some x) a b e f = cc
+same_range o a b e f = cc
 
 pub some_none : (o : Option RangeValues) (a : RangeValues) → o ≡ Some a → o ≡ None → ⊥
 some_none o a e f = let g : Some a ≡ None = sym e ∙ f in absurd cc

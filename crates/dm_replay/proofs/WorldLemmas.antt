@@ -8,7 +8,8 @@ use Rattle.dm_stack.specs.claims.Claims.{IsTidy, IsTop}
 use Rattle.dm_stack.specs.Description.{Description, device_len}
 use Rattle.dm_map.specs.Mapper.{MapperView}
 use Rattle.dm_map.specs.walk.Mapping.{request_step, step_for}
-use Rattle.dm_map.specs.state.State.{start_state}
+use Rattle.dm_map.specs.state.Fitting.{IsFitting}
+use Rattle.dm_map.specs.state.State.{State}
 use Rattle.dm_map.specs.own.Contents.{sector_past}
 use Rattle.dm_map.specs.own.Halts.{halted_units}
 use Rattle.dm_map.specs.own.Requests.{AreAlone}
@@ -36,13 +37,13 @@ unfolding world_from
 from-push stack world [] asked = refl
 from-push stack world (first ∷ all) asked = from-push stack (next_world stack world first) all asked
 
-pub world-push : (stack : Description) (all : List Asked) (asked : Asked) → world_after stack (all ++ asked ∷ []) ≡ next_world stack (world_after stack all) asked
-world-push stack all asked = from-push stack (first_world stack) all asked
+pub world-push : (stack : Description) (start : State) (all : List Asked) (asked : Asked) → world_after stack start (all ++ asked ∷ []) ≡ next_world stack (world_after stack start all) asked
+world-push stack start all asked = from-push stack (first_world start) all asked
 
 -- at the start
-pub going_first : (stack disks : Description) (mapper : MapperView) (ranges : List (List (ℕ × RangeValues))) → mapper.failed ≡ false → mapper.stack ≡ stack → mapper.state ≡ start_state stack → disks ≡ stack → ranges ≡ [] → IsGoing stack mapper disks ranges [] []
+pub going_first : (stack disks : Description) (start : State) (mapper : MapperView) (ranges : List (List (ℕ × RangeValues))) → mapper.failed ≡ false → mapper.stack ≡ stack → mapper.state ≡ start → disks ≡ stack → ranges ≡ [] → IsGoing stack start mapper disks ranges [] []
 unfolding world_from rerun_from
-going_first stack disks mapper ranges maps of state_is disks_is none = record {
+going_first stack disks start mapper ranges maps of state_is disks_is none = record {
   maps = maps;
   mapper_stack = of;
   player_stack = disks_is;
@@ -63,23 +64,23 @@ next_values stack mapper ranges newer world request device stop of state_is same
     cc (is disk sector, of, state_is, played_cong request.number request.start (played_of stop (units_asked stack request device world.state)) (values_of ranges) world.values same disk sector)
 
 -- after one request more
-going_next : (stack disks later_disks : Description) (mapper later : MapperView) (ranges newer : List (List (ℕ × RangeValues))) (all : List Asked) (writes more : List KeptWrite) (request : Request) (device : ℕ) (stop : Option ℕ)
-    → IsTop stack device → AllByRecursion (IsKept stack) more → IsGoing stack mapper disks ranges all writes
-    → later.failed ≡ false → later.stack ≡ stack → later_disks ≡ disks → later.state ≡ left_state stack stop (kept_request request device stop) (world_after stack all).state
+going_next : (stack disks later_disks : Description) (start : State) (mapper later : MapperView) (ranges newer : List (List (ℕ × RangeValues))) (all : List Asked) (writes more : List KeptWrite) (request : Request) (device : ℕ) (stop : Option ℕ)
+    → IsTop stack device → AllByRecursion (IsKept stack) more → IsGoing stack start mapper disks ranges all writes
+    → later.failed ≡ false → later.stack ≡ stack → later_disks ≡ disks → later.state ≡ left_state stack stop (kept_request request device stop) (world_after stack start all).state
     → ((disk sector : ℕ) → values_of newer disk sector ≡ played request.number request.start (played_of stop (units_asked mapper.stack request device mapper.state)) (values_of ranges) disk sector)
     → AreValuesOf (length mapper.stack.disks) (values_of newer)
-    → rerun_from stack (start_state stack) more ≡ left_state stack stop (kept_request request device stop) (world_after stack all).state
-    → IsGoing stack later later_disks newer (all ++ kept_request request device stop ∷ []) more
-going_next stack disks later_disks mapper later ranges newer all writes more request device stop top kept was maps same same_disks state_is values_are disks_are again =
+    → rerun_from stack start more ≡ left_state stack stop (kept_request request device stop) (world_after stack start all).state
+    → IsGoing stack start later later_disks newer (all ++ kept_request request device stop ∷ []) more
+going_next stack disks later_disks start mapper later ranges newer all writes more request device stop top kept was maps same same_disks state_is values_are disks_are again =
     let one = kept_request request device stop in
-    let pushed = world-push stack all one in
+    let pushed = world-push stack start all one in
     record {
       maps = maps;
       mapper_stack = same;
       player_stack = same_disks ∙ was.player_stack;
       state_is = rw pushed state_is;
       values_are = λ disk sector.
-          rw pushed (next_values stack mapper ranges newer (world_after stack all) request device stop was.mapper_stack was.state_is was.values_are values_are disk sector);
+          rw pushed (next_values stack mapper ranges newer (world_after stack start all) request device stop was.mapper_stack was.state_is was.values_are values_are disk sector);
       disks_are = rw (← was.mapper_stack) disks_are;
       asked_are = all_append (λ (asked : Asked). IsTop stack asked.device) all (one ∷ []) was.asked_are (top, tt);
       kept_are = kept;
@@ -99,25 +100,25 @@ pub is_kept : (stack : Description) (request : Request) (device whole : ℕ) →
 is_kept stack request device whole there top few = record { there = there; top = top; few = omega (arith, few, request.at_most) }
 
 -- after one that was played to its end
-pub going_whole : (stack disks later_disks : Description) (mapper later : MapperView) (ranges newer : List (List (ℕ × RangeValues))) (all : List Asked) (writes : List KeptWrite) (request : Request) (device : ℕ)
-    → IsKept stack (write_of request device request.len) → IsGoing stack mapper disks ranges all writes
+pub going_whole : (stack disks later_disks : Description) (start : State) (mapper later : MapperView) (ranges newer : List (List (ℕ × RangeValues))) (all : List Asked) (writes : List KeptWrite) (request : Request) (device : ℕ)
+    → IsKept stack (write_of request device request.len) → IsGoing stack start mapper disks ranges all writes
     → later.failed ≡ false → later.stack ≡ mapper.stack → later_disks ≡ disks → later.state ≡ (step_for mapper.stack request device mapper.state).state
     → ((disk sector : ℕ) → values_of newer disk sector ≡ played request.number request.start (units_asked mapper.stack request device mapper.state) (values_of ranges) disk sector)
     → AreValuesOf (length mapper.stack.disks) (values_of newer)
-    → IsGoing stack later later_disks newer (all ++ whole_request request device ∷ []) (with_request request.op (write_of request device request.len) writes)
-going_whole stack disks later_disks mapper later ranges newer all writes request device one was maps same same_disks state_is values_are disks_are =
-    let before = world_after stack all in let write = write_of request device request.len in
-    going_next stack disks later_disks mapper later ranges newer all writes (with_request request.op write writes) request device None one.top (kept_more stack request.op write writes one was.kept_are) was maps (same ∙ was.mapper_stack) same_disks
+    → IsGoing stack start later later_disks newer (all ++ whole_request request device ∷ []) (with_request request.op (write_of request device request.len) writes)
+going_whole stack disks later_disks start mapper later ranges newer all writes request device one was maps same same_disks state_is values_are disks_are =
+    let before = world_after stack start all in let write = write_of request device request.len in
+    going_next stack disks later_disks start mapper later ranges newer all writes (with_request request.op write writes) request device None one.top (kept_more stack request.op write writes one was.kept_are) was maps (same ∙ was.mapper_stack) same_disks
     (cc)
     values_are disks_are
-    (rerun_more stack request.op write writes before.state (step_for stack request device before.state).state was.rerun_is refl)
+    (rerun_more stack start request.op write writes before.state (step_for stack request device before.state).state was.rerun_is refl)
 
 -- no more sectors of a halted request are whole than it has
-pub few_whole : (stack : Description) (mapper : MapperView) (all : List Asked) (request : Request) (device units : ℕ) → AreAlone Value stack → IsTidy stack → AreOfTops stack all → IsTop stack device
-    → mapper.stack ≡ stack → mapper.state ≡ (world_after stack all).state
+pub few_whole : (stack : Description) (start : State) (mapper : MapperView) (all : List Asked) (request : Request) (device units : ℕ) → AreAlone Value stack → IsTidy stack → IsFitting stack start → AreOfTops stack all → IsTop stack device
+    → mapper.stack ≡ stack → mapper.state ≡ (world_after stack start all).state
     → sector_past (halted_units mapper.stack request.op device request.start request.len units mapper.state) 0 ≤ request.len
-few_whole stack mapper all request device units law tidy each top of state_is =
-    let own = own_after stack all law tidy each in let before = world_after stack all in
+few_whole stack start mapper all request device units law tidy fits each top of state_is =
+    let own = own_after stack start all law tidy fits each in let before = world_after stack start all in
     rw (of, state_is) (law.few _ request.op before.state device request.start request.len units before.values _ tidy top own)
 
 -- what is known of the whole sectors of a halted request, where the one that is answered next is given
@@ -148,29 +149,29 @@ next_start stack mapper request device units next of next_is fits =
 
 -- after one that was halted, in the state that a rerun gives
 
-pub same_again : (stack : Description) (mapper : MapperView) (disks : Description) (ranges : List (List (ℕ × RangeValues))) (all : List Asked) (writes : List KeptWrite) (request : Request) (device units whole : ℕ) → IsGoing stack mapper disks ranges all writes → AreWhole mapper request device units whole
-    → rerun_from stack (start_state stack) (with_request request.op (write_of request device whole) writes) ≡ left_state stack (Some units) (kept_request request device (Some units)) (world_after stack all).state
-same_again stack mapper disks ranges all writes request device units whole was is =
-    let before = world_after stack all in
-    rerun_more stack request.op (write_of request device whole) writes before.state _ was.rerun_is
+pub same_again : (stack : Description) (start : State) (mapper : MapperView) (disks : Description) (ranges : List (List (ℕ × RangeValues))) (all : List Asked) (writes : List KeptWrite) (request : Request) (device units whole : ℕ) → IsGoing stack start mapper disks ranges all writes → AreWhole mapper request device units whole
+    → rerun_from stack start (with_request request.op (write_of request device whole) writes) ≡ left_state stack (Some units) (kept_request request device (Some units)) (world_after stack start all).state
+same_again stack start mapper disks ranges all writes request device units whole was is =
+    let before = world_after stack start all in
+    rerun_more stack start request.op (write_of request device whole) writes before.state _ was.rerun_is
     (rw was.mapper_stack at (rw was.state_is at is.again))
 
-pub going_halted : (stack disks later_disks : Description) (mapper later : MapperView) (ranges newer : List (List (ℕ × RangeValues))) (all : List Asked) (writes : List KeptWrite) (request : Request) (device units whole : ℕ)
-    → IsKept stack (write_of request device whole) → IsGoing stack mapper disks ranges all writes
-    → later.failed ≡ false → later.stack ≡ stack → later_disks ≡ disks → later.state ≡ rerun_from stack (start_state stack) (with_request request.op (write_of request device whole) writes)
+pub going_halted : (stack disks later_disks : Description) (start : State) (mapper later : MapperView) (ranges newer : List (List (ℕ × RangeValues))) (all : List Asked) (writes : List KeptWrite) (request : Request) (device units whole : ℕ)
+    → IsKept stack (write_of request device whole) → IsGoing stack start mapper disks ranges all writes
+    → later.failed ≡ false → later.stack ≡ stack → later_disks ≡ disks → later.state ≡ rerun_from stack start (with_request request.op (write_of request device whole) writes)
     → ((disk sector : ℕ) → values_of newer disk sector ≡ played request.number request.start (halted_units mapper.stack request.op device request.start request.len units mapper.state) (values_of ranges) disk sector)
     → AreValuesOf (length mapper.stack.disks) (values_of newer)
     → AreWhole mapper request device units whole
-    → IsGoing stack later later_disks newer (all ++ kept_request request device (Some units) ∷ []) (with_request request.op (write_of request device whole) writes)
-going_halted stack disks later_disks mapper later ranges newer all writes request device units whole one was maps same same_disks state_is values_are disks_are is =
-    let write = write_of request device whole in let again = same_again stack mapper disks ranges all writes request device units whole was is in
-    going_next stack disks later_disks mapper later ranges newer all writes (with_request request.op write writes) request device (Some units) one.top (kept_more stack request.op write writes one was.kept_are) was maps same same_disks
+    → IsGoing stack start later later_disks newer (all ++ kept_request request device (Some units) ∷ []) (with_request request.op (write_of request device whole) writes)
+going_halted stack disks later_disks start mapper later ranges newer all writes request device units whole one was maps same same_disks state_is values_are disks_are is =
+    let write = write_of request device whole in let again = same_again stack start mapper disks ranges all writes request device units whole was is in
+    going_next stack disks later_disks start mapper later ranges newer all writes (with_request request.op write writes) request device (Some units) one.top (kept_more stack request.op write writes one was.kept_are) was maps same same_disks
     (state_is ∙ again) values_are disks_are again
 
 -- what a request answers is what it answers in the world before it
-pub answers_after : (stack disks : Description) (mapper : MapperView) (ranges : List (List (ℕ × RangeValues))) (all : List Asked) (writes : List KeptWrite) (request : Request) (device : ℕ) (runs : List ValueRun) → IsGoing stack mapper disks ranges all writes
+pub answers_after : (stack disks : Description) (start : State) (mapper : MapperView) (ranges : List (List (ℕ × RangeValues))) (all : List Asked) (writes : List KeptWrite) (request : Request) (device : ℕ) (runs : List ValueRun) → IsGoing stack start mapper disks ranges all writes
     → flat runs ≡ played_answers request.number request.start (units_asked mapper.stack request device mapper.state) (values_of ranges)
-    → flat runs ≡ asked_answers stack (world_after stack all) (whole_request request device)
-answers_after stack disks mapper ranges all writes request device runs was is =
-    let before = world_after stack all in
+    → flat runs ≡ asked_answers stack (world_after stack start all) (whole_request request device)
+answers_after stack disks start mapper ranges all writes request device runs was is =
+    let before = world_after stack start all in
     cc (is, was.mapper_stack, was.state_is, answers_cong request.number request.start (units_asked stack request device before.state) (values_of ranges) before.values was.values_are)

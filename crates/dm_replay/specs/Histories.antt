@@ -3,7 +3,7 @@ use Rattle.std.specs.Prelude.{ℕ, List, [], ◌∷◌, Option, Some, None, take
 use Rattle.dm_table.specs.declared.requests.request.Op.{Op}
 use Rattle.dm_stack.specs.Description.{Description}
 use Rattle.dm_map.specs.walk.Mapping.{request_step}
-use Rattle.dm_map.specs.state.State.{State, start_state}
+use Rattle.dm_map.specs.state.State.{State}
 use Rattle.dm_map.specs.walk.Steps.{Step}
 use Rattle.dm_map.specs.own.Halts.{halted_state}
 use Rattle.dm_map.specs.pieces.Units.{BlockUnit}
@@ -41,9 +41,9 @@ pub record World : Type 0 where
   pub state : State
   pub values : Values
 
--- the world at the start: no chunk taken, and each sector with its old value
-abbrev pub first_world : Description → World
-first_world stack = record { state = start_state stack; values = old_values }
+-- the world of a start: a state, and each sector with its old value
+abbrev pub first_world : (start : State) → World
+first_world start = record { state = start; values = old_values }
 
 -- the world after a request, and what the request answers
 abbrev pub next_world : Description → World → Asked → World
@@ -61,6 +61,6 @@ unfoldable pub world_from : Description → World → List Asked → World
 world_from stack world [] = world
 world_from stack world (asked ∷ later) = world_from stack (next_world stack world asked) later
 
--- the world after requests, from the start
-abbrev pub world_after : Description → List Asked → World
-world_after stack all = world_from stack (first_world stack) all
+-- the world after requests, from this start
+abbrev pub world_after : Description → (start : State) → List Asked → World
+world_after stack start all = world_from stack (first_world start) all

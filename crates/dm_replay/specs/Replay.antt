@@ -8,8 +8,9 @@ use Rattle.dm_stack.specs.declared.claims.clash.Clash.{Clash}
 use Rattle.dm_stack.specs.claims.Claims.{AreTops, IsClash, IsTidy, IsTop, claims}
 use Rattle.dm_stack.specs.Description.{Description, device_id, device_len, is_same}
 use Rattle.dm_map.specs.Mapper.{MapperView}
-use Rattle.dm_map.specs.own.Ample.{IsAmple}
-use Rattle.dm_map.specs.state.State.{start_state}
+use Rattle.dm_map.specs.own.Ample.{IsAmple, IsIntact}
+use Rattle.dm_map.specs.state.Fitting.{IsFitting}
+use Rattle.dm_map.specs.state.State.{State, start_state}
 use Rattle.dm_replay.specs.declared.kept_write.KeptWrite.{KeptWrite}
 use Rattle.dm_replay.specs.declared.range_values.RangeValues.{RangeValues}
 use Rattle.dm_replay.specs.declared.replay_fault.ReplayFault.{ReplayFault}
@@ -22,15 +23,20 @@ use Rattle.dm_replay.specs.Rows.{AreExactlyRow, AreOfRow, rows_after}
 use Rattle.dm_replay.specs.Runs.{flat}
 use Rattle.dm_replay.specs.Stored.{values_of}
 
--- a replay: its stack, the requests that it accepted, and whether it failed: it was out of memory
+-- a replay: its stack, the state that it began from, the requests that it accepted, and whether it failed: it was out of memory
 pub record Replaying : Type 0 where
   pub stack : Description
+  pub start : State
   pub asked : List Asked
   pub failed : Bool
 
--- a replay that was asked nothing yet
+-- a replay from a state that was asked nothing yet
+abbrev pub replay_from : Description → (start : State) → Replaying
+replay_from of start = record { stack = of; start = start; asked = []; failed = false }
+
+-- the same where no chunk was taken
 abbrev pub new_replay : Description → Replaying
-new_replay of = record { stack = of; asked = []; failed = false }
+new_replay of = replay_from of (start_state of)
 
 -- a request of a device that is played to its end
 abbrev pub whole_request : Request → (id : ℕ) → Asked
@@ -57,11 +63,11 @@ IsNotBegun faults.Memory of = Unit {0}
 IsNotBegun faults.NotTop of = ⊥
 IsNotBegun faults.Stopped of = ⊥
 
--- a request was answered by these runs after those before it: a read by its device's row, or errors, and without errors where the stack can lose nothing and the read doesn't pass the device's end. It is one of the requests then
+-- a request was answered by these runs after those before it: a read by its device's row, or errors, and without errors where the stack can lose nothing, no snapshot was lost at the start, and the read doesn't pass the device's end. It is one of the requests then
 pub record IsAnswered (old new : Replaying) (request : Asked) (runs : List ValueRun) : Type 0 where
-  pub answers : AreRunsOf (length old.stack.disks) (asked_answers old.stack (world_after old.stack old.asked) request) runs
-  pub own : request.op ≡ Read → AreOfRow (rows_after old.stack old.asked) request.device request.start (flat runs)
-  pub exact : IsAmple old.stack → request.op ≡ Read → request.start + request.len ≤ device_len old.stack request.device → AreExactlyRow (rows_after old.stack old.asked) request.device request.start (flat runs)
+  pub answers : AreRunsOf (length old.stack.disks) (asked_answers old.stack (world_after old.stack old.start old.asked) request) runs
+  pub own : request.op ≡ Read → AreOfRow (rows_after old.stack old.start old.asked) request.device request.start (flat runs)
+  pub exact : IsAmple old.stack → IsIntact old.stack old.start → request.op ≡ Read → request.start + request.len ≤ device_len old.stack request.device → AreExactlyRow (rows_after old.stack old.start old.asked) request.device request.start (flat runs)
   pub asked : new.asked ≡ old.asked ++ request ∷ []
   pub going : old.failed ≡ false
   pub goes_on : new.failed ≡ false
@@ -95,19 +101,20 @@ abbrev pub AreOfTops : Description → List Asked → Type 0
 AreOfTops of all = AllByRecursion (λ asked. IsTop of asked.device) all
 
 -- what a replay keeps is the world after its requests; where its writes are mapped once more, they leave its state
-pub record IsGoing (of : Description) (mapper : MapperView) (disks : Description) (ranges : List (List (ℕ × RangeValues))) (all : List Asked) (writes : List KeptWrite) : Type 0 where
+pub record IsGoing (of : Description) (start : State) (mapper : MapperView) (disks : Description) (ranges : List (List (ℕ × RangeValues))) (all : List Asked) (writes : List KeptWrite) : Type 0 where
   pub maps : mapper.failed ≡ false
   pub mapper_stack : mapper.stack ≡ of
   pub player_stack : disks ≡ of
-  pub state_is : mapper.state ≡ (world_after of all).state
-  pub values_are : (disk sector : ℕ) → values_of ranges disk sector ≡ (world_after of all).values disk sector
+  pub state_is : mapper.state ≡ (world_after of start all).state
+  pub values_are : (disk sector : ℕ) → values_of ranges disk sector ≡ (world_after of start all).values disk sector
   pub disks_are : AreValuesOf (length of.disks) (values_of ranges)
   pub asked_are : AreOfTops of all
   pub kept_are : AllByRecursion (IsKept of) writes
-  pub rerun_is : rerun_from of (start_state of) writes ≡ (world_after of all).state
+  pub rerun_is : rerun_from of start writes ≡ (world_after of start all).state
 
--- unless it failed; no claims of its stack meet, and which devices are top is noted
-pub record IsReplay (of : Description) (tops : List Bool) (mapper : MapperView) (disks : Description) (ranges : List (List (ℕ × RangeValues))) (all : List Asked) (writes : List KeptWrite) (ended : Bool) : Type 0 where
+-- unless it failed; no claims of its stack meet, which devices are top is noted, and the stack can be in the state that it began from
+pub record IsReplay (of : Description) (start : State) (tops : List Bool) (mapper : MapperView) (disks : Description) (ranges : List (List (ℕ × RangeValues))) (all : List Asked) (writes : List KeptWrite) (ended : Bool) : Type 0 where
   pub tidy : IsTidy of
   pub tops_are : AreTops of tops
-  pub going : ended ≡ false → IsGoing of mapper disks ranges all writes
+  pub fits : IsFitting of start
+  pub going : ended ≡ false → IsGoing of start mapper disks ranges all writes

@@ -4,6 +4,7 @@ use Rattle.dm_table.specs.declared.requests.request.Op.{Op}
 use Rattle.dm_table.specs.declared.requests.request.Op.TheVariants as ops
 use Rattle.dm_table.specs.declared.requests.request.Request.{Request}
 use Rattle.dm_stack.specs.Description.{Description}
+use Rattle.dm_map.specs.Mapper.{MapperView}
 use Rattle.dm_map.specs.walk.Mapping.{request_step}
 use Rattle.dm_map.specs.state.State.{State}
 use Rattle.dm_replay.specs.declared.asked_request.AskedRequest.{AskedRequest}
@@ -26,6 +27,11 @@ all_asked kept = map asked_of kept
 abbrev pub with_request : Op → KeptWrite → List KeptWrite → List KeptWrite
 with_request ops.Read write writes = writes
 with_request ops.Write write writes = writes ++ write ∷ []
+
+-- the state of the first of mappers that were noted
+abbrev pub first_state : List MapperView → State
+first_state [] = []
+first_state (mapper ∷ later) = mapper.state
 
 -- the sectors of a write that were whole, mapped once more
 abbrev pub rerun_step : Description → KeptWrite → State → State

@@ -9,6 +9,7 @@ mod asked_request;
 mod disk_ranges;
 mod disk_values;
 mod ghost_asked;
+mod ghost_start;
 mod halting;
 mod kept_write;
 mod playback;

@@ -7,12 +7,16 @@ ghost use Rattle.std.specs.Prelude.{◌≡◌, ◌∷◌, ◌+◌, ◌++◌, ◌
 ghost use Rattle.dm_stack.specs.claims.Claims.{AreTops, IsTidy, IsTop};
 ghost use Rattle.dm_stack.specs.Description.{device_len, is_same};
 ghost use Rattle.dm_replay.specs.Replay.{HasTop, IsAnswered, IsNotAnswered, IsNotBegun, IsNotHalted, IsUnanswered};
-ghost use Rattle.dm_replay.specs.Replay.{asked_request, halted_request, new_replay, whole_request};
+ghost use Rattle.dm_map.specs.own.Ample.{IsIntact};
+ghost use Rattle.dm_map.specs.state.Fitting.{IsFitting};
+ghost use Rattle.dm_map.specs.state.State.{start_state};
+ghost use Rattle.dm_replay.specs.Replay.{asked_request, halted_request, new_replay, replay_from, whole_request};
 
 #[cfg(test)]
 mod tests;
 
 use crate::ghost_asked::GhostAsked;
+use crate::ghost_start::GhostStart;
 use crate::kept_write::{KeptWrite, keep};
 use crate::playback::{play_front, play_request};
 use crate::player::Player;
@@ -27,7 +31,7 @@ use std::alloc::Global;
 use std::marker::Model;
 
 /// The disks of a stack, on which requests of its top devices are played one after the other. A clause
-/// sees the stack, the requests that were accepted, and whether the replay failed, since it was out of memory.
+/// sees the stack, the state at the start, the requests that were accepted, and whether the replay failed, since it was out of memory.
 #[derive(Drop)]
 pub struct Replay<'s, T: Taken> {
     stack: &'s Stack,
@@ -35,6 +39,7 @@ pub struct Replay<'s, T: Taken> {
     tops: Reserved<bool>,
     mapper: Mapper<'s, T>,
     player: Player<'s>,
+    start: GhostStart<'s, T>,
     asked: GhostAsked,
     writes: Vec<KeptWrite>,
     failed: bool,
@@ -46,9 +51,9 @@ impl<'s, T: Taken> Model for Replay<'s, T> {
     ghost Value = { Replaying };
 
     ghost view = { λ replay.
-        record { stack = replay.stack.now; asked = replay.asked; failed = replay.failed } };
+        record { stack = replay.stack.now; start = replay.start; asked = replay.asked; failed = replay.failed } };
 
-    ghost invariant = { λ replay. IsReplay replay.stack.now replay.tops.items replay.mapper replay.player.stack.now
+    ghost invariant = { λ replay. IsReplay replay.stack.now replay.start replay.tops.items replay.mapper replay.player.stack.now
         replay.player.playing.values.disks.items replay.asked replay.writes.items replay.failed };
 }
 
@@ -63,6 +68,31 @@ impl<'s, T: Taken> Replay<'s, T> {
     /// `Untidy` where two claims meet. `Memory` where it is out of memory.
     pub fn new(alloc: Global, stack: &'s Stack) -> Result<Replay<'s, T>, ReplayFault>
         ensures new { IfOk result (λ replay. replay ≡ new_replay stack.now) }
+        ensures intact { IfOk result (λ replay. IsIntact stack.now replay.start) }
+        ensures tidy { OnOk result (IsTidy stack.now) }
+        ensures fault { IfErr result (λ fault. IsNotBegun fault stack.now) }
+    {
+        // Called because its contract says that no snapshot is lost at the start.
+        nothing_is_lost::<Value>(stack);
+        match Mapper::new(alloc, stack.looker()) {
+            Ok(mapper) => Replay::go_on(alloc, stack, mapper),
+            Err(_) => Err(ReplayFault::Memory),
+        }
+    }
+
+    /// A replay that goes on from the state of a mapper of the stack, of which no two claims meet, and which can be in
+    /// that state. Each sector of its disks holds what is there now, and each top device what its reads give then.
+    ///
+    /// Cost and errors are those of `new`.
+    pub fn go_on(
+        alloc: Global,
+        stack: &'s Stack,
+        mapper: Mapper<'s, T>,
+    ) -> Result<Replay<'s, T>, ReplayFault>
+        requires stack { mapper.stack ≡ stack.now }
+        requires going { mapper.failed ≡ false }
+        requires fits { IsFitting stack.now mapper.state }
+        ensures new { IfOk result (λ replay. replay ≡ replay_from stack.now mapper.entry.state) }
         ensures tidy { OnOk result (IsTidy stack.now) }
         ensures fault { IfErr result (λ fault. IsNotBegun fault stack.now) }
     {
@@ -70,18 +100,17 @@ impl<'s, T: Taken> Replay<'s, T> {
         let Ok(tops) = stack.tops(alloc) else {
             return Err(ReplayFault::Memory);
         };
-        match Mapper::new(alloc, stack.looker()) {
-            Ok(mapper) => Ok(Replay {
-                stack,
-                tops: Reserved::from_vec(tops),
-                mapper,
-                player: Player::new(alloc, stack),
-                asked: GhostAsked::new(),
-                writes: Vec::new(alloc),
-                failed: false,
-            }),
-            Err(_) => Err(ReplayFault::Memory),
-        }
+        let start = GhostStart::of(&mapper);
+        Ok(Replay {
+            stack,
+            tops: Reserved::from_vec(tops),
+            mapper,
+            player: Player::new(alloc, stack),
+            start,
+            asked: GhostAsked::new(),
+            writes: Vec::new(alloc),
+            failed: false,
+        })
     }
 
     /// Plays a request of a top device, and returns what each of its sectors answered, in maximal
@@ -103,6 +132,7 @@ impl<'s, T: Taken> Replay<'s, T> {
         request: &Request<'_>,
     ) -> Result<Vec<ValueRun>, ReplayFault>
         ensures stack { self.new.stack ≡ self.old.stack }
+        ensures start { self.new.start ≡ self.old.start }
         ensures answered { IfOk result
             (λ runs. IsAnswered self.old self.new (asked_request self.old.stack request.now) runs.items) }
         ensures top { OnOk result (HasTop self.old.stack request.now.device.now) }
@@ -129,6 +159,7 @@ impl<'s, T: Taken> Replay<'s, T> {
     ) -> Result<Vec<ValueRun>, ReplayFault>
         requires { device < length self.old.stack.devices }
         ensures stack { self.new.stack ≡ self.old.stack }
+        ensures start { self.new.start ≡ self.old.start }
         ensures answered { IfOk result
             (λ runs. IsAnswered self.old self.new (whole_request request.now device) runs.items) }
         ensures top { OnOk result (IsTop self.old.stack device) }
@@ -167,6 +198,8 @@ impl<'s, T: Taken> Replay<'s, T> {
     /// Plays the first `units` units of a request of a top device, or all that it has, and returns the
     /// replay that goes on from there, in the state after the sectors whose units were all played.
     ///
+    /// The replay began where no chunk was taken: its writes are mapped once more, from there.
+    ///
     /// So a chunk of which not all was copied, or whose sector wasn't written after that, is not taken.
     /// Each unit is played whole, and they are played in order. Requests and further halts may follow.
     ///
@@ -182,7 +215,9 @@ impl<'s, T: Taken> Replay<'s, T> {
         request: &Request<'_>,
         units: u64,
     ) -> Result<Replay<'s, T>, ReplayFault>
+        requires { self.start ≡ start_state self.stack }
         ensures stack { IfOk result (λ later. later.stack ≡ self.entry.stack) }
+        ensures start { IfOk result (λ later. later.start ≡ self.entry.start) }
         ensures asked { IfOk result
             (λ later. later.asked
             ≡ self.entry.asked ++ halted_request self.entry.stack request.now units ∷ []) }
@@ -195,6 +230,7 @@ impl<'s, T: Taken> Replay<'s, T> {
             tops,
             mapper,
             player,
+            start,
             mut asked,
             mut writes,
             failed,
@@ -211,10 +247,9 @@ impl<'s, T: Taken> Replay<'s, T> {
         };
         let whole = whole_sectors(stack, device, request, player.playing.next);
         asked.add(request, device, Some(units));
-        let start = request.start;
         let write = KeptWrite {
             device,
-            start,
+            start: request.start,
             whole,
         };
         let Ok(()) = keep(&mut writes, request.op, write) else {
@@ -228,6 +263,7 @@ impl<'s, T: Taken> Replay<'s, T> {
             tops,
             mapper,
             player,
+            start,
             asked,
             writes,
             failed: false,

@@ -16,13 +16,14 @@ use Rattle.dm_stack.specs.checks.Graph.{greatest, links_of}
 use Rattle.dm_stack.specs.checks.Depth.{IsDeeperByOne, lower_depth}
 use Rattle.dm_stack.specs.checks.Soundness.{IsSound, depth_of, faults_by_id}
 use Rattle.dm_table.specs.tables.Span.{Span, spans}
+use Rattle.dm_table.proofs.FaultLemmas.{cond_none}
 use Rattle.dm_stack.proofs.checks.DepthLemmas.{depth_to-deeper}
-use Rattle.dm_stack.proofs.checks.Passes.{cond_none, passes_all}
+use Rattle.dm_stack.proofs.checks.Passes.{passes_all}
 use Rattle.dm_stack.proofs.SoundLines.{lines_there, there}
 
 -- Depths within the limit
 
-none_at : (kind : LoadKind) (bad : ℕ → Bool) (id i : ℕ) (devices : List DeviceSpec) → faults_by_id kind bad id devices ≡ [] → i < length devices → bad (id + i) ≡ false
+pub none_at : (kind : LoadKind) (bad : ℕ → Bool) (id i : ℕ) (devices : List DeviceSpec) → faults_by_id kind bad id devices ≡ [] → i < length devices → bad (id + i) ≡ false
 none_at kind bad id i [] e within = absurd (omega arith)
 none_at kind bad id zero (device ∷ devices) e within =
     let parts = cond_none _ (faults_by_id kind bad (suc id) devices) (bad id) e in

@@ -228,9 +228,8 @@ lines_there stack id device at = ap lines_or_none at
 
 -- the only line of a device is all of it
 alone : (test : Line → Bool) (lines : List Line) (line : Line) → find test lines ≡ Some line → length lines ≡ 1 → lines ≡ line ∷ []
-alone test [] line e one = absurd (omega (arith, one))
 alone test (first ∷ []) line e one = ap (λ (l : Line). l ∷ []) (only line first (found_there test (first ∷ []) line e).0)
-alone test (first ∷ next ∷ lines) line e one = absurd (omega (arith, one))
+alone test lines line e one = absurd (omega (arith, one))
 
 pub whole_line : (stack : Description) (id : ℕ) (lines : List Line) (line : Line) → lines_at stack id ≡ lines → AreInRow 0 lines → lines ≡ line ∷ [] → IsWhole stack id line
 whole_line stack id lines line are row only =

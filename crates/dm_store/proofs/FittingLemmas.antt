@@ -2,7 +2,7 @@
 use Rattle.std.proofs.Common.{◌≡◌, ℕ, zero, suc, ◌/◌, ◌<◌, ◌≤◌, Bool, true, false, cond, List, Option, Some, None, Result, Ok, Err, length, nat_eq, refl, sym, subst, arith, length-append}
 use Rattle.std.specs.List.{IsDistinct}
 use Rattle.std.specs.Prelude.{◌==◌, ◌&&◌, ◌||◌, not, is_some, nat_lt}
-use Rattle.std.proofs.lemmas.Bool.{ltb-true}
+use Rattle.std.proofs.lemmas.Bool.{ltb-true, and_parts, or_parts}
 use Rattle.dm_store.specs.declared.fault.SectorFault.{SectorFault}
 use Rattle.dm_store.specs.declared.fault.ListFault.{ListFault}
 use Rattle.dm_store.specs.declared.fault.StoreFault.TheVariants.{Magic, Version, Chunk}
@@ -17,27 +17,14 @@ use Rattle.dm_store.specs.Stored.{Stored, Fresh, Lost, Holds, Refused, by_header
 use Rattle.dm_map.proofs.Numbers.{distinct_more}
 use Rattle.dm_store.specs.Fitting.{AlwaysFit}
 use Rattle.dm_map.specs.state.Snapshots.{number_in}
-
-or_false : (a b : Bool) → (a || b) ≡ false → (a ≡ false) × (b ≡ false)
-or_false false false e = (refl, refl)
-or_false false true e = absurd cc
-or_false true b e = absurd cc
-
-pub and_true : (a b : Bool) → (a && b) ≡ true → (a ≡ true) × (b ≡ true)
-and_true true true e = (refl, refl)
-and_true true false e = absurd cc
-and_true false b e = absurd cc
-
-is_none : (o : Option ℕ) → is_some o ≡ false → o ≡ None
-is_none None e = refl
-is_none (Some x) e = absurd cc
+use Rattle.dm_map.proofs.ChunkTaking.{none_of}
 
 distinct_all : (pairs : ℕ → Pair) (count : ℕ) → is_any_again pairs count ≡ false → IsDistinct nat_eq (old_chunks pairs count)
 unfolding is_any_again old_chunks IsDistinct
 distinct_all pairs zero e = tt
 distinct_all pairs (suc n) e =
-    let parts = or_false (is_any_again pairs n) (is_some (number_in (pairs n).old (old_chunks pairs n))) e in
-    distinct_more (pairs n).old (old_chunks pairs n) (distinct_all pairs n parts.0) (is_none (number_in (pairs n).old (old_chunks pairs n)) parts.1)
+    let parts = or_parts (is_any_again pairs n) (is_some (number_in (pairs n).old (old_chunks pairs n))) e in
+    distinct_more (pairs n).old (old_chunks pairs n) (distinct_all pairs n parts.0) (none_of (number_in (pairs n).old (old_chunks pairs n)) parts.1)
 
 pub length_old : (pairs : ℕ → Pair) (count : ℕ) → length (old_chunks pairs count) ≡ count
 unfolding old_chunks
@@ -48,16 +35,14 @@ placed_all : (store : Store) (pairs : ℕ → Pair) (count : ℕ) → each (λ i
 unfolding each
 placed_all store pairs zero e = omega arith
 placed_all store pairs (suc n) e =
-    let last = and_true (each (λ i. is_placed store i (pairs i)) n) (is_placed store n (pairs n)) e in
-    let inside = and_true (nat_lt n store.places) ((pairs n).new == place Persistent store.chunk n) last.1 in
+    let last = and_parts (each (λ i. is_placed store i (pairs i)) n) (is_placed store n (pairs n)) e in
+    let inside = and_parts (nat_lt n store.places) ((pairs n).new == place Persistent store.chunk n) last.1 in
     let less : n < store.places = ltb-true n store.places inside.0 in
     omega (arith, less)
 
 no_fault : (placed near again : Bool) → fault_of placed near again ≡ None → (placed ≡ true) × (again ≡ false)
 no_fault true true false e = (refl, refl)
-no_fault true true true e = absurd cc
-no_fault true false again e = absurd cc
-no_fault false near again e = absurd cc
+no_fault placed near again e = absurd cc
 
 -- a store that holds chunks passes each check and is used, its list can be read, and has no fault
 pub words_hold : (fresh magic version chunk invalid : Bool) (used : Stored) (chunks : List ℕ)
@@ -71,9 +56,8 @@ header_holds used in_table (Err fault) chunks e = absurd cc
 header_holds used in_table (Ok h) chunks e = (words_hold (four_at h 0 == 0) (four_at h 0 == 0x70416e53) (four_at h 8 == 1) (four_at h 12 == in_table) (four_at h 4 == 0) used chunks e).4
 
 pub end_holds : (full : Bool) (listed : Stored) (sector : Result (List ℕ) SectorFault) (chunks : List ℕ) → cond full listed (listed_if listed sector) ≡ Holds chunks → listed ≡ Holds chunks
-end_holds true listed sector chunks e = e
-end_holds false listed (Ok bytes) chunks e = e
 end_holds false listed (Err fault) chunks e = absurd cc
+end_holds full listed sector chunks e = e
 
 pub list_holds : (f : Option ListFault) (xs chunks : List ℕ) → of_list f xs ≡ Holds chunks → (f ≡ None) × (xs ≡ chunks)
 list_holds None xs chunks e = (refl, cc)

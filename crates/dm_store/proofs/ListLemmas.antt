@@ -2,6 +2,7 @@
 use Rattle.std.proofs.Common.{◌≡◌, inl, inr, ℕ, zero, suc, ◌+◌, ◌<◌, ◌≤◌, Bool, true, false, cond, [], ◌∷◌, ◌++◌, refl, sym, arith}
 use Rattle.std.specs.Prelude.{◌&&◌, ◌||◌, is_some}
 use Rattle.std.proofs.Math.Nat.{le-suc_iff}
+use Rattle.std.proofs.Math.Bool.{and-false}
 use Rattle.dm_store.specs.declared.pair.Pair.{Pair}
 use Rattle.dm_store.specs.declared.store.Store.{Store}
 use Rattle.dm_store.specs.Pairs.{each, count_of, old_chunks}
@@ -14,17 +15,13 @@ pub each_more : (p : ℕ → Bool) (n : ℕ) → each p n ≡ true → p n ≡ t
 unfolding each
 each_more p n e h = let k : n + 1 ≡ suc n = omega arith in rw (k, e, h) refl
 
-and_false : (b : Bool) → (b && false) ≡ false
-and_false true = refl
-and_false false = refl
-
 -- not each of them, from one that isn't so on
 pub each_stop : (p : ℕ → Bool) (n m : ℕ) → p n ≡ false → n < m → each p m ≡ false
 unfolding each
 each_stop p n zero h below = absurd (omega (arith, below))
 each_stop p n (suc m) h below = elim (le-suc_iff.0 below) as (λ _. (each p m && p m) ≡ false) [
   | inl less ↦ rw (each_stop p n m h less) refl
-  | inr same ↦ let k : m ≡ n = omega (arith, same) in rw (k, h) (and_false (each p n))
+  | inr same ↦ let k : m ≡ n = omega (arith, same) in rw (k, h) (and-false (each p n))
 ]
 
 pub count_full : (p : ℕ → Bool) (most : ℕ) → each p most ≡ true → count_of p most ≡ most
@@ -43,13 +40,10 @@ count_stop p n (suc most) e h within = elim (le-suc_iff.0 within) as (λ _. cond
 -- a fault after one more pair
 fault_next : (placed near again p n a : Bool) → fault_of (placed && p) (near && n) (again || a) ≡ next_fault p n a (fault_of placed near again)
 fault_next false near again true n a = refl
-fault_next false near again false n a = refl
-fault_next true near again false n a = refl
 fault_next true false again true true a = refl
-fault_next true false again true false a = refl
 fault_next true true again true false a = elim again as (λ x. fault_of true false (x || a) ≡ next_fault true false a (fault_of true true x)) [ true ↦ refl | false ↦ refl ]
 fault_next true true true true true a = refl
-fault_next true true false true true a = refl
+fault_next placed near again p n a = refl
 
 pub fault_more : (store : Store) (pairs : ℕ → Pair) (n : ℕ) →
     list_fault store pairs (n + 1) ≡ next_fault (is_placed store n (pairs n)) (is_near store (pairs n)) (is_some (number_in (pairs n).old (old_chunks pairs n))) (list_fault store pairs n)

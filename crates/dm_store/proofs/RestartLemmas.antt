@@ -6,7 +6,7 @@ use Rattle.std.proofs.lemmas.List.{get_or_append_left, length-append}
 use Rattle.std.proofs.Math.Nat.{le-suc_iff}
 use Rattle.std.proofs.Math.Seq.{get_or-append_seam}
 use Rattle.dm_table.specs.declared.tables.table.StoreKind.{StoreKind}
-use Rattle.dm_table.specs.declared.tables.table.StoreKind.TheVariants.{Persistent, Transient, Keeping}
+use Rattle.dm_table.specs.declared.tables.table.StoreKind.TheVariants.{Transient}
 use Rattle.dm_stack.specs.declared.checks.graph.TheConstants.{MOST_DEPTH}
 use Rattle.dm_stack.specs.declared.id.Lower.{Lower}
 use Rattle.dm_stack.specs.declared.id.Lower.TheVariants.{Device, Disk}
@@ -17,7 +17,7 @@ use Rattle.dm_stack.specs.declared.lines.resolved_line.ResolvedTarget.TheVariant
 use Rattle.dm_stack.specs.checks.Soundness.{IsSound}
 use Rattle.dm_stack.specs.claims.Claims.{IsTidy}
 use Rattle.dm_stack.specs.Description.{Description}
-use Rattle.dm_stack.specs.lines.Below.{Below, Lies, IsZero, IsError, below_line, below_target, found_at}
+use Rattle.dm_stack.specs.lines.Below.{Below, Lies, IsError, below_line, below_target, found_at}
 use Rattle.dm_map.specs.own.Ample.{AreExact, IsAmple}
 use Rattle.dm_map.specs.own.Contents.{Stays, value_read}
 use Rattle.dm_map.specs.own.Rows.{AreOwn, Rows}
@@ -105,8 +105,7 @@ kept_at stack state (suc n) device less =
 
 keeps : (kind : StoreKind) (store : Store) → kind ≢ Transient → if_listing kind store ≡ Some store
 keeps Transient store other = absurd (other refl)
-keeps Persistent store other = refl
-keeps Keeping store other = refl
+keeps kind store other = refl
 
 snapshot_keeps : (stack : Description) (device : ℕ) (snapshot : ResolvedSnapshot) → AllKeepLists stack → snapshot_at stack device ≡ Some snapshot → store_at stack device ≡ Some (snapshot_store stack device snapshot)
 snapshot_keeps stack device snapshot keep over =
@@ -125,7 +124,6 @@ over_kept taken store snapshot sector = elim (cases_Bool taken.valid) [
 target_same : (taken other : Taken) (target : ResolvedTarget) (distance : ℕ) → ((snapshot : ResolvedSnapshot) → target ≡ found.Snapshot snapshot → read_over taken snapshot distance ≡ read_over other snapshot distance)
     → below_target (read_over taken) target distance ≡ below_target (read_over other) target distance
 target_same taken other (found.Snapshot snapshot) distance same = same snapshot refl
-target_same taken other (found.Origin origin) distance same = refl
 target_same taken other target distance same = refl
 
 line_same : (taken other : Taken) (line : Option ResolvedLine) (sector : ℕ) → ((it : ResolvedLine) (snapshot : ResolvedSnapshot) → line ≡ Some it → it.target ≡ found.Snapshot snapshot → read_over taken snapshot (sector - it.start) ≡ read_over other snapshot (sector - it.start))
@@ -143,8 +141,7 @@ below_kept stack state device sector sound keep =
 
 below_same : (b : Below) (f g : Lower → ℕ → BlockUnit) → ((to : Lower) (at : ℕ) → f to at ≡ g to at) → by_below b Zeros Fails f ≡ by_below b Zeros Fails g
 below_same (Lies to at) f g same = same to at
-below_same IsZero f g same = refl
-below_same IsError f g same = refl
+below_same b f g same = refl
 
 reads_same : (stack : Description) (a b : State) (levels : ℕ) (lower : Lower) (sector : ℕ) → ((device at : ℕ) → read_below stack a device at ≡ read_below stack b device at) → read_unit stack a levels lower sector ≡ read_unit stack b levels lower sector
 unfolding read_unit

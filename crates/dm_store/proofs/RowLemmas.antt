@@ -10,7 +10,7 @@ use Rattle.dm_store.specs.declared.fault.SectorFault.{SectorFault}
 use Rattle.dm_store.specs.declared.row_range.RowRange.{RowRange}
 use Rattle.dm_store.specs.declared.store.Store.{Store}
 use Rattle.dm_store.specs.Images.{AreRead, DiskContents, sector_in}
-use Rattle.dm_store.specs.Layout.{area_count, pair_count, row_sector}
+use Rattle.dm_store.specs.Layout.{area_count, row_sector}
 use Rattle.dm_store.specs.Pairs.{Sectors}
 use Rattle.dm_store.specs.Reading.{HasRows, IsRowOf}
 use Rattle.dm_store.specs.Start.{store_sectors}
@@ -48,12 +48,6 @@ rows_within chunk store_len row count some inside fits =
   where
     area_below : (chunk row areas : ℕ) → 0 < chunk → row < areas * chunk → row / chunk < areas
     area_below chunk row areas some inside = grind (arith, inside, some)
-
--- the row of a number of a list is one of its areas
-pub row_below : (chunk store_len number : ℕ) → number < pair_count chunk store_len → number / 32 < area_count chunk store_len * chunk
-row_below chunk store_len number below =
-    let same : area_count chunk store_len * (32 * chunk) ≡ 32 * (area_count chunk store_len * chunk) = grind arith in
-    omega (arith, below, same)
 
 -- a row whose store's sector lies in a row of a disk's
 pub row_home : (stack : Description) (disks : DiskContents) (store : Store) (row disk start count : ℕ) → row % store.chunk + count ≤ store.chunk → GoOn (home stack store.lower) (row_sector store.chunk row) disk start count

@@ -1,16 +1,18 @@
 -- What is spelled in a store is read back.
 use Rattle.std.proofs.Common.{◌≡◌, inl, inr, ℕ, zero, suc, ◌<◌, ◌≤◌, Bool, true, false, List, [], ◌∷◌, Option, None, get_or, length, nat_eq, take, refl, sym, ap, subst, ◌∙◌, arith}
-use Rattle.std.specs.List.{AllByRecursion, IsDistinct}
+use Rattle.std.specs.List.{IsDistinct}
 use Rattle.std.specs.Prelude.{◌==◌, ◌&&◌, nat_lt, not, slice_index}
-use Rattle.std.proofs.lemmas.Bool.{eq-eqb, le-leb, lt-ltb, ne_eqb}
+use Rattle.std.proofs.lemmas.Bool.{eq-eqb, le-leb, lt-ltb, ne_eqb, and_from}
 use Rattle.std.proofs.lemmas.List.{take_all}
 use Rattle.std.proofs.Math.Seq.{take-suc}
+use Rattle.std.proofs.lemmas.Option.{slice_get-get_or}
 use Rattle.dm_store.specs.declared.fault.ListFault.{ListFault}
 use Rattle.dm_store.specs.declared.pair.Pair.{Pair}
 use Rattle.dm_store.specs.declared.store.Store.{Store}
 use Rattle.dm_store.specs.Numbers.{four_at}
 use Rattle.dm_store.specs.Pairs.{Sectors, each, old_chunks, pair}
 use Rattle.dm_table.specs.declared.tables.table.StoreKind.TheVariants.{Persistent}
+use Rattle.dm_table.proofs.Lists.{at_index}
 use Rattle.dm_stack.specs.lines.StoreLayout.{place}
 use Rattle.dm_store.specs.Layout.{pair_count}
 use Rattle.dm_store.specs.Spelled.{ReadsBack, Spells}
@@ -24,11 +26,6 @@ unfolding each
 each_all p zero all = refl
 each_all p (suc n) all = rw (each_all p n (λ i less. all i (omega (arith, less))), all n (omega arith)) refl
 
-all_at : (P : ℕ → Type 0) (xs : List ℕ) (i : ℕ) → AllByRecursion P xs → i < length xs → P (get_or xs i 0)
-all_at P [] i all less = absurd (omega (arith, less))
-all_at P (x ∷ xs) zero all less = all.0
-all_at P (x ∷ xs) (suc i) all less = all_at P xs i all.1 (omega (arith, less))
-
 -- of a list without doubles, an element isn't among those before it
 new_at : (xs : List ℕ) (i : ℕ) → IsDistinct nat_eq xs → i < length xs → number_in (get_or xs i 0) (take i xs) ≡ None
 unfolding IsDistinct
@@ -36,7 +33,7 @@ new_at [] i distinct less = absurd (omega (arith, less))
 new_at (x ∷ xs) zero distinct less = refl
 new_at (x ∷ xs) (suc i) distinct less =
     let within : i < length xs = omega (arith, less) in
-    let other : (x == get_or xs i 0) ≡ false = all_at (λ y. nat_eq x y ≡ false) xs i distinct.0 within in
+    let other : (x == get_or xs i 0) ≡ false = at_index (λ y. nat_eq x y ≡ false) xs i _ distinct.0 (slice_get-get_or xs i 0 within) in
     rw (other, new_at xs i distinct.1 within) refl
 
 old_take : (pairs : ℕ → Pair) (xs : List ℕ) (n : ℕ) → n ≤ length xs → ((i : ℕ) → i < length xs → (pairs i).old ≡ get_or xs i 0) → old_chunks pairs n ≡ take n xs
@@ -52,9 +49,6 @@ none_again pairs xs (suc n) within distinct are =
     let less : n < length xs = omega (arith, within) in
     rw (none_again pairs xs n (omega (arith, within)) distinct are, are n less, old_take pairs xs n (omega (arith, within)) are, new_at xs n distinct less) refl
 
-both : (a b : Bool) → a ≡ true → b ≡ true → (a && b) ≡ true
-both a b p q = rw (p, q) refl
-
 faultless : (placed near again : Bool) → placed ≡ true → near ≡ true → again ≡ false → fault_of placed near again ≡ None
 faultless placed near again p n a = rw (p, n, a) refl
 
@@ -66,7 +60,7 @@ listed_spelled sectors store chunks spells =
     let some : place Persistent store.chunk i ≡ 0 → ⊥ = λ zero. omega (arith, zero) in
     ap (λ (x : Pair). is_listed x) (spells.pairs i less) ∙ ap not (ne_eqb (place Persistent store.chunk i) 0 some)) in
     let placed : each (λ i. is_placed store i (pairs i)) n ≡ true = each_all (λ i. is_placed store i (pairs i)) n (λ i less.
-    ap (λ (x : Pair). is_placed store i x) (spells.pairs i less) ∙ both (nat_lt i store.places) (place Persistent store.chunk i == place Persistent store.chunk i) (lt-ltb i store.places (omega (arith, less, spells.fit.places))) (eq-eqb (place Persistent store.chunk i) (place Persistent store.chunk i) refl)) in
+    ap (λ (x : Pair). is_placed store i x) (spells.pairs i less) ∙ and_from (nat_lt i store.places) (place Persistent store.chunk i == place Persistent store.chunk i) (lt-ltb i store.places (omega (arith, less, spells.fit.places))) (eq-eqb (place Persistent store.chunk i) (place Persistent store.chunk i) refl)) in
     let near : each (λ i. is_near store (pairs i)) n ≡ true = each_all (λ i. is_near store (pairs i)) n (λ i less.
     ap (λ (x : Pair). is_near store x) (spells.pairs i less) ∙ le-leb (slice_index chunks i) store.last (spells.near i less)) in
     let are : (i : ℕ) → i < length chunks → (pairs i).old ≡ get_or chunks i 0 = λ i less. ap (λ (x : Pair). x.old) (spells.pairs i less) in

@@ -1,11 +1,11 @@
 -- What is said to be held is spelled.
 use Rattle.std.proofs.Common.{◌≡◌, ◌⊎◌, inl, inr, ℕ, zero, suc, ◌/◌, ◌<◌, ◌≤◌, Bool, true, false, cond, List, [], ◌∷◌, ◌++◌, None, Result, Ok, Err, get_or, length, refl, sym, ap, subst, ◌∙◌, arith}
 use Rattle.std.specs.Prelude.{◌≢◌, ◌==◌, ◌&&◌, not, nat_lt, slice_index}
-use Rattle.std.proofs.lemmas.Bool.{eq-eqb, eqb-true, leb-true, ne_eqb}
+use Rattle.std.proofs.lemmas.Bool.{eq-eqb, eqb-true, leb-true, ne_eqb, and_parts, not-false}
 use Rattle.std.proofs.Math.Nat.{le-suc_iff}
 use Rattle.std.proofs.lemmas.List.{get_or_append_left}
+use Rattle.std.proofs.Math.Seq.{get_or-append_seam}
 use Rattle.dm_store.specs.declared.fault.SectorFault.{SectorFault}
-use Rattle.dm_store.specs.declared.fault.StoreFault.TheVariants.{Magic, Version, Chunk}
 use Rattle.dm_store.specs.declared.pair.Pair.{Pair}
 use Rattle.dm_store.specs.declared.store.Store.{Store}
 use Rattle.dm_store.specs.Numbers.{four_at}
@@ -14,8 +14,8 @@ use Rattle.dm_table.specs.declared.tables.table.StoreKind.TheVariants.{Persisten
 use Rattle.dm_stack.specs.lines.StoreLayout.{place}
 use Rattle.dm_store.specs.Layout.{pair_count, row_sector}
 use Rattle.dm_store.specs.Spelled.{IsFreeAt, IsSpelled, IsUsed}
-use Rattle.dm_store.specs.Stored.{Fresh, Holds, Lost, Refused, Stored, by_header, list_fault, fault_of, is_any_again, is_listed, is_near, is_placed, list_count, listed, listed_if, of_list}
-use Rattle.dm_store.proofs.FittingLemmas.{always_fits, and_true, end_holds, header_holds, length_old, list_holds, words_hold}
+use Rattle.dm_store.specs.Stored.{Holds, Stored, by_header, list_fault, fault_of, is_any_again, is_listed, is_near, is_placed, list_count, listed, listed_if, of_list}
+use Rattle.dm_store.proofs.FittingLemmas.{always_fits, end_holds, header_holds, length_old, list_holds, words_hold}
 
 unequal : (n : ℕ) → (n == 0) ≡ false → n ≢ 0
 unequal n e = λ zero. absurd (let t : (n == 0) ≡ true = eq-eqb n 0 zero in cc)
@@ -38,14 +38,10 @@ header_parts used in_table (Ok h) chunks e =
 each_at : (p : ℕ → Bool) (n i : ℕ) → each p n ≡ true → i < n → p i ≡ true
 unfolding each
 each_at p zero i all less = absurd (omega (arith, less))
-each_at p (suc n) i all less = let parts = and_true (each p n) (p n) all in elim (le-suc_iff.0 less) as (λ _. p i ≡ true) [
+each_at p (suc n) i all less = let parts = and_parts (each p n) (p n) all in elim (le-suc_iff.0 less) as (λ _. p i ≡ true) [
   | inl before ↦ each_at p n i parts.0 before
   | inr last ↦ let k : n ≡ i = omega (arith, last) in subst (λ (x : ℕ). p x ≡ true) k parts.1
 ]
-
-last_of : (xs : List ℕ) (x : ℕ) → get_or (xs ++ x ∷ []) (length xs) 0 ≡ x
-last_of [] x = refl
-last_of (y ∷ xs) x = last_of xs x
 
 old_at : (pairs : ℕ → Pair) (n i : ℕ) → i < n → get_or (old_chunks pairs n) i 0 ≡ (pairs i).old
 unfolding old_chunks
@@ -56,7 +52,7 @@ old_at pairs (suc n) i less =
     elim (le-suc_iff.0 less) as (λ _. get_or (before ++ (pairs n).old ∷ []) i 0 ≡ (pairs i).old) [
       | inl inside ↦ get_or_append_left before ((pairs n).old ∷ []) 0 i (omega (arith, inside, count)) ∙ old_at pairs n i inside
       | inr last ↦ let k : n ≡ i = omega (arith, last) in let at : i ≡ length before = omega (arith, k, count) in
-          ap (λ (x : ℕ). get_or (before ++ (pairs n).old ∷ []) x 0) at ∙ last_of before (pairs n).old ∙ ap (λ (x : ℕ). (pairs x).old) k
+          ap (λ (x : ℕ). get_or (before ++ (pairs n).old ∷ []) x 0) at ∙ get_or-append_seam before (pairs n).old [] 0 ∙ ap (λ (x : ℕ). (pairs x).old) k
     ]
 
 -- how many are so, up to the first that isn't: each of them is, and that one isn't
@@ -90,21 +86,15 @@ count_ends p (suc m) = go_ends p m (each p (suc m)) refl refl (count_ends p m)
 
 no_fault_all : (placed near again : Bool) → fault_of placed near again ≡ None → (placed ≡ true) × (near ≡ true)
 no_fault_all true true again e = (refl, refl)
-no_fault_all true false again e = absurd cc
-no_fault_all false near again e = absurd cc
+no_fault_all placed near again e = absurd cc
 
 -- where not all areas are full, the sector of the pair after the list could be read
 end_read : (full : Bool) (listed : Stored) (sector : Result (List ℕ) SectorFault) (chunks : List ℕ) → full ≡ false → cond full listed (listed_if listed sector) ≡ Holds chunks → (row : List ℕ) × (sector ≡ Ok row)
-end_read true listed sector chunks e held = absurd cc
 end_read false listed (Ok bytes) chunks e held = (bytes, refl)
-end_read false listed (Err fault) chunks e held = absurd cc
-
-not_false : (b : Bool) → not b ≡ false → b ≡ true
-not_false true e = refl
-not_false false e = absurd cc
+end_read full listed sector chunks e held = absurd cc
 
 not_listed : (n : ℕ) → not (n == 0) ≡ false → n ≡ 0
-not_listed n e = eqb-true n 0 (not_false (n == 0) e)
+not_listed n e = eqb-true n 0 (not-false (n == 0) e)
 
 pub is_spelled : (store : Store) → IsSpelled store
 is_spelled store = λ sectors chunks is.
@@ -127,7 +117,7 @@ is_spelled store = λ sectors chunks is.
       used = header.used;
       pairs = λ i below.
           let less : i < count = subst (λ (n : ℕ). i < n) len below in
-          let placed = and_true (nat_lt i store.places) ((pairs i).new == place Persistent store.chunk i) (each_at (λ j. is_placed store j (pairs j)) count i all.0 less) in
+          let placed = and_parts (nat_lt i store.places) ((pairs i).new == place Persistent store.chunk i) (each_at (λ j. is_placed store j (pairs j)) count i all.0 less) in
           let new : (pairs i).new ≡ place Persistent store.chunk i = eqb-true (pairs i).new (place Persistent store.chunk i) placed.1 in
           let a : pairs i ≡ record { old = slice_index chunks i; new = (pairs i).new } = ap (λ (x : ℕ). let y : Pair = record { old = x; new = (pairs i).new } in y) (olds i less) in
           a ∙ ap (λ (x : ℕ). let y : Pair = record { old = slice_index chunks i; new = x } in y) new;

@@ -1,5 +1,5 @@
 -- The state of all devices, from that of each; and which of them are snapshots.
-use Rattle.std.proofs.Common.{◌≡◌, inl, inr, ℕ, zero, suc, ◌+◌, ◌<◌, ◌≤◌, Bool, true, false, cond, List, ◌∷◌, Option, Some, None, Result, Ok, Err, filter, get_or, length, replicate, take, refl, sym, ap, subst, ◌∙◌, arith}
+use Rattle.std.proofs.Common.{◌≡◌, inl, inr, ℕ, zero, suc, ◌+◌, ◌<◌, ◌≤◌, Bool, true, false, cond, List, ◌∷◌, Option, Some, None, Result, Ok, Err, filter, get_or, length, take, refl, sym, ap, subst, ◌∙◌, arith}
 use Rattle.std.specs.Option.{option_and_then}
 use Rattle.std.specs.List.{Contains, range_with_len}
 use Rattle.std.proofs.lemmas.Bool.{cases_lt, cases_order}
@@ -157,9 +157,3 @@ next_later stack devices next snapshot state new order within is later put_there
     let edge : get_or devices next (length stack.devices) ≡ snapshot = get_or_default devices next (length stack.devices) 0 within ∙ is in
     let other : i ≡ snapshot → ⊥ = λ same. omega (arith, after, from, is, same) in
     ap (λ (s : State). taken_at s i) put_there ∙ get_or-set_other state snapshot i (taken_at new snapshot) none_taken other ∙ later i (omega (arith, after, from, is, edge))
-
--- nothing is taken at the start
-pub start_none : (count i : ℕ) → taken_at (replicate count none_taken) i ≡ none_taken
-start_none zero i = refl
-start_none (suc count) zero = refl
-start_none (suc count) (suc i) = start_none count i

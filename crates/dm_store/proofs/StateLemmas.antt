@@ -1,5 +1,5 @@
 -- The state that the stores of a stack hold is one that the stack can be in.
-use Rattle.std.proofs.Common.{◌≡◌, inl, inr, ℕ, zero, suc, ◌+◌, ◌-◌, ◌*◌, ◌/◌, ◌<◌, ◌≤◌, true, false, List, [], ◌∷◌, ◌++◌, Option, Some, None, Result, Ok, Err, get_or, length, refl, sym, ap, subst, ◌∙◌, arith}
+use Rattle.std.proofs.Common.{◌≡◌, inl, inr, ℕ, zero, suc, ◌+◌, ◌-◌, ◌*◌, ◌/◌, ◌<◌, ◌≤◌, true, false, List, [], ◌∷◌, ◌++◌, Option, Some, None, Result, Ok, get_or, length, refl, sym, ap, subst, ◌∙◌, arith}
 use Rattle.std.specs.Prelude.{◌⊎◌, ◌↔◌, slice_index}
 use Rattle.std.specs.List.{AllByRecursion, IsDistinct}
 use Rattle.std.proofs.lemmas.Bool.{cases_Bool, cases_lt, le-leb}
@@ -7,7 +7,7 @@ use Rattle.std.proofs.lemmas.List.{get_or_append_left, get_or_past, length-appen
 use Rattle.std.proofs.Math.Nat.{le-div_iff_mul-le, le-suc_iff}
 use Rattle.std.proofs.Math.Seq.{get_or-append_seam}
 use Rattle.dm_table.specs.declared.tables.table.StoreKind.{StoreKind}
-use Rattle.dm_table.specs.declared.tables.table.StoreKind.TheVariants.{Persistent, Transient, Keeping}
+use Rattle.dm_table.specs.declared.tables.table.StoreKind.TheVariants.{Transient}
 use Rattle.dm_stack.specs.declared.lines.resolved_line.ResolvedSnapshot.{ResolvedSnapshot}
 use Rattle.dm_stack.specs.checks.Soundness.{IsSound}
 use Rattle.dm_stack.specs.Description.{Description, device_len, lower_len}
@@ -43,9 +43,8 @@ record IsLonger (before : Result State StoreRefusal) (next : Result Taken StoreF
   is : state ≡ earlier ++ taken ∷ []
 
 is_longer : (before : Result State StoreRefusal) (device : ℕ) (next : Result Taken StoreFault) (state : State) → with_next before device next ≡ Ok state → IsLonger before next state
-is_longer (Err refusal) device next state e = absurd cc
-is_longer (Ok earlier) device (Err fault) state e = absurd cc
 is_longer (Ok earlier) device (Ok taken) state e = record { earlier = earlier; taken = taken; before_is = refl; next_is = refl; is = cc }
+is_longer before device next state e = absurd cc
 
 -- each of them took what its start says
 record AreFirst (starts : ℕ → Result Taken StoreFault) (count : ℕ) (state : State) : Type 0 where
@@ -141,8 +140,7 @@ taken_by stack disks device (Some store) taken is e =
 
 listing : (kind : StoreKind) (store : Store) → (if_listing kind store ≡ None) ⊎ (if_listing kind store ≡ Some store)
 listing Transient store = inl refl
-listing Persistent store = inr refl
-listing Keeping store = inr refl
+listing kind store = inr refl
 
 held_by : (stack : Description) (disks : DiskContents) (device : ℕ) (snapshot : ResolvedSnapshot) (taken : Taken) → snapshot_at stack device ≡ Some snapshot → IsTakenBy stack disks device taken → AreHeld (snapshot_store stack device snapshot) taken.chunks
 held_by stack disks device snapshot taken over by =

@@ -1,14 +1,11 @@
 -- What is told of a store, by its header and its list.
 use Rattle.std.proofs.Common.{◌≡◌, ℕ, ◌<◌, Bool, true, Result, Ok, length, sym, ap, ◌∙◌, arith}
-use Rattle.std.proofs.lemmas.List.{get_or-set_same, length-set, set-set}
-use Rattle.dm_map.specs.state.State.{State, Taken, none_taken, put, taken_at}
+use Rattle.std.proofs.lemmas.List.{length-set, set-set}
+use Rattle.dm_map.specs.state.State.{State, Taken, put, taken_at}
+use Rattle.dm_map.proofs.ChunkTaking.{taken_same}
 use Rattle.dm_store.specs.declared.fault.StoreFault.{StoreFault}
 use Rattle.dm_store.specs.Start.{taken_in}
 use Rattle.dm_store.specs.Stored.{Holds}
-
--- what was put for a device is there
-pub put_same : (state : State) (device : ℕ) (taken : Taken) → device < length state → taken_at (put state device taken) device ≡ taken
-put_same state device taken there = get_or-set_same state device taken none_taken there
 
 -- a valid snapshot that took what a list holds
 pub taken_valid : (taken : Taken) → taken.valid ≡ true → Ok taken ≡ taken_in (Holds taken.chunks)
@@ -19,7 +16,7 @@ pub put_more : (first state new : State) (device : ℕ) (taken : Taken) → devi
     → (new ≡ put first device (taken_at new device)) × (taken_at new device ≡ taken)
 put_more first state new device taken there so_far more =
     let count : length state ≡ length first = ap (λ (s : State). length s) so_far ∙ length-set first device (taken_at state device) in
-    let here : taken_at new device ≡ taken = ap (λ (s : State). taken_at s device) more ∙ put_same state device taken (omega (arith, there, count)) in (
+    let here : taken_at new device ≡ taken = ap (λ (s : State). taken_at s device) more ∙ taken_same state device taken (omega (arith, there, count)) in (
       more ∙ ap (λ (s : State). put s device taken) so_far ∙ set-set first device (taken_at state device) taken ∙ ap (λ (t : Taken). put first device t) (sym here),
       here,
     )

@@ -4,7 +4,7 @@ use Rattle.std.specs.Prelude.{is_some}
 use Rattle.std.proofs.lemmas.Bool.{eq-eqb, ne_eqb}
 use Rattle.dm_store.specs.declared.fault.SectorFault.{SectorFault}
 use Rattle.dm_store.specs.declared.fault.ListFault.{ListFault}
-use Rattle.dm_store.specs.declared.fault.ListFault.TheVariants.{Order, Range, Again}
+use Rattle.dm_store.specs.declared.fault.ListFault.TheVariants.{Range}
 use Rattle.dm_store.specs.declared.fault.StoreFault.TheVariants.{Unread}
 use Rattle.dm_store.specs.declared.pair.Pair.{Pair}
 use Rattle.dm_store.specs.declared.store.Store.{Store}
@@ -78,22 +78,16 @@ unread_list sectors store number f chunks fault walked less is =
 -- without a fault now there was none before
 pub no_fault_before : (p n a : Bool) (f : Option ListFault) → next_fault p n a f ≡ None → f ≡ None
 no_fault_before p n a None e = refl
-no_fault_before false n a (Some x) e = absurd cc
-no_fault_before true n a (Some Order) e = absurd cc
 no_fault_before true false a (Some Range) e = absurd cc
-no_fault_before true false a (Some Again) e = absurd cc
 no_fault_before true true a (Some Range) e = absurd cc
-no_fault_before true true a (Some Again) e = absurd cc
+no_fault_before p n a f e = absurd cc
 
 -- and with one it doesn't matter what was taken
 next_same : (p n a b : Bool) (f : Option ListFault) → (f ≡ None → a ≡ b) → next_fault p n a f ≡ next_fault p n b f
 next_same p n a b None same = ap (λ (x : Bool). next_fault p n x None) (same refl)
-next_same false n a b (Some x) same = refl
-next_same true n a b (Some Order) same = refl
 next_same true false a b (Some Range) same = refl
-next_same true false a b (Some Again) same = refl
 next_same true true a b (Some Range) same = refl
-next_same true true a b (Some Again) same = refl
+next_same p n a b f same = refl
 
 pub one_more : (sectors : Sectors) (store : Store) (number : ℕ) (f after : Option ListFault) (block chunks more : List ℕ) → Walked sectors store number f chunks
     → sectors (row_sector store.chunk (number / 32)) ≡ Ok block → ((pair_in block (number % 32)).new ≡ 0 → ⊥)

@@ -12,6 +12,7 @@ mod runs;
 pub use pieces::disk_texts::DiskTexts;
 pub use pieces::join::Join;
 pub use requests::exchange::Exchange;
+pub use requests::front::Front;
 pub use requests::handler::{Handler, HandlesFrom, ReadsFrom};
 pub use requests::handling::handle_requests;
 pub use requests::lines::{Lines, Next};

@@ -8,3 +8,5 @@ pub use Rattle.dm_table.proofs.requests.RequestLemmas
 pub use Rattle.dm_table.proofs.tables.ConciseDescribed
 pub use Rattle.dm_table.proofs.tables.DiskLemmas
 pub use Rattle.dm_table.proofs.tables.TableDescribed
+pub use Rattle.dm_table.proofs.words.ByteLemmas
+pub use Rattle.dm_table.proofs.words.MarkLemmas

@@ -36,9 +36,6 @@ at_index P (y ∷ ys) (suc i) x each e = at_index P ys i x each.1 e
 
 -- Options and results
 
-pub some_is : {X : Type 0} (x y : X) → Some x ≡ Some y → x ≡ y
-some_is x y e = cc
-
 -- what a mapped value was before
 pub mapped : {X Y : Type 0} (f : X → Y) (o : Option X) (y : Y) → option_map f o ≡ Some y → (x : X) × (o ≡ Some x) × (f x ≡ y)
 mapped f None y e = absurd cc

@@ -28,8 +28,7 @@ if_out (Err why) told out = told out
 -- out of memory says nothing of where it begins
 pub out_begun : (stack : Description) (before : Option Delivery) (start : Start) (why : Unbegun) → IsOutOfMemory why → IsBegunAt stack before start (Err why)
 out_begun stack before start (unbegun.Load fault) memory = λ other. absurd (other memory)
-out_begun stack before start (unbegun.Store message) memory = absurd memory
-out_begun stack before start (unbegun.Earlier fault) memory = absurd memory
+out_begun stack before start why memory = absurd memory
 
 -- what was refused with no earlier requests is refused before any
 never_done : (fault : EarlierFault) → Some endings.Done ≡ Some (refused_ending fault) → ⊥
@@ -37,9 +36,8 @@ never_done (earlier.BadRequest number word) is = cc
 never_done earlier.Read is = cc
 
 pub begun_before : (stack : Description) (before : Option Delivery) (start : Start) (why : Unbegun) → IsBegunAt stack None start (Err why) → IsBegunAt stack before start (Err why)
-begun_before stack before start (unbegun.Load fault) begun = begun
-begun_before stack before start (unbegun.Store message) begun = begun
 begun_before stack before start (unbegun.Earlier fault) begun = absurd (never_done fault begun.2)
+begun_before stack before start why begun = begun
 
 -- earlier requests were played from where it began
 pub begun_ending : (stack : Description) (before : Option Delivery) (state reached : State) (ending : Ending) → reached ≡ state → (earlier_from reached stack before).ending ≡ Some ending → (earlier_from state stack before).ending ≡ Some ending

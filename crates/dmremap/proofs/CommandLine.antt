@@ -4,23 +4,20 @@ use Rattle.clap.specs.Kinds.{HasKind, IsAmong}
 use Rattle.clap.specs.Words.{AddsSubcommand, App, HasMatchesOf, Row, Text, app_of, fault_of, is_simple, is_simple_and_free, kind_of, shape_of, subcommand_rows_of, with_subcommand}
 use Rattle.clap.specs.declared.builder.command.Command.{Command}
 use Rattle.clap.specs.declared.builder.command.Command.TheViews.{out-Command}
-use Rattle.clap.specs.declared.builder.value_parser.ValueParser.{ValueParser}
 use Rattle.clap.specs.declared.error.Error.{Error}
 use Rattle.clap.specs.declared.error.kind.ErrorKind.{ErrorKind}
 use Rattle.clap.specs.declared.error.kind.ErrorKind.TheVariants as kind
 use Rattle.clap.specs.declared.parser.matches.ArgMatches.{ArgMatches}
 use Rattle.clap.proofs.OnLiterals.{clap_on_literals}
 use Rattle.dmremap.specs.Job.{JobWords}
-use Rattle.dmremap.specs.Words.{HasApp, IsOfKind, IsRefusedFor, IsTaken, IsUntaken, TakesFormats, command_line, fault_from, has_lone_hyphen, is_invalid, is_memory, is_unknown, job_in, said_by}
+use Rattle.dmremap.specs.Words.{HasApp, IsOfKind, IsRefusedFor, IsTaken, IsUntaken, Parsers, TakeFormats, command_line, fault_from, has_lone_hyphen, is_invalid, is_memory, is_unknown, job_in, said_by}
 use Rattle.dmremap.specs.declared.words.WordsFault.{WordsFault}
 use Rattle.dmremap.specs.declared.words.WordsFault.TheVariants.{Words, Disks, Memory}
 
 -- a command that a parse reads as a plain one has no global argument
 third : (a b c d : Bool) → (a && (b && (not c && d))) ≡ true → c ≡ false
 third true true false d e = refl
-third true true true d e = absurd (true≢false (sym e))
-third true false c d e = absurd (true≢false (sym e))
-third false b c d e = absurd (true≢false (sym e))
+third a b c d e = absurd (true≢false (sym e))
 
 plain_local : (command : Command) → (shape_of command).is_plain ≡ true → (out-Command command).has_globals ≡ false
 plain_local command plain = third _ _ _ _ plain
@@ -33,26 +30,26 @@ command_added app added line command (Ok longer) line_is command_is plain adds =
 command_added app added line command (Err fault) line_is command_is plain adds = tt
 
 -- clap's matches are those that the definitions compute, whatever the parser of FORMAT
-pub simple : (parser : ValueParser) → is_simple (command_line parser) ≡ true
+pub simple : (parsers : Parsers) → is_simple (command_line parsers) ≡ true
 unfolding clap_on_literals
-simple parser = refl
+simple parsers = refl
 
 -- and so are the kinds of its errors
-pub simple_and_free : (parser : ValueParser) → is_simple_and_free (command_line parser) ≡ true
+pub simple_and_free : (parsers : Parsers) → is_simple_and_free (command_line parsers) ≡ true
 unfolding clap_on_literals
-simple_and_free parser = refl
+simple_and_free parsers = refl
 
 -- an error that clap's clause allows is the fault that it becomes
-pub refused : (parser : ValueParser) (line : App) (words : List Text) (error : Error) → TakesFormats parser
-    → (is_simple_and_free line ≡ true → HasKind (fault_of line words) error) → line ≡ command_line parser → IsUntaken words (fault_from error)
-refused parser line words error formats kinds line_is = go (is_memory (kind_of error)) refl
+pub refused : (parsers : Parsers) (line : App) (words : List Text) (error : Error) → TakeFormats parsers
+    → (is_simple_and_free line ≡ true → HasKind (fault_of line words) error) → line ≡ command_line parsers → IsUntaken words (fault_from error)
+refused parsers line words error formats kinds line_is = go (is_memory (kind_of error)) refl
   where
     go : (b : Bool) → is_memory (kind_of error) ≡ b → IsUntaken words (cond b Memory (Words error))
     go true e = tt
     go false e = record {
-      parser = parser;
+      parsers = parsers;
       formats = formats;
-      among = elim (rw line_is at (kinds (ap is_simple_and_free line_is ∙ simple_and_free parser))) [
+      among = elim (rw line_is at (kinds (ap is_simple_and_free line_is ∙ simple_and_free parsers))) [
         | inl memory ↦ absurd (true≢false (sym (ap is_memory memory) ∙ e))
         | inr among ↦ among
       ];
@@ -68,14 +65,14 @@ said_met command_in rows_in (Some x) command given named has =
     let same : command ≡ command_in x = cc in let args : given ≡ rows_in x = cc in ap₂ job_in same args
 
 -- words that clap takes say what its matches say
-pub taken : (parser : ValueParser) (line : App) (words : List Text) (said : Option JobWords) (matches : ArgMatches) → TakesFormats parser
+pub taken : (parsers : Parsers) (line : App) (words : List Text) (said : Option JobWords) (matches : ArgMatches) → TakeFormats parsers
     → (is_simple_and_free line ≡ true → fault_of line words ≡ []) → HasMatchesOf line words matches
-    → said ≡ said_by (subcommand_rows_of matches) → line ≡ command_line parser → IsTaken words said
-taken parser line words said matches formats kinds has_matches said_is line_is = record {
-  parser = parser;
+    → said ≡ said_by (subcommand_rows_of matches) → line ≡ command_line parsers → IsTaken words said
+taken parsers line words said matches formats kinds has_matches said_is line_is = record {
+  parsers = parsers;
   formats = formats;
-  taken = cc (kinds (ap is_simple_and_free line_is ∙ simple_and_free parser));
-  says = let met = has_matches (ap is_simple line_is ∙ simple parser) in
+  taken = cc (kinds (ap is_simple_and_free line_is ∙ simple_and_free parsers));
+  says = let met = has_matches (ap is_simple line_is ∙ simple parsers) in
       cc (ap said_by met.1);
 }
 
@@ -91,9 +88,9 @@ retold words Disks fault unknown is untaken = absurd is
 retold words (Words other) (Words error) unknown is untaken =
     let same : kind_of error ≡ kind_of other = invalid (kind_of error) unknown ∙ sym is in
     record {
-      parser = untaken.parser;
+      parsers = untaken.parsers;
       formats = untaken.formats;
-      among = subst (λ k. IsAmong k (fault_of (command_line untaken.parser) words)) same untaken.among;
+      among = subst (λ k. IsAmong k (fault_of (command_line untaken.parsers) words)) same untaken.among;
       no_memory = λ memory. untaken.no_memory (same ∙ memory);
     }
 retold words (Words other) fault unknown is untaken = absurd (true≢false (sym unknown))

@@ -37,9 +37,7 @@ of_name fault = inl refl
 pub of_refusal : (refusal : Refusal) → IsOfTwo (refusal_status refusal)
 of_refusal (refusals.Load fault) = of_kind fault.kind
 of_refusal (refusals.Name fault) = of_name fault
-of_refusal (refusals.Earlier fault) = inl refl
-of_refusal refusals.Split = inl refl
-of_refusal refusals.Untidy = inl refl
+of_refusal refusal = inl refl
 
 -- and with no other
 of_two : (status other : ℕ) → IsOfTwo status → status ≡ other → (STATUS_REFUSED ≡ other → ⊥) → (STATUS_MEMORY ≡ other → ⊥) → ⊥
@@ -125,16 +123,6 @@ never_refused : (exit : Exit) → is_refused exit ≡ false → exit_status exit
 never_refused (exits.Refused refusal) going one = absurd cc
 never_refused (exits.Ended endings.Done) going one = omega (arith, one)
 never_refused exit going one = omega (arith, one)
-
--- the command was refused
-pub closed_refused : (exit : Exit) (x : OutputPast) → is_refused exit ≡ true → IsClosedAs exit x x exit
-closed_refused (exits.Refused refusal) x refused = record {
-  bytes = refl;
-  ends = inl (refl, λ _. refl);
-  output = λ start moved. written_refused start x refusal moved;
-  flushed = λ flag start moved. absurd cc;
-}
-closed_refused exit x refused = absurd cc
 
 -- what a command wrote from where it began, if no write failed
 wrote_so : {E : Type 0} (start mid : OutputPast) (exit : Exit) → exit ≢ exits.Ended endings.WriteFault → HasWritten start mid (failed_writes exit)
@@ -253,9 +241,7 @@ ran_requests ending status old new is read_on met = record {
 -- no run that was begun ends as out of memory
 pub never_memory : (ending : Ending) → ending_status ending ≡ STATUS_MEMORY → ⊥
 never_memory endings.Done six = omega (arith, six)
-never_memory (endings.BadRequest number word) six = omega (arith, six)
-never_memory endings.ReadFault six = omega (arith, six)
-never_memory endings.WriteFault six = omega (arith, six)
+never_memory ending six = omega (arith, six)
 
 -- requests that are not asked for
 pub unasked_requests : (refusal : Refusal) (status : ℕ) (old new : InputPast) → status ≡ refusal_status refusal → IsReadOn old new → new ≡ old → RequestsRead status old new

@@ -6,7 +6,7 @@ use Rattle.dm_table.specs.declared.load.place.Part.TheVariants.{Paths}
 use Rattle.dm_table.specs.declared.tables.disk_path.DiskPath.{DiskPath}
 use Rattle.dm_table.specs.io.DeviceIo.{Delivery, InputPast, OutputPast, written_since}
 use Rattle.dm_table.specs.laws.Progress.{since-same}
-use Rattle.dm_table.specs.load.PartInput.{PartRead, TextOf, Refuses, Unread, part_read}
+use Rattle.dm_table.specs.load.PartInput.{PartRead, TextOf, part_read}
 use Rattle.dm_table.specs.tables.PathList.{read_paths}
 use Rattle.dm_stack.specs.Description.{Description, described}
 use Rattle.dm_stack.specs.checks.Soundness.{IsSound}
@@ -32,13 +32,13 @@ use Rattle.dmremap.specs.declared.job.Task.{Task}
 use Rattle.dmremap.specs.declared.job.Task.TheVariants.{Check, Print, Replay}
 use Rattle.dmremap.specs.Exit.{load_status}
 use Rattle.dmremap.specs.ImagesLoad.{AreSeen, HeadsOpen, ImagesOpen, IsOpened, IsStoppedBy, IsUnowned, ListOpens, OpensBy, SaidOpens, StackGives, owners_of, disk_message, list_in, listed_disks, unopened_message, unopened_status}
-use Rattle.dmremap.specs.ImagesWhole.{Does, ExitsBy, LoadsBy, TaskDoes, Told}
+use Rattle.dmremap.specs.ImagesWhole.{LoadsBy, TaskDoes, TaskExits}
 use Rattle.dmremap.specs.Load.{Load, RefusedBy, SoundAs}
-use Rattle.dmremap.specs.OtherWhole.{ReplaysLoad, ReplaysStack}
+use Rattle.dmremap.specs.ReplayWhole.{ReplaysLoad}
 use Rattle.dmremap.specs.Printing.{LoadReports, LoadSays}
 use Rattle.dmremap.specs.StoredStart.{images_in, start_over, stored_start}
-use Rattle.dmremap.specs.Streams.{StreamsLeft}
-use Rattle.dmremap.specs.Whole.{ArePlayedOver, EarlierReadBy, Opening, Loaded, RunsBy, RunsOver, Start, Stops}
+use Rattle.dmremap.specs.Streams.{Did, StreamsLeft, Told}
+use Rattle.dmremap.specs.Whole.{ArePlayedOver, EarlierReadBy, Opening, Loaded, RunsBy, RunsOver, Start, Stops, fresh_start}
 use Rattle.dmremap.proofs.ExitLemmas.{read_on_none, refused_output, refused_told, unasked_requests}
 use Rattle.dmremap.proofs.PrintLemmas.{printed_more}
 use Rattle.dmremap.proofs.MapLemmas.{earlier_read_by, runs_by, stopped_by, unloaded_by, unloaded_streams}
@@ -50,8 +50,7 @@ pub images_listed : (stack : Description) (read : PartRead) (listed : List DiskP
 images_listed stack (TextOf text) listed is =
     let same : read_paths text ≡ Ok listed = cc in
     rw same refl
-images_listed stack (Refuses fault) listed is = absurd cc
-images_listed stack Unread listed is = absurd cc
+images_listed stack read listed is = absurd cc
 
 -- so a run starts from what the stores hold in these
 pub listed_start : (paths : Delivery) (held : Contents) (stack : Description) (listed : List DiskPath) → list_in (part_read Paths paths) ≡ Some (Ok listed)
@@ -138,9 +137,9 @@ refused_does Opens Check requests output fault opened =
 refused_does Opens Replay requests output fault opened = (since-same output.written, opened)
 
 pub unopened_exits : (Opens : Opening → Type 0) (task : Task) (requests : Delivery) (status : ℕ) (asked : InputPast) (output messages_old messages_new : OutputPast) (why : Unopened)
-    → IsOpened Opens (Err why) → status ≡ unopened_status why → HasTold (unopened_message why) messages_old messages_new → ExitsBy Opens task requests status asked asked output output messages_old messages_new
+    → IsOpened Opens (Err why) → status ≡ unopened_status why → HasTold (unopened_message why) messages_old messages_new → TaskExits Opens task requests status asked asked output output messages_old messages_new
 unopened_exits Opens task requests status asked output messages_old messages_new (unopened.Load fault) opened is told =
-    Does (exits.Refused (refusals.Load fault)) (record { given = refused_does Opens task requests output fault opened; flushed = λ never. absurd cc; refused = λ _. refl }) (record { is = is; told = told }) (λ _. refl)
+    Did (exits.Refused (refusals.Load fault)) (record { given = refused_does Opens task requests output fault opened; flushed = λ never. absurd cc; refused = λ _. refl }) (record { is = is; told = told }) (λ _. refl)
 unopened_exits Opens task requests status asked output messages_old messages_new (unopened.Head message) opened is told = Told message.items opened is told refl refl
 
 -- ---- a list is loaded
@@ -170,9 +169,9 @@ one_loaded Opens one a b is_a is_b = let same = one (Loaded a) (Loaded b) is_a i
 
 -- ---- what is done with a load
 
-replayed_more : (Gives More : Load → Type 0) → ((load : Load) → Gives load → More load) → (requests : Delivery) (text : List ℕ) (exit : Exit) → ReplaysLoad Gives requests text exit → ReplaysLoad More requests text exit
-replayed_more Gives More more requests text (exits.Refused (refusals.Load fault)) is = (is.0, λ other. more (RefusedBy fault) (is.1 other))
-replayed_more Gives More more requests text exit is = (is.0, more (SoundAs is.0) is.1, is.2)
+replayed_more : (starts : Description → Start) (Gives More : Load → Type 0) → ((load : Load) → Gives load → More load) → (requests : Delivery) (text : List ℕ) (exit : Exit) → ReplaysLoad starts Gives requests text exit → ReplaysLoad starts More requests text exit
+replayed_more starts Gives More more requests text (exits.Refused (refusals.Load fault)) is = (is.0, λ other. more (RefusedBy fault) (is.1 other))
+replayed_more starts Gives More more requests text exit is = (is.0, more (SoundAs is.0) is.1, is.2)
 
 -- is done with one that comes from elsewhere
 pub task_more : (Gives More : Load → Type 0) → ((load : Load) → Gives load → More load) → (task : Task) (requests : Delivery) (text : List ℕ) (exit : Exit) → TaskDoes task Gives requests text exit → TaskDoes task More requests text exit
@@ -180,9 +179,4 @@ task_more Gives More more (Print form) requests text exit does =
     printed_more (LoadSays Gives form) (LoadSays More form) (λ said says. record { load = says.load; loaded = more says.load says.loaded; is = says.is }) text exit does
 task_more Gives More more Check requests text exit does =
     printed_more (LoadReports Gives) (LoadReports More) (λ said says. record { load = says.load; loaded = more says.load says.loaded; says = says.says }) text exit does
-task_more Gives More more Replay requests text exit does = replayed_more Gives More more requests text exit does
-
--- a replay over a stack is one of its load
-pub load_replayed : (Gives : Load → Type 0) (stack : Description) (requests : Delivery) (text : List ℕ) (exit : Exit) → Gives (SoundAs stack) → ReplaysStack stack requests text exit → ReplaysLoad Gives requests text exit
-load_replayed Gives stack requests text (exits.Refused (refusals.Load fault)) gives is = (is.0, λ other. absurd (other is.1))
-load_replayed Gives stack requests text exit gives is = (stack, gives, is)
+task_more Gives More more Replay requests text exit does = replayed_more fresh_start Gives More more requests text exit does

@@ -11,3 +11,4 @@ pub mod OneOther
 pub mod OneWhole
 pub mod PrintLemmas
 pub mod ReplayLemmas
+pub mod ReplayWholeLemmas

@@ -1,5 +1,5 @@
 -- A sector of a disk of a list, as a read of its image has it.
-use Rattle.std.proofs.Common.{◌≡◌, ◌∙◌, ℕ, ◌+◌, ◌*◌, ◌<◌, zero, suc, List, Option, Some, None, Result, Ok, Err, arith, length, slice_get, refl, sym, ap}
+use Rattle.std.proofs.Common.{◌≡◌, ◌∙◌, ℕ, ◌+◌, ◌*◌, ◌<◌, zero, suc, List, Some, Result, Ok, Err, arith, length, slice_get, refl, sym, ap}
 use Rattle.dm_table.specs.declared.tables.disk_path.DiskPath.{DiskPath}
 use Rattle.dm_store.specs.declared.images.ReadFault.{ReadFault}
 use Rattle.dm_store.specs.Images.{Contents, sector_in}
@@ -46,6 +46,3 @@ failed_there held paths path disk sector from bytes fault said is at read len =
     held_fault (held path.file from) fault said (sym (here held paths path disk sector from is at) ∙ read)
 
 -- ---- one that it doesn't have
-
-pub never_listed : (held : Contents) (paths : List DiskPath) (disk sector : ℕ) (said : HeadReadFault) → slice_get paths disk ≡ None → listed_disks paths held disk sector ≡ Err said
-never_listed held paths disk sector said none = rw none refl

@@ -148,8 +148,7 @@ kind_memory kind six = absurd (omega (arith, six))
 
 pub unbegun_memory : (status : ℕ) (why : Unbegun) → status ≡ unbegun_status why → status ≡ STATUS_MEMORY → IsOutOfMemory why
 unbegun_memory status (unbegun.Load fault) is six = kind_memory fault.kind (sym is ∙ six)
-unbegun_memory status (unbegun.Store message) is six = absurd (omega (arith, is, six))
-unbegun_memory status (unbegun.Earlier fault) is six = absurd (omega (arith, is, six))
+unbegun_memory status why is six = absurd (omega (arith, is, six))
 
 -- ---- a run that began
 

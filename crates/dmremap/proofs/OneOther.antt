@@ -8,6 +8,7 @@ use Rattle.dm_stack.specs.declared.claims.clash.Clash.{Clash}
 use Rattle.dm_stack.specs.claims.Claims.{IsClash, IsTidy, claims}
 use Rattle.dm_stack.specs.Description.{Description}
 use Rattle.dm_stack.proofs.TopLemmas.{one_clash, one_report}
+use Rattle.dm_map.specs.state.State.{State}
 use Rattle.dm_stream.specs.declared.runs.ending.Ending.{Ending}
 use Rattle.dm_stream.specs.declared.runs.ending.Ending.TheVariants as endings
 use Rattle.dm_stream.specs.requests.Requests.{NumberedRequest, Requests, requests_of}
@@ -20,16 +21,17 @@ use Rattle.lvm_volume.proofs.Splits.{one_split}
 use Rattle.dmremap.specs.declared.exit.Exit.{Exit}
 use Rattle.dmremap.specs.declared.exit.Exit.TheVariants as exits
 use Rattle.dmremap.specs.declared.exit.Refusal.TheVariants as refusals
-use Rattle.dmremap.specs.declared.job.Format.{Format}
 use Rattle.dmremap.specs.Exit.{IsPlain, load_status}
 use Rattle.dmremap.specs.declared.job.TableForm.{TableForm}
 use Rattle.dmremap.specs.declared.job.Task.{Task}
 use Rattle.dmremap.specs.declared.job.Task.TheVariants.{Check, Print, Replay}
 use Rattle.dmremap.specs.ImagesWhole.{TaskDoes}
-use Rattle.dmremap.specs.Job.{JobWords, format_of, map_images_words, map_words, of_images_words, print_words, check_words, replay_words, name_words, split_words, explain_words}
+use Rattle.dmremap.specs.Job.{JobWords, format_of, map_images_words, map_words, metadata_words, of_images_words, print_words, check_words, replay_words, name_words, split_words, explain_words}
 use Rattle.dmremap.specs.Load.{Load, PartsGive, RefusedBy, SoundAs}
-use Rattle.dmremap.specs.OtherWhole.{ReplaysLoad, ReplaysStack, JobDoes}
+use Rattle.dmremap.specs.OtherWhole.{JobDoes}
 use Rattle.dmremap.specs.Printing.{IsPrinted, LoadReports, LoadSays, Prints, Refuses, ReportSays, Said, SplitSays, JobSays, devices_said, line}
+use Rattle.dmremap.specs.ReplayWhole.{ReplaysFrom, ReplaysLoad, ReplaysStack}
+use Rattle.dmremap.specs.Whole.{Begins, Start, fresh_start}
 use Rattle.dmremap.specs.ReplayOutcome.{AreAnswered, IsAnswer, IsOfNone, IsPlayed, IsWhole, StopsAt, asked_of}
 use Rattle.dmremap.proofs.OneWhole.{one_load}
 
@@ -53,15 +55,12 @@ one_reported : (Gives : Load → Type 0) → ((a b : Load) → Gives a → Gives
 one_reported Gives one a b x y = one_report_said y.load a b (rw (← one x.load y.load x.loaded y.loaded) x.says) y.says
 
 one_said : (asked : JobWords) (source disks : Delivery) (a b : Said) → JobSays asked source disks a → JobSays asked source disks b → a ≡ b
-one_said (map_words from paths earlier status) source disks a b x y = absurd x
-one_said (replay_words from) source disks a b x y = absurd x
-one_said (map_images_words paths earlier status) source disks a b x y = absurd x
-one_said (of_images_words paths task) source disks a b x y = absurd x
 one_said (print_words form from) source disks a b x y = one_devices (PartsGive (format_of from) source disks) (one_load (format_of from) source disks) form a b x y
 one_said (check_words from) source disks a b x y = one_reported (PartsGive (format_of from) source disks) (one_load (format_of from) source disks) a b x y
 one_said (name_words parts) source disks a b x y = sym x ∙ y
 one_said (split_words name) source disks a b x y = one_split_said name a b x y
 one_said (explain_words text) source disks a b x y = sym x ∙ y
+one_said asked source disks a b x y = absurd x
 
 -- what is printed of it, and the exit
 one_printed : (Says : Said → Type 0) → ((a b : Said) → Says a → Says b → a ≡ b) → (a b : Exit) (x y : List ℕ) → IsPlain a → IsPlain b → IsPrinted Says x a → IsPrinted Says y b → (a ≡ b) × (x ≡ y)
@@ -77,21 +76,21 @@ one_printed Says one a b x y plain plain' is is' = absurd is
 
 -- The answers to requests
 
-one_answer : (stack : Description) (asked : List Asked) (request : NumberedRequest) (a b : List ℕ) → IsAnswer stack asked request a → IsAnswer stack asked request b → a ≡ b
-one_answer stack asked request a b is_a is_b =
+one_answer : (stack : Description) (start : State) (asked : List Asked) (request : NumberedRequest) (a b : List ℕ) → IsAnswer stack start asked request a → IsAnswer stack start asked request b → a ≡ b
+one_answer stack start asked request a b is_a is_b =
     sym is_a.is ∙ ap (runs_text stack request.number) (one_runs is_a.runs is_b.runs is_a.maximal is_b.maximal (is_a.answers ∙ sym is_b.answers)) ∙ is_b.is
 
-one_told : (stack : Description) (asked : List Asked) (requests : List NumberedRequest) (a b : List ℕ) → AreAnswered stack asked requests a → AreAnswered stack asked requests b → a ≡ b
-one_told stack asked [] a b are_a are_b = sym are_a ∙ are_b
-one_told stack asked (request ∷ requests) a b (first, rest, is, are, whole) (first', rest', is', are', whole') =
-    cc (one_answer stack asked request first first' is is', one_told stack (asked ++ asked_of stack request ∷ []) requests rest rest' are are', whole')
+one_told : (stack : Description) (start : State) (asked : List Asked) (requests : List NumberedRequest) (a b : List ℕ) → AreAnswered stack start asked requests a → AreAnswered stack start asked requests b → a ≡ b
+one_told stack start asked [] a b are_a are_b = sym are_a ∙ are_b
+one_told stack start asked (request ∷ requests) a b (first, rest, is, are, whole) (first', rest', is', are', whole') =
+    cc (one_answer stack start asked request first first' is is', one_told stack start (asked ++ asked_of stack request ∷ []) requests rest rest' are are', whole')
 
 abbrev AreTop : Description → List NumberedRequest → Type 0
 AreTop stack requests = AllByRecursion (λ request. HasTop stack request.values.device) requests
 
-told_tops : (stack : Description) (asked : List Asked) (requests : List NumberedRequest) (text : List ℕ) → AreAnswered stack asked requests text → AreTop stack requests
-told_tops stack asked [] text are = tt
-told_tops stack asked (request ∷ requests) text (first, rest, is, are, whole) = (is.top, told_tops stack (asked ++ asked_of stack request ∷ []) requests rest are)
+told_tops : (stack : Description) (start : State) (asked : List Asked) (requests : List NumberedRequest) (text : List ℕ) → AreAnswered stack start asked requests text → AreTop stack requests
+told_tops stack start asked [] text are = tt
+told_tops stack start asked (request ∷ requests) text (first, rest, is, are, whole) = (is.top, told_tops stack start (asked ++ asked_of stack request ∷ []) requests rest are)
 
 -- Where a replay stops
 
@@ -118,39 +117,37 @@ same_front stack (request ∷ first) (request' ∷ first') later later' last las
     let more = same_front stack first first' later later' last last' rest tops.1 tops'.1 none none' in
     (cc, more.1)
 
-one_stop : (stack : Description) (requests : List NumberedRequest) (number other : ℕ) (a b : List ℕ) → StopsAt (IsOfNone stack number) stack [] requests a → StopsAt (IsOfNone stack other) stack [] requests b
+one_stop : (stack : Description) (start : State) (requests : List NumberedRequest) (number other : ℕ) (a b : List ℕ) → StopsAt (IsOfNone stack number) stack start [] requests a → StopsAt (IsOfNone stack other) stack start [] requests b
     → (number ≡ other) × (a ≡ b)
-one_stop stack requests number other a b is_a is_b =
+one_stop stack start requests number other a b is_a is_b =
     let same = same_front stack is_a.first is_b.first is_a.later is_b.later is_a.last is_b.last (sym is_a.split ∙ is_b.split)
-    (told_tops stack [] is_a.first a is_a.told) (told_tops stack [] is_b.first b is_b.told) is_a.cause.none is_b.cause.none in (
+    (told_tops stack start [] is_a.first a is_a.told) (told_tops stack start [] is_b.first b is_b.told) is_a.cause.none is_b.cause.none in (
       cc,
-      one_told stack [] is_b.first a b (rw same.0 at is_a.told) is_b.told,
+      one_told stack start [] is_b.first a b (rw same.0 at is_a.told) is_b.told,
     )
 
 -- How it exits
 
-one_end : (stack : Description) (requests : Requests) (a b : Exit) (x y : List ℕ) → IsPlain a → IsPlain b → IsPlayed stack requests x a → IsPlayed stack requests y b → (a ≡ b) × (x ≡ y)
-one_end stack requests a b x y plain plain' is is' = go a b plain plain' is is'
+one_end : (stack : Description) (start : State) (requests : Requests) (a b : Exit) (x y : List ℕ) → IsPlain a → IsPlain b → IsPlayed stack start requests x a → IsPlayed stack start requests y b → (a ≡ b) × (x ≡ y)
+one_end stack start requests a b x y plain plain' is is' = go a b plain plain' is is'
   where
-    ran : (e : Ending) (text : List ℕ) → IsPlain (exits.Ended e) → IsPlayed stack requests text (exits.Ended e) → IsWhole stack requests text e
-    ran endings.Done text plain is = is
-    ran (endings.BadRequest number word) text plain is = is
-    ran endings.ReadFault text plain is = is
+    ran : (e : Ending) (text : List ℕ) → IsPlain (exits.Ended e) → IsPlayed stack start requests text (exits.Ended e) → IsWhole stack start requests text e
     ran endings.WriteFault text plain is = absurd (plain.0 refl)
+    ran e text plain is = is
 
-    go : (a b : Exit) → IsPlain a → IsPlain b → IsPlayed stack requests x a → IsPlayed stack requests y b → (a ≡ b) × (x ≡ y)
+    go : (a b : Exit) → IsPlain a → IsPlain b → IsPlayed stack start requests x a → IsPlayed stack start requests y b → (a ≡ b) × (x ≡ y)
     go (exits.Ended e) (exits.Ended e') plain plain' is is' =
         let a = ran e x plain is in let b = ran e' y plain' is' in
         let some : Some e ≡ Some e' = sym a.ends_so ∙ b.ends_so in
-        (cc, one_told stack [] requests.all x y a.told b.told)
+        (cc, one_told stack start [] requests.all x y a.told b.told)
     go (exits.Ended e) (exits.NotTop number) plain plain' is is' =
         let a = ran e x plain is in
-        absurd (never_top stack requests.all is'.first is'.later is'.last is'.split (told_tops stack [] requests.all x a.told) is'.cause.none)
+        absurd (never_top stack requests.all is'.first is'.later is'.last is'.split (told_tops stack start [] requests.all x a.told) is'.cause.none)
     go (exits.NotTop number) (exits.Ended e') plain plain' is is' =
         let b = ran e' y plain' is' in
-        absurd (never_top stack requests.all is.first is.later is.last is.split (told_tops stack [] requests.all y b.told) is.cause.none)
+        absurd (never_top stack requests.all is.first is.later is.last is.split (told_tops stack start [] requests.all y b.told) is.cause.none)
     go (exits.NotTop number) (exits.NotTop other) plain plain' is is' =
-        let same = one_stop stack requests.all number other x y is is' in
+        let same = one_stop stack start requests.all number other x y is is' in
         (ap exits.NotTop same.0, same.1)
     go exits.Memory b plain plain' is is' = absurd (plain.1 refl)
     go a exits.Memory plain plain' is is' = absurd (plain'.1 refl)
@@ -166,17 +163,17 @@ never_memory fault plain is = plain.1 (ap load_status is)
 never_tidy : (stack : Description) (clash : Clash) → IsClash (claims stack) clash → IsTidy stack → ⊥
 never_tidy stack clash is tidy = let never = one_clash (claims stack) None (Some clash) tidy is in absurd cc
 
-one_of_stack : (stack : Description) (requests : Delivery) (a b : Exit) (x y : List ℕ) → IsPlain a → IsPlain b → ReplaysStack stack requests x a → ReplaysStack stack requests y b → (a ≡ b) × (x ≡ y)
-one_of_stack stack requests (exits.Refused (refusals.Load fault)) b x y plain plain' is is' = absurd (never_memory fault plain is.1)
-one_of_stack stack requests a (exits.Refused (refusals.Load fault)) x y plain plain' is is' = absurd (never_memory fault plain' is'.1)
-one_of_stack stack requests (exits.Refused refusals.Untidy) (exits.Refused refusals.Untidy) x y plain plain' is is' = (refl, is.0 ∙ sym is'.0)
-one_of_stack stack requests (exits.Refused refusals.Untidy) (exits.Refused refusal) x y plain plain' is is' = absurd is'
-one_of_stack stack requests (exits.Refused refusal) (exits.Refused refusals.Untidy) x y plain plain' is is' = absurd is
-one_of_stack stack requests (exits.Refused refusals.Untidy) b x y plain plain' is is' = absurd (never_tidy stack is.1.0 is.1.1 is'.0)
-one_of_stack stack requests a (exits.Refused refusals.Untidy) x y plain plain' is is' = absurd (never_tidy stack is'.1.0 is'.1.1 is.0)
-one_of_stack stack requests (exits.Refused refusal) b x y plain plain' is is' = absurd is
-one_of_stack stack requests a (exits.Refused refusal) x y plain plain' is is' = absurd is'
-one_of_stack stack requests a b x y plain plain' is is' = one_end stack (requests_of requests) a b x y plain plain' is.1 is'.1
+one_of_stack : (stack : Description) (start : State) (requests : Delivery) (a b : Exit) (x y : List ℕ) → IsPlain a → IsPlain b → ReplaysStack stack start requests x a → ReplaysStack stack start requests y b → (a ≡ b) × (x ≡ y)
+one_of_stack stack start requests (exits.Refused (refusals.Load fault)) b x y plain plain' is is' = absurd (never_memory fault plain is.1)
+one_of_stack stack start requests a (exits.Refused (refusals.Load fault)) x y plain plain' is is' = absurd (never_memory fault plain' is'.1)
+one_of_stack stack start requests (exits.Refused refusals.Untidy) (exits.Refused refusals.Untidy) x y plain plain' is is' = (refl, is.0 ∙ sym is'.0)
+one_of_stack stack start requests (exits.Refused refusals.Untidy) (exits.Refused refusal) x y plain plain' is is' = absurd is'
+one_of_stack stack start requests (exits.Refused refusal) (exits.Refused refusals.Untidy) x y plain plain' is is' = absurd is
+one_of_stack stack start requests (exits.Refused refusals.Untidy) b x y plain plain' is is' = absurd (never_tidy stack is.1.0 is.1.1 is'.0)
+one_of_stack stack start requests a (exits.Refused refusals.Untidy) x y plain plain' is is' = absurd (never_tidy stack is'.1.0 is'.1.1 is.0)
+one_of_stack stack start requests (exits.Refused refusal) b x y plain plain' is is' = absurd is
+one_of_stack stack start requests a (exits.Refused refusal) x y plain plain' is is' = absurd is'
+one_of_stack stack start requests a b x y plain plain' is is' = one_end stack start (requests_of requests) a b x y plain plain' is.1 is'.1
 
 -- What the files give
 
@@ -184,27 +181,33 @@ one_of_stack stack requests a b x y plain plain' is is' = one_end stack (request
 never_loaded : (Gives : Load → Type 0) → ((a b : Load) → Gives a → Gives b → a ≡ b) → (fault : LoadFault) (stack : Description) → Gives (RefusedBy fault) → Gives (SoundAs stack) → ⊥
 never_loaded Gives one fault stack refused sound = let same = one (RefusedBy fault) (SoundAs stack) refused sound in absurd cc
 
-one_replay : (Gives : Load → Type 0) → ((a b : Load) → Gives a → Gives b → a ≡ b) → (requests : Delivery) (a b : Exit) (x y : List ℕ) → IsPlain a → IsPlain b
-    → ReplaysLoad Gives requests x a → ReplaysLoad Gives requests y b → (a ≡ b) × (x ≡ y)
-one_replay Gives one requests (exits.Refused (refusals.Load f)) (exits.Refused (refusals.Load g)) x y plain plain' is is' =
+one_from_start : (start : Start) (stack : Description) (requests : Delivery) (a b : Exit) (x y : List ℕ) → IsPlain a → IsPlain b → ReplaysFrom start stack requests x a → ReplaysFrom start stack requests y b → (a ≡ b) × (x ≡ y)
+one_from_start (Begins state) stack requests a b x y plain plain' is is' = one_of_stack stack state requests a b x y plain plain' is is'
+one_from_start start stack requests (exits.Refused (refusals.Load fault)) b x y plain plain' is is' = absurd (never_memory fault plain is.1)
+one_from_start start stack requests a b x y plain plain' is is' = absurd is
+
+pub one_replay : (starts : Description → Start) (Gives : Load → Type 0) → ((a b : Load) → Gives a → Gives b → a ≡ b) → (requests : Delivery) (a b : Exit) (x y : List ℕ) → IsPlain a → IsPlain b
+    → ReplaysLoad starts Gives requests x a → ReplaysLoad starts Gives requests y b → (a ≡ b) × (x ≡ y)
+one_replay starts Gives one requests (exits.Refused (refusals.Load f)) (exits.Refused (refusals.Load g)) x y plain plain' is is' =
     let same = one (RefusedBy f) (RefusedBy g) (is.1 (never_memory f plain)) (is'.1 (never_memory g plain')) in
     (cc, is.0 ∙ sym is'.0)
-one_replay Gives one requests (exits.Refused (refusals.Load f)) b x y plain plain' is is' = absurd (never_loaded Gives one f is'.0 (is.1 (never_memory f plain)) is'.1)
-one_replay Gives one requests a (exits.Refused (refusals.Load g)) x y plain plain' is is' = absurd (never_loaded Gives one g is.0 (is'.1 (never_memory g plain')) is.1)
-one_replay Gives one requests a b x y plain plain' is is' =
+one_replay starts Gives one requests (exits.Refused (refusals.Load f)) b x y plain plain' is is' = absurd (never_loaded Gives one f is'.0 (is.1 (never_memory f plain)) is'.1)
+one_replay starts Gives one requests a (exits.Refused (refusals.Load g)) x y plain plain' is is' = absurd (never_loaded Gives one g is.0 (is'.1 (never_memory g plain')) is.1)
+one_replay starts Gives one requests a b x y plain plain' is is' =
     let load = one (SoundAs is.0) (SoundAs is'.0) is.1 is'.1 in
     let same : is.0 ≡ is'.0 = cc in
-    one_of_stack is'.0 requests a b x y plain plain' (subst (λ (stack : Description). ReplaysStack stack requests x a) same is.2) is'.2
+    one_from_start (starts is'.0) is'.0 requests a b x y plain plain' (subst (λ (stack : Description). ReplaysFrom (starts stack) stack requests x a) same is.2) is'.2
 
 -- What every job does
 
-pub one_other : (asked : JobWords) (source disks requests : Delivery) (a b : Exit) (x y : List ℕ) → IsPlain a → IsPlain b
-    → JobDoes asked source disks requests x a → JobDoes asked source disks requests y b → (a ≡ b) × (x ≡ y)
-one_other (map_words from paths earlier status) source disks requests a b x y plain plain' is is' = absurd is
-one_other (map_images_words paths earlier status) source disks requests a b x y plain plain' is is' = absurd is
-one_other (of_images_words paths task) source disks requests a b x y plain plain' is is' = absurd is
-one_other (replay_words from) source disks requests a b x y plain plain' is is' = one_replay (PartsGive (format_of from) source disks) (one_load (format_of from) source disks) requests a b x y plain plain' is is'
-one_other asked source disks requests a b x y plain plain' is is' = one_printed (JobSays asked source disks) (one_said asked source disks) a b x y plain plain' is is'
+pub one_other : (asked : JobWords) (source disks : Delivery) (a b : Exit) (x y : List ℕ) → IsPlain a → IsPlain b
+    → JobDoes asked source disks x a → JobDoes asked source disks y b → (a ≡ b) × (x ≡ y)
+one_other (map_words from paths earlier status) source disks a b x y plain plain' is is' = absurd is
+one_other (map_images_words paths earlier status) source disks a b x y plain plain' is is' = absurd is
+one_other (of_images_words paths task) source disks a b x y plain plain' is is' = absurd is
+one_other (metadata_words paths) source disks a b x y plain plain' is is' = absurd is
+one_other (replay_words from paths) source disks a b x y plain plain' is is' = absurd is
+one_other asked source disks a b x y plain plain' is is' = one_printed (JobSays asked source disks) (one_said asked source disks) a b x y plain plain' is is'
 
 -- What is done with any load does
 
@@ -212,4 +215,4 @@ pub one_task : (Gives : Load → Type 0) → ((a b : Load) → Gives a → Gives
     → TaskDoes task Gives requests x a → TaskDoes task Gives requests y b → (a ≡ b) × (x ≡ y)
 one_task Gives one (Print form) requests a b x y plain plain' is is' = one_printed (LoadSays Gives form) (one_devices Gives one form) a b x y plain plain' is is'
 one_task Gives one Check requests a b x y plain plain' is is' = one_printed (LoadReports Gives) (one_reported Gives one) a b x y plain plain' is is'
-one_task Gives one Replay requests a b x y plain plain' is is' = one_replay Gives one requests a b x y plain plain' is is'
+one_task Gives one Replay requests a b x y plain plain' is is' = one_replay fresh_start Gives one requests a b x y plain plain' is is'

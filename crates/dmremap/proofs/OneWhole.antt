@@ -80,8 +80,7 @@ one_of_parts : (form : TableForm) (source list : PartRead) (a b : Load) → Text
 one_of_parts form (Refuses fault) list a b is_a is_b = is_a ∙ sym is_b
 one_of_parts form (TextOf source) (Refuses fault) a b is_a is_b = is_a ∙ sym is_b
 one_of_parts form (TextOf source) (TextOf list) a b is_a is_b = one_of_texts form source list a b is_a is_b
-one_of_parts form (TextOf source) Unread a b is_a is_b = absurd is_a
-one_of_parts form Unread list a b is_a is_b = absurd is_a
+one_of_parts form source list a b is_a is_b = absurd is_a
 
 -- What a text of metadata gives
 

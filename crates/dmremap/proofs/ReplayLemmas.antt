@@ -1,12 +1,14 @@
 -- What the requests that a player was handed say of a replay.
 use Rattle.std.proofs.Common.{◌≡◌, ◌≢◌, ℕ, List, [], ◌∷◌, ◌++◌, None, Some, Result, Err, IfErr, refl, sym, ap, append_assoc}
 use Rattle.std.proofs.lemmas.List.{append-nil}
+use Rattle.std.proofs.lemmas.Result.{IfErr-at_err}
 use Rattle.dm_table.specs.io.DeviceIo.{Delivery, InputPast, since}
 use Rattle.dm_table.specs.io.Progress.{IsReadOn, MetNothing}
 use Rattle.dm_table.specs.io.WriteAll.{IsCutShort}
 use Rattle.dm_table.specs.laws.Progress.{since-same}
 use Rattle.dm_stack.specs.claims.Claims.{IsTidy, IsTop}
 use Rattle.dm_stack.specs.Description.{Description}
+use Rattle.dm_map.specs.state.State.{State}
 use Rattle.dm_stream.specs.declared.runs.ending.Ending.{Ending}
 use Rattle.dm_stream.specs.declared.runs.ending.Ending.TheVariants as endings
 use Rattle.dm_stream.specs.runs.Outcome.{device_of}
@@ -20,36 +22,32 @@ use Rattle.dm_replay.specs.RunText.{runs_text}
 use Rattle.dm_replay.proofs.NamedLemmas.{named_id, named_top, top_named}
 use Rattle.dmremap.specs.declared.exit.Exit.{Exit}
 use Rattle.dmremap.specs.declared.exit.Exit.TheVariants as exits
-use Rattle.dmremap.specs.OtherWhole.{ReplaysStack}
+use Rattle.dmremap.specs.ReplayWhole.{ReplaysStack}
 use Rattle.dmremap.specs.ReplayOutcome.{AreAnswered, HasPlayed, HasStopped, IsAnswer, IsCutReplay, IsPlayed, StopsAt, asked_of}
 use Rattle.dmremap.specs.Streams.{AskedBy, HasMetBy}
 
 -- ---- one request
 
--- what a fault says
-at_fault : {T : Type 0} (r : Result T ReplayFault) (fault : ReplayFault) (Says : ReplayFault → Type 0) → r ≡ Err fault → IfErr r Says → Says fault
-at_fault r fault Says is h = rw is at h
-
 -- the answer to one request is what is written for it alone
-alone : (stack : Description) (old : List Asked) (request : NumberedRequest) (text : List ℕ) → IsAnswer stack old request text → AreAnswered stack old (request ∷ []) text
-alone stack old request text answer = (text, [], answer, refl, append-nil text)
+alone : (stack : Description) (start : State) (old : List Asked) (request : NumberedRequest) (text : List ℕ) → IsAnswer stack start old request text → AreAnswered stack start old (request ∷ []) text
+alone stack start old request text answer = (text, [], answer, refl, append-nil text)
 
-one_played : (stack : Description) (old new : List Asked) (request : NumberedRequest) (runs : List ValueRun) (w0 w1 : List ℕ) → HasTop stack request.values.device → AreMaximal runs
-    → flat runs ≡ asked_answers stack (world_after stack old) (asked_of stack request) → new ≡ old ++ asked_of stack request ∷ [] → since w0 w1 ≡ runs_text stack request.number runs → HasPlayed stack old new (request ∷ []) w0 w1
-one_played stack old new request runs w0 w1 named longest are more wrote = record {
+one_played : (stack : Description) (start : State) (old new : List Asked) (request : NumberedRequest) (runs : List ValueRun) (w0 w1 : List ℕ) → HasTop stack request.values.device → AreMaximal runs
+    → flat runs ≡ asked_answers stack (world_after stack start old) (asked_of stack request) → new ≡ old ++ asked_of stack request ∷ [] → since w0 w1 ≡ runs_text stack request.number runs → HasPlayed stack start old new (request ∷ []) w0 w1
+one_played stack start old new request runs w0 w1 named longest are more wrote = record {
   asked = more;
-  told = alone stack old request (since w0 w1) (record { top = named; runs = runs; maximal = longest; answers = are; is = sym wrote });
+  told = alone stack start old request (since w0 w1) (record { top = named; runs = runs; maximal = longest; answers = are; is = sym wrote });
 }
 
 -- a write of its answer failed
-one_cut : (stack : Description) (old : List Asked) (request : NumberedRequest) (runs : List ValueRun) (text : List ℕ) → HasTop stack request.values.device → AreMaximal runs
-    → flat runs ≡ asked_answers stack (world_after stack old) (asked_of stack request) → IsCutShort (runs_text stack request.number runs) text → IsCutReplay stack old (request ∷ []) text
-one_cut stack old request runs text named longest are short = record {
+one_cut : (stack : Description) (start : State) (old : List Asked) (request : NumberedRequest) (runs : List ValueRun) (text : List ℕ) → HasTop stack request.values.device → AreMaximal runs
+    → flat runs ≡ asked_answers stack (world_after stack start old) (asked_of stack request) → IsCutShort (runs_text stack request.number runs) text → IsCutReplay stack start old (request ∷ []) text
+one_cut stack start old request runs text named longest are short = record {
   first = request ∷ [];
   later = [];
   split = refl;
   whole = runs_text stack request.number runs;
-  told = alone stack old request (runs_text stack request.number runs) (record { top = named; runs = runs; maximal = longest; answers = are; is = refl });
+  told = alone stack start old request (runs_text stack request.number runs) (record { top = named; runs = runs; maximal = longest; answers = are; is = refl });
   cut = short;
 }
 
@@ -61,9 +59,9 @@ asked_by request device = record { number = request.number; op = request.values.
 by_name : (stack : Description) (request : NumberedRequest) (device : ℕ) → device_of stack request.values.device ≡ Some device → asked_by request device ≡ asked_of stack request
 by_name stack request device named = ap (asked_by request) (named_id stack request.values.device device named)
 
-answers_by_name : (stack of : Description) (old : List Asked) (request : NumberedRequest) (device : ℕ) (runs : List ValueRun) → of ≡ stack → device_of stack request.values.device ≡ Some device
-    → flat runs ≡ asked_answers of (world_after of old) (asked_by request device) → flat runs ≡ asked_answers stack (world_after stack old) (asked_of stack request)
-answers_by_name stack of old request device runs same named are =
+answers_by_name : (stack of : Description) (start : State) (old : List Asked) (request : NumberedRequest) (device : ℕ) (runs : List ValueRun) → of ≡ stack → device_of stack request.values.device ≡ Some device
+    → flat runs ≡ asked_answers of (world_after of start old) (asked_by request device) → flat runs ≡ asked_answers stack (world_after stack start old) (asked_of stack request)
+answers_by_name stack of start old request device runs same named are =
     cc (by_name stack request device named)
 
 pub top_by_name : (stack of : Description) (request : NumberedRequest) (device : ℕ) → of ≡ stack → device_of stack request.values.device ≡ Some device → IsTop of device → HasTop stack request.values.device
@@ -72,38 +70,36 @@ top_by_name stack of request device same named top = named_top stack request.val
 pub not_top_by_name : (stack of : Description) (request : NumberedRequest) (device : ℕ) → of ≡ stack → device_of stack request.values.device ≡ Some device → (IsTop of device → ⊥) → HasTop stack request.values.device → ⊥
 not_top_by_name stack of request device same named none has = none (rw same (top_named stack request.values.device device named has))
 
-pub played_by_name : (stack of : Description) (old new : List Asked) (request : NumberedRequest) (device : ℕ) (runs : List ValueRun) (w0 w1 : List ℕ) → of ≡ stack → device_of stack request.values.device ≡ Some device → IsTop of device → AreMaximal runs
-    → flat runs ≡ asked_answers of (world_after of old) (asked_by request device) → new ≡ old ++ asked_by request device ∷ [] → since w0 w1 ≡ runs_text stack request.number runs → HasPlayed stack old new (request ∷ []) w0 w1
-played_by_name stack of old new request device runs w0 w1 same named top longest are more wrote =
-    one_played stack old new request runs w0 w1 (top_by_name stack of request device same named top) longest (answers_by_name stack of old request device runs same named are)
+pub played_by_name : (stack of : Description) (start : State) (old new : List Asked) (request : NumberedRequest) (device : ℕ) (runs : List ValueRun) (w0 w1 : List ℕ) → of ≡ stack → device_of stack request.values.device ≡ Some device → IsTop of device → AreMaximal runs
+    → flat runs ≡ asked_answers of (world_after of start old) (asked_by request device) → new ≡ old ++ asked_by request device ∷ [] → since w0 w1 ≡ runs_text stack request.number runs → HasPlayed stack start old new (request ∷ []) w0 w1
+played_by_name stack of start old new request device runs w0 w1 same named top longest are more wrote =
+    one_played stack start old new request runs w0 w1 (top_by_name stack of request device same named top) longest (answers_by_name stack of start old request device runs same named are)
     (cc (by_name stack request device named)) wrote
 
-pub cut_by_name : (stack of : Description) (old : List Asked) (request : NumberedRequest) (device : ℕ) (runs : List ValueRun) (text : List ℕ) → of ≡ stack → device_of stack request.values.device ≡ Some device → IsTop of device → AreMaximal runs
-    → flat runs ≡ asked_answers of (world_after of old) (asked_by request device) → IsCutShort (runs_text stack request.number runs) text → IsCutReplay stack old (request ∷ []) text
-cut_by_name stack of old request device runs text same named top longest are short =
-    one_cut stack old request runs text (top_by_name stack of request device same named top) longest (answers_by_name stack of old request device runs same named are) short
+pub cut_by_name : (stack of : Description) (start : State) (old : List Asked) (request : NumberedRequest) (device : ℕ) (runs : List ValueRun) (text : List ℕ) → of ≡ stack → device_of stack request.values.device ≡ Some device → IsTop of device → AreMaximal runs
+    → flat runs ≡ asked_answers of (world_after of start old) (asked_by request device) → IsCutShort (runs_text stack request.number runs) text → IsCutReplay stack start old (request ∷ []) text
+cut_by_name stack of start old request device runs text same named top longest are short =
+    one_cut stack start old request runs text (top_by_name stack of request device same named top) longest (answers_by_name stack of start old request device runs same named are) short
 
 -- it is not answered
-pub one_stopped : (IsCause : NumberedRequest → Type 0) (stack : Description) (old : List Asked) (request : NumberedRequest) (w : List ℕ) → IsCause request → StopsAt IsCause stack old (request ∷ []) (since w w)
-one_stopped IsCause stack old request w why = record { first = []; last = request; later = []; split = refl; told = sym (since-same w); cause = why }
+pub one_stopped : (IsCause : NumberedRequest → Type 0) (stack : Description) (start : State) (old : List Asked) (request : NumberedRequest) (w : List ℕ) → IsCause request → StopsAt IsCause stack start old (request ∷ []) (since w w)
+one_stopped IsCause stack start old request w why = record { first = []; last = request; later = []; split = refl; told = sym (since-same w); cause = why }
 
 -- the same by the fault of a request
-pub stopped_by : {T : Type 0} (Says : ReplayFault → Type 0) (IsCause : NumberedRequest → Type 0) (stack : Description) (old : List Asked) (request : NumberedRequest) (w : List ℕ) (r : Result T ReplayFault) (fault : ReplayFault)
-    → r ≡ Err fault → IfErr r Says → (Says fault → IsCause request) → StopsAt IsCause stack old (request ∷ []) (since w w)
-stopped_by Says IsCause stack old request w r fault is h why = one_stopped IsCause stack old request w (why (at_fault r fault Says is h))
+pub stopped_by : {T : Type 0} (Says : ReplayFault → Type 0) (IsCause : NumberedRequest → Type 0) (stack : Description) (start : State) (old : List Asked) (request : NumberedRequest) (w : List ℕ) (r : Result T ReplayFault) (fault : ReplayFault)
+    → r ≡ Err fault → IfErr r Says → (Says fault → IsCause request) → StopsAt IsCause stack start old (request ∷ []) (since w w)
+stopped_by Says IsCause stack start old request w r fault is h why = one_stopped IsCause stack start old request w (why (IfErr-at_err Says is h))
 
 -- ---- all requests
 
 -- all were answered, and they end by themselves
-pub all_played : (stack : Description) (requests : Requests) (text : List ℕ) (e : Ending) → AreAnswered stack [] requests.all text → requests.ending ≡ Some e → e ≢ endings.WriteFault → IsPlayed stack requests text (exits.Ended e)
-all_played stack requests text endings.WriteFault told ends other = absurd (other refl)
-all_played stack requests text endings.Done told ends other = record { ends_so = ends; told = told }
-all_played stack requests text (endings.BadRequest number word) told ends other = record { ends_so = ends; told = told }
-all_played stack requests text endings.ReadFault told ends other = record { ends_so = ends; told = told }
+pub all_played : (stack : Description) (start : State) (requests : Requests) (text : List ℕ) (e : Ending) → AreAnswered stack start [] requests.all text → requests.ending ≡ Some e → e ≢ endings.WriteFault → IsPlayed stack start requests text (exits.Ended e)
+all_played stack start requests text endings.WriteFault told ends other = absurd (other refl)
+all_played stack start requests text e told ends other = record { ends_so = ends; told = told }
 
 -- it stopped at one of the first
-stops_among : (IsCause : NumberedRequest → Type 0) (stack : Description) (all first later : List NumberedRequest) (text : List ℕ) → all ≡ first ++ later → StopsAt IsCause stack [] first text → StopsAt IsCause stack [] all text
-stops_among IsCause stack all first later text is stops = record {
+stops_among : (IsCause : NumberedRequest → Type 0) (stack : Description) (start : State) (all first later : List NumberedRequest) (text : List ℕ) → all ≡ first ++ later → StopsAt IsCause stack start [] first text → StopsAt IsCause stack start [] all text
+stops_among IsCause stack start all first later text is stops = record {
   first = stops.first;
   last = stops.last;
   later = stops.later ++ later;
@@ -112,11 +108,11 @@ stops_among IsCause stack all first later text is stops = record {
   cause = stops.cause;
 }
 
-stopped_among : (stack : Description) (exit : Exit) (requests : Requests) (first later : List NumberedRequest) (text : List ℕ) → requests.all ≡ first ++ later → HasStopped stack exit [] first text
-    → IsPlayed stack requests text exit
-stopped_among stack (exits.NotTop number) requests first later text is stopped = stops_among _ stack requests.all first later text is stopped
-stopped_among stack exits.Memory requests first later text is stopped = stops_among _ stack requests.all first later text is stopped
-stopped_among stack (exits.Ended endings.WriteFault) requests first later text is stopped = record {
+stopped_among : (stack : Description) (start : State) (exit : Exit) (requests : Requests) (first later : List NumberedRequest) (text : List ℕ) → requests.all ≡ first ++ later → HasStopped stack start exit [] first text
+    → IsPlayed stack start requests text exit
+stopped_among stack start (exits.NotTop number) requests first later text is stopped = stops_among _ stack start requests.all first later text is stopped
+stopped_among stack start exits.Memory requests first later text is stopped = stops_among _ stack start requests.all first later text is stopped
+stopped_among stack start (exits.Ended endings.WriteFault) requests first later text is stopped = record {
   first = stopped.first;
   later = stopped.later ++ later;
   split = cc (append_assoc stopped.first stopped.later later);
@@ -124,27 +120,27 @@ stopped_among stack (exits.Ended endings.WriteFault) requests first later text i
   told = stopped.told;
   cut = stopped.cut;
 }
-stopped_among stack exit requests first later text is stopped = absurd stopped
+stopped_among stack start exit requests first later text is stopped = absurd stopped
 
-pub part_played : (stack : Description) (exit : Exit) (requests : Requests) (text : List ℕ) (Stopped : List NumberedRequest → Type 0)
-    → ((first : List NumberedRequest) → Stopped first → HasStopped stack exit [] first text) → IsAmong Stopped requests.all → IsPlayed stack requests text exit
-part_played stack exit requests text Stopped stopped among = stopped_among stack exit requests among.first among.later text among.is (stopped among.first among.holds)
+pub part_played : (stack : Description) (start : State) (exit : Exit) (requests : Requests) (text : List ℕ) (Stopped : List NumberedRequest → Type 0)
+    → ((first : List NumberedRequest) → Stopped first → HasStopped stack start exit [] first text) → IsAmong Stopped requests.all → IsPlayed stack start requests text exit
+part_played stack start exit requests text Stopped stopped among = stopped_among stack start exit requests among.first among.later text among.is (stopped among.first among.holds)
 
 -- nothing more is read where it stopped
-pub stopped_met : (old new : InputPast) (stack : Description) (exit : Exit) (asked : List Asked) (requests : List NumberedRequest) (text : List ℕ) → HasStopped stack exit asked requests text → MetNothing old new → HasMetBy exit old new
-stopped_met old new stack (exits.NotTop number) asked requests text stopped met = met
-stopped_met old new stack exits.Memory asked requests text stopped met = tt
-stopped_met old new stack (exits.Ended endings.WriteFault) asked requests text stopped met = tt
-stopped_met old new stack exit asked requests text stopped met = absurd stopped
+pub stopped_met : (old new : InputPast) (stack : Description) (start : State) (exit : Exit) (asked : List Asked) (requests : List NumberedRequest) (text : List ℕ) → HasStopped stack start exit asked requests text → MetNothing old new → HasMetBy exit old new
+stopped_met old new stack start (exits.NotTop number) asked requests text stopped met = met
+stopped_met old new stack start exits.Memory asked requests text stopped met = tt
+stopped_met old new stack start (exits.Ended endings.WriteFault) asked requests text stopped met = tt
+stopped_met old new stack start exit asked requests text stopped met = absurd stopped
 
 -- ---- the stack
 
 -- a replay that has begun was not refused
-pub played_stack : (stack : Description) (requests : Delivery) (text : List ℕ) (exit : Exit) → IsTidy stack → IsPlayed stack (requests_of requests) text exit → ReplaysStack stack requests text exit
-played_stack stack requests text (exits.Refused refusal) tidy played = absurd played
-played_stack stack requests text exit tidy played = (tidy, played)
+pub played_stack : (stack : Description) (start : State) (requests : Delivery) (text : List ℕ) (exit : Exit) → IsTidy stack → IsPlayed stack start (requests_of requests) text exit → ReplaysStack stack start requests text exit
+played_stack stack start requests text (exits.Refused refusal) tidy played = absurd played
+played_stack stack start requests text exit tidy played = (tidy, played)
 
-pub played_asked : (old new : InputPast) (stack : Description) (requests : Requests) (text : List ℕ) (exit : Exit) → IsPlayed stack requests text exit → IsReadOn old new → HasMetBy exit old new
+pub played_asked : (old new : InputPast) (stack : Description) (start : State) (requests : Requests) (text : List ℕ) (exit : Exit) → IsPlayed stack start requests text exit → IsReadOn old new → HasMetBy exit old new
     → AskedBy old new exit
-played_asked old new stack requests text (exits.Refused refusal) played read_on met = absurd played
-played_asked old new stack requests text exit played read_on met = record { read_on = read_on; met = met; unasked = λ refused. absurd cc }
+played_asked old new stack start requests text (exits.Refused refusal) played read_on met = absurd played
+played_asked old new stack start requests text exit played read_on met = record { read_on = read_on; met = met; unasked = λ refused. absurd cc }

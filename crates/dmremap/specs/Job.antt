@@ -21,9 +21,10 @@ pub data JobWords : Type 0 where
   map_words : SourceWords → (paths earlier : Option Text) → (status : Bool) → JobWords
   map_images_words : (paths : Text) → (earlier : Option Text) → (status : Bool) → JobWords
   of_images_words : (paths : Text) → Task → JobWords
+  metadata_words : (paths : Text) → JobWords
   print_words : TableForm → SourceWords → JobWords
   check_words : SourceWords → JobWords
-  replay_words : SourceWords → JobWords
+  replay_words : SourceWords → (paths : Option Text) → JobWords
   name_words : NameParts → JobWords
   split_words : Text → JobWords
   explain_words : Text → JobWords
@@ -39,9 +40,10 @@ job_words (job.Map from paths earlier status) =
     map_words (source_words from) (option_map (λ path. path.now) paths) (option_map (λ path. path.now) earlier) status
 job_words (job.MapImages paths earlier status) = map_images_words paths.now (option_map (λ path. path.now) earlier) status
 job_words (job.OfImages paths task) = of_images_words paths.now task
+job_words (job.Metadata paths) = metadata_words paths.now
 job_words (job.Print form from) = print_words form (source_words from)
 job_words (job.Check from) = check_words (source_words from)
-job_words (job.Replay from) = replay_words (source_words from)
+job_words (job.Replay from paths) = replay_words (source_words from) (option_map (λ path. path.now) paths)
 job_words (job.Name vg lv layer) = name_words (record { vg = vg.now; lv = lv.now; layer = option_map (λ l. l.now) layer })
 job_words (job.SplitName name) = split_words name.now
 job_words (job.Explain text) = explain_words text.now
@@ -51,9 +53,10 @@ abbrev pub source_of : JobWords → Option SourceWords
 source_of (map_words from paths earlier status) = Some from
 source_of (map_images_words paths earlier status) = None
 source_of (of_images_words paths task) = None
+source_of (metadata_words paths) = None
 source_of (print_words form from) = Some from
 source_of (check_words from) = Some from
-source_of (replay_words from) = Some from
+source_of (replay_words from paths) = Some from
 source_of (name_words parts) = None
 source_of (split_words name) = None
 source_of (explain_words text) = None

@@ -2,6 +2,7 @@ pub mod Done
 pub mod Exit
 pub mod Explanation
 pub mod ImagesLoad
+pub mod ImagesText
 pub mod ImagesWhole
 pub mod Inputs
 pub mod Job
@@ -11,6 +12,7 @@ pub mod OtherWhole
 pub mod PartFile
 pub mod Printing
 pub mod ReplayOutcome
+pub mod ReplayWhole
 pub mod StoredStart
 pub mod Streams
 pub mod Whole

@@ -18,7 +18,7 @@ use Rattle.dmremap.specs.declared.job.TableForm.{TableForm}
 use Rattle.dmremap.specs.declared.job.TableForm.TheVariants.{Concise, Table}
 use Rattle.dmremap.specs.declared.status.TheConstants.{STATUS_MEMORY}
 use Rattle.dmremap.specs.Exit.{refusal_status}
-use Rattle.dmremap.specs.Job.{JobWords, format_of, map_images_words, map_words, of_images_words, print_words, check_words, replay_words, name_words, split_words, explain_words}
+use Rattle.dmremap.specs.Job.{JobWords, format_of, map_images_words, map_words, metadata_words, of_images_words, print_words, check_words, replay_words, name_words, split_words, explain_words}
 use Rattle.dmremap.specs.Load.{Load, PartsGive, RefusedBy, SoundAs}
 
 -- ---- what there is to print
@@ -82,7 +82,8 @@ abbrev pub JobSays : JobWords → (source disks : Delivery) → Said → Type 0
 JobSays (map_words from paths earlier status) source disks said = ⊥
 JobSays (map_images_words paths earlier status) source disks said = ⊥
 JobSays (of_images_words paths task) source disks said = ⊥
-JobSays (replay_words from) source disks said = ⊥
+JobSays (metadata_words paths) source disks said = ⊥
+JobSays (replay_words from paths) source disks said = ⊥
 JobSays (print_words form from) source disks said = FilesSay form (format_of from) source disks said
 JobSays (check_words from) source disks said = CheckSays (format_of from) source disks said
 JobSays (name_words parts) source disks said = name_said (built parts) ≡ said

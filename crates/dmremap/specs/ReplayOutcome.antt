@@ -3,6 +3,7 @@ use Rattle.std.specs.Prelude.{◌≡◌, ℕ, List, [], ◌∷◌, ◌++◌, Non
 use Rattle.dm_table.specs.io.DeviceIo.{since}
 use Rattle.dm_table.specs.io.WriteAll.{IsCutShort}
 use Rattle.dm_stack.specs.Description.{Description, device_id}
+use Rattle.dm_map.specs.state.State.{State}
 use Rattle.dm_stream.specs.declared.runs.ending.Ending.{Ending}
 use Rattle.dm_stream.specs.declared.runs.ending.Ending.TheVariants as endings
 use Rattle.dm_stream.specs.requests.Requests.{NumberedRequest, Requests}
@@ -26,27 +27,27 @@ asked_of stack request = record {
 }
 
 -- what is written for a request after those that were asked: a line for each maximal run of what its sectors answer
-pub record IsAnswer (stack : Description) (asked : List Asked) (request : NumberedRequest) (text : List ℕ) : Type 0 where
+pub record IsAnswer (stack : Description) (start : State) (asked : List Asked) (request : NumberedRequest) (text : List ℕ) : Type 0 where
   pub top : HasTop stack request.values.device
   pub runs : List ValueRun
   pub maximal : AreMaximal runs
-  pub answers : flat runs ≡ asked_answers stack (world_after stack asked) (asked_of stack request)
+  pub answers : flat runs ≡ asked_answers stack (world_after stack start asked) (asked_of stack request)
   pub is : runs_text stack request.number runs ≡ text
 
 -- what is written for requests in a row, each after those before it
-abbrev pub AreAnswered : Description → List Asked → List NumberedRequest → List ℕ → Type 0
-AreAnswered stack asked [] text = [] ≡ text
-AreAnswered stack asked (request ∷ requests) text =
-    (first : List ℕ) × (rest : List ℕ) × IsAnswer stack asked request first
-    × AreAnswered stack (asked ++ asked_of stack request ∷ []) requests rest × (first ++ rest ≡ text)
+abbrev pub AreAnswered : Description → (start : State) → List Asked → List NumberedRequest → List ℕ → Type 0
+AreAnswered stack start asked [] text = [] ≡ text
+AreAnswered stack start asked (request ∷ requests) text =
+    (first : List ℕ) × (rest : List ℕ) × IsAnswer stack start asked request first
+    × AreAnswered stack start (asked ++ asked_of stack request ∷ []) requests rest × (first ++ rest ≡ text)
 
 -- the requests up to one that is not answered, and what is written for them
-pub record StopsAt (IsCause : NumberedRequest → Type 0) (stack : Description) (asked : List Asked) (requests : List NumberedRequest) (text : List ℕ) : Type 0 where
+pub record StopsAt (IsCause : NumberedRequest → Type 0) (stack : Description) (start : State) (asked : List Asked) (requests : List NumberedRequest) (text : List ℕ) : Type 0 where
   pub first : List NumberedRequest
   pub last : NumberedRequest
   pub later : List NumberedRequest
   pub split : requests ≡ first ++ last ∷ later
-  pub told : AreAnswered stack asked first text
+  pub told : AreAnswered stack start asked first text
   pub cause : IsCause last
 
 -- the request of this number is of no top device
@@ -59,38 +60,38 @@ abbrev pub IsOfTop : Description → NumberedRequest → Type 0
 IsOfTop stack request = HasTop stack request.values.device
 
 -- a write failed, so that something of what is written for the first requests is left
-pub record IsCutReplay (stack : Description) (asked : List Asked) (requests : List NumberedRequest) (text : List ℕ) : Type 0 where
+pub record IsCutReplay (stack : Description) (start : State) (asked : List Asked) (requests : List NumberedRequest) (text : List ℕ) : Type 0 where
   pub first : List NumberedRequest
   pub later : List NumberedRequest
   pub split : requests ≡ first ++ later
   pub whole : List ℕ
-  pub told : AreAnswered stack asked first whole
+  pub told : AreAnswered stack start asked first whole
   pub cut : IsCutShort whole text
 
 -- ---- a player of requests
 
 -- it accepted these requests, and what is written for them was written
-pub record HasPlayed (stack : Description) (old new : List Asked) (requests : List NumberedRequest) (before after : List ℕ) : Type 0 where
+pub record HasPlayed (stack : Description) (start : State) (old new : List Asked) (requests : List NumberedRequest) (before after : List ℕ) : Type 0 where
   pub asked : new ≡ old ++ map (asked_of stack) requests
-  pub told : AreAnswered stack old requests (since before after)
+  pub told : AreAnswered stack start old requests (since before after)
 
 -- it stopped at one of these requests, and what is written for those before was written; or a write failed
-abbrev pub HasStopped : Description → Exit → List Asked → List NumberedRequest → List ℕ → Type 0
-HasStopped stack (exits.NotTop number) asked requests text = StopsAt (IsOfNone stack number) stack asked requests text
-HasStopped stack exits.Memory asked requests text = StopsAt (IsOfTop stack) stack asked requests text
-HasStopped stack (exits.Ended endings.WriteFault) asked requests text = IsCutReplay stack asked requests text
-HasStopped stack exit asked requests text = ⊥
+abbrev pub HasStopped : Description → (start : State) → Exit → List Asked → List NumberedRequest → List ℕ → Type 0
+HasStopped stack start (exits.NotTop number) asked requests text = StopsAt (IsOfNone stack number) stack start asked requests text
+HasStopped stack start exits.Memory asked requests text = StopsAt (IsOfTop stack) stack start asked requests text
+HasStopped stack start (exits.Ended endings.WriteFault) asked requests text = IsCutReplay stack start asked requests text
+HasStopped stack start exit asked requests text = ⊥
 
 -- ---- all requests
 
 -- where all requests were answered, up to their own end, this was written
-pub record IsWhole (stack : Description) (requests : Requests) (text : List ℕ) (e : Ending) : Type 0 where
+pub record IsWhole (stack : Description) (start : State) (requests : Requests) (text : List ℕ) (e : Ending) : Type 0 where
   pub ends_so : requests.ending ≡ Some e
-  pub told : AreAnswered stack [] requests.all text
+  pub told : AreAnswered stack start [] requests.all text
 
 -- what was written before the output is closed
-abbrev pub IsPlayed : Description → Requests → List ℕ → Exit → Type 0
-IsPlayed stack requests text (exits.Ended endings.Done) = IsWhole stack requests text endings.Done
-IsPlayed stack requests text (exits.Ended (endings.BadRequest number word)) = IsWhole stack requests text (endings.BadRequest number word)
-IsPlayed stack requests text (exits.Ended endings.ReadFault) = IsWhole stack requests text endings.ReadFault
-IsPlayed stack requests text exit = HasStopped stack exit [] requests.all text
+abbrev pub IsPlayed : Description → (start : State) → Requests → List ℕ → Exit → Type 0
+IsPlayed stack start requests text (exits.Ended endings.Done) = IsWhole stack start requests text endings.Done
+IsPlayed stack start requests text (exits.Ended (endings.BadRequest number word)) = IsWhole stack start requests text (endings.BadRequest number word)
+IsPlayed stack start requests text (exits.Ended endings.ReadFault) = IsWhole stack start requests text endings.ReadFault
+IsPlayed stack start requests text exit = HasStopped stack start exit [] requests.all text

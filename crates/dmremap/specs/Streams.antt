@@ -93,3 +93,10 @@ pub record HasExited (Did : List ℕ → Exit → Type 0) (old new : OutputPast)
   pub given : HasGiven Did (written_since old new) old.flushes new.flushes exit
   pub flushed : is_flushed exit ≡ true → IsFlushed old new
   pub refused : is_refused exit ≡ true → new.flushes ≡ old.flushes
+
+-- a command that does this until its output is closed exits so, and its message was told; or it stopped by one before, and neither wrote nor asked for requests
+pub data ExitsBy (Does : List ℕ → Exit → Type 0) (StopsBy : (message : List ℕ) → Type 0) (status : ℕ) (asked_old asked_new : InputPast) (output_old output_new messages_old messages_new : OutputPast) : Type 0 where
+  Did : (exit : Exit) → HasExited Does output_old output_new exit → Exits exit status messages_old messages_new
+      → (is_refused exit ≡ true → asked_new ≡ asked_old) → ExitsBy Does StopsBy status asked_old asked_new output_old output_new messages_old messages_new
+  Told : (message : List ℕ) → StopsBy message → status ≡ STATUS_REFUSED → HasTold message messages_old messages_new
+      → output_new ≡ output_old → asked_new ≡ asked_old → ExitsBy Does StopsBy status asked_old asked_new output_old output_new messages_old messages_new

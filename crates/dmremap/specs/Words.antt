@@ -19,7 +19,7 @@ use Rattle.clap.specs.declared.error.Error.{Error}
 use Rattle.clap.specs.declared.error.kind.ErrorKind.{ErrorKind}
 use Rattle.clap.specs.declared.error.kind.ErrorKind.TheVariants as kind
 use Rattle.dmremap.specs.Explanation.{explanation}
-use Rattle.dmremap.specs.Job.{JobWords, SourceWords, check_words, explain_words, job_words, lvm_words, map_images_words, map_words, name_words, of_images_words, print_words, replay_words, split_words, table_words}
+use Rattle.dmremap.specs.Job.{JobWords, SourceWords, check_words, explain_words, job_words, lvm_words, map_images_words, map_words, metadata_words, name_words, of_images_words, print_words, replay_words, split_words, table_words}
 use Rattle.dmremap.specs.declared.job.Format.{Format}
 use Rattle.dmremap.specs.declared.job.Format.TheVariants.{Lvm, Tables}
 use Rattle.dmremap.specs.declared.job.Job.{Job}
@@ -40,11 +40,20 @@ formats = codes "lvm" ∷ codes "concise" ∷ codes "table" ∷ codes "images" �
 abbrev pub format_named : Text → Format
 format_named word = if bytes_eq word (codes "lvm") then Lvm else (if bytes_eq word (codes "concise") then Tables Concise else Tables Table)
 
--- clap takes these words and no other for FORMAT
-pub record TakesFormats (parser : ValueParser) : Type 0 where
+-- clap takes these words and no other for a value
+pub record TakesNames (taken : List Text) (parser : ValueParser) : Type 0 where
   pub names : Bor (List (Bor Text))
   pub is_names : parser ≡ Names names
-  pub are_formats : map (λ name. name.now) names.now ≡ formats
+  pub are_taken : map (λ name. name.now) names.now ≡ taken
+
+-- the parsers of FORMAT: of commands that take each, and of the one that takes images alone
+pub record Parsers : Type 0 where
+  pub any : ValueParser
+  pub images : ValueParser
+
+pub record TakeFormats (parsers : Parsers) : Type 0 where
+  pub any : TakesNames formats parsers.any
+  pub images : TakesNames (codes "images" ∷ []) parsers.images
 
 -- an argument that has to be there, with one name in the help
 abbrev pub required_rule : Text → Rule
@@ -90,6 +99,14 @@ loading_app name parser = three_app name (format_rule parser) (required_rule (co
 abbrev pub map_app : ValueParser → App
 map_app parser = with_rule (with_rule (with_rule (loading_app (codes "map") parser) status_rule) before_rule) paths_rule
 
+-- `replay FORMAT FILE [DISKS] [--paths PATHS]`
+abbrev pub replay_app : ValueParser → App
+replay_app parser = with_rule (loading_app (codes "replay") parser) paths_rule
+
+-- `metadata images PATHS`
+abbrev pub metadata_app : ValueParser → App
+metadata_app parser = with_rule (with_rule (new_app (codes "metadata")) (format_rule parser)) (required_rule (codes "file"))
+
 -- `name VG LV [LAYER]`
 abbrev pub name_app : App
 name_app = three_app (codes "name") (required_rule (codes "vg")) (required_rule (codes "lv")) (optional_rule (codes "layer"))
@@ -113,10 +130,10 @@ with_commands line [] = line
 with_commands line (command ∷ commands) = with_commands (with_subcommand line command.top) commands
 
 -- the program with its commands, before which only the flag for the version may stand
-abbrev pub command_line : ValueParser → App
-command_line parser = with_commands (with_rule bare_app version_rule)
-    (map_app parser ∷ loading_app (codes "table") parser ∷ loading_app (codes "concise") parser
-    ∷ loading_app (codes "check") parser ∷ loading_app (codes "replay") parser ∷ name_app ∷ split_app ∷ [])
+abbrev pub command_line : Parsers → App
+command_line parsers = with_commands (with_rule bare_app version_rule)
+    (map_app parsers.any ∷ loading_app (codes "table") parsers.any ∷ loading_app (codes "concise") parsers.any
+    ∷ loading_app (codes "check") parsers.any ∷ replay_app parsers.any ∷ metadata_app parsers.images ∷ name_app ∷ split_app ∷ [])
 
 -- a parse reads the command as this one, if there was memory to make it
 abbrev pub HasApp : {E : Type 0} → App → Result Command E → Type 0
@@ -149,7 +166,7 @@ loading_job command rows from =
     if bytes_eq command (codes "map") then map_words from (first_of (codes "paths") rows) (first_of (codes "before") rows) (has_flag (codes "status") rows)
     else (if bytes_eq command (codes "table") then print_words Table from
     else (if bytes_eq command (codes "concise") then print_words Concise from
-    else (if bytes_eq command (codes "check") then check_words from else replay_words from)))
+    else (if bytes_eq command (codes "check") then check_words from else replay_words from (first_of (codes "paths") rows))))
 
 -- FORMAT is that of images
 abbrev pub is_of_images : List Row → Bool
@@ -189,7 +206,8 @@ abbrev pub job_in : Text → List Row → Option JobWords
 job_in command rows =
     if bytes_eq command (codes "name") then Some (name_job rows)
     else (if bytes_eq command (codes "splitname") then Some (split_words (word_of (codes "name") rows))
-    else format_job command rows)
+    else (if bytes_eq command (codes "metadata") then Some (metadata_words (word_of (codes "file") rows))
+    else format_job command rows))
 
 -- the same of the command that clap met, which takes no words without one
 abbrev pub said_by : Option (Text × List Row) → Option JobWords
@@ -208,10 +226,10 @@ has_lone_hyphen words = lone_hyphen_in (drop 1 words)
 
 -- clap takes the words, and its matches say this
 pub record IsTaken (words : List Text) (said : Option JobWords) : Type 0 where
-  pub parser : ValueParser
-  pub formats : TakesFormats parser
-  pub taken : fault_of (command_line parser) words ≡ []
-  pub says : said_by (subcommand_of (command_line parser) words) ≡ said
+  pub parsers : Parsers
+  pub formats : TakeFormats parsers
+  pub taken : fault_of (command_line parsers) words ≡ []
+  pub says : said_by (subcommand_of (command_line parsers) words) ≡ said
 
 -- the fault is an error of this kind, or memory ran out
 abbrev pub IsOfKind : ErrorKind → WordsFault → Type 0
@@ -221,9 +239,9 @@ IsOfKind k Memory = ⊤
 
 -- clap refuses the words by this error, which is not that memory ran out
 pub record IsRefused (words : List Text) (error : Error) : Type 0 where
-  pub parser : ValueParser
-  pub formats : TakesFormats parser
-  pub among : IsAmong (kind_of error) (fault_of (command_line parser) words)
+  pub parsers : Parsers
+  pub formats : TakeFormats parsers
+  pub among : IsAmong (kind_of error) (fault_of (command_line parsers) words)
   pub no_memory : kind_of error ≢ kind.OutOfMemory
 
 -- clap refuses the words so, or memory ran out

@@ -72,7 +72,7 @@ pub(crate) fn before<'a>(mark: &str, text: &'a str) -> &'a str
 }
 
 /// What stands after it.
-fn after<'a>(mark: &str, text: &'a str) -> &'a str
+pub(crate) fn after<'a>(mark: &str, text: &'a str) -> &'a str
     requires { 0 < length mark.now }
     ensures { result.now ≡ after mark.now text.now }
 {

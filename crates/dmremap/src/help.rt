@@ -173,7 +173,8 @@ Example
 pub(crate) const REPLAY_ABOUT: &str = "Plays requests, and prints what each sector reads or stores";
 
 pub(crate) const REPLAY_NOTES: &str = "\
-FILE, DISKS and the requests are those of `dmremap map`. Each request has to be
+FILE, DISKS and the requests are those of `dmremap map`, as is --paths: with it,
+the replay starts from what the stores of snapshots hold. Each request has to be
 for a device that no line uses, and `dmremap check` has to print `tidy`. For
 each request N, lines tell what its sectors read or store:
   N old DISK START LEN      what was there before, from START of the disk on
@@ -183,7 +184,7 @@ each request N, lines tell what its sectors read or store:
 
 Exit status
   0  all requests were answered
-  1  FILE or DISKS was refused, or two lines claim one sector
+  1  FILE, DISKS, PATHS or a store was refused, or two lines claim one sector
   2  the words were refused
   3  a request was bad, or of no such device
   4  the requests could not be read
@@ -192,6 +193,24 @@ Exit status
 
 Example
   dmremap replay table stack.table disks.txt < requests.txt";
+
+pub(crate) const METADATA_ABOUT: &str =
+    "Prints the metadata text that images of a group's disks have";
+
+pub(crate) const METADATA_NOTES: &str = "\
+PATHS is a list like that of `dmremap map --paths`, of images of the group's
+physical volumes. Their heads are read and checked as by `dmremap map images`,
+and their text is printed byte by byte, without a check of what it says.
+
+Exit status
+  0  the text was printed; it is empty if no head has one
+  1  PATHS or a disk was refused
+  2  the words were refused
+  5  the output could not be written
+  6  out of memory
+
+Example
+  dmremap metadata images vg.paths";
 
 pub(crate) const NAME_ABOUT: &str = "Prints the device-mapper name of a logical volume";
 
@@ -229,6 +248,8 @@ Example
 pub(crate) const FORMAT_HELP: &str = "The format of FILE";
 
 pub(crate) const FILE_HELP: &str = "The tables, the metadata, or the list of images";
+
+pub(crate) const IMAGES_HELP: &str = "The list of images";
 
 pub(crate) const DISKS_HELP: &str = "The disks and their lengths; not with lvm";
 

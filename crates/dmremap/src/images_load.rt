@@ -80,7 +80,10 @@ pub(crate) fn load_images<I: Images>(
 }
 
 /// Reads the heads of the disks of a list.
-fn listed_heads<I: Images>(alloc: Global, disks: &mut ListedImages<I>) -> Result<Heads, HeadRefusal>
+pub(crate) fn listed_heads<I: Images>(
+    alloc: Global,
+    disks: &mut ListedImages<I>,
+) -> Result<Heads, HeadRefusal>
     ensures given { (held : Contents) → I.IsSeen disks.new.images held → IfOk result
         (λ heads. heads_of (listed_disks disks.old.paths.items held) (length disks.old.paths.items) ≡ Ok heads) }
     ensures refused { (held : Contents) → I.IsSeen disks.new.images held → IfErr result
@@ -121,7 +124,7 @@ fn unowned(paths: &[DiskPath], fault: OwnedFault) -> Unopened
 }
 
 /// Why the disk of a place in a list opens no run.
-fn stopped(paths: &[DiskPath], disk: usize, fault: HeadFault) -> Unopened
+pub(crate) fn stopped(paths: &[DiskPath], disk: usize, fault: HeadFault) -> Unopened
     ensures { IsStoppedBy (slice_get paths.now disk) fault result }
 {
     if fault == HeadFault::Memory {

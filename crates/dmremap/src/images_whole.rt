@@ -11,9 +11,8 @@ ghost use Rattle.dmremap.specs.declared.exit.Exit.{Exit};
 ghost use Rattle.dmremap.specs.Done.{HasDone};
 ghost use Rattle.dmremap.specs.Exit.{IsPlain};
 ghost use Rattle.dmremap.specs.ImagesLoad.{AreImagesUsed, ImagesOpen, list_in};
-ghost use Rattle.dmremap.specs.ImagesWhole.{ExitsBy, LoadsBy, TaskDoes};
+ghost use Rattle.dmremap.specs.ImagesWhole.{LoadsBy, TaskDoes, TaskExits, has_task_requests};
 ghost use Rattle.dmremap.specs.Load.{SoundAs};
-ghost use Rattle.dmremap.specs.OtherWhole.{has_task_requests};
 ghost use Rattle.dmremap.specs.Streams.{AskedBy, MessagesTold, OutputWritten, RequestsRead};
 ghost use Rattle.dmremap.specs.Whole.{Opening};
 
@@ -22,7 +21,7 @@ use crate::images_load::{Unopened, load_images, read_list};
 use crate::job::Task;
 use crate::listed_images::ListedImages;
 use crate::printing::{print_report, print_stack};
-use crate::replay_run::replay_stack;
+use crate::replay_run::replay_fresh;
 use dm_stack::Stack;
 use dm_store::Images;
 use dm_stream::Exchange;
@@ -51,7 +50,7 @@ pub fn images_whole<P: Input, I: Images, Q: Exchange<W>, W: Output, M: Output>(
     // Whatever the images hold that agrees with all that was read of them: it exits as that and the deliveries say,
     // and so goes what it wrote, its status and its message.
     ensures exits { (held : Contents) → I.IsSeen disks.new.images held
-        → ExitsBy (ImagesOpen (delivery (P.past paths.old) (P.past paths.new)) held) task
+        → TaskExits (ImagesOpen (delivery (P.past paths.old) (P.past paths.new)) held) task
         (delivery (Q.past requests.old) (Q.past requests.new)) result
         (Q.past requests.old) (Q.past requests.new)
         (W.past output.old) (W.past output.new) (M.past messages.old) (M.past messages.new) }
@@ -96,7 +95,7 @@ fn do_listed<I: Images, Q: Exchange<W>, W: Output, M: Output>(
     messages: &mut M,
 ) -> u8
     ensures exits { (p : Delivery) (held : Contents) → list_in (part_read Paths p) ≡ Some (Ok disks.old.paths.items)
-        → I.IsSeen disks.new.images held → ExitsBy (ImagesOpen p held) task
+        → I.IsSeen disks.new.images held → TaskExits (ImagesOpen p held) task
         (delivery (Q.past requests.old) (Q.past requests.new)) result
         (Q.past requests.old) (Q.past requests.new)
         (W.past output.old) (W.past output.new) (M.past messages.old) (M.past messages.new) }
@@ -136,7 +135,7 @@ fn do_task<Q: Exchange<W>, W: Output>(
             exit
         }
         Task::Replay => {
-            let exit = replay_stack(alloc, &stack, requests, output);
+            let exit = replay_fresh(alloc, &stack, requests, output);
             // As for a check.
             forget(stack);
             exit

@@ -74,6 +74,8 @@ pub enum Job<'a> {
         paths: &'a str,
         task: Task,
     },
+    /// Print the metadata text of the group that lies in the images of a list.
+    Metadata(&'a str),
     /// Print the devices of a source in a form.
     Print {
         form: TableForm,
@@ -81,8 +83,12 @@ pub enum Job<'a> {
     },
     /// Check the devices of a source, and print whether two of their lines claim one sector.
     Check(Source<'a>),
-    /// Replay the requests of the standard input on the disks of a source.
-    Replay(Source<'a>),
+    /// Replay the requests of the standard input on the disks of a source, from the state that the stores hold that lie
+    /// in the images of the list `paths`, if there is one.
+    Replay {
+        source: Source<'a>,
+        paths: Option<&'a str>,
+    },
     /// Print the device mapper's name of a volume, or of a layer of it.
     Name {
         vg: &'a str,
@@ -135,9 +141,10 @@ impl<'a> Job<'a> {
             Job::Map { source, .. }
             | Job::Print { source, .. }
             | Job::Check(source)
-            | Job::Replay(source) => Some(source),
+            | Job::Replay { source, .. } => Some(source),
             Job::MapImages { .. }
             | Job::OfImages { .. }
+            | Job::Metadata(_)
             | Job::Name { .. }
             | Job::SplitName(_)
             | Job::Explain(_) => None,

@@ -1,7 +1,8 @@
 //! dmremap maps block requests through device-mapper tables to the disks below.
 //!
 //! This file is the table of contents: `words` reads the command line, `map_whole`, `map_stored`,
-//! `map_images`, `other_whole` and `images_whole` do the work, and `main` joins them to the real files and streams and does nothing else.
+//! `map_images`, `replay_whole`, `other_whole`, `images_whole` and `print_metadata` do the work, and `main` joins them to
+//! the real files and streams and does nothing else.
 #![tactic(auto)]
 
 ghost use Rattle.std.specs.Prelude.{◌≡◌, true};
@@ -14,6 +15,7 @@ mod explanation;
 mod file_images;
 mod help;
 mod images_load;
+mod images_text;
 mod images_whole;
 mod job;
 mod listed_images;
@@ -29,6 +31,7 @@ mod part_file;
 mod prepared;
 mod printing;
 mod replay_run;
+mod replay_whole;
 mod status;
 mod words;
 
@@ -37,15 +40,17 @@ use dm_stream::Ending;
 use dm_table::{Counted, Gathered};
 use exit::Exit;
 use file_images::FileImages;
+use images_text::print_metadata;
 use images_whole::images_whole;
 use job::{Job, Source, Task};
 use listed_images::ListedImages;
 use map_images::map_images;
 use map_stored::map_stored;
 use map_whole::map_whole;
-use next_step::Told;
+use next_step::{Shown, Told};
 use other_whole::other_whole;
 use part_file::{DisksPart, EarlierPart, PartFile, PathsPart, SourcePart};
+use replay_whole::replay_whole;
 use status::STATUS_DONE;
 use std::io;
 use std::io::{Stdin, Stdout};
@@ -60,6 +65,9 @@ type Requests = Counted<Stdin>;
 
 /// Where answers go.
 type Answers = Gathered<Counted<Stdout>>;
+
+/// Where answers of `map` go, of which the first are kept.
+type ShownAnswers<'s> = Gathered<Counted<&'s mut Shown>>;
 
 /// Where messages go.
 type Messages<'m> = Counted<&'m mut Told>;
@@ -82,8 +90,8 @@ fn begin(rt: &HostRuntime, told: &mut Told) -> Result<u8, WordsFault> {
     answer(rt, told)
 }
 
-/// Does what the words ask for, and returns the exit status; then names what explains a refusal. Its room on the stack is
-/// taken when it is called, and no sooner.
+/// Does what the words ask for, and returns the exit status; then names what explains a refusal or an error. Its room on
+/// the stack is taken when it is called, and no sooner.
 #[inline(never)]
 fn answer(rt: &HostRuntime, told: &mut Told) -> Result<u8, WordsFault> {
     let arguments = arguments_of(rt)?;
@@ -91,31 +99,37 @@ fn answer(rt: &HostRuntime, told: &mut Told) -> Result<u8, WordsFault> {
         .iter()
         .map(|argument| argument.as_str())
         .collect(rt.alloc())?;
-    let status = match do_words(rt, told, words.as_slice()) {
+    let mut shown = Shown::new(rt.stdout());
+    let status = match do_words(rt, told, &mut shown, words.as_slice()) {
         Ok(status) => status,
         Err(fault) => refuse(rt, told, &fault),
     };
-    if status != STATUS_DONE {
-        told.name_next_step(rt, words.as_slice());
-    }
+    told.name_next_step(rt, &shown, status == STATUS_DONE, words.as_slice());
     Ok(status)
 }
 
 /// Does what the words ask for, and returns the exit status.
-fn do_words(rt: &HostRuntime, told: &mut Told, words: &[&str]) -> Result<u8, WordsFault> {
+fn do_words(
+    rt: &HostRuntime,
+    told: &mut Told,
+    shown: &mut Shown,
+    words: &[&str],
+) -> Result<u8, WordsFault> {
     match read_words(rt.alloc(), words)? {
         Job::Map {
             source,
             paths,
             earlier,
             status,
-        } => map_files(rt, told, source, paths, earlier, status),
+        } => map_files(rt, told, shown, source, paths, earlier, status),
         Job::MapImages {
             paths,
             earlier,
             status,
-        } => map_images_of(rt, told, paths, earlier, status),
+        } => map_images_of(rt, told, shown, paths, earlier, status),
         Job::OfImages { paths, task } => do_with_images(rt, told, paths, task),
+        Job::Metadata(paths) => print_text_of(rt, told, paths),
+        Job::Replay { source, paths } => replay_files(rt, told, source, paths),
         job => Ok(do_other(rt, told, &job)),
     }
 }
@@ -134,6 +148,7 @@ fn arguments_of(rt: &HostRuntime) -> Result<Vec<String>, WordsFault> {
 fn map_files(
     rt: &HostRuntime,
     told: &mut Told,
+    shown: &mut Shown,
     source: Source<'_>,
     paths: Option<&str>,
     earlier: Option<&str>,
@@ -145,7 +160,7 @@ fn map_files(
             File<'_, SourcePart>,
             File<'_, DisksPart>,
             Requests,
-            Answers,
+            ShownAnswers<'_>,
             Messages<'_>,
         >(
             rt.alloc(),
@@ -154,7 +169,7 @@ fn map_files(
             &mut source_at(rt, source),
             &mut disks,
             &mut Counted::new(rt.stdin()),
-            &mut Gathered::new(Counted::new(rt.stdout())),
+            &mut Gathered::new(Counted::new(&mut *shown)),
             &mut Counted::new(&mut *told),
         ));
     }
@@ -168,7 +183,7 @@ fn map_files(
         FileImages<'_>,
         File<'_, EarlierPart>,
         Requests,
-        Answers,
+        ShownAnswers<'_>,
         Messages<'_>,
     >(
         rt.alloc(),
@@ -180,6 +195,38 @@ fn map_files(
         &mut images,
         &mut earlier,
         &mut Counted::new(rt.stdin()),
+        &mut Gathered::new(Counted::new(&mut *shown)),
+        &mut Counted::new(&mut *told),
+    ))
+}
+
+/// Replays the requests of the standard input on the disks of a source, from what the stores hold that lie in the images
+/// of a list, if there is one.
+fn replay_files(
+    rt: &HostRuntime,
+    told: &mut Told,
+    source: Source<'_>,
+    paths: Option<&str>,
+) -> Result<u8, WordsFault> {
+    let mut disks = disks_at(rt, source);
+    let mut images = FileImages::new(rt.alloc(), rt)?;
+    let mut paths: Option<File<'_, PathsPart>> = file_if(rt, paths);
+    Ok(replay_whole::<
+        File<'_, SourcePart>,
+        File<'_, DisksPart>,
+        File<'_, PathsPart>,
+        FileImages<'_>,
+        Requests,
+        Answers,
+        Messages<'_>,
+    >(
+        rt.alloc(),
+        source.format(),
+        &mut source_at(rt, source),
+        &mut disks,
+        &mut paths,
+        &mut images,
+        &mut Counted::new(rt.stdin()),
         &mut Gathered::new(Counted::new(rt.stdout())),
         &mut Counted::new(&mut *told),
     ))
@@ -190,6 +237,7 @@ fn map_files(
 fn map_images_of(
     rt: &HostRuntime,
     told: &mut Told,
+    shown: &mut Shown,
     paths: &str,
     earlier: Option<&str>,
     status: bool,
@@ -202,7 +250,7 @@ fn map_images_of(
         FileImages<'_>,
         File<'_, EarlierPart>,
         Requests,
-        Answers,
+        ShownAnswers<'_>,
         Messages<'_>,
     >(
         rt.alloc(),
@@ -211,7 +259,7 @@ fn map_images_of(
         &mut disks,
         &mut earlier,
         &mut Counted::new(rt.stdin()),
-        &mut Gathered::new(Counted::new(rt.stdout())),
+        &mut Gathered::new(Counted::new(&mut *shown)),
         &mut Counted::new(&mut *told),
     ))
 }
@@ -236,6 +284,19 @@ fn do_with_images(
     ))
 }
 
+/// Prints the metadata text of a group in images.
+fn print_text_of(rt: &HostRuntime, told: &mut Told, paths: &str) -> Result<u8, WordsFault> {
+    let mut disks = ListedImages::new(rt.alloc(), FileImages::new(rt.alloc(), rt)?);
+    let mut paths: File<'_, PathsPart> = file_at(rt, paths);
+    Ok(print_metadata::<File<'_, PathsPart>, FileImages<'_>, Answers, Messages<'_>>(
+        rt.alloc(),
+        &mut paths,
+        &mut disks,
+        &mut Gathered::new(Counted::new(rt.stdout())),
+        &mut Counted::new(&mut *told),
+    ))
+}
+
 /// Does a job of another command.
 fn do_other<'r>(rt: &'r HostRuntime, told: &mut Told, job: &'r Job<'r>) -> u8
     requires { is_other (job_words job.now) ≡ true }
@@ -244,12 +305,11 @@ fn do_other<'r>(rt: &'r HostRuntime, told: &mut Told, job: &'r Job<'r>) -> u8
         Some(source) => (Some(source_at(rt, source)), disks_at(rt, source)),
         None => (None, None),
     };
-    other_whole::<File<'_, SourcePart>, File<'_, DisksPart>, Requests, Answers, Messages<'_>>(
+    other_whole::<File<'_, SourcePart>, File<'_, DisksPart>, Answers, Messages<'_>>(
         rt.alloc(),
         job,
         &mut source,
         &mut disks,
-        &mut Counted::new(rt.stdin()),
         &mut Gathered::new(Counted::new(rt.stdout())),
         &mut Counted::new(&mut *told),
     )

@@ -1,62 +1,53 @@
-//! The commands but `map`: `replay`, and those that print what a load gives or what a name says.
+//! The commands that read no requests: they print what a load gives or what a name says.
 //!
 //! What comes out goes by the words and by the bytes that were delivered, and by nothing else, unless
 //! memory runs out. A command does its work in `answer`, which says how it would exit; then the output
 //! is closed, and the message told. A new command is an arm of `answer` here and of `JobDoes`
 //! in `specs/OtherWhole.antt`.
 
-ghost use Rattle.std.specs.Prelude.{◌≡◌, List, ℕ, false, true};
-ghost use Rattle.dm_table.specs.io.DeviceIo.{Delivery, delivery};
+ghost use Rattle.std.specs.Prelude.{◌≡◌, List, ℕ, true};
+ghost use Rattle.dm_table.specs.io.DeviceIo.{Delivery};
 ghost use Rattle.dmremap.specs.declared.exit.Exit.{Exit};
 ghost use Rattle.dmremap.specs.Done.{HasDone};
-ghost use Rattle.dmremap.specs.Exit.{IsPlain, is_refused};
+ghost use Rattle.dmremap.specs.Exit.{IsPlain};
 ghost use Rattle.dmremap.specs.Inputs.{IsReadOnIf, delivery_if};
 ghost use Rattle.dmremap.specs.Job.{JobWords, job_words};
-ghost use Rattle.dmremap.specs.OtherWhole.{JobDoes, ReplaysFiles, has_requests, is_other};
+ghost use Rattle.dmremap.specs.OtherWhole.{JobDoes, is_other};
 ghost use Rattle.dmremap.specs.Printing.{IsPrinted, JobSays};
-ghost use Rattle.dmremap.specs.Streams.{AskedBy, Exits, HasExited, MessagesTold, OutputWritten, RequestsRead};
+ghost use Rattle.dmremap.specs.Streams.{Exits, HasExited, MessagesTold, OutputWritten};
 
 #[cfg(test)]
 mod tests;
 
 use crate::exit::Exit;
-use crate::job::{Format, Job};
+use crate::job::Job;
 use crate::load::load_if;
 use crate::printing::{print_name, print_parts, print_report, print_stack, print_text};
-use crate::replay_run::replay_stack;
-use dm_stream::Exchange;
 use dm_table::{Input, Output};
 use std::alloc::Global;
 use std::mem::forget;
 
-/// Does what a job asks for, of any command but `map`, and of any format but images: prints the devices of a source in a form, once they
-/// are checked as for `map`; or the report of a check; or the name of a volume, or the parts of one; or what
-/// is said of a word of messages; or replays requests on the disks of a source, and writes for each what its
-/// sectors answer, in maximal runs, a line each. It returns the exit status.
+/// Does what a job asks for, of any command but `map` and `replay`, and of any format but images: prints the devices
+/// of a source in a form, once they are checked as for `map`; or the report of a check; or the name of a volume, or
+/// the parts of one; or what is said of a word of messages. It returns the exit status.
 ///
 /// | Status | When |
 /// |---|---|
-/// | 0 | all was printed, or all requests were answered |
-/// | 1 | the source, the disk list or the name was refused, or two claims meet in a replay; nothing was written or flushed |
-/// | 3 | a request was bad, or of no top device; those before it were answered |
-/// | 4 | reading requests failed; those before were answered |
+/// | 0 | all was printed |
+/// | 1 | the source, the disk list or the name was refused; nothing was written or flushed |
 /// | 5 | writing or flushing the output failed |
-/// | 6 | memory ran out: nothing was written or flushed, or those before a request were answered |
+/// | 6 | memory ran out: nothing was written or flushed |
 ///
 /// At most one message is written, after the output was flushed. A source or a disk list that is missing
-/// where a command asks for it is refused as one that can't be read. `replay` alone reads requests, and
-/// refuses an untidy stack before it reads any.
+/// where a command asks for it is refused as one that can't be read.
 ///
-/// Cost: near-linear in the source and the disk list, and linear in what is printed; for `replay` that of
-/// `Replay::request` for each request. Its memory grows with the ranges that are stored and with the
-/// requests.
+/// Cost: near-linear in the source and the disk list, and linear in what is printed.
 #[tactic(auto, using(crate::proofs::ExitLemmas::exits_told))]
-pub fn other_whole<S: Input, D: Input, Q: Exchange<W>, W: Output, M: Output>(
+pub fn other_whole<S: Input, D: Input, W: Output, M: Output>(
     alloc: Global,
     job: &Job<'_>,
     source: &mut Option<S>,
     disks: &mut Option<D>,
-    requests: &mut Q,
     output: &mut W,
     messages: &mut M,
 ) -> u8
@@ -65,58 +56,50 @@ pub fn other_whole<S: Input, D: Input, Q: Exchange<W>, W: Output, M: Output>(
     // It exits as the words and the deliveries say, and so goes what it wrote, its status and its
     // message. The output failed at a write or at the flush: then what was written is a beginning of
     // what there was to write, or all of it. Where the command was refused, also since there was no
-    // memory to begin, nothing was written or flushed, and requests were not asked for.
+    // memory to begin, nothing was written or flushed.
     ensures exits { (exit : Exit) × HasExited (JobDoes (job_words job.now)
         (delivery_if S.past source.old source.new)
-        (delivery_if D.past disks.old disks.new)
-        (delivery (Q.past requests.old) (Q.past requests.new))) (W.past output.old) (W.past output.new) exit
-        × Exits exit result (M.past messages.old) (M.past messages.new)
-        × (is_refused exit ≡ true → Q.past requests.new ≡ Q.past requests.old) }
+        (delivery_if D.past disks.old disks.new)) (W.past output.old) (W.past output.new) exit
+        × Exits exit result (M.past messages.old) (M.past messages.new) }
 
     // Unless the output failed or memory ran out, the words and the deliveries determine the exit and
     // what is written.
-    ensures one { (asked : JobWords) (s d q : Delivery) (a b : Exit) (x y : List ℕ) → IsPlain a → IsPlain b
-        → JobDoes asked s d q x a → JobDoes asked s d q y b → (a ≡ b) × (x ≡ y) }
+    ensures one { (asked : JobWords) (s d : Delivery) (a b : Exit) (x y : List ℕ) → IsPlain a → IsPlain b
+        → JobDoes asked s d x a → JobDoes asked s d y b → (a ≡ b) × (x ≡ y) }
 
     // Each input is only read on, and nothing is asked of it after an end or a fault.
     ensures source_read_on { IsReadOnIf S.past source.old source.new }
     ensures disks_read_on { IsReadOnIf D.past disks.old disks.new }
-    // Only `replay` asks for requests.
-    ensures unasked { has_requests (job_words job.now) ≡ false
-        → Q.past requests.new ≡ Q.past requests.old }
-    // The status says how requests were read, what came of the output, and that a failed output was told.
-    ensures requests { RequestsRead result (Q.past requests.old) (Q.past requests.new) }
+    // The status says what came of the output, and that a failed output was told.
     ensures output { OutputWritten result (W.past output.old) (W.past output.new) }
     ensures messages { MessagesTold result (M.past messages.old) (M.past messages.new) }
 {
-    let exit = answer(alloc, *job, source, disks, requests, &mut *output);
+    let exit = answer(alloc, *job, source, disks, &mut *output);
     exit.finish(output, messages)
 }
 
 /// Does what a job asks for, and says how the command would exit. Nothing is flushed.
 #[tactic(auto, using(crate::proofs::LoadLemmas::untouched))]
-fn answer<S: Input, D: Input, Q: Exchange<W>, W: Output>(
+fn answer<S: Input, D: Input, W: Output>(
     alloc: Global,
     job: Job<'_>,
     source: &mut Option<S>,
     disks: &mut Option<D>,
-    requests: &mut Q,
     output: &mut W,
 ) -> Exit
     requires other { is_other (job_words job) ≡ true }
     ensures did { HasDone (JobDoes (job_words job.entry)
         (delivery_if S.past source.old source.new)
-        (delivery_if D.past disks.old disks.new)
-        (delivery (Q.past requests.old) (Q.past requests.new))) (W.past output.old) (W.past output.new) result }
-    ensures asked { AskedBy (Q.past requests.old) (Q.past requests.new) result }
-    ensures unasked { has_requests (job_words job.entry) ≡ false
-        → Q.past requests.new ≡ Q.past requests.old }
+        (delivery_if D.past disks.old disks.new)) (W.past output.old) (W.past output.new) result }
     ensures source { IsReadOnIf S.past source.old source.new }
     ensures disks { IsReadOnIf D.past disks.old disks.new }
 {
     match job {
-        Job::Map { .. } | Job::MapImages { .. } | Job::OfImages { .. } => unreachable!(),
-        Job::Replay(from) => replay(alloc, from.format(), source, disks, requests, output),
+        Job::Map { .. }
+        | Job::MapImages { .. }
+        | Job::OfImages { .. }
+        | Job::Metadata(_)
+        | Job::Replay { .. } => unreachable!(),
         Job::Print { form, source: from } => {
             match load_if(alloc, from.format(), source, disks) {
                 Ok(stack) => print_stack(form, stack, output),
@@ -135,33 +118,5 @@ fn answer<S: Input, D: Input, Q: Exchange<W>, W: Output>(
         Job::Name { vg, lv, layer } => print_name(alloc, vg, lv, layer, output),
         Job::SplitName(name) => print_parts(alloc, name, output),
         Job::Explain(text) => print_text(text.as_bytes(), output),
-    }
-}
-
-/// Replays requests on the disks of a source.
-fn replay<S: Input, D: Input, Q: Exchange<W>, W: Output>(
-    alloc: Global,
-    format: Format,
-    source: &mut Option<S>,
-    disks: &mut Option<D>,
-    requests: &mut Q,
-    output: &mut W,
-) -> Exit
-    ensures did { HasDone (ReplaysFiles format
-        (delivery_if S.past source.old source.new)
-        (delivery_if D.past disks.old disks.new)
-        (delivery (Q.past requests.old) (Q.past requests.new))) (W.past output.old) (W.past output.new) result }
-    ensures asked { AskedBy (Q.past requests.old) (Q.past requests.new) result }
-    ensures source { IsReadOnIf S.past source.old source.new }
-    ensures disks { IsReadOnIf D.past disks.old disks.new }
-{
-    match load_if(alloc, format, source, disks) {
-        Ok(stack) => {
-            let exit = replay_stack(alloc, &stack, requests, output);
-            // As for `check`.
-            forget(stack);
-            exit
-        }
-        Err(fault) => Exit::unloaded(fault),
     }
 }

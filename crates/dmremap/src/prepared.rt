@@ -177,7 +177,7 @@ fn begin_in<'s, I: Images>(
 }
 
 /// Begins from what the stores of a stack hold in the images of a list of paths, if there is one.
-fn begin_by<'s, P: Input, I: Images>(
+pub(crate) fn begin_by<'s, P: Input, I: Images>(
     alloc: Global,
     stack: &'s Stack,
     paths: &mut Option<P>,

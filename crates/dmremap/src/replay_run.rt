@@ -3,20 +3,23 @@
 //! `specs/ReplayOutcome.antt` says what is written for the requests, and what one request adds to it.
 
 ghost use Rattle.std.specs.Prelude.{◌≡◌, false};
+ghost use Rattle.std.proofs.Common.{refl, ◌∙◌};
 ghost use Rattle.dm_table.specs.io.DeviceIo.{delivery, written_since};
 ghost use Rattle.dm_table.specs.io.Progress.{HasWrittenTo, IsReadOn};
 ghost use Rattle.dm_table.specs.laws.Progress.{written_to_none, written_to_more};
 ghost use Rattle.dm_stream.specs.requests.Requests.{requests_of};
-ghost use Rattle.dm_replay.specs.Replay.{new_replay};
+ghost use Rattle.dm_replay.specs.Replay.{replay_from};
 ghost use Rattle.dmremap.specs.Done.{HasDone};
 ghost use Rattle.dmremap.specs.Exit.{failed_writes};
-ghost use Rattle.dmremap.specs.OtherWhole.{ReplaysStack};
+ghost use Rattle.dm_stream.specs.runs.Run.{CanMap};
+ghost use Rattle.dmremap.specs.ReplayWhole.{ReplaysFrom, ReplaysStack};
+ghost use Rattle.dmremap.specs.Whole.{fresh_start};
 ghost use Rattle.dmremap.specs.laws.Played.{played_none, played_more, stopped_more};
 ghost use Rattle.dmremap.specs.ReplayOutcome.{HasPlayed, HasStopped, IsPlayed};
 ghost use Rattle.dmremap.specs.Streams.{AskedBy, HasMetBy};
 
 use crate::exit::{Exit, Refusal};
-use dm_map::TrieTaken;
+use dm_map::{Mapper, TrieTaken};
 use dm_replay::{Replay, ReplayFault, write_runs};
 use dm_stack::{DeviceId, Stack};
 use dm_stream::{Ending, Exchange, Handler, HandlesFrom, ReadsFrom, handle_requests};
@@ -41,30 +44,33 @@ impl<'s, W: Output> Handler for RequestPlayer<'_, 's, W> {
     ghost ready = { λ stack h replay. (replay.stack ≡ stack) × (replay.failed ≡ false) };
 
     ghost answered = { λ stack old before requests new after.
-        HasPlayed stack before.asked after.asked requests (W.past old.output.now).written
+        HasPlayed stack before.start before.asked after.asked requests (W.past old.output.now).written
         (W.past new.output.now).written
+        × (after.start ≡ before.start)
         × HasWrittenTo W.past old.output new.output 0 };
 
     ghost stopped = { λ stack old before requests exit new after.
-        HasStopped stack exit before.asked requests
+        HasStopped stack before.start exit before.asked requests
         (written_since (W.past old.output.now) (W.past new.output.now))
         × HasWrittenTo W.past old.output new.output (failed_writes exit) };
 
     ghost answered_none = { λ stack h replay. (
-      played_none stack replay.asked (W.past h.output.now).written,
+      played_none stack replay.start replay.asked (W.past h.output.now).written,
+      refl,
       written_to_none W.past h.output,
     ) };
 
     ghost answered_then_answered = { λ stack a b c s t u us vs first second. (
-      played_more stack s.asked t.asked u.asked us vs _ _ _ first.1.moved.appends second.1.moved.appends first.0
-          second.0,
-      written_to_more W.past a.output b.output c.output 0 first.1 second.1,
+      played_more stack s.start s.asked t.asked u.asked us vs _ _ _ first.2.moved.appends second.2.moved.appends first.0
+          (rw first.1 at second.0),
+      second.1 ∙ first.1,
+      written_to_more W.past a.output b.output c.output 0 first.2 second.2,
     ) };
 
     ghost answered_then_stopped = { λ stack a b c s t u us vs exit first second. (
-      stopped_more stack exit s.asked t.asked us vs _ _ _ first.1.moved.appends second.1.moved.appends first.0
-          second.0,
-      written_to_more W.past a.output b.output c.output (failed_writes exit) first.1 second.1,
+      stopped_more stack s.start exit s.asked t.asked us vs _ _ _ first.2.moved.appends second.1.moved.appends first.0
+          (rw first.1 at second.0),
+      written_to_more W.past a.output b.output c.output (failed_writes exit) first.2 second.1,
     ) };
 
     fn handle(
@@ -113,11 +119,11 @@ fn play_requests<'s, Q: Exchange<W>, W: Output>(
     requests: &mut Q,
     output: &mut W,
 ) -> Exit
-    requires new { replay.old ≡ new_replay stack.now }
+    requires new { replay.old ≡ replay_from stack.now replay.old.start }
     ensures reads { IsReadOn (Q.past requests.old) (Q.past requests.new) }
     ensures met { HasMetBy result (Q.past requests.old) (Q.past requests.new) }
     ensures played { HasDone
-        (IsPlayed stack.now (requests_of (delivery (Q.past requests.old) (Q.past requests.new))))
+        (IsPlayed stack.now replay.old.start (requests_of (delivery (Q.past requests.old) (Q.past requests.new))))
         (W.past output.old) (W.past output.new) result }
 {
     let mut player = RequestPlayer {
@@ -136,20 +142,41 @@ fn play_requests<'s, Q: Exchange<W>, W: Output>(
     }
 }
 
-/// Replays requests on the disks of a stack, and says how the command would exit. Nothing is flushed.
-pub(crate) fn replay_stack<Q: Exchange<W>, W: Output>(
+/// Replays requests on the disks of a stack from the state of a mapper, and says how the command would exit. Nothing is
+/// flushed.
+pub(crate) fn replay_stack<'s, Q: Exchange<W>, W: Output>(
+    alloc: Global,
+    stack: &'s Stack,
+    mapper: Mapper<'s, TrieTaken>,
+    requests: &mut Q,
+    output: &mut W,
+) -> Exit
+    requires { CanMap stack.now mapper }
+    ensures did { HasDone (ReplaysStack stack.now mapper.entry.state (delivery (Q.past requests.old) (Q.past requests.new)))
+        (W.past output.old) (W.past output.new) result }
+    ensures asked { AskedBy (Q.past requests.old) (Q.past requests.new) result }
+{
+    mapper.recall_places();
+    match Replay::go_on(alloc, stack, mapper) {
+        Ok(mut replay) => play_requests(alloc, stack, &mut replay, requests, output),
+        Err(ReplayFault::Untidy) => Exit::Refused(Refusal::Untidy),
+        Err(_) => Exit::unloaded(LoadFault::memory(Part::Source)),
+    }
+}
+
+/// The same from the start of the stack, where no chunk was taken.
+pub(crate) fn replay_fresh<Q: Exchange<W>, W: Output>(
     alloc: Global,
     stack: &Stack,
     requests: &mut Q,
     output: &mut W,
 ) -> Exit
-    ensures did { HasDone (ReplaysStack stack.now (delivery (Q.past requests.old) (Q.past requests.new)))
+    ensures did { HasDone (ReplaysFrom (fresh_start stack.now) stack.now (delivery (Q.past requests.old) (Q.past requests.new)))
         (W.past output.old) (W.past output.new) result }
     ensures asked { AskedBy (Q.past requests.old) (Q.past requests.new) result }
 {
-    match Replay::<TrieTaken>::new(alloc, stack) {
-        Ok(mut replay) => play_requests(alloc, stack, &mut replay, requests, output),
-        Err(ReplayFault::Untidy) => Exit::Refused(Refusal::Untidy),
+    match Mapper::new(alloc, stack.looker()) {
+        Ok(mapper) => replay_stack(alloc, stack, mapper, requests, output),
         Err(_) => Exit::unloaded(LoadFault::memory(Part::Source)),
     }
 }

@@ -4,12 +4,12 @@
 //! A new command is a line in `program` and one in `job_in` or, if it loads a source, in `loading_job`. A new
 //! format is a word of `FORMATS` and of `format_named`. Images, which are no text, are asked for in `format_job`.
 
-ghost use Rattle.std.specs.Prelude.{◌≡◌, IfErr, IfOk, List, false, option_map, true};
+ghost use Rattle.std.specs.Prelude.{◌≡◌, ◌∷◌, [], IfErr, IfOk, List, codes, false, option_map, true};
 ghost use Rattle.clap.specs.Walk.{texts};
 ghost use Rattle.clap.specs.Words.{App, Rule, Text, app_of, first_of, found_of, kind_of, new_app, rows_of, rule_of, subcommand_rows_of, with_rule, with_subcommand};
 ghost use Rattle.clap.specs.declared.error.kind.ErrorKind.TheVariants as kind;
 ghost use Rattle.dmremap.specs.Job.{job_words, source_words};
-ghost use Rattle.dmremap.specs.Words.{HasApp, TakesFormats, bare_app, before_rule, command_line, flag_rule, format_named, format_rule, loading_app, map_app, name_app, optional_rule, paths_rule, required_rule, split_app, status_rule, version_rule};
+ghost use Rattle.dmremap.specs.Words.{HasApp, TakeFormats, TakesNames, bare_app, before_rule, command_line, flag_rule, format_named, format_rule, formats, loading_app, map_app, metadata_app, name_app, optional_rule, paths_rule, replay_app, required_rule, split_app, status_rule, version_rule};
 ghost use Rattle.dmremap.specs.Words.{format_job, has_flag, has_lone_hyphen, images_job, is_of_images, job_in, list_at, loading_job, name_job, said_by, source_at, source_in, task_of, word_of};
 ghost use Rattle.dmremap.specs.Words.{IsCommandOf, IsFaultOf, IsJobOf, IsOfKind, IsRefusedFor, IsTaken, IsUntaken, explained_by, fault_from, is_unknown, status_of};
 ghost use Rattle.dmremap.specs.declared.words.WordsFault.TheVariants as fault;
@@ -49,6 +49,8 @@ const LONE_HYPHEN: &str =
     "unexpected argument '-' found\n\n  tip: /dev/stdin is the standard input";
 
 const FORMATS: &[&str] = &["lvm", "concise", "table", "images"];
+
+const IMAGES: &[&str] = &["images"];
 
 // ---- what clap found, and the job that this gives
 
@@ -131,7 +133,10 @@ fn loading_job<'a>(command: &str, found: &ArgMatches<'a>, source: Source<'a>) ->
             source,
         },
         "check" => Job::Check(source),
-        _ => Job::Replay(source),
+        _ => Job::Replay {
+            source,
+            paths: text_of(found, "paths"),
+        },
     }
 }
 
@@ -219,6 +224,7 @@ fn job_in<'a>(command: &str, found: &ArgMatches<'a>) -> Option<Job<'a>>
     match command {
         "name" => Some(name_job(found)),
         "splitname" => Some(Job::SplitName(word_of(found, "name"))),
+        "metadata" => Some(Job::Metadata(word_of(found, "file"))),
         _ => format_job(command, found),
     }
 }
@@ -299,9 +305,16 @@ impl From<AllocError> for WordsFault {
 
 /// The words that FORMAT may be.
 fn format_parser<'a>() -> ValueParser<'a>
-    ensures { TakesFormats result }
+    ensures { TakesNames formats result }
 {
     ValueParser::Names(FORMATS)
+}
+
+/// The word that FORMAT is of a command that takes images alone.
+fn images_parser<'a>() -> ValueParser<'a>
+    ensures { TakesNames (codes "images" ∷ []) result }
+{
+    ValueParser::Names(IMAGES)
 }
 
 /// A word that has to be there.
@@ -419,6 +432,34 @@ fn map_command<'a>(alloc: Global, parser: ValueParser<'a>) -> Result<Command<'a>
     with_word(command, paths_option(alloc))
 }
 
+/// `replay FORMAT FILE [DISKS] [--paths PATHS]`.
+fn replay_command<'a>(alloc: Global, parser: ValueParser<'a>) -> Result<Command<'a>, AllocError>
+    ensures { HasApp (replay_app parser.entry) result }
+{
+    let command = loading_command(
+        alloc,
+        parser,
+        "replay",
+        help::REPLAY_ABOUT,
+        help::REPLAY_NOTES,
+    );
+    with_word(command, paths_option(alloc))
+}
+
+/// `metadata images PATHS`.
+fn metadata_command<'a>(alloc: Global, parser: ValueParser<'a>) -> Result<Command<'a>, AllocError>
+    ensures { HasApp (metadata_app parser.entry) result }
+{
+    let command = Ok(titled(
+        alloc,
+        "metadata",
+        help::METADATA_ABOUT,
+        help::METADATA_NOTES,
+    ));
+    let command = with_word(command, format_argument(alloc, parser));
+    with_word(command, required(alloc, "file", "PATHS", help::IMAGES_HELP))
+}
+
 /// `name VG LV [LAYER]`.
 fn name_command<'a>(alloc: Global) -> Result<Command<'a>, AllocError>
     ensures { HasApp name_app result }
@@ -458,9 +499,10 @@ fn program_alone<'a>(alloc: Global) -> Result<Command<'a>, AllocError>
 
 /// The whole command line.
 fn program<'a>(alloc: Global) -> Result<Command<'a>, AllocError>
-    ensures { (parser : _) × TakesFormats parser × HasApp (command_line parser) result }
+    ensures { (parsers : _) × TakeFormats parsers × HasApp (command_line parsers) result }
 {
     let parser = format_parser();
+    let images = images_parser();
     let line = with_command(program_alone(alloc), map_command(alloc, parser));
     let line = with_command(
         line,
@@ -480,16 +522,8 @@ fn program<'a>(alloc: Global) -> Result<Command<'a>, AllocError>
         line,
         loading_command(alloc, parser, "check", help::CHECK_ABOUT, help::CHECK_NOTES),
     );
-    let line = with_command(
-        line,
-        loading_command(
-            alloc,
-            parser,
-            "replay",
-            help::REPLAY_ABOUT,
-            help::REPLAY_NOTES,
-        ),
-    );
+    let line = with_command(line, replay_command(alloc, parser));
+    let line = with_command(line, metadata_command(alloc, images));
     let line = with_command(line, name_command(alloc));
     with_command(line, split_command(alloc))
 }

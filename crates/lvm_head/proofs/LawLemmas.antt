@@ -2,7 +2,7 @@
 use Rattle.std.proofs.Common.{◌≡◌, ◌⊎◌, inl, inr, ℕ, zero, suc, ◌<◌, ◌≤◌, Bool, true, false, List, [], ◌∷◌, ◌++◌, Option, Some, None, Result, Ok, Err, length, get_or, take, refl, sym, ap, subst, ◌∙◌, arith}
 use Rattle.std.specs.Prelude.{if◌then◌else◌}
 use Rattle.std.proofs.Math.Nat.{le-suc_iff}
-use Rattle.std.proofs.Math.Seq.{take-suc}
+use Rattle.std.proofs.Math.Seq.{take-suc, get_or-append_seam}
 use Rattle.std.proofs.lemmas.List.{take_all}
 use Rattle.lvm_head.specs.declared.fault.HeadFault.{HeadFault}
 use Rattle.lvm_head.specs.declared.disks.ReadFault.{ReadFault}
@@ -25,8 +25,7 @@ record Parts (a : Result (List ℕ) HeadFault) (b : Result ℕ HeadFault) (bytes
 
 parts : (a : Result (List ℕ) HeadFault) (b : Result ℕ HeadFault) (bytes : List ℕ) → with_byte a b ≡ Ok bytes → Parts a b bytes
 parts (Ok xs) (Ok x) bytes e = record { before = xs; next = x; first = refl; last = refl; whole = cc }
-parts (Ok xs) (Err f) bytes e = absurd cc
-parts (Err f) b bytes e = absurd cc
+parts a b bytes e = absurd cc
 
 take_gathered : (byte : ℕ → Result ℕ HeadFault) (bytes : List ℕ) (n : ℕ) → n ≤ length bytes → ((i : ℕ) → i < length bytes → byte i ≡ Ok (get_or bytes i 0)) → gathered byte n ≡ Ok (take n bytes)
 unfolding gathered
@@ -38,10 +37,6 @@ pub spelled : (byte : ℕ → Result ℕ HeadFault) (count : ℕ) (bytes : List 
 spelled byte count bytes has =
     let all : (i : ℕ) → i < length bytes → byte i ≡ Ok (get_or bytes i 0) = λ i less. has.are i (subst (λ (n : ℕ). i < n) has.len less) in
     take_gathered byte bytes count (omega (arith, has.len)) all ∙ ap (λ (xs : List ℕ). Ok xs) (take_all count bytes (omega (arith, has.len)))
-
-pub at_end : (xs : List ℕ) (x : ℕ) → get_or (xs ++ x ∷ []) (length xs) 0 ≡ x
-at_end [] x = refl
-at_end (y ∷ ys) x = at_end ys x
 
 at_before : (xs : List ℕ) (x i : ℕ) → i < length xs → get_or (xs ++ x ∷ []) i 0 ≡ get_or xs i 0
 at_before [] x i less = absurd (omega (arith, less))
@@ -67,7 +62,7 @@ read byte (suc n) bytes e =
         | inr same ↦
             let k : i ≡ n = omega (arith, same) in
             let l : i ≡ length p.before = k ∙ sym has.len in
-            ap byte k ∙ p.last ∙ ap (λ (x : ℕ). Ok x) (sym (at_end p.before p.next) ∙ ap (λ (j : ℕ). get_or (p.before ++ p.next ∷ []) j 0) (sym l) ∙ ap (λ (xs : List ℕ). get_or xs i 0) (sym p.whole))
+            ap byte k ∙ p.last ∙ ap (λ (x : ℕ). Ok x) (sym (get_or-append_seam p.before p.next [] 0) ∙ ap (λ (j : ℕ). get_or (p.before ++ p.next ∷ []) j 0) (sym l) ∙ ap (λ (xs : List ℕ). get_or xs i 0) (sym p.whole))
       ];
     }
 

@@ -5,4 +5,3 @@ pub mod HeadLemmas
 pub mod HeadsLemmas
 pub mod LawLemmas
 pub mod SpelledLemmas
-pub mod MessageLemmas

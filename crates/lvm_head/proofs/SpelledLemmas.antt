@@ -5,6 +5,7 @@ use Rattle.std.specs.Str.{bytes_eq}
 use Rattle.std.proofs.lemmas.Bool.{eq-eqb, le-ltb, ne_eqb}
 use Rattle.std.proofs.lemmas.List.{take-append-le, take_all}
 use Rattle.std.proofs.lemmas.Slice.Eq.{bytes_eq-Decides}
+use Rattle.std.proofs.Math.Seq.{get_or-append_seam}
 use Rattle.lvm_head.specs.declared.area.Area.{Area}
 use Rattle.lvm_head.specs.declared.area.Location.{Location}
 use Rattle.lvm_head.specs.declared.fault.HeadFault.{HeadFault}
@@ -17,7 +18,7 @@ use Rattle.lvm_head.specs.Texts.{area_text, ended, ring_bytes, summed, text_at}
 use Rattle.lvm_head.specs.Spelled.{ReadsBack, SpellsText}
 use Rattle.lvm_head.specs.Sums.{sum_of}
 use Rattle.lvm_head.proofs.HeadLemmas.{area_known, head_by, head_by_whole}
-use Rattle.lvm_head.proofs.LawLemmas.{at_end, length_more, spelled, spelled_label}
+use Rattle.lvm_head.proofs.LawLemmas.{length_more, spelled, spelled_label}
 
 abbrev end_by : (last : ℕ) → (bytes : List ℕ) → Result (List ℕ) HeadFault
 end_by last bytes = if last == 0 then Ok (take (length bytes - 1) bytes) else (if last == 10 then Ok bytes else Err Text)
@@ -29,7 +30,7 @@ ended_text : (text : List ℕ) → ended (text ++ 0 ∷ []) ≡ Ok text
 ended_text text =
     let more : length (text ++ 0 ∷ []) ≡ suc (length text) = length_more text 0 in
     let len : length (text ++ 0 ∷ []) - 1 ≡ length text = omega (arith, more) in
-    let last : get_or (text ++ 0 ∷ []) (length (text ++ 0 ∷ []) - 1) 0 ≡ 0 = ap (λ (n : ℕ). get_or (text ++ 0 ∷ []) n 0) len ∙ at_end text 0 in
+    let last : get_or (text ++ 0 ∷ []) (length (text ++ 0 ∷ []) - 1) 0 ≡ 0 = ap (λ (n : ℕ). get_or (text ++ 0 ∷ []) n 0) len ∙ get_or-append_seam text 0 [] 0 in
     let cut : take (length (text ++ 0 ∷ []) - 1) (text ++ 0 ∷ []) ≡ text =
     ap (λ (n : ℕ). take n (text ++ 0 ∷ [])) len ∙ take-append-le (length text) text (0 ∷ []) (omega arith) ∙ take_all (length text) text (omega arith) in
     ap (λ (n : ℕ). end_by n (text ++ 0 ∷ [])) last ∙ ap ok_bytes cut

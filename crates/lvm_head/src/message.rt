@@ -34,7 +34,7 @@ impl HeadFault {
 
     /// The line that says it of a disk: the disk's name, and the word. `Memory` has that of a run that is out of
     /// memory. Takes no memory.
-    #[tactic(auto, using(crate::proofs::MessageLemmas::name_short))]
+    #[tactic(auto, using(dm_table::proofs::ByteLemmas::disk_name_len))]
     pub fn message(self, disk: &DiskName) -> HeadMessage
         ensures { result.items ≡ head_message disk.now self }
     {

@@ -33,12 +33,7 @@ scalar_next t s next e = rw e
 scalar_step : (p : Stage) (d : ℕ) (next : State) → ((w : List ℕ) → step d p (Word w) ≡ scalar_then (Word w) next) → ((w : List ℕ) → step d p (Text w) ≡ Some next) → (t : Token) (s : Scalar) → scalar_of t ≡ Some s → step d p t ≡ Some next
 scalar_step p d next word text (Word w) s e = word w ∙ scalar_next (Word w) s next e
 scalar_step p d next word text (Text w) s e = text w
-scalar_step p d next word text Open s e = absurd cc
-scalar_step p d next word text Close s e = absurd cc
-scalar_step p d next word text ListOpen s e = absurd cc
-scalar_step p d next word text ListClose s e = absurd cc
-scalar_step p d next word text Equals s e = absurd cc
-scalar_step p d next word text Comma s e = absurd cc
+scalar_step p d next word text t s e = absurd cc
 
 content_step : (d : ℕ) (t : Token) (s : Scalar) → scalar_of t ≡ Some s → step d at.Content t ≡ Some (d, at.Key)
 content_step d = scalar_step at.Content d (d, at.Key) (λ w. refl) (λ w. refl)
@@ -199,11 +194,7 @@ closing d at.After = (ListClose, 1) ∷ closes d
 
 closing_run : (d : ℕ) (p : Stage) → run d p (closing d p) ≡ Some done
 closing_run d at.Key = closes_run d
-closing_run d at.AfterKey = closes_run d
-closing_run d at.Content = closes_run d
-closing_run d at.First = closes_run d
-closing_run d at.Next = closes_run d
-closing_run d at.After = closes_run d
+closing_run d p = closes_run d
 
 pub front_from : (ts : List TokenAtLine) (s : State) → run 0 at.Key ts ≡ Some s → BeginsText ts
 front_from ts s e =

@@ -12,9 +12,8 @@ use Rattle.lvm_text.proofs.Keys.{no_hit}
 
 bounded_number : (w : List ℕ) (digits small : Bool) → are_digits w ≡ digits → is_none (cond (digits && small) (Some (digits_value 10 w)) None) ≡ false
     → cond digits (Some (tree.Int (unwrap_or (cond (digits && small) (Some (digits_value 10 w)) None) 0))) None ≡ cond digits (Some (tree.Int (digits_value 10 w))) None
-bounded_number w true true e h = refl
 bounded_number w true false e h = absurd cc
-bounded_number w false small e h = refl
+bounded_number w digits small e h = refl
 
 bounded_word : (w : List ℕ) → is_none (number_of w) ≡ false → bounded_of (Word w) ≡ scalar_of (Word w)
 unfolding number_of
@@ -23,12 +22,7 @@ bounded_word w h = bounded_number w (are_digits w) (nat_le (length w) 19 && nat_
 bounded_same : (t : Token) (s : Scalar) → is_refused t ≡ false → scalar_of t ≡ Some s → bounded_of t ≡ Some s
 bounded_same (Word w) s h e = bounded_word w h ∙ e
 bounded_same (Text x) s h e = e
-bounded_same Open s h e = absurd cc
-bounded_same Close s h e = absurd cc
-bounded_same ListOpen s h e = absurd cc
-bounded_same ListClose s h e = absurd cc
-bounded_same Equals s h e = absurd cc
-bounded_same Comma s h e = absurd cc
+bounded_same t s h e = absurd cc
 
 -- no integer among the tokens is out of range, whichever token stands before
 abbrev Fits : List TokenAtLine → Type 0

@@ -27,12 +27,7 @@ ListSoFar start done rest = (ss : List Scalar) (b : List TokenAtLine) → ReadsL
 item_first : (t : Token) (n : ℕ) (s : Scalar) (a : List TokenAtLine) → bounded_of t ≡ Some s → item_of ((t, n) ∷ a) ≡ Some (s, a)
 item_first (Word w) n s a e = ap (option_map (λ x. (x, a))) e
 item_first (Text w) n s a e = ap (option_map (λ x. (x, a))) e
-item_first Open n s a e = absurd cc
-item_first Close n s a e = absurd cc
-item_first ListOpen n s a e = absurd cc
-item_first ListClose n s a e = absurd cc
-item_first Equals n s a e = absurd cc
-item_first Comma n s a e = absurd cc
+item_first t n s a e = absurd cc
 
 item_next : (c n : ℕ) (t : Token) (s : Scalar) (a : List TokenAtLine) → bounded_of t ≡ Some s → item_of ((Comma, c) ∷ (t, n) ∷ a) ≡ Some (s, a)
 item_next c n t s a e = ap (option_map (λ x. (x, a))) e
@@ -80,13 +75,7 @@ list_same x y ts us e = (cc, cc)
 
 no_bracket : (t : Token) (s : Scalar) → is_list_open t ≡ true → bounded_of t ≡ Some s → ⊥
 no_bracket ListOpen s o e = let wrong : ◌≡◌ {A = Option Scalar} None (Some s) = e in cc
-no_bracket (Word w) s o e = cc
-no_bracket (Text w) s o e = cc
-no_bracket Open s o e = cc
-no_bracket Close s o e = cc
-no_bracket ListClose s o e = cc
-no_bracket Equals s o e = cc
-no_bracket Comma s o e = cc
+no_bracket t s o e = cc
 
 pub leaf_list : (tokens : List TokenAtLine) (first : TokenAtLine) (inner : List TokenAtLine) (scalars : List Scalar) (value : Value) (rest : List TokenAtLine) → tokens ≡ first ∷ inner → is_list_open first.0 ≡ true
     → ((k : List ℕ) (n : ℕ) (v : Values) → Several k n scalars v ≡ put k n value v) → ReadsScalars inner scalars rest → ReadsLeaf tokens value rest

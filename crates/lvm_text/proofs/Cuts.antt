@@ -181,8 +181,7 @@ line_more n (q ∷ ps) p = line_more (n + newlines (spelling q)) ps p
 
 put_more : (p : Element) (n : ℕ) (xs ys : List TokenAtLine) → put_token p n (xs ++ ys) ≡ put_token p n xs ++ ys
 put_more (White b) n xs ys = refl
-put_more (Comment c) n xs ys = refl
-put_more (Lexeme t) n xs ys = refl
+put_more p n xs ys = refl
 
 pub tokens_more : (n : ℕ) (ps : List Element) (p : Element) → tokens_from n (ps ++ p ∷ []) ≡ tokens_from n ps ++ put_token p (line_after n ps) []
 tokens_more n [] p = refl

@@ -5,8 +5,8 @@ use Rattle.std.proofs.lemmas.Bool.{and_parts, or_cases, not-true, eqb-true}
 use Rattle.std.proofs.lemmas.Bool.Decides.{nat_tests}
 use Rattle.std.proofs.lemmas.Option.{MatchOption-at_some}
 use Rattle.lvm_text.specs.Bytes.{code}
-use Rattle.lvm_text.specs.Token.{Token, Word, Text, Open, Close, ListOpen, ListClose, Equals, Comma, TokenAtLine}
-use Rattle.lvm_text.specs.Spelling.{Element, White, Comment, Lexeme, spelling, token_spelling, IsToken, IsElement, Begins, is_white, is_line, is_word_byte, is_raw, is_plain, is_escapable, newlines, put_token}
+use Rattle.lvm_text.specs.Token.{Token, Word, Text, TokenAtLine}
+use Rattle.lvm_text.specs.Spelling.{Element, White, Lexeme, spelling, token_spelling, IsToken, IsElement, Begins, is_white, is_line, is_word_byte, is_raw, is_plain, is_escapable, newlines, put_token}
 use Rattle.lvm_text.specs.Scan.{element_at, element_from}
 use Rattle.lvm_text.proofs.Cuts.{Found, element_found, Before, before_more}
 
@@ -49,17 +49,8 @@ pub begins : (bs : List ℕ) (p : Element) (after : List ℕ) → Some (p, after
 begins bs p after e = MatchOption-at_some (Unit {0}) (Found bs) (p, after) (sym e) (element_found bs)
 
 spelling_some : (p : Element) (after : List ℕ) → IsElement p after → 0 < length (spelling p)
-spelling_some (White b) after h = omega arith
-spelling_some (Comment c) after h = omega arith
 spelling_some (Lexeme (Word [])) after h = absurd (h.some refl)
-spelling_some (Lexeme (Word (b ∷ w))) after h = omega arith
-spelling_some (Lexeme (Text t)) after h = omega arith
-spelling_some (Lexeme Open) after h = omega arith
-spelling_some (Lexeme Close) after h = omega arith
-spelling_some (Lexeme ListOpen) after h = omega arith
-spelling_some (Lexeme ListClose) after h = omega arith
-spelling_some (Lexeme Equals) after h = omega arith
-spelling_some (Lexeme Comma) after h = omega arith
+spelling_some p after h = omega arith
 
 more_lines : (t : Bool) (a b n : ℕ) → a ≡ b + n → cond t (suc a) a ≡ cond t (suc b) b + n
 more_lines true a b n h = omega arith

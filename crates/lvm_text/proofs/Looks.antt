@@ -14,15 +14,11 @@ same_line s n e = rw (← e)
 pub node_put : (key k : List ℕ) (n : ℕ) (value : Value) (rest : Values) → has_line n value ≡ true → node_of key (put k n value rest) ≡ cond (bytes_eq k key) (Some (record { line = n; content = content_view value })) (node_of key rest)
 node_put key k n (variants.Section s) rest h =
     rw (same_line s n (eqb-true s.line n h))
-node_put key k n (variants.Int i) rest h = refl
-node_put key k n (variants.Text t) rest h = refl
-node_put key k n (variants.List v) rest h = refl
+node_put key k n value rest h = refl
 
 sections_put : (k : List ℕ) (n : ℕ) (value : Value) (rest : Values) → has_line n value ≡ true → sections_of (put k n value rest) ≡ put_section k value (sections_of rest)
 sections_put k n (variants.Section s) rest h = rw (same_line s n (eqb-true s.line n h))
-sections_put k n (variants.Int i) rest h = refl
-sections_put k n (variants.Text t) rest h = refl
-sections_put k n (variants.List v) rest h = refl
+sections_put k n value rest h = refl
 
 pub sections_are : (es : List Entry) → lines_agree es ≡ true → sections_of (values_of es) ≡ sections_in es
 sections_are [] h = refl

@@ -64,10 +64,8 @@ quote_first (a ∷ more) = refl
 plain_parts : (b : ℕ) → is_plain b ≡ true → (eqb b (code "\"") ≡ false) × (eqb b (code "\\") ≡ false) × (eqb b (code "\n") ≡ false)
 plain_parts b h = three (eqb b (code "\"")) (eqb b (code "\\")) (eqb b (code "\n")) h where
   three : (x y z : Bool) → not (x || (y || z)) ≡ true → (x ≡ false) × (y ≡ false) × (z ≡ false)
-  three true y z h = absurd cc
-  three false true z h = absurd cc
-  three false false true h = absurd cc
   three false false false h = (refl, refl, refl)
+  three x y z h = absurd cc
 
 plain_from : (b : ℕ) → eqb b (code "\"") ≡ false → eqb b (code "\\") ≡ false → eqb b (code "\n") ≡ false → is_plain b ≡ true
 plain_from b x y z = rw (x, y, z)

@@ -88,11 +88,10 @@ raw_quote (b ∷ []) lt h = rw h
 raw_quote (b ∷ c ∷ bs) lt h = rw h
 
 pub raw_escape : (xs : List ℕ) → is_escape xs ≡ true → (raw_length xs ≡ plus 2 (raw_length (drop 2 xs))) × (2 ≤ length xs)
-raw_escape [] h = absurd cc
-raw_escape (b ∷ []) h = absurd cc
 raw_escape (b ∷ c ∷ bs) h =
     let a = and_parts (eqb b (code "\\")) (is_escapable c) h in
     (rw (eqb-true b (code "\\") a.0, a.1) (two (raw_length bs)), omega arith)
+raw_escape xs h = absurd cc
 
 pub raw_stop : (xs : List ℕ) → is_byte3 (code "\"") (code "\\") (code "\n") (get_or xs 0 0) ≡ true → get_or xs 0 0 ≢ code "\"" → is_escape xs ≡ false → raw_length xs ≡ None
 raw_stop [] h n e = refl
@@ -108,10 +107,9 @@ raw_stop (b ∷ bs) h n e = by_tests (eqb b (code "\\")) (eqb b (code "\n")) bs 
       absurd cc
 
 none_is : (o : Option ℕ) (r : Bool) → is_some o ≡ not r → r ≡ is_none o
-none_is None true h = refl
 none_is None false h = absurd cc
 none_is (Some n) true h = absurd cc
-none_is (Some n) false h = refl
+none_is o r h = refl
 
 -- the test of the end, at a first byte
 pub is_end_comment : (bs : List ℕ) (o : Option ℕ) (r : Bool) → false ≡ eqb (length bs) 0 → get_or bs 0 0 ≡ code "#" → o ≡ line_length (take (length bs - 1) (drop 1 bs)) → is_some o ≡ not r → r ≡ is_end bs

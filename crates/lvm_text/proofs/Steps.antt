@@ -2,6 +2,7 @@
 use Rattle.std.proofs.Common.{◌≡◌, ℕ, zero, suc, ◌+◌, ◌<◌, ◌≤◌, false, List, [], ◌∷◌, ◌++◌, length, get_or, take, drop, Some, None, refl, sym, ap, ◌∙◌, arith, inl, inr, add-one}
 use Rattle.std.specs.Prelude.{option_and_then}
 use Rattle.std.proofs.lemmas.Option.{MatchOption-at_some}
+use Rattle.std.proofs.lemmas.List.{take_all}
 use Rattle.lvm_text.specs.Grammar.{IsSyntaxLine}
 use Rattle.lvm_text.specs.Machine.{State, step, run, is_over}
 use Rattle.lvm_text.specs.TokenView.{token_view, view, views}
@@ -35,14 +36,8 @@ stepped ts i x depth stage next lt e s = (
   MatchOption-at_some (Unit {0}) (λ y. y.0 ≤ suc depth) next (sym s) (shallow depth stage (token_view (get_or ts i x).token)),
 )
 
-take_whole : (ts : List TokenAtLine) (n : ℕ) → length ts ≤ n → take n ts ≡ ts
-take_whole [] zero h = refl
-take_whole [] (suc n) h = refl
-take_whole (t ∷ ts) zero h = absurd (omega arith)
-take_whole (t ∷ ts) (suc n) h = rw (take_whole ts n (omega arith))
-
 whole_run : (ts : List TokenAtLine) (n : ℕ) (s : State) → length ts ≤ n → run 0 at.Key (views (take n ts)) ≡ Some s → run 0 at.Key (views ts) ≡ Some s
-whole_run ts n s h e = sym (rw (take_whole ts n h)) ∙ e
+whole_run ts n s h e = sym (rw (take_all n ts h)) ∙ e
 
 pub unended : (ts : List TokenAtLine) (n depth : ℕ) (stage : Stage) (end : ℕ) → length ts ≤ n → run 0 at.Key (views (take n ts)) ≡ Some (depth, stage) → is_over depth stage ≡ false → IsSyntaxLine (views ts) end end
 unended ts n depth stage end h e o = inr (unfinished (views ts) (depth, stage) (whole_run ts n (depth, stage) h e) (not_over depth stage o), refl)

@@ -46,12 +46,10 @@ accepted_by text ts v (Ok t) s h o = record {
 accepted_by text ts v (Err f) s h o = tt
 
 pub fault_here : (text : List ℕ) (ts : List TokenAtLine) (v : Values) (f : TextFault) → Spells text ts → IsText ts v → fault_of ts v ≡ Some f → HasFault text f
-fault_here text ts v (fault.Token n) s h o = absurd (subst Later o (fault_later ts v))
-fault_here text ts v (fault.Syntax n) s h o = absurd (subst Later o (fault_later ts v))
 fault_here text ts v (fault.Deep n) s h o = record { tokens = ts; values = v; spelled = s; grammar = h; hit = o }
 fault_here text ts v (fault.Number n) s h o = record { tokens = ts; values = v; spelled = s; grammar = h; hit = o }
 fault_here text ts v (fault.KeyTwice n) s h o = record { tokens = ts; values = v; spelled = s; grammar = h; hit = o }
-fault_here text ts v fault.Memory s h o = absurd (subst Later o (fault_later ts v))
+fault_here text ts v f s h o = absurd (subst Later o (fault_later ts v))
 
 fault_by : (text : List ℕ) (ts : List TokenAtLine) (v : Values) (r : Result Tree TextFault) → Spells text ts → IsText ts v → TreeOf ts v r → IfErr r (λ f. f ≢ fault.Memory → HasFault text f)
 fault_by text ts v (Ok t) s h o = tt
@@ -81,10 +79,7 @@ pub tree_twice : (ts : List TokenAtLine) (f : TextFault) → None ≡ head_line 
 tree_twice ts (fault.KeyTwice n) deep number twice v h =
     fault_twice ts v deep number ∙ first_head (twice_lines [] v) n (λ l. fault.KeyTwice l) (twice v [] (bounded_text ts v (no_head (number_lines Close ts) number) h) refl)
 tree_twice ts fault.Memory deep number twice v h = tt
-tree_twice ts (fault.Token n) deep number twice v h = absurd twice
-tree_twice ts (fault.Syntax n) deep number twice v h = absurd twice
-tree_twice ts (fault.Deep n) deep number twice v h = absurd twice
-tree_twice ts (fault.Number n) deep number twice v h = absurd twice
+tree_twice ts f deep number twice v h = absurd twice
 
 pub tree_read : (ts rest : List TokenAtLine) (t : Tree) → None ≡ head_line (deep_lines 0 ts) → None ≡ head_line (number_lines Close ts) → t.line ≡ 1 → twice_lines [] t.values ≡ [] → ReadsValues ts t.values rest → (v : Values) → IsText ts v → TreeOf ts v (Ok t)
 tree_read ts rest t deep number line differ read v h =

@@ -2,6 +2,7 @@
 use Rattle.std.proofs.Common.{◌≡◌, ℕ, ◌+◌, Bool, true, false, cond, ◌||◌, List, [], ◌∷◌, ◌++◌, Option, Some, refl, sym, ap, ◌∙◌, append_assoc}
 use Rattle.std.specs.Prelude.{bytes_eq, is_some}
 use Rattle.std.proofs.lemmas.Bool.{or_right}
+use Rattle.std.proofs.Math.Bool.{or-false}
 use Rattle.lvm_text.specs.Token.{Word, Open, Equals, ListOpen, TokenAtLine}
 use Rattle.lvm_text.specs.Tree.{Values, Nothing, Section, Single, Several}
 use Rattle.lvm_text.specs.Grammar.{ReadsBy}
@@ -28,9 +29,7 @@ hit_append false n xs ys = refl
 
 twice_put : (ks : List (List ℕ)) (k : List ℕ) (n : ℕ) (value : Value) (rest : Values) → twice_lines ks (put k n value rest) ≡ hit (has_key k ks) n (inner_lines value ++ twice_lines (k ∷ ks) rest)
 twice_put ks k n (variants.Section s) rest = refl
-twice_put ks k n (variants.Int i) rest = refl
-twice_put ks k n (variants.Text t) rest = refl
-twice_put ks k n (variants.List v) rest = refl
+twice_put ks k n value rest = refl
 
 -- the lines of entries, and of the values after them
 twice_before : (es : List Entry) (ks : List (List ℕ)) (left : Values) → twice_lines ks (before es left) ≡ twice_lines ks (values_of es) ++ twice_lines (keys_after es ks) left
@@ -52,12 +51,8 @@ has_after : (es : List Entry) (ks : List (List ℕ)) (key : List ℕ) (first : �
 has_after [] ks key first = refl
 has_after (e ∷ es) ks key first = has_after es (e.key.now ∷ ks) key (first + 1) ∙ has_step (bytes_eq e.key.now key) first (position_of key (first + 1) es) (has_key key ks)
 
-or_nothing : (b : Bool) → (b || false) ≡ b
-or_nothing true = refl
-or_nothing false = refl
-
 has_position : (es : List Entry) (key : List ℕ) (b : Bool) → b ≡ is_some (position_of key 0 es) → has_key key (keys_after es []) ≡ b
-has_position es key b e = has_after es [] key 0 ∙ or_nothing (is_some (position_of key 0 es)) ∙ sym e
+has_position es key b e = has_after es [] key 0 ∙ or-false (is_some (position_of key 0 es)) ∙ sym e
 
 -- the values read so far
 twice_left : (es : List Entry) (left : Values) → twice_lines [] (values_of es) ≡ [] → twice_lines [] (before es left) ≡ twice_lines (keys_after es []) left
@@ -110,10 +105,7 @@ twice_inside start es rest tokens key line (fault.KeyTwice n) so_far same differ
     let y = inside key x.0 more (rw (← same) x.2) stop in
     rw (x.1, twice_left, y.2) (hit_later (has_key key (keys_after es [])) n line (twice_lines [] y.0) (twice_lines (key ∷ keys_after es []) y.1) (has_position es key false new) y.3)
 twice_inside start es rest tokens key line fault.Memory so_far same differ new inside = tt
-twice_inside start es rest tokens key line (fault.Token n) so_far same differ new inside = absurd inside
-twice_inside start es rest tokens key line (fault.Syntax n) so_far same differ new inside = absurd inside
-twice_inside start es rest tokens key line (fault.Deep n) so_far same differ new inside = absurd inside
-twice_inside start es rest tokens key line (fault.Number n) so_far same differ new inside = absurd inside
+twice_inside start es rest tokens key line f so_far same differ new inside = absurd inside
 
 -- a key that stands twice inside the section that opens here
 pub twice_opened : (line : ℕ) (tokens : List TokenAtLine) (first : TokenAtLine) (inner : List TokenAtLine) (f : TextFault) → tokens ≡ first ∷ inner → is_open first.0 ≡ true → IsTwice inner f → IsTwiceInside line tokens f
@@ -121,7 +113,4 @@ twice_opened line tokens first inner (fault.KeyTwice n) e o twice = λ k v more 
     let x = opened line tokens first inner e o k v more r stop in
     (x.inside, x.later, x.is, twice x.inside x.more x.read x.stop)
 twice_opened line tokens first inner fault.Memory e o twice = tt
-twice_opened line tokens first inner (fault.Token n) e o twice = absurd twice
-twice_opened line tokens first inner (fault.Syntax n) e o twice = absurd twice
-twice_opened line tokens first inner (fault.Deep n) e o twice = absurd twice
-twice_opened line tokens first inner (fault.Number n) e o twice = absurd twice
+twice_opened line tokens first inner f e o twice = absurd twice

@@ -1,5 +1,5 @@
 -- What a text gives where images have some of its physical volumes.
-use Rattle.std.proofs.Common.{◌≡◌, ◌≢◌, ◌⊎◌, ◌++◌, inl, inr, ℕ, suc, Bool, true, false, List, [], ◌∷◌, length, map, Option, Some, None, Result, Ok, Err, refl, sym, ap, subst, ◌∙◌}
+use Rattle.std.proofs.Common.{◌≡◌, ◌≢◌, ◌⊎◌, ◌++◌, inl, inr, ℕ, suc, Bool, true, false, List, [], ◌∷◌, length, map, Option, None, Result, Ok, Err, refl, sym, ap, subst, ◌∙◌}
 use Rattle.std.specs.Prelude.{codes}
 use Rattle.std.specs.Str.{IsUtf8, is_utf8}
 use Rattle.std.proofs.lemmas.Str.{IsUtf8-from_is_utf8, is_utf8-from_IsUtf8}
@@ -18,7 +18,7 @@ use Rattle.lvm_volume.specs.declared.owned_metadata.OwnedFault.TheVariants.{Fore
 use Rattle.lvm_volume.specs.fields.Fields.{sections_at}
 use Rattle.lvm_volume.specs.group.Group.{Group, Keyed, device_of, first_section, group_of, physical_of}
 use Rattle.lvm_volume.specs.group.Owners.{Owners, foreign, id_in, ids_of, owned_group}
-use Rattle.lvm_volume.specs.Metadata.{SaysTree, bad_byte_line, metadata_checks}
+use Rattle.lvm_volume.specs.Metadata.{bad_byte_line, metadata_checks}
 use Rattle.lvm_volume.specs.OwnedMetadata.{Gives, GivesOneThing, NotUtf8, OfText, OfTree, OwnedAnswers, Tables, of_load, owned_tables, unless_foreign}
 use Rattle.lvm_volume.specs.tables.Tables.{group_checks, tables_of, text_fault, unnamed}
 use Rattle.lvm_volume.proofs.MetadataLemmas.{last_check}
@@ -37,11 +37,6 @@ ids_counted top ids group are is =
     ap (λ (xs : List (List ℕ)). length xs) are
     ∙ count_both id_in (physical_of (map device_of sections)) sections
     ∙ ap (λ (g : Group). length g.physicals) (unless-ok (first_fault (group_checks top)) (group_of top) group is).1
-
-pub said_foreign : (owners : Owners) (top : Tree) (ids : List (List ℕ)) (disk : ℕ) → ids ≡ ids_of top → foreign owners.ids ids ≡ Some disk → Err (Foreign disk) ≡ owned_tables owners top
-said_foreign owners top ids disk are is =
-    let said : Result Tables OwnedFault = of_load (unless (first_fault (metadata_checks top)) (tables_of (owned_group owners (ids_of top) (group_of top)))) in
-    sym (ap (λ (xs : List (List ℕ)). unless_foreign (foreign owners.ids xs) said) (sym are) ∙ ap (λ (f : Option ℕ). unless_foreign f said) is)
 
 said_known : (owners : Owners) (top : Tree) (ids : List (List ℕ)) (said : Result Tables LoadFault) → ids ≡ ids_of top → foreign owners.ids ids ≡ None
     → unless (first_fault (metadata_checks top)) (tables_of (owned_group owners (ids_of top) (group_of top))) ≡ said → of_load said ≡ owned_tables owners top
@@ -80,12 +75,8 @@ answers_by view P Q f (Err (Foreign disk)) is = f (Err (Foreign disk)) is
 answers_by view P Q f (Err (Load fault)) is = (is.0, λ other. f (Err (Load fault)) (is.1 other))
 
 text_memory : (found : TextFault) → (text_fault found).kind ≡ Memory → IsMemoryFault Source (text_fault found)
-text_memory (texts.Token line) is = absurd cc
-text_memory (texts.Syntax line) is = absurd cc
-text_memory (texts.KeyTwice line) is = absurd cc
-text_memory (texts.Deep line) is = absurd cc
-text_memory (texts.Number line) is = absurd cc
 text_memory texts.Memory is = refl
+text_memory found is = absurd cc
 
 pub said_text : (owners : Owners) (source : List ℕ) (found : TextFault) (fault : LoadFault) → IsUtf8 source → fault ≡ text_fault found → (found ≢ texts.Memory → HasFault source found)
     → (fault.kind ≡ Memory → IsMemoryFault Source fault) × (fault.kind ≢ Memory → Gives owners source (Err (Load fault)))

@@ -1,16 +1,17 @@
 -- A name is cut in one way, and its slices are its parts doubled.
-use Rattle.std.proofs.Common.{◌≡◌, ◌≢◌, ℕ, suc, ◌+◌, ◌<◌, ◌≤◌, Bool, true, false, cond, eqb, ◌&&◌, List, [], ◌∷◌, ◌++◌, length, take, drop, Option, Some, None, refl, sym, ap, subst, ◌∙◌, zero, get_or, arith, append_assoc, add-one, drop-cons, length-append}
+use Rattle.std.proofs.Common.{◌≡◌, ◌≢◌, ℕ, suc, ◌+◌, ◌<◌, ◌≤◌, Bool, true, false, cond, eqb, ◌&&◌, List, [], ◌∷◌, ◌++◌, length, take, drop, Option, Some, None, refl, sym, ap, subst, ◌∙◌, zero, get_or, arith, append_assoc, drop-cons, length-append}
 use Rattle.std.specs.Prelude.{Result, Err, IfSome, IsTrue, option_map, MatchOption, option_and_then, is_none, nat_le}
 use Rattle.std.specs.List.{list_all}
 use Rattle.std.specs.Str.Pattern.{LacksTextAt, HasTextAt}
 use Rattle.std.proofs.lemmas.Bool.{cond_both, eqb-true, and_parts, and_from, leb-true, le-leb, lt-leb}
 use Rattle.std.proofs.lemmas.Bool.Decides.{nat_tests}
-use Rattle.std.proofs.lemmas.List.{append-nil, take_more, take-append-drop}
+use Rattle.std.proofs.lemmas.List.{append-nil, take_more, take-append-drop, drop_more}
 use denote.Ref.{Bor}
 use Rattle.std.proofs.lemmas.Option.{same_Some}
 use Rattle.dm_table.specs.words.Bytes.{code}
 use Rattle.lvm_volume.specs.Names.{NameParts, built, Returns, is_letter, begins_with, part_fault, layer_fault, or_later, doubled, undoubled, undoubled_parts, with_hyphen, joined, fault_of, Builds, IsSplit, doubled_parts}
 use Rattle.dm_table.specs.words.Name.{is_device_byte, is_device_name}
+use Rattle.dm_table.proofs.ByteLemmas.{list_all-both}
 use Rattle.lvm_volume.specs.Cuts.{slice_length, first_slice, after_hyphen, later_slices, with_layer, slices_of}
 use Rattle.lvm_volume.specs.declared.fault.NameFault.{NameFault}
 use Rattle.lvm_volume.specs.declared.fault.NameFault.TheVariants.{Letter, HyphenFirst, Empty, Long, Memory}
@@ -66,13 +67,10 @@ letter_at [] i h lt = absurd (omega arith)
 letter_at (x ∷ xs) zero h lt = letter_ascii x (and_parts (is_letter x) (list_all is_letter xs) h).0
 letter_at (x ∷ xs) (suc i) h lt = letter_at xs i (and_parts (is_letter x) (list_all is_letter xs) h).1 (omega arith)
 
-drop_next : (bs : List ℕ) (i : ℕ) → i < length bs → drop i bs ≡ get_or bs i 0 ∷ drop (i + 1) bs
-drop_next bs i lt = rw add-one (drop-cons bs i 0 lt)
-
 pub length_plain : (bs : List ℕ) (i : ℕ) → i < length bs → (get_or bs i 0 ≡ code "-" → ⊥) → slice_length bs ≡ i + slice_length (drop i bs) → slice_length bs ≡ i + 1 + slice_length (drop (i + 1) bs)
 length_plain bs i lt plain e =
     let b = get_or bs i 0 in
-    let step : slice_length (drop i bs) ≡ suc (slice_length (drop (i + 1) bs)) = ap slice_length (drop_next bs i lt) ∙ plain_length b (drop (i + 1) bs) (not_equal b (code "-") (eqb b (code "-")) refl plain) in
+    let step : slice_length (drop i bs) ≡ suc (slice_length (drop (i + 1) bs)) = ap slice_length (drop_more bs i 0 lt) ∙ plain_length b (drop (i + 1) bs) (not_equal b (code "-") (eqb b (code "-")) refl plain) in
     omega (arith, e, step)
 
 -- What is wrong with a part is wrong with it doubled
@@ -125,8 +123,7 @@ parts-doubled p =
 
 or_whole : (a b c d : Option NameFault) → or_later a (or_later b (or_later c d)) ≡ or_later (or_later a (or_later b c)) d
 or_whole None None c d = refl
-or_whole None (Some f) c d = refl
-or_whole (Some f) b c d = refl
+or_whole a b c d = refl
 
 -- the fault of the whole
 abbrev pub long_fault : NameParts → Option NameFault
@@ -146,11 +143,8 @@ too_long p e more =
     ap (λ (b : Bool). cond b None (Some Long)) (sym long) ∙ ap (λ (o : Option NameFault). or_later o (long_fault p)) e ∙ sym (fault_parts p)
 
 pub returns_fault : (f : NameFault) (said : Result (List ℕ) NameFault) → said ≡ Err f → Returns (Err f) said
-returns_fault Letter said e = sym e
-returns_fault HyphenFirst said e = sym e
-returns_fault Empty said e = sym e
-returns_fault Long said e = sym e
 returns_fault Memory said e = tt
+returns_fault f said e = sym e
 
 letter_device : (b : ℕ) → is_letter b ≡ true → is_device_byte b ≡ true
 letter_device b h = grind (arith, nat_tests)
@@ -163,17 +157,9 @@ device_doubled (b ∷ w) h =
     (λ e. device_doubled w a.1)
     (λ e. and_from (is_device_byte b) (list_all is_device_byte (doubled w)) (letter_device b a.0) (device_doubled w a.1))
 
-device_append : (xs ys : List ℕ) → list_all is_device_byte xs ≡ true → list_all is_device_byte ys ≡ true → list_all is_device_byte (xs ++ ys) ≡ true
-device_append [] ys h k = k
-device_append (x ∷ xs) ys h k =
-    let a = and_parts (is_device_byte x) (list_all is_device_byte xs) h in
-    and_from (is_device_byte x) (list_all is_device_byte (xs ++ ys)) a.0 (device_append xs ys a.1 k)
-
 by_none : (empty letters is_hyphen : Bool) → fault_by empty letters is_hyphen ≡ None → (letters ≡ true) × (is_hyphen ≡ false)
-by_none true l h e = absurd cc
-by_none false true true e = absurd cc
 by_none false true false e = (refl, refl)
-by_none false false h e = absurd cc
+by_none empty letters is_hyphen e = absurd cc
 
 part_letters : (w : List ℕ) → part_fault w ≡ None → list_all is_letter w ≡ true
 part_letters w e = (by_none (eqb (length w) 0) (list_all is_letter w) (begins_with (code "-") w) e).0
@@ -194,8 +180,8 @@ joined_device : (p : NameParts) → parts_faults p ≡ None → list_all is_devi
 joined_device p e =
     let v = or_none (part_fault p.vg) (or_later (part_fault p.lv) (layer_fault p.layer)) e in
     let l = or_none (part_fault p.lv) (layer_fault p.layer) v.1 in
-    device_append (doubled p.vg) (code "-" ∷ (doubled p.lv ++ with_hyphen (option_map doubled p.layer))) (device_doubled p.vg (part_letters p.vg v.0))
-    (device_append (doubled p.lv) (with_hyphen (option_map doubled p.layer)) (device_doubled p.lv (part_letters p.lv l.0)) (device_layer p.layer l.1))
+    list_all-both is_device_byte (doubled p.vg) (code "-" ∷ (doubled p.lv ++ with_hyphen (option_map doubled p.layer))) (device_doubled p.vg (part_letters p.vg v.0))
+    (list_all-both is_device_byte (doubled p.lv) (with_hyphen (option_map doubled p.layer)) (device_doubled p.lv (part_letters p.lv l.0)) (device_layer p.layer l.1))
 
 pub layer_letters : (l : Option (Bor (List ℕ))) (vg lv : List ℕ) → None ≡ or_later (part_fault vg) (or_later (part_fault lv) (layer_fault (option_map (λ t. t.now) l))) → IfSome l (λ t. IsTrue (list_all is_letter t.now))
 layer_letters None vg lv e = tt

@@ -1,8 +1,9 @@
 -- What was asked of a replay up to the cut, and what there is to write then.
-use Rattle.std.proofs.Common.{◌≡◌, ℕ, ◌+◌, ◌-◌, ◌<◌, List, [], ◌∷◌, ◌++◌, Some, get_or, length, map, take, refl, sym, ap, subst, ◌∙◌, arith}
+use Rattle.std.proofs.Common.{◌≡◌, ℕ, ◌+◌, ◌-◌, ◌<◌, List, [], ◌∷◌, ◌++◌, Some, get_or, length, map, take, refl, subst, arith}
 use Rattle.std.proofs.lemmas.List.{drop_at, length_push, map_more, take_at}
 use Rattle.dm_stack.specs.claims.Claims.{IsTidy}
 use Rattle.dm_stack.specs.Description.{Description}
+use Rattle.dm_map.specs.state.State.{start_state}
 use Rattle.dm_stream.specs.declared.runs.ending.Ending.TheVariants.{Done}
 use Rattle.dm_stream.specs.requests.Requests.{NumberedRequest, Requests}
 use Rattle.dm_replay.specs.Histories.{Asked}
@@ -27,9 +28,10 @@ played_more stack requests i request now later within at were more =
 
 -- what was read back after that is to be written
 pub is_answer : (stack : Description) (units : ℕ) (requests : Requests) (all : List NumberedRequest) (replay later : Replaying) (backs : List ReadBack) → IsTidy stack → requests.ending ≡ Some Done → replay ≡ new_replay stack → all ≡ requests.all
-    → AreOfTops replay.stack all → later.stack ≡ replay.stack → later.asked ≡ asked_until replay.stack units all → AreReadBack later.stack later.asked (writes_of all) backs → IsAnswer stack units requests (backs_text stack backs)
-is_answer stack units requests all replay later backs tidy whole new are tops same asked read =
+    → AreOfTops replay.stack all → later.stack ≡ replay.stack → later.start ≡ replay.start → later.asked ≡ asked_until replay.stack units all → AreReadBack later.stack later.start later.asked (writes_of all) backs → IsAnswer stack units requests (backs_text stack backs)
+is_answer stack units requests all replay later backs tidy whole new are tops same begun asked read =
     let of_stack : later.stack ≡ stack = cc in
+    let begins : later.start ≡ start_state stack = cc in
     let until : later.asked ≡ asked_until stack units requests.all =
     cc in
     record {
@@ -37,6 +39,6 @@ is_answer stack units requests all replay later backs tidy whole new are tops sa
       whole = whole;
       tops = subst (AreOfTops stack) are (rw new at tops);
       backs = backs;
-      read = rw are at (subst (λ (it : List Asked). AreReadBack stack it (writes_of all) backs) until (subst (λ (it : Description). AreReadBack it later.asked (writes_of all) backs) of_stack read));
+      read = rw (are, until, begins, of_stack) at read;
       is = refl;
     }

@@ -4,6 +4,7 @@ use Rattle.dm_table.specs.io.DeviceIo.{OutputPast}
 use Rattle.dm_table.specs.io.Progress.{IsClosedAfter}
 use Rattle.dm_stack.specs.claims.Claims.{IsTidy}
 use Rattle.dm_stack.specs.Description.{Description}
+use Rattle.dm_map.specs.state.State.{start_state}
 use Rattle.dm_stream.specs.declared.runs.ending.Ending.TheVariants.{Done, WriteFault}
 use Rattle.dm_stream.specs.requests.Requests.{NumberedRequest, Requests}
 use Rattle.dm_replay.specs.Histories.{Asked}
@@ -25,7 +26,7 @@ pub record IsAnswer (stack : Description) (units : ℕ) (requests : Requests) (t
   pub whole : requests.ending ≡ Some Done
   pub tops : AreOfTops stack requests.all
   pub backs : List ReadBack
-  pub read : AreReadBack stack (asked_until stack units requests.all) (writes_of requests.all) backs
+  pub read : AreReadBack stack (start_state stack) (asked_until stack units requests.all) (writes_of requests.all) backs
   pub is : backs_text stack backs ≡ text
 
 -- that was written, and the output flushed after it; or the output failed in the midst of it, or at the flush

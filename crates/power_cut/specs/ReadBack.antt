@@ -5,6 +5,7 @@ use Rattle.dm_table.specs.requests.RequestLine.{request_text}
 use Rattle.dm_table.specs.words.Bytes.{code}
 use Rattle.dm_stack.specs.Description.{Description}
 use Rattle.dm_stream.specs.requests.Requests.{NumberedRequest}
+use Rattle.dm_map.specs.state.State.{State}
 use Rattle.dm_replay.specs.Histories.{Asked, asked_answers, world_after}
 use Rattle.dm_replay.specs.OfDisks.{IsRunOf}
 use Rattle.dm_replay.specs.Runs.{AreMaximal, flat}
@@ -16,12 +17,12 @@ use Rattle.power_cut.specs.OwnedRequest.{asked_of, read_of}
 abbrev pub IsOnDisks : ℕ → ReadBack → Type 0
 IsOnDisks disks back = AllByRecursion (IsRunOf disks) back.runs.items
 
--- the line of a read is how the read is written; its runs are the maximal ones of what it answers after these requests
-pub record IsReadBack (stack : Description) (asked : List Asked) (write : NumberedRequest) (back : ReadBack) : Type 0 where
+-- the line of a read is how the read is written; its runs are the maximal ones of what it answers after these requests from this start
+pub record IsReadBack (stack : Description) (start : State) (asked : List Asked) (write : NumberedRequest) (back : ReadBack) : Type 0 where
   pub line : string_bytes back.line ≡ request_text (read_of write).values ++ code "\n" ∷ []
   pub number : back.number ≡ write.number
   pub maximal : AreMaximal back.runs.items
-  pub answers : flat back.runs.items ≡ asked_answers stack (world_after stack asked) (asked_of stack (read_of write))
+  pub answers : flat back.runs.items ≡ asked_answers stack (world_after stack start asked) (asked_of stack (read_of write))
   pub disks : IsOnDisks (length stack.disks) back
 
 -- the reads of the sectors of writes
@@ -29,11 +30,11 @@ abbrev pub reads_of : Description → List NumberedRequest → List Asked
 reads_of stack requests = map (λ request. asked_of stack (read_of request)) requests
 
 -- what was read back of writes, each after those before it
-abbrev pub AreReadBack : Description → List Asked → List NumberedRequest → List ReadBack → Type 0
-AreReadBack stack asked [] [] = Unit {0}
-AreReadBack stack asked (write ∷ writes) (back ∷ backs) =
-    IsReadBack stack asked write back × AreReadBack stack (asked ++ asked_of stack (read_of write) ∷ []) writes backs
-AreReadBack stack asked writes backs = ⊥
+abbrev pub AreReadBack : Description → (start : State) → List Asked → List NumberedRequest → List ReadBack → Type 0
+AreReadBack stack start asked [] [] = Unit {0}
+AreReadBack stack start asked (write ∷ writes) (back ∷ backs) =
+    IsReadBack stack start asked write back × AreReadBack stack start (asked ++ asked_of stack (read_of write) ∷ []) writes backs
+AreReadBack stack start asked writes backs = ⊥
 
 -- its lines
 abbrev pub back_text : Description → ReadBack → List ℕ

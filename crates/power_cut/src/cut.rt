@@ -5,6 +5,7 @@ ghost use Rattle.dm_table.specs.io.DeviceIo.{delivery};
 ghost use Rattle.dm_table.specs.io.Progress.{IsReadOn};
 ghost use Rattle.dm_stack.specs.claims.Claims.{IsTidy};
 ghost use Rattle.dm_stream.specs.requests.Requests.{Requests, requests_of};
+ghost use Rattle.dm_map.specs.state.State.{start_state};
 ghost use Rattle.dm_replay.specs.Replay.{new_replay};
 ghost use Rattle.power_cut.specs.Cut.{HasEnded, asked_until};
 ghost use Rattle.power_cut.specs.Fault.{AreRefused, IsUnplayed, StopsAt};
@@ -70,8 +71,10 @@ fn play<'s>(
     requests: &[OwnedRequest],
     units: u64,
 ) -> Result<Replay<'s, TrieTaken>, Fault>
-    requires { replay.asked ≡ [] }
+    requires new { replay.asked ≡ [] }
+    requires fresh { replay.start ≡ start_state replay.stack }
     ensures stack { IfOk result (λ later. later.stack ≡ replay.entry.stack) }
+    ensures start { IfOk result (λ later. later.start ≡ replay.entry.start) }
     ensures asked { IfOk result
         (λ later. later.asked ≡ asked_until replay.entry.stack units requests.now) }
     ensures tops { OnOk result (AreOfTops replay.entry.stack requests.now) }
@@ -97,6 +100,7 @@ fn play_whole(
     request: &OwnedRequest,
 ) -> Result<(), Fault>
     ensures stack { replay.new.stack ≡ replay.old.stack }
+    ensures start { replay.new.start ≡ replay.old.start }
     ensures asked { OnOk result
         (replay.new.asked ≡ replay.old.asked ++ asked_of replay.old.stack request.now ∷ []) }
     ensures top { OnOk result (IsOfTop replay.old.stack request.now) }

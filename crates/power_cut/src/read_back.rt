@@ -32,9 +32,10 @@ impl ReadBack {
     ) -> Result<ReadBack, Fault>
         requires { IsOfTop replay.old.stack write.now }
         ensures stack { replay.new.stack ≡ replay.old.stack }
+        ensures start { replay.new.start ≡ replay.old.start }
         ensures asked { OnOk result
             (replay.new.asked ≡ replay.old.asked ++ asked_of replay.old.stack (read_of write.now) ∷ []) }
-        ensures back { IfOk result (IsReadBack replay.old.stack replay.old.asked write.now) }
+        ensures back { IfOk result (IsReadBack replay.old.stack replay.old.start replay.old.asked write.now) }
         ensures memory { IsOkUnless result Memory }
     {
         let read = write.read();
@@ -58,7 +59,7 @@ pub(crate) fn read_back(
 ) -> Result<Vec<ReadBack>, Fault>
     requires { AreOfTops replay.old.stack requests.now }
     ensures backs { IfOk result
-        (λ backs. AreReadBack replay.old.stack replay.old.asked (writes_of requests.now) backs.items) }
+        (λ backs. AreReadBack replay.old.stack replay.old.start replay.old.asked (writes_of requests.now) backs.items) }
     ensures memory { IsOkUnless result Memory }
 {
     let mut backs = Vec::new(alloc);

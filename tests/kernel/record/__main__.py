@@ -16,8 +16,9 @@ fault of the recording.
 It needs Debian or a system derived from it (apt-get and dpkg-deb, whose sources have lvm2, and the kernel where none
 is given), QEMU for x86-64 (the package qemu-system-x86), 1 GB on the disk, and 3 GB of memory for each guest at a time.
 It needs no root, and changes nothing outside of FOLDER and a temporary folder. QEMU emulates a processor if --qemu says
-nothing else; so five guests take 11 to 14 minutes, two at a time. With KVM, `--qemu 'qemu-system-x86_64 -accel kvm -cpu host'`
-may do, which isn't tried. A guest is stopped after --minutes, 60 if not given.
+nothing else; so five guests take 11 to 14 minutes, two at a time, and that of the power cuts about ten more. With KVM,
+`--qemu 'qemu-system-x86_64 -accel kvm -cpu host'` may do, which isn't tried. A guest is stopped after --minutes, 60 if
+not given.
 """
 
 import argparse

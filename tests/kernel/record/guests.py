@@ -7,6 +7,7 @@ import struct
 import subprocess
 import zlib
 
+import tried_cuts
 import tried_groups
 import tried_mappings
 import tried_names
@@ -33,6 +34,7 @@ def jobs():
         "more-groups": {"groups": groups[1::2]},
         "snapshots": {"snap": tried_snapshots.experiments()},
         "stores": {"stores": tried_stores.experiments()},
+        "cuts": {"cuts": tried_cuts.experiments()},
         "mappings": {"map": tried_mappings.experiments(), "accept": tried_tables.experiments()},
     }
 

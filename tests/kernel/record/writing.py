@@ -33,7 +33,7 @@ class Writer:
     def write(self, job, results):
         """Writes a guest's results; an experiment that has none, or failed, is a fault."""
         parts = {"map": self.write_mappings, "snap": self.write_snapshots, "stores": self.write_stores,
-                 "accept": self.write_tables, "groups": self.write_groups, "names": self.write_names}
+                 "accept": self.write_tables, "groups": self.write_groups, "names": self.write_names, "cuts": self.write_cuts}
         for part, experiments in job.items():
             if part in results:
                 parts[part](results[part] if part == "names" else self.done(experiments, results[part]))
@@ -67,6 +67,13 @@ class Writer:
             if not result["refused"]:
                 sections.update(run_sections(experiment, result))
             self.put_vector("snapshots", name, {**sections, **message_sections(result)})
+
+    def write_cuts(self, done):
+        for name, (experiment, result) in done.items():
+            sections = stack_sections(experiment)
+            sections["requests.txt"] = "".join("%s %s %d %d\n" % tuple(it) for it in experiment["requests"])
+            sections["events.txt"] = "".join(event_text(*it) + "\n" for it in result["events"])
+            self.put_vector("cuts", name, sections)
 
     def write_stores(self, done):
         head = "case chunk store how create ok_writes last_status_ok status_end fail read0 valid exceptions places dmesg"
@@ -122,6 +129,16 @@ def run_sections(experiment, result):
                                        for snapshot, status in step["status"].items()),
             "final.txt": "".join("%s %d %d = %s\n" % (disk, *it) for disk in sorted(result["final"])
                                  for it in runs(result["final"][disk]))}
+
+
+def event_text(what, *values):
+    """A line of an event: its words, and then, if it is a write or a look, what changed."""
+    *words, changed = values if what in ("write", "look") else (*values, [])
+    values = {}
+    for *of, at, value in changed:
+        values.setdefault(" ".join([*of, ""]), []).append((at, value))
+    parts = ["%s%d %d %s" % (of, *it) for of, found in values.items() for it in runs(found)]
+    return "; ".join([" ".join(map(str, (what, *words))), *parts])
 
 
 def edit_sections(tested, restored):

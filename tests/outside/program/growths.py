@@ -59,7 +59,7 @@ def check_runs(tally, program):
     if is_static(program.path):
         tally.skip("growths that are refused", "no shim is loaded into a static program")
     elif tally.holds("the shim growths.c", not shim.fault, shim.fault):
-        for command, files, flags, given, output in [*ROWS, stored_row(program), images_row(program)]:
+        for command, files, flags, given, output in [*ROWS, stored_row(program), *images_rows(program)]:
             words = words_of(program, command, files) + flags
             asked = check_growths(tally, shim, command, words, [given], [output])
             tally.holds(command + " after its load", asked[0] == asked[1], "it asks for %s growths" % asked)
@@ -76,9 +76,11 @@ def words_of(program, command, files):
     return command.split() + [program.file("growths/%d" % at, it) for at, it in enumerate(files)]
 
 
-def images_row(program):
-    """A run from the images of a group's two disks."""
-    return "map images", [images.paths_of(program, images.PAIR)], [], images.ASKED, images.ANSWER % ("sda", "sdb")
+def images_rows(program):
+    """A run from the images of a group's two disks, and their text."""
+    paths = [images.paths_of(program, images.PAIR)]
+    yield "map images", paths, [], images.ASKED, images.ANSWER % ("sda", "sdb")
+    yield "metadata images", paths, [], "", images.TEXT[:-1].decode()
 
 
 def stored_row(program):

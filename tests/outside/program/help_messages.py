@@ -12,7 +12,6 @@ from harness import Case
 NAMED = {"PART": "source", "NUMBER": "20", "WORD": "field", "NAME": "vg0-snap", "LINE": "3", "N": "7"}
 # The bare word that is a command, too, of which help says something else.
 COMMAND = "name"
-NO_PLACE = "there is no number"
 
 
 def check_words(tally, program, top):

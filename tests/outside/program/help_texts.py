@@ -8,6 +8,7 @@ import string
 
 import diagnostics
 import help_words
+import images as images_rows
 import transcripts
 from harness import Case
 from limits import limit_stack
@@ -31,6 +32,7 @@ WAYS = {
     "all requests were answered": ("good",),
     "the tables were printed": ("good",),
     "the check was printed, also one with a clash": ("good", "clash"),
+    "the text was printed; it is empty if no head has one": ("good",),
     "the name was printed": ("good",),
     "the parts were printed": ("good",),
     "FILE, DISKS, PATHS, a store, a name or earlier requests were refused": (
@@ -38,7 +40,9 @@ WAYS = {
     "FILE, DISKS, PATHS, a disk, a store or earlier requests were refused": (
         "no file", "bad disks", "bad paths", "bad head", "bad store", "bad earlier"),
     "FILE or DISKS was refused": ("no file", "bad disks"),
-    "FILE or DISKS was refused, or two lines claim one sector": ("no file", "bad disks", "clash"),
+    "FILE, DISKS, PATHS or a store was refused, or two lines claim one sector": (
+        "no file", "bad disks", "bad paths", "bad store", "clash"),
+    "PATHS or a disk was refused": ("bad paths", "bad head"),
     "a part was refused, or the name is too long": ("bad name", "long name"),
     "NAME is not the name of a volume": ("bad name",),
     "the words were refused": ("bad words",),
@@ -79,7 +83,9 @@ def outcomes(program, command):
     clash = [command, "table", program.file("help/clash", CLASH), program.file("help/clash disks", CLASH_DISKS)]
     bad = program.file("help/bad disks", "sda\n")
     lower = [command, "table", program.file("help/lower", TABLE + "b: 0 4 linear /dev/mapper/a 0\n"), disks]
-    good = {"name": ["name", "vg0", "lv-1"], "splitname": ["splitname", "vg0-lv--1"]}.get(command, [command, "table", table, disks])
+    images = [command, "images", program.file("help/images", images_rows.paths_of(program, images_rows.PAIR))]
+    good = {"name": ["name", "vg0", "lv-1"], "splitname": ["splitname", "vg0-lv--1"], "metadata": images}.get(
+        command, [command, "table", table, disks])
     status = lambda words, **how: program.run(words, **{"given": REQUEST, **how}).status
     found = {
         "good": status(good),
@@ -93,6 +99,11 @@ def outcomes(program, command):
         if command == "name":
             found["long name"] = status(["name", "a" * 100, "b" * 100])
         return found
+    if command in ("map", "metadata"):
+        found["bad head"] = status([command, "images", program.file("help/paths", "sda %s\n" % bad)])
+    if command == "metadata":
+        found["bad paths"] = status([command, "images", bad])
+        return found
     found.update({"no file": status([command, "table", "missing", disks]), "bad disks": status([command, "table", table, bad])})
     if command in ("check", "replay"):
         found["clash"] = status(clash, given="")
@@ -100,8 +111,8 @@ def outcomes(program, command):
         found.update({"bad request": status(good, given="R b 0 1\n"), "closed input": status(good, stdin=-1, before=lambda: os.close(0))})
     if command == "map":
         found["bad earlier"] = status([*good, "--before", bad])
+    if command in COMMANDS_WITH_REQUESTS:
         found["bad paths"] = status([*good, "--paths", bad])
-        found["bad head"] = status([command, "images", program.file("help/paths", "sda %s\n" % bad)])
         snapshot = program.file("help/snapshot", "s: 0 8 snapshot sda sdb P 8\n")
         found["bad store"] = status([command, "table", snapshot, program.file("help/two disks", "sda 8\nsdb 64\n"), "--paths", os.devnull])
     if command == "replay":
@@ -205,7 +216,11 @@ def check_forms(tally, program, synopsis, commands):
     for form in re.findall(r"^\.SY dmremap\n(.*?)^\.YS", synopsis, re.M | re.S):
         words = re.sub(r"^\.\w+ ", "", form, flags=re.M).replace("[ ", "[").replace(" ]", "]").split()
         options = {it.strip("[]") for it in words if it.strip("[]").startswith("--")}
-        shown[words[0]] = re.sub(r" \[--[^]]*\]", "", " ".join(words)), options
+        # Commands of one form stand in braces.
+        names = words[1:words.index("}"):2] if words[0] == "{" else words[:1]
+        rest = words[words.index("}") + 1:] if words[0] == "{" else words[1:]
+        for name in names:
+            shown[name] = re.sub(r" \[--[^]]*\]", "", " ".join([name, *rest])), options
     for command in commands:
         usage = re.search(r"^Usage: dmremap (.*)$", help_of(program, command), re.M)[1]
         form = re.sub(r"[<>]", "", usage.replace(" [OPTIONS]", ""))
@@ -221,6 +236,7 @@ def check_examples(tally, program, top, commands):
     for name, example in files.items():
         shutil.copy(os.path.join(top, "examples", example), os.path.join(folder, name))
     program.file(os.path.join(folder, "requests.txt"), "R %s 0 1\n" % TOP_DEVICE)
+    program.file(os.path.join(folder, "vg.paths"), images_rows.paths_of(program, images_rows.PAIR))
     os.symlink(program.path, os.path.join(folder, "dmremap"))
     env = dict(os.environ, PATH=folder + os.pathsep + os.environ["PATH"])
     for command in commands:

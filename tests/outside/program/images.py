@@ -94,11 +94,13 @@ def check_commands(tally, program):
     tally.same("check", mapped(program, PAIR, "", command="check"), 0, "devices 1\ndisks 2\ndepth 1\ntidy\n")
     tally.same("replay", mapped(program, PAIR, "W vg0-home 0 1\nR vg0-home 0 2\n", command="replay"), 0,
                "1 wrote 1 0 1\n2 wrote 1 0 1\n2 old sda 2073 1\n")
-    for command in ("map", "table", "concise", "check", "replay"):
+    tally.same("metadata", mapped(program, PAIR, "", command="metadata"), 0, TEXT[:-1].decode())
+    for command in ("map", "table", "concise", "check", "replay", "metadata"):
         got = mapped(program, [("sda", bytes(4096))], command=command)
         tally.same("%s of a disk without a label" % command, got, 1, "", told("sda", "label"))
         got = mapped(program, [("sda", disk("a", area(LOST)))], command=command)
-        tally.same("%s of a text that is refused" % command, got, 1, "", "dmremap: source: extents at 27\n")
+        answer = [0, LOST[:-1].decode()] if command == "metadata" else [1, "", "dmremap: source: extents at 27\n"]
+        tally.same("%s of a text that is refused" % command, got, *answer)
         got = program.run([command, "images", program.file("paths", "sda\n")], given=ASKED)
         tally.same("%s of a bad list" % command, got, 1, "", "dmremap: paths: syntax at 1\n")
         got = program.run([command, "images", "missing"], given=ASKED)

@@ -3,6 +3,8 @@
 import os
 
 from backups import BACKUP
+from files import METADATA
+from groups import BOTH
 from harness import Case, failing_input
 
 TABLE = "a: 0 8 linear sda 0 \nb: 0 8 zero\nb: 8 16 striped 2 4 /dev/mapper/a 0 sda 8\n"
@@ -111,50 +113,8 @@ CONCISE = [
     (";" * 1048577, "", ("", ""), "long"),
 ]
 
-# A group of one volume, line by line, and a second volume in place of its line 24.
-ONE = '''\
-contents = "Text Format Volume Group"
-version = 1
-vg0 {
-  extent_size = 8192
-  physical_volumes {
-    pv0 {
-      device = "/dev/sda1"
-      dev_size = 1050624
-      pe_start = 2048
-      pe_count = 128
-    }
-  }
-  logical_volumes {
-    lv0 {
-      status = ["READ", "WRITE", "VISIBLE"]
-      segment_count = 1
-      segment1 {
-        start_extent = 0
-        extent_count = 25
-        type = "striped"
-        stripe_count = 1
-        stripes = ["pv0", 0]
-      }
-    }
-  }
-}
-'''.splitlines(keepends=True)
-SECOND = '''\
-    lv-1 {
-      status = ["READ"]
-      segment_count = 1
-      segment1 {
-        start_extent = 0
-        extent_count = 4
-        type = "striped"
-        stripe_count = 2
-        stripe_size = 128
-        stripes = ["pv0", 25, "pv0", 27]
-      }
-    }
-'''.splitlines(keepends=True)
-TWO = ONE[:24] + SECOND + ONE[24:]
+# A group of one volume, and one of two, line by line.
+ONE, TWO = METADATA.splitlines(keepends=True), BOTH.splitlines(keepends=True)
 
 # Groups, and what `table` prints of them or tells.
 GROUPS = [

@@ -34,7 +34,7 @@ PLACES = {
     ("dm_replay/replay", "halt", "play_front(alloc, mapper, player, request, device, units)"): OURS,
     ("dm_replay/replay", "halt", "rerun(alloc, stack, &writes)"): OURS,
     ("dm_replay/replay", "new", "Mapper::new(alloc, stack.looker()), at Err(_)"): OURS,
-    ("dm_replay/replay", "new", "stack.tops(alloc)"): OURS,
+    ("dm_replay/replay", "go_on", "stack.tops(alloc)"): OURS,
     ("dm_replay/replay", "refuse_clash", "stack.tidy(alloc), at Err(_)"): OURS,
     ("dm_replay/replay", "request_of", "keep(&mut self.writes, request.op, write)"):
         OURS + ": the push of a write that was played",
@@ -61,7 +61,8 @@ PLACES = {
     ("dmremap/prepared", "begin", "prepare(alloc, stack), at Err(_)"): OURS,
     ("dmremap/printing", "print_parts", "spaced_parts(alloc, name), at Err(_)"): OURS,
     ("dmremap/printing", "print_report", "check_report(alloc, stack), at Err(_)"): OURS,
-    ("dmremap/replay_run", "replay_stack", "Replay::<TrieTaken>::new(alloc, stack), at Err(_)"):
+    ("dmremap/replay_run", "replay_fresh", "Mapper::new(alloc, stack.looker()), at Err(_)"): OURS,
+    ("dmremap/replay_run", "replay_stack", "Replay::go_on(alloc, stack, mapper), at Err(_)"):
         "claims that meet have an arm of their own, and by its contract it fails for nothing else",
     ("power_cut/main", "begin", "!has_stack_room(rt)"): "the limit of the stack is lower than what the program may take",
     ("power_cut/cut", "begin", "Replay::new(alloc, stack), at Err(_)"):

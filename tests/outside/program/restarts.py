@@ -1,6 +1,7 @@
 """Power cuts and restarts: each write is cut after any of its units, and the stores list any of the chunks that were copied
 whole, as a kernel may have, but all whose write was carried out. The next run starts from these stores, and each device reads
-what it held, or what was last written through it."""
+what it held, or what was last written through it. A replay that starts from them has there what a read of `map` finds, and
+what it wrote."""
 
 import random
 
@@ -25,17 +26,20 @@ class Machine:
         self.rows = {(top, at): ("base", at) for top in TOPS for at in range(LENGTH)}
         self.lists = {store: [] for store in STORES}
 
-    def units(self, requests):
-        """The units of requests, in a run that starts from the stores: a word, and where it reads and writes."""
+    def answers(self, command, requests):
+        """The lines of answers to requests by a command that starts from the stores, cut into words after their number."""
         for store, chunks in self.lists.items():
             pairs = [(chunk, place(CHUNK, number)) for number, chunk in enumerate(chunks)]
             put(self.program, store + ".img", CHUNK, pairs, header=None if pairs else (0, 0, 0, 0))
         paths = "".join("%s %s.img\n" % (store, store) for store in STORES)
-        got = stored(self.program, TABLE, DISKS, paths, requests)
+        got = stored(self.program, TABLE, DISKS, paths, requests, command=command)
         if got.status:
             raise AssertionError("%r for %r, from the lists %s" % (got.err, requests, self.lists))
-        for line in got.out.decode().splitlines():
-            _, word, *rest = line.split()
+        return [line.split()[1:] for line in got.out.decode().splitlines()]
+
+    def units(self, requests):
+        """The units of requests, in a run that starts from the stores: a word, and where it reads and writes."""
+        for word, *rest in self.answers("map", requests):
             first, start, count = rest[:3]
             for at in range(int(count)):
                 to = (rest[3], int(rest[4]) + at) if rest[3:] else None
@@ -72,6 +76,18 @@ class Machine:
         return dict(zip(self.rows, (self.value(first) for _, first, _ in units)))
 
 
+    def replayed(self, dice):
+        """What a replay of a write that starts from the stores reads of each sector after it, and what it has to."""
+        top, start = dice.choice(TOPS), dice.randrange(LENGTH)
+        length = dice.randint(1, LENGTH - start)
+        whole = "".join("R %s 0 %d\n" % (each, LENGTH) for each in TOPS)
+        wanted = {it: ("old",) + first for it, (_, first, _) in zip(self.rows, self.units(whole))}
+        wanted.update({(top, at): ("wrote", "1", at) for at in range(start, start + length)})
+        lines = self.answers("replay", "W %s %d %d\n" % (top, start, length) + whole)
+        values = [(word, first, int(at) + more) for word, first, at, count in lines for more in range(int(count))]
+        return dict(zip(self.rows, values[length:])), wanted
+
+
 def check_restarts(tally, program):
     for seed in range(ROUNDS):
         dice, machine = random.Random(seed), Machine(program)
@@ -80,6 +96,8 @@ def check_restarts(tally, program):
             machine.cut(dice, number)
             found = machine.reads()
             wrong += [(number, it, found.get(it), held) for it, held in machine.rows.items() if found.get(it) != held]
+            replayed, wanted = machine.replayed(dice)
+            wrong += [(number, it, replayed.get(it), value) for it, value in wanted.items() if replayed.get(it) != value]
         tally.holds("restarts after %d cuts, seed %d" % (CUTS, seed), not wrong, "%d sectors differ, as %s" % (len(wrong), wrong[:3]))
         tally.holds("chunks in each store, seed %d" % seed, all(machine.lists.values()), "%s" % machine.lists)
 

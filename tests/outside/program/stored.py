@@ -1,5 +1,6 @@
-"""Runs from what the stores of snapshots hold, `map --paths PATHS`: the list of paths, each refusal of it and of a
-store at its edges, and that the state is the one from which requests are mapped, and earlier ones played."""
+"""Runs from what the stores of snapshots hold, `map --paths PATHS` and `replay --paths PATHS`: the list of paths, each refusal
+of it and of a store at its edges, and that the state is the one from which requests are mapped or replayed, and earlier ones
+played."""
 
 import os
 import signal
@@ -92,7 +93,8 @@ WRONG = [
     ("map table a b --paths c --paths d", "cannot be used multiple times"),
     ("--paths c map table a b", "unexpected argument '--paths' found"),
     ("--paths c replay table a b", "unexpected argument '--paths' found"),
-    ("replay table a b --paths c", "unexpected argument '--paths'"),
+    ("check table a b --paths c", "unexpected argument '--paths'"),
+    ("replay images a --paths c", "dmremap: words: disks"),
     ("map table a b --paths -", "unexpected argument '-' found"),
     ("map table a b -- --paths c", "unexpected argument"),
 ]
@@ -127,16 +129,16 @@ def taken(chunk, count):
     return [(count - 1 - number, place(chunk, number)) for number in range(count)]
 
 
-def stored(program, table, disks, paths, requests="", *more, **how):
-    """Maps requests from the stores that this text of paths names."""
-    words = ["map", "table", program.file("table", table), program.file("disks", disks)]
+def stored(program, table, disks, paths, requests="", *more, command="map", **how):
+    """Maps or replays requests from the stores that this text of paths names."""
+    words = [command, "table", program.file("table", table), program.file("disks", disks)]
     return program.run(words + ["--paths", program.file("paths", paths), *more], given=requests, folder=program.folder, **how)
 
 
-def of_store(program, chunk, pairs, requests="", *more, length=800, store_len=4000, header=None, size=None):
-    """Maps requests through a snapshot whose store has these pairs."""
+def of_store(program, chunk, pairs, requests="", *more, length=800, store_len=4000, header=None, size=None, **how):
+    """Maps or replays requests through a snapshot whose store has these pairs."""
     put(program, "c.img", chunk, pairs, header, size)
-    return stored(program, TABLE % (length, chunk), DISKS % (length, store_len), "cow c.img\n", requests, *more)
+    return stored(program, TABLE % (length, chunk), DISKS % (length, store_len), "cow c.img\n", requests, *more, **how)
 
 
 def told(word):
@@ -438,8 +440,34 @@ def check_runs(tally, program):
         tally.holds("no request is read after a refused store", os.lseek(requests.fileno(), 0, os.SEEK_CUR) == 0, "some were")
 
 
+def check_replays(tally, program):
+    """A replay begins from the state, too, on disks that hold what they held."""
+    got = of_store(program, 8, [(3, 2), (1, 3)], "R s 8 1\nW s 0 1\nR s 0 16\nR s 24 1\n", command="replay")
+    tally.same("a replay from two chunks", got, 0, "1 old cow 24 1\n2 wrote 2 0 1\n3 wrote 2 0 1\n3 old base 1 7\n"
+               "3 old cow 24 8\n4 old cow 16 1\n")
+    got = of_store(program, 8, taken(8, 2), "R s 0 1\nW s 16 1\nR s 0 1\n", command="replay", store_len=32, size=32 * SECTOR)
+    tally.same("a replay of a write to a full store", got, 0, "1 old cow 24 1\n2 error 1\n3 error 1\n")
+    got = of_store(program, 8, [(1, 2)], "R s 8 1\n", command="replay", header=(MAGIC, 0, 1, 8))
+    tally.same("a replay of an invalid snapshot", got, 0, "1 error 1\n")
+    for word in ("range", "order", "again"):
+        pairs = next(pairs for _, pairs, why in LISTS if why == word)
+        got = of_store(program, 8, pairs, "R s nine 1\n", command="replay")
+        tally.same("a replay of a store refused for %s" % word, got, 1, "", told(word))
+    for text, word in REFUSED[:2] + REFUSED[-2:]:
+        got = stored(program, TABLE % (800, 8), DISKS % (800, 4000), text, "R s nine 1\n", command="replay")
+        tally.same("a replay with the paths %r" % text, got, 1, "", "dmremap: paths: %s\n" % word)
+    put(program, "c.img", 8, [(1, 2)])
+    table = TABLE % (800, 8) + "a: 0 8 linear cow 0\n"
+    for paths, message in (("cow c.img\n", "replay: untidy"), ("cow none.img\n", "store s: read")):
+        got = stored(program, table, DISKS % (800, 4000), paths, "R s nine 1\n", command="replay")
+        tally.same("an untidy replay with the paths %r" % paths, got, 1, "", "dmremap: %s\n" % message)
+    words = ["replay", "table", program.file("table", TABLE % (800, 8)), program.file("disks", DISKS % (800, 4000))]
+    got = program.run(words + ["--paths", "missing"], given="R s 8 1\n")
+    tally.same("a replay without its PATHS", got, 1, "", "dmremap: paths: read\n")
+
+
 class Stored(Case, checks=[
     check_words, check_texts, check_files, check_places, check_headers, check_lists, check_ends, check_images,
-    check_blocks, check_shrinks, check_missing, check_kinds, check_runs
+    check_blocks, check_shrinks, check_missing, check_kinds, check_runs, check_replays
 ]):
     """Lists of paths, stores, and runs from them."""

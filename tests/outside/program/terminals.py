@@ -7,7 +7,7 @@ import subprocess
 from harness import Case, run
 
 TABLE, DISKS = "a: 0 8 linear sda 4\n", "sda 12\n"
-HELP, EXPLAIN = "what it means:  dmremap help ", "what mends it:  dmremap-tools explain "
+HELP, EXPLAIN, FAILS = "what it means:  dmremap help ", "what mends it:  dmremap-tools explain ", "why it fails:   dmremap-tools explain "
 FILES = {"tables": TABLE, "disks": DISKS, "a b": "a: 0 8 linear sda 5\n", "REQUESTS": "R b 0 1\n", "it's": TABLE + "x\n"}
 # Words, requests, the message, the words of help that are named, and those of explain.
 ROWS = [
@@ -25,19 +25,22 @@ ROWS = [
     (["table", "map", "tables", "disks"], "", None, None, "table map tables disks"),
     (["map", "table"], "", None, None, "map table"),
     (["explain", "map", "table", "tables", "disks"], "", None, None, "map table tables disks"),
-    (["map", "table", "tables", "disks", "--foo"], "", None, None, None),
+    (["map", "table", "tables", "disks", "--foo"], "", None, None, "map table tables disks --foo"),
+    (["map", "table", "-", "disks"], "", None, None, "map table - disks"),
     (["help", "nothing"], "", None, None, None),
     ([], "", None, None, None),
     (["map", "table", "tables", "disks"], "R a 0 1\n", "", None, None),
+    (["map", "table", "tables", "disks"], "R a 0 1\nR a 8 1\n", "", None, "map table tables disks < REQUESTS"),
+    (["replay", "table", "tables", "disks"], "R a 8 1\n", "", None, None),
 ]
 
 
-def told(program, words, given, folder):
-    """What a terminal shows of the standard error."""
+def told(command, given, folder, environment=None, stdin=subprocess.PIPE):
+    """What a terminal shows of the standard error of a command."""
     ours, theirs = pty.openpty()
-    with subprocess.Popen([program.path, *words], stdin=subprocess.PIPE, stdout=subprocess.DEVNULL, stderr=theirs, cwd=folder) as ran:
+    with subprocess.Popen(command, stdin=stdin, stdout=subprocess.DEVNULL, stderr=theirs, cwd=folder, env=environment) as ran:
         os.close(theirs)
-        ran.communicate(given.encode())
+        ran.communicate(given.encode() if stdin == subprocess.PIPE else None)
     shown = b""
     try:
         while True:
@@ -57,9 +60,9 @@ def check_told(tally, program, top):
     environment = dict(os.environ, PATH=folder + os.pathsep + os.environ["PATH"])
     for words, given, message, asked, typed in ROWS:
         piped = program.run(words, given=given, folder=folder).err
-        named = [lead + it for lead, it in ((HELP, asked), (EXPLAIN, typed)) if it is not None]
+        named = [lead + it for lead, it in ((HELP, asked), (FAILS if message == "" else EXPLAIN, typed)) if it is not None]
         wanted = piped.decode() + "".join(it + "\n" for it in named)
-        shown = told(program, words, given, folder)
+        shown = told([program.path, *words], given, folder)
         tally.holds("on a terminal, %s" % words, shown == wanted, "it shows %r, and not %r" % (shown, wanted))
         if message is not None:
             tally.holds("in a pipe, %s" % words, piped.decode() == message + "\n" * bool(message), "it is %r" % piped)

@@ -161,8 +161,9 @@ def rows_of(program):
     for command in sorted(commands - {"help"}):
         rows.append(([command, "-"], help_words.options(program, ["help", command])))
     for command in sorted(commands - set(OTHERS)):
-        rows.append(([command, ""], formats))
-        for form in sorted(formats):
+        taken = {"images"} if command == "metadata" else formats
+        rows.append(([command, ""], taken))
+        for form in sorted(taken):
             rows.append(([command, form, ""], files))
             rows.append(([command, form, "stack.table", ""], set() if form in ("lvm", "images") else files))
             rows.append(([command, form, "stack.table", "stack.disks", ""], set()))

@@ -11,6 +11,7 @@ import shutil
 import tarfile
 
 from harness import Case, is_static, run
+from tool_calls import read
 from trees import ANSWER, BUILD, DISKS, REQUESTS, SCRIPTS, TABLE
 
 # What is installed besides the program and the documents, and where it is here.
@@ -91,13 +92,13 @@ def installed_in(tree):
     for pattern in ("README.md", "CHANGELOG.md", "docs/*.md", "docs/*.svg", "tests/benches/RESULTS.md", "examples/*.*", "examples/samples/*.*"):
         paths = [os.path.relpath(it, tree) for it in glob.glob(os.path.join(tree, pattern))]
         places.update(("%s/%s" % (DOCUMENTS, it), it) for it in paths)
-    return {place: None if place == TOOL else bytes_of(os.path.join(tree, path)) for place, path in places.items()}
+    return {place: None if place == TOOL else read(os.path.join(tree, path)) for place, path in places.items()}
 
 
 def files_below(folder):
     paths = (os.path.join(at, it) for at, _, names in os.walk(folder) for it in names)
     names = {os.path.relpath(it, folder): it for it in paths}
-    return {name: None if name == TOOL else bytes_of(it) for name, it in names.items()}
+    return {name: None if name == TOOL else read(it) for name, it in names.items()}
 
 
 def check_works(tally, program, folder, name):
@@ -149,7 +150,7 @@ def check_links(tally, program, tree):
         os.symlink(mine, os.path.join(folder, it))
     got = run([os.path.join(tree, "install"), folder])
     tally.same("./install where links are", got, 0, "dmremap: installed below %s\n" % folder)
-    tally.holds("what a link leads to", bytes_of(mine) == b"mine\n", "it is another")
+    tally.holds("what a link leads to", read(mine) == b"mine\n", "it is another")
     tally.holds("what ./install puts there", files_below(folder) == installed_in(tree), "it is %s" % sorted(files_below(folder)))
     tally.holds("links that stay", not any(os.path.islink(os.path.join(folder, it)) for it in places), "one does")
     check_works(tally, program, folder, "./install over links")
@@ -186,7 +187,7 @@ def check_libraries(tally, program, top):
     if is_static(program.path):
         check_static(tally, program.path, "the program")
         return
-    found = bytes_of(program.path)
+    found = read(program.path)
     names = sorted(set(re.findall(rb"\0(lib[\w+-]+\.so[.\d]*)\0", found)))
     tally.holds("the libraries of the program", names == [b"libc.so.6"], "they are %s" % names)
     least = max(tuple(map(int, it)) for it in re.findall(rb"GLIBC_(\d+)\.(\d+)", found)) if b"GLIBC_" in found else None
@@ -223,7 +224,7 @@ def check_release(tally, program, top, tree):
         folder = os.path.join(program.folder, "packed", str(mask))
         os.makedirs(folder)
         got = run([os.path.join(at, RELEASE)], folder=folder, env=variables, before=lambda: os.umask(mask))
-        made = {it: bytes_of(os.path.join(folder, it)) for it in os.listdir(folder)}
+        made = {it: read(os.path.join(folder, it)) for it in os.listdir(folder)}
         packed.append(made)
         names = names_of(program)
         sums = "".join("%s  %s\n" % (hashlib.sha256(made.get(it, b"")).hexdigest(), it) for it in names)
@@ -277,7 +278,7 @@ def check_refused(tally, program, tree, release, env):
     os.remove(ignored)
     os.remove(more)
     readme = os.path.join(tree, "README.md")
-    kept = bytes_of(readme)
+    kept = read(readme)
     program.file(readme, "changed\n")
     for how in None, "assume-unchanged", "skip-worktree":
         if how:
@@ -329,7 +330,7 @@ def check_unpacked(tally, program, tree, archive, name):
     tally.same("the sums in the archive", sums)
     there = files_below(folder)
     listed = there.pop("SHA256SUMS", b"").count(b"\n")
-    wanted = {**installed_in(tree), "README.md": bytes_of(os.path.join(tree, "README.md"))}
+    wanted = {**installed_in(tree), "README.md": read(os.path.join(tree, "README.md"))}
     is_same = {it for it in wanted if there.get(it) != wanted[it]} == {"bin/dmremap"} and set(there) == set(wanted)
     tally.holds("what is in the archive", is_same and listed == len(wanted), "it is %s" % sorted(there))
     check_static(tally, os.path.join(folder, "bin", "dmremap"), "the archive's program")
@@ -372,11 +373,6 @@ def above(path):
     while os.path.dirname(path) != path:
         path = os.path.dirname(path)
         yield path
-
-
-def bytes_of(path):
-    with open(path, "rb") as it:
-        return it.read()
 
 
 class Installs(Case, checks=[

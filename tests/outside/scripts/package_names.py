@@ -30,7 +30,7 @@ sys.path += [OUTSIDE, os.path.join(OUTSIDE, "tools"), os.path.join(os.path.dirna
 
 import models
 import owned
-from dmremap_tools.base import signatures
+from dmremap_tools.formats import signatures
 from dmremap_tools.base.numbers import SECTOR
 from dmremap_tools.base.program import found
 from dmremap_tools.images import scan

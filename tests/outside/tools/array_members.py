@@ -6,38 +6,13 @@ import os
 import physical_volumes
 import tool_calls
 from harness import Case
-from physical_volumes import SECTOR, md_end_member, md_member, md_old_member
-from tool_calls import TOOL
+from physical_volumes import SECTOR, dashed, md_end_member, md_member, md_old_member, one_volume
+from tool_calls import TOOL, read
 
 # The physical volumes of the group here, of which the first has the only volume.
 NAME, OTHER, IDENTITY = "/dev/sda1", "/dev/sdb1", b"theonly".ljust(32, b"x")
 BEGIN, COUNT = 128, 8
-PHYSICAL = 'pv%d {\nid = "%s"\ndevice = "%s"\ndev_size = 256\npe_start = 128\npe_count = 16\n}\n'
-TEXT = """g {
-id = "theone-xxxx-xxxx-xxxx-xxxx-xxxx-xxxxxx"
-seqno = 1
-status = ["RESIZEABLE", "READ", "WRITE"]
-extent_size = 8
-physical_volumes {
-%s%s}
-logical_volumes {
-v {
-id = "thevol-xxxx-xxxx-xxxx-xxxx-xxxx-xxxxxx"
-status = ["READ", "WRITE", "VISIBLE"]
-segment_count = 1
-segment1 {
-start_extent = 0
-extent_count = 1
-type = "striped"
-stripe_count = 1
-stripes = ["pv0", 0]
-}
-}
-}
-}
-contents = "Text Format Volume Group"
-version = 1
-""" % (PHYSICAL % (0, "theonl-yxxx-xxxx-xxxx-xxxx-xxxx-xxxxxx", NAME), PHYSICAL % (1, "theoth-erxx-xxxx-xxxx-xxxx-xxxx-xxxxxx", OTHER))
+TEXT = one_volume(*(("pv%d" % number, name, 256, BEGIN, dashed(it.ljust(32, "x"))) for number, (name, it) in enumerate(((NAME, "theonly"), (OTHER, "theother")))))
 CONTENT = b"".join((b"sector %d\n" % number * 512)[:512] for number in range(COUNT))
 VOLUME = bytearray(physical_volumes.volume((4096, physical_volumes.area(b"x {\n}\n\0")), length=1 << 17, identity=IDENTITY, size=1 << 17))
 VOLUME[BEGIN * SECTOR:(BEGIN + COUNT) * SECTOR] = CONTENT
@@ -134,15 +109,14 @@ class ArrayMembers(Case):
             self.found("an older half after the newer, version " + version, wanted, ("b", newer), ("a", older))
         other = md_member(bytes(1 << 16), 16, level=1, events=99, array=b"another array...")
         self.program.file("members/c", other)
-        self.program.file("members/paths", "%s a?offset=8192\n/dev/sdb1 c?offset=8192\n" % NAME)
+        self.program.file("members/paths", "{0} {1}/a?offset=8192\n/dev/sdb1 {1}/c?offset=8192\n".format(NAME, self.folder))
         self.program.file("members/a", md_member(VOLUME, 16, level=1))
-        self.program.file("members/disks", "%s 256\n/dev/sdb1 64\n" % NAME)
-        got = self.call("spans", "--paths", "paths", "disks", self.program.file("members/table", "v: 0 8 linear %s 8\n" % NAME))
+        got = self.call("elsewhere", "--losetup", "--paths", "paths", self.program.file("members/table", "v: 0 8 linear %s 8\n" % NAME))
         self.holds("halves of two arrays", got.status == 0, got.err)
         self.program.file("members/b", md_member(VOLUME, 16, level=1, events=8))
-        self.program.file("members/paths", "%s a?offset=8192\n/dev/sdb1 b\n" % NAME)
-        got = self.call("spans", "--paths", "paths", "disks", "table")
-        self.refuses("an older half among disks", got, "%s spans: a: %s" % (TOOL, OLDER % (7, "b", 8)))
+        self.program.file("members/paths", "{0} {1}/a?offset=8192\n/dev/sdb1 {1}/b\n".format(NAME, self.folder))
+        got = self.call("elsewhere", "--losetup", "--paths", "paths", "table")
+        self.refuses("an older half among disks", got, "{0} elsewhere: {1}/a: {2}".format(TOOL, self.folder, OLDER % (7, self.folder + "/b", 8)))
 
     def test_partitions(self):
         """Members on partitions, of which a disk may end with the superblock of its last one."""
@@ -165,7 +139,6 @@ class ArrayMembers(Case):
         commands = {
             "save": ["save", *asked, "v", "out", *source],
             "dd": ["dd", *asked, "--requests", "requests", *source],
-            "spans": ["spans", "--paths", "paths", "disks", "table"],
             "elsewhere": ["elsewhere", "--losetup", "--paths", "paths", "table"],
         }
         for level, start in ((5, 16), (5, 17), (5, 4), (1, 16)):
@@ -191,8 +164,7 @@ class ArrayMembers(Case):
         self.program.file("members/disks", "/dev/sda1 32\n/dev/sdb1 32\n")
         self.program.file("members/paths", "/dev/sda1 m0?offset=1048576\n/dev/sdb1 m1?offset=1048576\n")
         got = self.call("save", "--program", self.program.path, "--paths", "paths", "v", "out", "table", "table", "disks")
-        with open(os.path.join(self.folder, "out"), "rb") as out:
-            self.holds("an array by its members", got.status == 0 and out.read() == b"".join(contents), got.err)
+        self.holds("an array by its members", got.status == 0 and read(os.path.join(self.folder, "out")) == b"".join(contents), got.err)
         os.remove(os.path.join(self.folder, "out"))
         for version, made, start in VERSIONS:
             for level, place, message in ((1, start, ""), (5, 0, PARTS), (5, start, PARTS)) + ((1, 0, "/dev/md0 is an array, and this place is in a member "
@@ -208,6 +180,5 @@ class ArrayMembers(Case):
                 if message:
                     self.refuses(title, got, "%s save: a: %s" % (TOOL, message), out="")
                 else:
-                    with open(os.path.join(self.folder, "out"), "rb") as out:
-                        self.holds(title, got.status == 0 and out.read() == VOLUME[4096:8192], got.err)
+                    self.holds(title, got.status == 0 and read(os.path.join(self.folder, "out")) == VOLUME[4096:8192], got.err)
                     os.remove(os.path.join(self.folder, "out"))

@@ -117,7 +117,7 @@ TABLES = [
           "m: 0 64 striped 4 16 /dev/sda 2048 /dev/sdb 2048 /dev/sdc 2048 /dev/sdd 2048\n"),
     table(old(0) + old(1), "m: 0 64 linear /dev/sda 0\n"),
     table(old(0, level="raid0", sizes="", chunk=CHUNK) + old(1, level="raid0", sizes="", chunk=CHUNK),
-          "m: 0 256 striped 2 16 /dev/sda 0 /dev/sdb 0\n", ["--size", "/dev/sda=256", "--size", "/dev/sdb=300"]),
+          "m: 0 256 striped 2 16 /dev/sda 0 /dev/sdb 0\n", ["--sectors", "/dev/sda=256", "--sectors", "/dev/sdb=300"]),
     # Members that are left out.
     table(member(0, level="raid1", chunk="", sizes="     Array Size : 30 KiB\n", events="5") + member(1, level="raid1", chunk="", sizes="     Array Size : 30 KiB\n"),
           "m: 0 60 linear /dev/sdb 2048\n", message="left out: /dev/sda, which was away when others changed\n"),
@@ -177,7 +177,7 @@ REFUSED = [
     no_table(members(4, level="raid10", layout="near=9"), "1:1: no layout of raid10 that is known: 265: start it by `mdadm --assemble --readonly`"),
     no_table(members(2, disk="sd,a"), "1:1: no name of a disk, give --path /dev/sd,a=DISK"),
     no_table(old(0, level="raid0", sizes="", chunk=CHUNK) + old(1, level="raid0", sizes="", chunk=CHUNK),
-             "1:1: metadata 0.90 doesn't say how long a member is, give --size /dev/sda=SECTORS"),
+             "1:1: metadata 0.90 doesn't say how long a member is, give --sectors /dev/sda=SECTORS"),
     no_table(members(2), "/dev/sdx: no member of the array has this path: give one that `mdadm --examine` printed", ["--path", "/dev/sdx=a"]),
     no_table(members(2), "--name: no name of a device, give it as dmsetup ls prints it: 'a b'", ["--name", "a b"]),
 ]
@@ -215,7 +215,6 @@ SIXES = {"left-symmetric": "q012p 012pq 12pq0 2pq01", "left-asymmetric": "q012p 
          "ddf-zero-restart": "pq012 0pq12 01pq2 012pq", "ddf-N-restart": "012pq 01pq2 0pq12 pq012", "ddf-N-continue": "012qp 12qp0 2qp01 qp012",
          "left-asymmetric-6": "012pq 01p2q 0p12q p012q", "right-asymmetric-6": "p012q 0p12q 01p2q 012pq",
          "left-symmetric-6": "012pq 12p0q 2p01q p012q", "right-symmetric-6": "p012q 2p01q 12p0q 012pq", "parity-first-6": "p012q p012q p012q p012q"}
-READ_ALL = "1 R /dev/md0 0 192\n"
 FOLLOWED = [
     *(followed(FIVE(layout), "".join("1 R /dev/md0 %d 16\n" % (16 * it) for it in range(12)), chunk_by_chunk(letters)) for layout, letters in FIVES.items()),
     *(followed(SIX(layout), "".join("1 R /dev/md0 %d 16\n" % (16 * it) for it in range(12)), chunk_by_chunk(letters)) for layout, letters in SIXES.items()),

@@ -1,4 +1,4 @@
-"""Headers of LUKS, made from their formats for the tests, and what luksDump prints of such."""
+"""Headers of LUKS, made from their formats for the tests."""
 
 import hashlib
 import struct
@@ -11,32 +11,6 @@ KEYSLOT = ('"%d":{"type":"luks2","key_size":64,"area":{"type":"raw","offset":"%d
            '"kdf":{"type":"pbkdf2","salt":"c2FsdA==","hash":"sha256","iterations":1000},"af":{"type":"luks1","hash":"sha256","stripes":4000}}')
 # Where its data begins.
 DATA = 131072
-DUMP_1 = """\
-LUKS header information for sda2.img
-
-Version:       \t1
-Cipher name:   \taes
-Payload offset:\t4096
-MK bits:       \t512
-UUID:          \t%s
-""" % UUID
-DUMP_2 = """\
-LUKS header information
-Version:       \t2
-Metadata area: \t16384 [bytes]
-UUID:          \t%s
-Label:         \t(no label)
-
-Data segments:
-  0: crypt
-\toffset: 16777216 [bytes]
-\tlength: %%s
-\tcipher: aes-xts-plain64
-\tsector: 4096 [bytes]
-
-Keyslots:
-  0: luks2
-""" % UUID
 
 
 def version_1(payload, keys=()):

@@ -111,7 +111,7 @@ leaf 22036480 flags 0x1(WRITTEN) backref revision 1
 \t\t\tstripe 2 devid 1 offset 5242880
 \t\t\tstripe 3 devid 2 offset 6291456
 """
-BTRFS = ["--name", "b", "--device", "1", "d", "--device", "2", "e"]
+BTRFS = ["--name", "b", "--disk", "1", "d", "--disk", "2", "e"]
 BEFORE, AFTER = "b: 0 256 error\n", "b: 384 128 error\nb: 512 512 striped 2 128 d 6144 d 10240\n"
 LEAF = """\
 leaf 22052864 items 1 free space 100 generation 6 owner CHUNK_TREE
@@ -141,7 +141,7 @@ TREES = [
     bad("btrfs", BTRFS + ["--copy", "1"], [(CHUNKS % "|RAID0").replace("|RAID10", "|RAID0")], "1: no chunk has a copy 1, counted from 0: give a lower --copy"),
     bad("btrfs", BTRFS + ["--copy", "2"], [CHUNKS % "|RAID0"], "1:15: the chunk at 262144 has 2 copies, counted from 0: give a lower --copy"),
     good("btrfs", BTRFS + ["--part", "300", "8"], [CHUNKS % ""], BEFORE + "b: 256 128 linear d 2048\nb: 384 640 error\n"),
-    bad("btrfs", BTRFS[:-3], [CHUNKS % "|RAID0"], "1:7: device 2 of the file system isn\'t given: add --device 2 DISK"),
+    bad("btrfs", BTRFS[:-3], [CHUNKS % "|RAID0"], "1:7: device 2 of the file system isn\'t given: add --disk 2 DISK"),
     bad("btrfs", BTRFS, ["chunk tree\ntotal bytes 0\n"], "1: no chunks of a btrfs file system: make the text anew by `btrfs inspect-internal dump-tree -t chunk`"),
     # All trees of a file system, and a tree of two leaves. A leaf that isn't all there, or that couldn't be read, is missed.
     good("btrfs", BTRFS, [CHUNKS % "|RAID1" + OTHER_TREE], BEFORE + "b: 256 128 linear d 2048\n" + AFTER),

@@ -65,6 +65,7 @@ def make_folder(program, top):
     for name in ("vgm.backup", "lsblk.txt"):
         shutil.copy(os.path.join(samples(top), name), folder)
     shutil.copy(os.path.join(samples(top), "vg0-head.img"), os.path.join(folder, "image"))
+    os.truncate(os.path.join(folder, "disk1.img"), 1050624 * 512)
     with open(os.path.join(folder, "vg0.backup"), "rb") as it:
         content = it.read()
     program.file("explained/vg0.backup.gz", gzip.compress(content))
@@ -84,7 +85,7 @@ def check_refusals(tally, explain, top):
         explain.put(row.files)
         got, said = explain.run(row.words, row.given), explain.said(row.words, row.given).err.decode()
         first, *others = got.out.decode().splitlines()
-        found = marked_by(others), "".join(remedy_of(others).splitlines()[-1:]), why_of(others)
+        found = marked_by(others), remedy_in(remedy_of(others).splitlines()), why_of(others)
         why = row.why.splitlines() if row.why else help_rows(explain, row.message) if row.why == "" else found[2]
         is_first = row.message is None or row.message in first and (first in said.splitlines() or not said)
         tally.holds("%s by %s" % (row.message, row), got.status == 0 and is_first and found == (row.marked, row.remedy, why),
@@ -105,6 +106,11 @@ def remedy_of(rows):
     return "\n".join(it[7:] for it in part_of(rows, "do:  "))
 
 
+def remedy_in(commands):
+    """The last of its commands before that of dmremap, if there are others."""
+    return "".join(commands[-2:-1] if len(commands) > 1 and commands[-1].startswith("dmremap ") else commands[-1:])
+
+
 def part_of(rows, lead):
     """The lines from the one that begins with a lead on, as far as they are indented as it is."""
     first = next((at for at, it in enumerate(rows) if it.startswith(lead)), len(rows))
@@ -113,8 +119,8 @@ def part_of(rows, lead):
 
 def marked_by(rows):
     """What is underlined of a line, or None."""
-    mark = rows[2] if len(rows) > 2 and re.fullmatch(r" +\^+", rows[2]) else ""
-    return rows[1][mark.index("^"):len(mark)] if mark else None
+    mark = re.match(r" +(\^+)", rows[2]) if len(rows) > 2 else None
+    return rows[1][mark.start(1):mark.end(1)] if mark else None
 
 
 def help_rows(explain, message):
@@ -127,7 +133,10 @@ def help_rows(explain, message):
 def check_ways(tally, explain):
     """Ways as they are shown."""
     for words, shown in explained_rows.WAYS:
-        tally.same("the way of %s" % words, explain.run(words), 0, shown)
+        requests = "".join(it + "\n" for it in words if REQUEST.match(it))
+        tally.same("the way of %s" % words, explain.run([it for it in words if not REQUEST.match(it)], given=requests), 0, shown)
+        said = "why: dmremap reads requests from its standard input\ndo:    "
+        tally.holds("the way of %s as words" % words, explain.run(words).out.decode().startswith(shown + "\n" + said), shown)
 
 
 def check_causes(tally, explain):
@@ -163,7 +172,7 @@ def check_stacks(tally, explain, program):
         last = request(dice, devices[-1][0], lengths)
         words = ["map", "concise", "random", "random.disks", "--before", "earlier", *["--paths", "paths"] * (number % 2)]
         answer = program.run(words, given=last + "\n", folder=explain.folder)
-        got = explain.run([*words, last])
+        got = explain.run(words, given=last + "\n")
         if answer.status == 1:
             continue
         shown += 1
@@ -222,22 +231,22 @@ def check_stores(tally, explain, program):
         image.write(it.read())
         image.truncate(1050624 * 512)
     program.file("explained/paths", "/dev/sda1 sda1.img\n")
-    got = explain.run(["--paths", "paths", *words])
+    got = explain.run([*words, "--paths", "paths"])
     wanted = b"chunk 1001, taken\n", b"chunk 1000, not taken yet\n"
     tally.holds("ways from a store", got.status == 0 and not got.err and all(it in got.out for it in wanted), "status %s, %r, %r" % (got.status, got.err, got.out))
     for listed, why in (("", "A part of the store lies on a disk that PATHS doesn't name. Add the disk."),
                         ("/dev/sda1 tables\n", "can't be opened or read"), ("/dev/sdb sda1.img\n", "The stack has no disk of that name")):
         program.file("explained/paths", listed)
-        got = explain.run(["--paths", "paths", *words])
+        got = explain.run([*words, "--paths", "paths"])
         tally.holds("a store by the paths %r" % listed, got.status == 0 and why in got.out.decode(), "status %s, %r, %r" % (got.status, got.err, got.out))
     with open(os.path.join(explain.folder, "sda1.img"), "r+b") as image:
         image.seek(STORE * 512 + 4)
         image.write(bytes(4))
     program.file("explained/paths", "/dev/sda1 sda1.img\n")
-    got = explain.run(["--paths", "paths", *words])
+    got = explain.run([*words, "--paths", "paths"])
     why = b"the header of vg0-snap's store says that it is invalid: it was full once, so all of the snapshot fails\n"
     tally.holds("a store whose header says that it is invalid", got.status == 0 and got.out.count(why) == 2 and b"no place" not in got.out, "status %s, %r, %r" % (got.status, got.err, got.out))
-    got = explain.run(["--paths", "nowhere", *words])
+    got = explain.run([*words, "--paths", "nowhere"])
     tally.holds("a store without paths", got.status == 0 and b"nowhere" in got.out, "status %s, %r, %r" % (got.status, got.err, got.out))
 
 

@@ -4,15 +4,16 @@ from collections import namedtuple
 
 LIST = '{ echo /dev/sda1 "$(blockdev --getsz /dev/sda1)"; } > disks'
 MACHINE = "dmremap-tools machine --disks disks ls.txt status.txt lsblk.txt concise.txt > tables"
-GROUP, COPY, OTHER = "vgcfgbackup -f GROUP.backup GROUP", "dmremap-tools lvm2-text %s > %s.mended", "dmremap-tools metadata DISK > vg.backup"
+GROUP, COPY, OTHER = "vgcfgbackup -f vg.backup %s", "dmremap-tools lvm2-text %s > %s.mended", "dmremap-tools metadata DISK > vg.backup"
 TABLES, COMPARE, TREE, END = "dmsetup table > tables", "dmsetup table a", "dmsetup ls --tree", "echo >> %s"
 NAMES, TAKE, LVM = "dmremap table lvm vg0.backup | cut -d: -f1 | uniq", "dmremap map table tables %s", "dmremap map lvm vg0.backup"
+ASKED, SECTORS = "echo 'R vg0-lv0 0 8' | " + LVM, "sed '1s/ %s\\b/ %d/' %s > %s.mended"
 TABLE = "a: 0 8 linear /dev/sda1 0\n"
 DEEP = "".join("d%d: 0 8 linear %s 0\n" % (it, "/dev/mapper/d%d" % (it + 1) if it < 33 else "/dev/sda1") for it in range(34))
 # The files of the rows.
 FILES = {
     "tables": TABLE, "disks": "/dev/sda1 100\n", "folder/file": "", "requests": "R a 0 8\n", "lv.requests": "R vg0-lv0 0 8\n",
-    "before.bad": "R a 0 8\nR b 0 8\n", "before.form": "R a 0\n", "stack": "a: 0 8 linear /dev/mapper/b 0\nb: 0 8 linear /dev/sda1 0\n",
+    "before.bad": "R a 0 8\nR b 0 8\n", "before.form": "R a 0\n", "before.good": "R a 0 8\n", "stack": "a: 0 8 linear /dev/mapper/b 0\nb: 0 8 linear /dev/sda1 0\n",
     "lost.paths": "/dev/sda1 disk2.img\n", "disk1.img": bytes(4096), "long.table": TABLE, "esc.table": "\x1b[2J: 0 8 zero\n",
     "chunks.table": "s: 0 40000 snapshot base cow P 1\n", "chunks.disks": "base 40000\ncow 90000\n", "raid.table": "a: 0 8 raid raid1 1 8 1 - -\n",
     "random.disks": "sda 400\nsdb 400\ncow1 48\ncow2 64\ncow3 40\n",
@@ -29,15 +30,15 @@ CHANGED = {
 DISKS = {"sda": 400, "sdb": 400, "cow1": 48, "cow2": 64, "cow3": 40}
 # What is said of FILE, its content, perhaps with that of DISKS, what is marked, and the remedy.
 OF_FILE = [
-    ("text at 1", "a:\t0 8 zero\n", " ", "tr '\\t' ' ' < file > file.mended"), ("text at 1", "\u00e4: 0 8 zero\n", "\u00e4", ""),
+    ("text at 1", "a:\t0 8 zero\n", "\\t", "tr '\\t' ' ' < file > file.mended"), ("text at 1", "\u00e4: 0 8 zero\n", "\u00e4", ""),
     ("text at 1", TABLE.replace("\n", "\r\n"), "\\r", "tr -d '\\r' < file > file.mended"), ("text at 1", "\ufeff" + TABLE, "\\ufeff", "tail -c +4 file > file.mended"),
-    ("syntax at 1", "# mine\n" + TABLE, "# mine", "sed '/^#/d' file > file.mended"), ("syntax at 2", TABLE + "\n" + TABLE, "", "sed '/^ *$/d' file > file.mended"),
+    ("syntax at 1", "# mine\n" + TABLE, "# mine", "sed '/^#/d' file > file.mended"), ("syntax at 2", TABLE + "\nb: 0 8 zero\n", "", "sed '/^ *$/d' file > file.mended"),
     ("syntax at 1", "a: 0 8  zero\n", "  ", "sed 's/^ *//; s/  */ /g' file > file.mended"), ("syntax at 2", "a: 0 8 zero\nb: 0 8 zero", "", END % "file"),
     ("syntax at 1", "a: 0 8\n", "a: 0 8", ""), ("syntax at 2", TABLE + "b: \n", "b: ", "sed '2d' file > file.mended"),
     ("syntax at 2", TABLE + "0 8 zero\n", "0", "sed '2s/^/NAME: /' file > file.mended"),
-    ("field at 1", "a: 0 8G zero\n", "8G", ""), ("field at 1", "a: -1 8 zero\n", "-1", ""), ("field at 1", "a: 00 8 zero\n", "00", ""),
+    ("field at 1", "a: 0 8G zero\n", "8G", SECTORS % ("8G", 16777216, "file", "file")), ("field at 1", "a: -1 8 zero\n", "-1", ""), ("field at 1", "a: 00 8 zero\n", "00", ""),
     ("field at 1", "a: 0 8 striped\n", "striped", TABLES), ("field at 1", "a: 0 8 linear \n", "linear", TABLES),
-    ("field at 1", "a: 0 8 striped 2 8 sda 0\n", "2 8 sda 0", COMPARE), ("field at 1", "a: 0 8 linear /dev/sda1 0k\n", "0k", ""),
+    ("field at 1", "a: 0 8 striped 2 8 sda 0\n", "2 8 sda 0", COMPARE), ("field at 1", "a: 0 8 linear /dev/sda1 0k\n", "0k", SECTORS % ("0k", 0, "file", "file")),
     ("field at 1", "a: 0 8 snapshot sda cow PO 8\n", "PO", ""), ("field at 1", "a: 0 8 snapshot sda cow P 8 1 x\n", "1 x", COMPARE),
     ("field at 1", "a: 0 8 liner /dev/sda1 0\n", "liner", MACHINE), ("field at 1", "a: 0 8 raid raid1 1 8 1 - -\n", "raid", MACHINE),
     ("name at 1", "a!: 0 8 zero\n", "a!", ""), ("name at 1", "a: 0 8 linear sd,a 0\n", "sd,a", ""), ("name at 1", "a: 0 8 linear /dev/mapper/b! 0\n", "/dev/mapper/b!", ""),
@@ -64,7 +65,7 @@ OF_CONCISE = [
 # The same of DISKS.
 OF_DISKS = [
     ("text at 1", "/dev/sda1 100\r\n", "\\r", "tr -d '\\r' < list > list.mended"), ("syntax at 1", "/dev/sda1 100 8:1\n", "/dev/sda1 100 8:1", LIST),
-    ("syntax at 1", "/dev/sda1 100", "", END % "list"), ("field at 1", "/dev/sda1 100G\n", "100G", LIST), ("field at 1", "/dev/sda1 0x10\n", "0x10", LIST),
+    ("syntax at 1", "/dev/sda1 100", "", END % "list"), ("field at 1", "/dev/sda1 100G\n", "100G", SECTORS % ("100G", 209715200, "list", "list")), ("field at 1", "/dev/sda1 0x10\n", "0x10", LIST),
     ("name at 1", "/dev/mapper/a 8\n", "/dev/mapper/a", ""), ("name at 1", "sd,a 8\n", "sd,a", ""), ("empty at 1", "/dev/sda1 0\n", "/dev/sda1 0", LIST),
     ("twice at 3", "/dev/sda1 100\nb 8\n/dev/sda1 100\n", "/dev/sda1", LIST), ("long", "#" * (1 << 20) + "\n\n", None, ""),
 ]
@@ -76,47 +77,50 @@ OF_GROUP = [
 ]
 # The same of requests for vg0.backup.
 OF_REQUESTS = [
-    ("request 1: form", "r vg0-lv0 0 8\n", "r", "R vg0-lv0 0 8"), ("request 1: form", "R /dev/vg0/lv0 0 8\n", "/dev/vg0/lv0", "R vg0-lv0 0 8"),
-    ("request 1: form", "R vg0/lv0 0 8\n", "vg0/lv0", "R vg0-lv0 0 8"), ("request 1: form", "R  vg0-lv0 0 8\n", "R  vg0-lv0 0 8", "R vg0-lv0 0 8"),
-    ("request 1: form", "R vg0-lv0, 0, 8\n", "vg0-lv0,", "R vg0-lv0 0 8"),
+    ("request 1: form", "r vg0-lv0 0 8\n", "r", ASKED), ("request 1: form", "R /dev/vg0/lv0 0 8\n", "/dev/vg0/lv0", ASKED),
+    ("request 1: form", "R vg0/lv0 0 8\n", "vg0/lv0", ASKED), ("request 1: form", "R  vg0-lv0 0 8\n", "R  vg0-lv0 0 8", ASKED),
+    ("request 1: form", "R vg0-lv0, 0, 8\n", "vg0-lv0,", ASKED),
     ("request 1: form", "R vg0-lv0 0\n", "R vg0-lv0 0", ""), ("request 2: form", "R vg0-lv0 0 8\n\n", "", "grep '^[RW] ' REQUESTS > REQUESTS.mended"),
-    ("request 1: number", "R vg0-lv0 0 8k\n", "8k", ""), ("request 1: number", "R vg0-lv0 0 8\r\n", "8\\r", "tr -d '\\r' < REQUESTS > REQUESTS.mended"),
-    ("request 1: length", "R vg0-lv0 0 0\n", "0", ""), ("request 1: length", "R vg0-lv0 0 1048577\n", "1048577", "dmremap-tools cut < REQUESTS > REQUESTS.mended"),
-    ("request 1: unknown", "R lv0 0 8\n", "lv0", NAMES), ("request 1: long", "R " + "a" * 5000 + " 0 8\n", "R " + "a" * 88, ""),
+    ("request 1: number", "R vg0-lv0 0 8k\n", "8k", ASKED.replace(" 8'", " 16'")), ("request 1: number", "R vg0-lv0 0 8\r\n", "8\\r", "tr -d '\\r' < REQUESTS > REQUESTS.mended"),
+    ("request 1: length", "R vg0-lv0 0 0\n", "0", ""), ("request 1: length", "R vg0-lv0 0 1048577\n", "1048577", "echo 'R vg0-lv0 0 1048577' | dmremap-tools cut | " + LVM),
+    ("request 1: unknown", "R lv0 0 8\n", "lv0", ASKED), ("request 1: unknown", "R home 0 8\n", "home", NAMES), ("request 1: long", "R " + "a" * 5000 + " 0 8\n", "R " + "a" * 88, ""),
     ("request 2: unended", "R vg0-lv0 0 8\nR vg0", "R vg0", END % "REQUESTS"),
 ]
 # A first line, words, what is marked, the remedy, and what is said in place of the help.
 OF_WORDS = [
-    ("source: read", "map table nowhere/tables disks", None, "", "nowhere/tables can't be read: No such file or directory (ENOENT)"),
-    ("source: read", "map table folder disks", None, "", "folder can't be read: Is a directory (EISDIR)"),
-    ("before: read", "map table tables disks --before nothing", None, "", "nothing can't be read: No such file or directory (ENOENT)"),
+    ("source: read", "map table nowhere/tables disks", None, "",
+     "nowhere/tables can't be read: No such file or directory (ENOENT); there is no folder nowhere: mend the path, or make the folder"),
+    ("source: read", "map table folder disks", None, "", "folder can't be read: Is a directory (EISDIR); the folder has: file"),
+    ("before: read", "map table tables disks --before before.god", None, TAKE % "disks" + " --before before.good",
+     "before.god can't be read: No such file or directory (ENOENT); near are: before.good, before.bad, before.form"),
     ("before: unknown at 2", "map table tables disks --before before.bad", "b", "dmremap table table tables disks | cut -d: -f1 | uniq", ""),
     ("before: form at 1", "map table tables disks --before before.form", "R a 0", "", ""),
-    ("store vg0-snap: read", "map lvm vg0-snapshot.backup --paths lost.paths", None, "",
-     "the disk /dev/sda1: disk2.img can't be read: No such file or directory (ENOENT)"),
-    ("words: disks", "map table tables", None, LIST, ""), ("words: disks", "map lvm vg0.backup disks", None, LVM, ""),
+    ("store vg0-snap: read", "map lvm vg0-snapshot.backup --paths lost.paths", None, "sed 's|disk2.img|disk1.img|' lost.paths > lost.paths.mended",
+     "the disk /dev/sda1: disk2.img can't be read: No such file or directory (ENOENT); near are: disk1.img"),
+    ("words: disks", "map table tables", None, TAKE % "disks", ""), ("words: disks", "map lvm vg0.backup disks", None, LVM, ""),
     ("words: disks", "map lvm vg0.backup lv.requests", None, LVM + " < lv.requests", ""),
     ("words: disks", "map table vg0.backup", None, LVM, "vg0.backup is the metadata of a group"),
     ("source: syntax at 1", "map table disks tables", None, TAKE % "disks", "disks is a list of disks"),
     ("source: syntax at 1", "map table vg0.backup disks", None, LVM, "vg0.backup is the metadata of a group"),
-    ("source: syntax at 1", "map lvm tables", None, TAKE % "DISKS", "tables is table text"),
+    ("source: syntax at 1", "map lvm tables", None, TAKE % "disks", "tables is table text"),
     ("source: text at 1", "map lvm vg0.backup.gz", None, "gzip -dc vg0.backup.gz > vg0.backup.gz.mended", "vg0.backup.gz is compressed by gzip"),
     ("source: text at 1", "map lvm image", None, "dmremap-tools metadata image > image.mended", "image is the image of a disk or another binary file"),
     ("source: field at 1", "map lvm folder/file", None, "", "folder/file is empty"),
-    ("disks: syntax at 1", "map table tables requests", None, TAKE % "DISKS < requests", "requests is a list of requests"),
+    ("disks: syntax at 1", "map table tables requests", None, TAKE % "disks < requests", "requests is a list of requests"),
     ("disks: syntax at 1", "map table tables lsblk.txt", None, LIST, "lsblk.txt is what `lsblk` prints"),
-    ("request 1: not top", "replay table stack disks R_b_0_8", "b", "dmremap map table stack disks", ""),
+    ("request 1: not top", "replay table stack disks R_b_0_8", "b", "echo 'R b 0 8' | dmremap map table stack disks", ""),
     ("name: letter", "name /dev/vg0/lv0 x", None, "", ""), ("name: split", "splitname home", None, "", ""),
     ("error: invalid value 'vg0.backup' for '<FORMAT>'", "map vg0.backup lvm", None, LVM, "[possible values: lvm, concise, table, images]"),
     ("error: unrecognized subcommand 'lvm'", "lvm vg0.backup", None, LVM, None), ("error: unrecognized subcommand 'mpa'", "mpa lvm nothing", None, "", None),
     ("error: unexpected argument 'requests' found", "map table tables disks requests", None, TAKE % "disks < requests", None),
+    ("error: unexpected argument '-' found", "map table - disks", None, "cat > text", None),
     ("nothing is refused", "map table tables disks", None, "dmremap-tools explain map table tables disks 'R a 0 8'", None),
 ]
 # Contents of FILE that are no tables, what they are, and the remedy.
 OF_KINDS = [
-    ("0 8 linear /dev/sda1 0\n", "table text without names", "sed 's/^/NAME: /' file > file.mended"), ('{\n  "report": [\n', "JSON", GROUP),
+    ("0 8 linear /dev/sda1 0\n", "table text without names", "sed 's/^/NAME: /' file > file.mended"), ('{\n  "report": [\n', "JSON", GROUP % "GROUP"),
     (TABLE.encode("utf-16"), "UTF-16", "iconv -f UTF-16 -t UTF-8 file > file.mended"), ("No devices found\n", "what dmsetup prints of no device", TABLES),
-    ("vg0-lv0\t(253:0)\n", "what `dmsetup ls` prints", TABLES), ("  LV   VG  Attr       LSize\n  lv0  vg0 -wi-a----- 1g\n", "what `lvs`, `vgs` or `pvs` prints", GROUP),
+    ("vg0-lv0\t(253:0)\n", "what `dmsetup ls` prints", TABLES), ("  LV   VG  Attr       LSize\n  lv0  vg0 -wi-a----- 1g\n", "what `lvs`, `vgs` or `pvs` prints", GROUP % "vg0"),
 ]
 # FILE that names disks in other ways, and the remedy where DISKS isn't one.
 OF_LISTS = [("a: 0 8 linear disk1.img 0\n", '{ echo disk1.img "$(expr $(stat -Lc %s disk1.img) / 512)"; } > disks'),
@@ -140,8 +144,9 @@ def rows():
         yield Row(said, [it.replace("_", " ") for it in words.split()], "", {}, marked, remedy, why)
     for content, kind, remedy in OF_KINDS:
         yield Row(None, ["map", "table", "file", "disks"], "", {"file": content}, None, remedy, "file is " + kind)
+    yield Row("words: disks", ["map", "table", "tables"], "", {"disks": "\n"}, None, LIST, "")
     for content, remedy in OF_LISTS:
-        yield Row("disks: syntax at 1", ["map", "table", "file", "list"], "", {"file": content, "list": "8:1\n"}, "8:1", remedy, "")
+        yield Row("disks: syntax at 1", ["map", "table", "file", "list"], "", {"file": content, "list": "8:1\n", "disks": FILES["disks"]}, "8:1", remedy, "")
 
 
 # The words of messages about texts and about requests. Nobody has a trillion requests.

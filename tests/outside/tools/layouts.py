@@ -5,19 +5,86 @@ import os
 import random
 import re
 
-import containers
-import layout_rows
-import physical_volumes
 import tool_calls
 from harness import Case
 from origins import SHARING, claims, disks_of, small_stack, tidiness
 from snapshots import concise
+from tool_calls import bad, good, lost
 
 STACKS = 12
 
 
+def spanned(inputs, output, message=""):
+    return good("spans", [], inputs, output, message)
+
+
+SPANS = [
+    spanned(["d 64\n", "a: 0 8 linear d 4\na: 8 16 striped 2 4 d 0 d 32\ns: 0 24 snapshot /dev/mapper/a d K 8\n"
+             "o: 0 24 snapshot-origin /dev/mapper/a\n"],
+            "/dev/mapper/a 0 24 o 0 snapshot-origin\n/dev/mapper/a 0 24 s 0 origin\n/dev/mapper/a 24 24 - - end\n"
+            "d 0 8 a 8 striped\nd 0 64 s 0 store\nd 4 12 a 0 linear\nd 32 40 a 8 striped\nd 64 64 - - end\n"),
+    spanned(["d 64\n", "a,,,rw,0 8 striped 2 4 d 4 d 4,8 4 zero\n"], "d 4 8 a 0 striped\nd 4 8 a 0 striped\nd 64 64 - - end\n"),
+    spanned(["d 9\ne 10\n", ""], "d 9 9 - - end\ne 10 10 - - end\n"),
+    bad("spans", [], ["d 64\n", "a: 0 8 linear e 4\n"], "e: neither a disk nor a device: add it to DISKS"),
+    bad("spans", [], ["d 64 8\n", ""], "1:1: not a line of DISKS, give NAME SECTORS: d 64 8"),
+    bad("spans", [], ["d 64k\n", ""], "1:1: not a line of DISKS, give NAME SECTORS: d 64k"),
+]
+
+# Snapshots of one disk, two devices that serve it, and two that lie on it beside them.
+SHARED = ("s: 0 64 snapshot d x P 8\nt: 0 64 snapshot d y P 8\no: 0 64 snapshot-origin d\np: 0 64 snapshot-origin d\na: 0 1 linear d 2\n"
+          "b: 0 1 linear d 3\n")
+READERS = [
+    good("spans", ["--free"], ["d 9\ne 5\n", "a: 0 4 linear d 4\nb: 0 1 linear d 6\n"],
+         "d 0 4 unnamed\nd 4 8 a 0 linear\nd 6 7 b 0 linear\nd 8 9 unnamed\ne 0 5 unnamed\n"),
+    *(good("spans", it, ["", ""], "", "no disk and no device came\n") for it in ([], ["--free"], ["--clashes"], ["--align"])),
+    good("store", ["--writes", "1"], [""], "", "no line came\n"),
+    good("tree", [], [""], "", "no device came\n"),
+    # Snapshots share an origin; a span that ended is met by none, also when it began late.
+    good("spans", ["--clashes"], ["d 64\nx 99\ny 99\n", SHARED],
+         "d 0 63 o p\nd 2 2 o a\nd 2 2 p a\nd 2 2 s a\nd 2 2 t a\nd 3 3 o b\nd 3 3 p b\nd 3 3 s b\nd 3 3 t b\n"),
+    good("spans", ["--align"], ["d 9999\n", "a: 0 6953 linear d 2047\nb: 0 1952 linear d 2048\n"], "a begins at sector 2047 of d\n"),
+    good("spans", ["--align", "--multiple", "8"], ["d 99\n", "a: 0 8 linear d 0\nb: 0 8 zero\nb: 8 8 linear d 12\n"], "b begins at sector 12 of d\n"),
+    ("spans", ["--align", "--multiple", "0"], ["d 9\n", ""], "refused\n", "dmremap-tools spans: --multiple: give one sector or more\n", 2),
+    lost("picture", [], ["d 4 8 a\n"], "1:1: not a line of spans, give what `spans` prints: d 4 8 a"),
+    lost("picture", [], ["refused\n"], "1:1: not a line of spans, give what `spans` prints: refused"),
+    lost("picture", [], ["d 8 4 a 0 linear\n"], "1:1: not a line of spans, give what `spans` prints: d 8 4 a 0 linear"),
+    lost("picture", [], ["d 8 4x a 0 linear\n"], "1:1: give a whole number below 2^64, and not '4x'"),
+    lost("picture", [], ["a b\n"], "1:1: not a line of spans, give what `spans` prints: a b"),
+]
+
+CHAIN = "".join("c%d: 0 8 linear /dev/mapper/c%d 0\n" % (it, it + 1) for it in range(40)) + "c40: 0 8 zero\n"
+PICTURES = [
+    good("tree", [], ["a: 0 8 striped 2 4 /dev/mapper/b 0 /dev/mapper/b 4\nb: 0 8 linear d 0\nc: 0 8 linear /dev/mapper/a 0\n"],
+         "c\n+- 0 8 linear /dev/mapper/a 0\n|    a\n|    +- 0 8 striped 2 4 /dev/mapper/b 0 /dev/mapper/b 4\n"
+         "|    |    b\n|    |    +- 0 8 linear d 0\n"),
+    good("tree", [], ["a,,,ro,0 8 linear d 0\n"], "a\n+- 0 8 linear d 0\n"),
+    lost("tree", [], ["a: 0 8 linear /dev/mapper/b 0\nb: 0 8 linear /dev/mapper/a 0\n"], "1: devices stand on themselves, or on too many others, see `dmremap-tools explain`: a"),
+    lost("tree", [], ["t: 0 8 zero\na: 0 8 linear /dev/mapper/a 0\n"], "1: devices stand on themselves, or on too many others, see `dmremap-tools explain`: a"),
+    lost("tree", [], [CHAIN], "1: devices stand on themselves, or on too many others, see `dmremap-tools explain`: c0"),
+    lost("tree", [], ["\n".join(CHAIN.split("\n")[::-1][1:]) + "\n"], "1: devices stand on themselves, or on too many others, see `dmremap-tools explain`: c8"),
+    lost("tree", ["--dot"], ["a: 0 8 linear /dev/mapper/b 0\nb: 0 8 linear /dev/mapper/a 0\n"], "1: devices stand on themselves, or on too many others, see `dmremap-tools explain`: a"),
+    bad("spans", [], ["d 8\n", "a: 0 8 linear d 0\nb: 0 8 linear /dev/mapper/b 0\n"], "2: devices stand on themselves, or on too many others, see `dmremap-tools explain`: b"),
+    good("tree", [], ["".join(CHAIN.splitlines(True)[9:])], "".join(
+        "%sc%d\n%s+- 0 8 %s\n" % ("|    " * it, it + 9, "|    " * it, "linear /dev/mapper/c%d 0" % (it + 10) if it < 31 else "zero")
+        for it in range(32))),
+    good("tree", ["--dot"], ["s: 0 8 snapshot a\"b P P 8\nz: 0 8 zero\nt: 0 8 striped 2 4 d 0 d 4\n"],
+         'digraph stack {\n  "disk a\\"b" [shape=box]\n  "s" -> "disk a\\"b" [label="origin 0+8"]\n  "disk P" [shape=box]\n'
+         '  "s" -> "disk P" [label="store 0+8"]\n  "s"\n  "z"\n  "disk d" [shape=box]\n  "t" -> "disk d" [label="striped 0+8"]\n  "t"\n}\n'),
+    lost("tree", [], ["a 0 8 zero\n"], "1:1: not table text, give NAME: START LENGTH TARGET ..: a 0 8 zero"),
+    lost("tree", ["--dot"], ["a 0 8 zero\n"], "1:1: not table text, give NAME: START LENGTH TARGET ..: a 0 8 zero"),
+]
+
+STORES = [
+    good("store", ["--writes", "1"], ["R a 0 800\nW a 0 9\nW b 8 8\nW a 16 8\n"], "a 3 40 16\nb 1 24 16\n"),
+    good("store", ["--kind", "N", "--chunk", "4", "--writes", "1"], ["W a 3 2\n"], "a 2 8 0\n"),
+    lost("store", ["--writes", "1"], ["W a 0 8\nx\n"], "1:2: not a request, give R or W, a device, a sector and how many: x"),
+    lost("store", ["--writes", "1"], ["W a 18446744073709551616 8\n"], "1:1: give a whole number below 2^64, and not '18446744073709551616'"),
+    lost("store", ["--writes", "1"], ["W a 0 18446744073709551615\n"], "1:1: the chunks lie too far apart to be counted in 128 MiB: give a larger --chunk"),
+]
+
+
 def check_rows(tally, program, top):
-    tool_calls.check_rows(tally, program, top, layout_rows.ROWS)
+    tool_calls.check_rows(tally, program, top, SPANS + READERS + PICTURES + STORES)
 
 
 def check_random(tally, program, top):
@@ -33,35 +100,6 @@ def check_many_clashes(tally, program, top):
     said = "dmremap-tools spans: %s: there are more than 1000000 clashes: take the lines of one disk, or of fewer devices\n" % path
     tally.holds("clashes of nested ranges", (got.status, got.out.count(b"\n"), got.err.decode()) == (1, 1000001, said),
                 "status %s, %d lines, %r" % (got.status, got.out.count(b"\n"), got.err))
-
-
-def check_taken(tally, program, top):
-    """What images say is taken, as `owner` says it: a GPT with both copies, a partition without a line, a label of LVM with two
-    areas. Images that are cut or changed say less, but all the same something."""
-    head = physical_volumes.gpt((40, 89), (90, 97), last=130).ljust(98 * 512, b"\0")
-    disk = bytearray(physical_volumes.with_backup(head, (40, 89), (90, 97)))
-    disk[48 * 512:48 * 512 + 208] = containers.version_1(4)[:208]
-    label = physical_volumes.label([(4096, 2048), (48 << 9, 1024)], size=64 << 9)
-    volume = (bytes(512) + label).ljust(64 << 9, b"\0")
-    sda = program.file("taken/sda", bytes(disk))
-    places = "sda %s\nsdb %s\n" % (sda, program.file("taken/sdb", volume))
-    files = [program.file("taken/disks", "sda 131\nsdb 64\n"), program.file("taken/table", "p: 0 50 linear sda 40\nv: 0 20 linear /dev/mapper/p 8\n")]
-    words = ["spans", "--paths", program.file("taken/paths", places), *files]
-    wanted = ("/dev/mapper/p 8 28 v 0 linear\n/dev/mapper/p 50 50 - - end\nsda 0 34 GPT - allocated\nsda 40 90 p 0 linear\n"
-              "sda 90 98 %s:2 0 allocated\nsda 98 131 backup-of-the-GPT - allocated\nsda 131 131 - - end\nsdb 1 2 label-of-LVM - allocated\n"
-              "sdb 8 12 metadata-area-of-LVM - allocated\nsdb 48 50 metadata-area-of-LVM - allocated\nsdb 64 64 - - end\n") % sda
-    tally.same("what is taken of disks", tool_calls.call(top, words), 0, wanted)
-    program.file("taken/sda", physical_volumes.mbr((0x83, 40, 50), (0x82, 90, 9)).ljust(131 * 512, b"\0"))
-    got = tool_calls.call(top, words)
-    tally.holds("what is taken of a disk with an MBR", ("\nsda 0 1 MBR - allocated\nsda 40 90 p 0 linear\nsda 90 99 %s:2 0 allocated\n" % sda).encode() in got.out, got.out)
-    dice = random.Random(1)
-    for _ in range(60):
-        changed = bytearray(disk)
-        for _ in range(3):
-            changed[dice.choice([dice.randrange(2048), 48 * 512 + dice.randrange(208)])] = dice.randrange(256)
-        program.file("taken/sda", bytes(changed[:dice.choice([len(changed), dice.randrange(1, len(changed))])]))
-        got = tool_calls.call(top, words)
-        tally.holds("what is taken of a changed disk", got.status == 0 and b"sda 40 90 p 0 linear\n" in got.out, "%s, %r" % (got.status, got.err))
 
 
 def check_full(tally, program, top):
@@ -101,7 +139,7 @@ def check_full(tally, program, top):
     tally.same("stores of no table", got, 1, "", "dmremap-tools store: none: No such file or directory\n")
     for words, usage, why in (
             (["lvm", "none", "none"], "usage: FORMAT FILE [DISKS] [--requests REQUESTS]\n", "give DISKS, or leave it out with lvm"),
-            ([], "", "give FORMAT, FILE and DISKS, or --size REQUESTS"), (["--size", "none", "lvm", "none"], "", "--size needs no FORMAT, FILE and DISKS")):
+            ([], "", "give FORMAT, FILE and DISKS, or --writes REQUESTS"), (["--writes", "none", "lvm", "none"], "", "--writes needs no FORMAT, FILE and DISKS")):
         tally.same("stores by %s" % words, tool_calls.call(top, ["store", *words]), 2, "", "%sdmremap-tools store: %s\n" % (usage, why))
     got = tool_calls.call(top, ["store", "table", program.file("full/table", table), program.file("full/disks", disks), "--program", "no/where"])
     tally.same("stores by no program", got, 1, "", "dmremap-tools store: no/where: No such file or directory\n")
@@ -160,7 +198,7 @@ def check_sizes(tally, program, top):
         status = statuses_after(program, "s: 0 4096 snapshot base cow %s %d\n" % (kind, chunk), "base 4096\ncow 9999\n", requests)["s"]
         used, own = re.fullmatch(r"(\d+)/9999 (\d+)", status).groups()
         chunks = {at // chunk for it in requests if it[0] == "W" for first, count in [map(int, it.split()[2:])] for at in range(first, first + count)}
-        got = tool_calls.call(top, ["store", "--size", "-", "--kind", kind, "--chunk", str(chunk)], given="".join(requests))
+        got = tool_calls.call(top, ["store", "--writes", "-", "--kind", kind, "--chunk", str(chunk)], given="".join(requests))
         tally.same("the store that %d writes in chunks of %d fill" % (len(requests), chunk), got, 0, "s %d %s %s\n" % (len(chunks), used, own))
 
 
@@ -213,6 +251,6 @@ def extents(units):
 
 
 class Layouts(Case, checks=[
-    check_rows, check_taken, check_full, check_places, check_sizes, check_many_clashes, check_random
+    check_rows, check_full, check_places, check_sizes, check_many_clashes, check_random
 ]):
     """Rows, sizes, and stacks at random."""

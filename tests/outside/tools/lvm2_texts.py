@@ -13,6 +13,7 @@ import tool_calls
 from dmremap_tools.model.config_text import Document
 from harness import Case, run
 from lvm2_rows import BARE, GROUP, ONLY, REFUSED, ROWS, other
+from tool_calls import read
 
 PLAIN = ("vg0.backup", "vg0-snapshot.backup")
 SEEDS = 20
@@ -38,11 +39,6 @@ def check_plain(tally, program, top):
         check_row(tally, program, top, name, text, (), (), program.run(["table", "lvm", program.file("lvm2/plain", text)]).out)
         for seed in range(SEEDS):
             check_spelling(tally, program, top, name, read(os.path.join(top, "examples", name)), random.Random(seed))
-
-
-def read(path):
-    with open(path, "rb") as it:
-        return it.read()
 
 
 def copied(program, top, text, words=()):

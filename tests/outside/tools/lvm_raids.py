@@ -1,5 +1,5 @@
-"""LVM's raids over images that are made here: each type with legs missing, in each layout as the kernel's raid5_compute_sector
-and raid6_d0 have it; legs that fail, are rebuilt or in the first sync, and superblocks that don't agree."""
+"""LVM's raids over images that are made here: each type with legs missing, in each layout as the plain model has it; legs that
+fail, are rebuilt or in the first sync, and superblocks that don't agree."""
 
 import itertools
 import os
@@ -10,76 +10,24 @@ import tool_calls
 from dmremap_tools.base.refusal import Refusal
 from dmremap_tools.model.pile import Pile as Images
 from harness import Case
-from models import DATA, EXTENT, HIDDEN, SECTOR, content_of, disk, empty_pile, linear, named, segment, text, volume
+from models import CLEAN, DATA, EXTENT, HIDDEN, SECTOR, content_of, disk, empty_pile, leg_bitmap, linear, named, segment, text, volume
+from plain_model import PARITY_KINDS, parity_legs, stripe_of
 
-CLEAN = (1 << 64) - 1
 # Sectors of a chunk, rows of chunks, extents of a leg's superblock and of its data, and those that a volume takes of a disk.
 CHUNK, ROWS = 8, 6
 META, LEG = 2, ROWS * CHUNK // EXTENT
 EACH = META + LEG
-# The types with parity: the level and the layout in their superblocks.
-RAID5 = {"raid4": 4, "raid5": 2, "raid5_ls": 2, "raid5_rs": 3, "raid5_la": 0, "raid5_ra": 1, "raid5_n": 5}
-RAID6 = {"raid6": 8, "raid6_zr": 8, "raid6_nr": 9, "raid6_nc": 10, "raid6_n_6": 5, "raid6_ls_6": 18, "raid6_rs_6": 19, "raid6_la_6": 16, "raid6_ra_6": 17}
-
-
-def times(value, power):
-    """A byte times g^power in GF(2^8)."""
-    for _ in range(power):
-        value = value << 1 ^ (0x11D if value & 0x80 else 0)
-    return value
-
-
-TABLES = [bytes(times(value, power) for value in range(256)) for power in range(8)]
-
-
-def summed(parts):
-    total = 0
-    for part in parts:
-        total ^= int.from_bytes(part, "little")
-    return total.to_bytes(CHUNK * SECTOR, "little")
-
-
-def row_of(level, layout, count, row):
-    """The roles of a row's data in their order, of P, of Q, and of what Q sums, with the power of g of each."""
-    if level == 5 or layout >= 16:
-        disks = count - (level == 6)
-        parity = {0: disks - 1 - row % disks, 1: row % disks, 2: disks - 1 - row % disks, 3: row % disks, 4: 0, 5: disks - 1}[layout % 16]
-        others = [role for role in range(disks) if role != parity]
-        after = [(parity + 1 + column) % disks for column in range(disks - 1)]
-        data, syndrome = after if layout % 16 in (2, 3) else others, count - 1 if level == 6 else None
-    else:
-        parity = {5: count - 2, 8: row % count, 9: count - 1 - (row + 1) % count, 10: count - 1 - row % count}[layout]
-        syndrome = (parity + (-1 if layout == 10 else 1)) % count
-        data = [(parity + 1 + column) % count for column in range(count - 2)] if layout == 10 else [role for role in range(count) if role not in (parity, syndrome)]
-    if layout in (8, 9, 10):
-        return data, parity, syndrome, {role: role for role in data}
-    first = 0 if syndrome in (None, count - 1) else syndrome + 1
-    order = [role for role in ((first + step) % count for step in range(count)) if role in data]
-    return data, parity, syndrome, {role: power for power, role in enumerate(order)}
-
-
-def parity_legs(content, level, layout, count):
-    """The legs of an array with parity."""
-    size, legs = CHUNK * SECTOR, [b""] * count
-    chunks = iter([content[at:at + size] for at in range(0, len(content), size)])
-    for row in range(ROWS):
-        data, parity, syndrome, powers = row_of(level, layout, count, row)
-        held = {role: next(chunks) for role in data}
-        held[parity] = summed(held[role] for role in data)
-        if syndrome is not None:
-            held[syndrome] = summed(held[role].translate(TABLES[powers[role]]) for role in data)
-        legs = [leg + held[role] for role, leg in enumerate(legs)]
-    return legs
+# The types with parity: the layouts in their superblocks.
+RAID5, RAID6 = ({kind: layout for kind, (of, layout) in PARITY_KINDS.items() if of == level} for level in (5, 6))
 
 
 def superblock(count, leg, level, layout, **given):
-    """A superblock of dm-raid, with its bitmap; `dirty` are bits of that."""
+    """A superblock of dm-raid, with its bitmap, in which the regions `dirty` were being written."""
     told = {"magic": 0x64526D44, "features": 1, "events": 20, "failed": 0, "recovered": CLEAN, "resync": CLEAN, "chunk": CHUNK if level != 1 else 0, "flags": 0,
-            "reshape": CLEAN, "delta": 0, "offset": 0, "incompatible": 0, "dirty": 0, **given}
+            "reshape": CLEAN, "delta": 0, "offset": 0, "incompatible": 0, "dirty": (), **given}
     head = struct.pack("<4L4Q4LQ3Ll4Q24xL", told["magic"], told["features"], count, leg, told["events"], told["failed"], told["recovered"], told["resync"], level, layout,
                        told["chunk"], told["flags"], told["reshape"], level, layout, told["chunk"], told["delta"], 0, told["offset"], 0, 0, told["incompatible"])
-    bitmap = struct.pack("<4sL16x3Q2L", b"bitm", 4, 0, 0, LEG * EXTENT, 0, CHUNK * SECTOR).ljust(256, b"\0") + told["dirty"].to_bytes(8, "little")
-    return head.ljust(4096, b"\0") + bitmap.ljust(4096, b"\0")
+    return head.ljust(4096, b"\0") + leg_bitmap(LEG * EXTENT, CHUNK, told["dirty"]).ljust(4096, b"\0")
 
 
 class Raid:
@@ -137,7 +85,7 @@ def read(pile, name, images):
 def parity_raids(kinds, level, count):
     for place, (kind, layout) in enumerate(kinds.items()):
         content = content_of(kind, ROWS * (count - level + 4) * CHUNK)
-        yield Raid("v_" + kind, kind, content, parity_legs(content, level, layout, count), level, layout, place)
+        yield Raid("v_" + kind, kind, content, parity_legs(content, level, layout, count, CHUNK), level, layout, place)
 
 
 def copied_raids():
@@ -179,7 +127,7 @@ def check_states(tally, pile):
     """What superblocks say of legs, in both orders of the images: its bytes, or a refusal."""
     wanted, older = content_of("new", ROWS * CHUNK), content_of("old", ROWS * CHUNK)
     five = content_of("five", ROWS * CHUNK * 2)
-    legs = parity_legs(five, 5, 2, 3)
+    legs = parity_legs(five, 5, 2, 3, CHUNK)
     half = wanted[:HALF] + older[HALF:]
     bad = [legs[0], b"\xff" * len(legs[1]), legs[2]]
 
@@ -228,11 +176,11 @@ def check_states(tally, pile):
     parity("one of whose legs is stale, and another is missing", "it is stale", bad, {0: {"events": 30}, 2: {"events": 30}}, gone=[0])
     parity("one of whose superblocks is gone", five, bad, {1: {"raw": bytes(8192)}})
     parity("two of whose superblocks are gone", "leave its disk out", bad, {leg: {"raw": bytes(8192)} for leg in (0, 1)})
-    parity("that was being written to", five, legs, {}, dirty=4)
-    parity("that was being written to, without a leg", "wasn't shut down cleanly", legs, {}, gone=[1], dirty=4)
-    parity("that was written to while a leg was out", five, bad, {0: {**FAILED, "events": 21}, 2: {**FAILED, "events": 21}}, dirty=4)
-    parity("the same without that leg", five, bad, {0: {**FAILED, "events": 21}, 2: {**FAILED, "events": 21}}, gone=[1], dirty=4)
-    parity("one of whose legs is half rebuilt", five, [legs[0], legs[1][:HALF] + bad[1][HALF:], legs[2]], {1: RECOVERED}, dirty=63)
+    parity("that was being written to", five, legs, {}, dirty=(2,))
+    parity("that was being written to, without a leg", "wasn't shut down cleanly", legs, {}, gone=[1], dirty=(2,))
+    parity("that was written to while a leg was out", five, bad, {0: {**FAILED, "events": 21}, 2: {**FAILED, "events": 21}}, dirty=(2,))
+    parity("the same without that leg", five, bad, {0: {**FAILED, "events": 21}, 2: {**FAILED, "events": 21}}, gone=[1], dirty=(2,))
+    parity("one of whose legs is half rebuilt", five, [legs[0], legs[1][:HALF] + bad[1][HALF:], legs[2]], {1: RECOVERED}, dirty=range(6))
     parity("the same without another leg", "it was being rebuilt", legs, {1: RECOVERED}, gone=[0])
     parity("whose first sync goes on", five, legs, {}, resync=8)
     parity("whose first sync goes on, without a leg", "wasn't shut down cleanly", legs, {}, gone=[2], resync=8)
@@ -240,7 +188,7 @@ def check_states(tally, pile):
     parity("that gets another leg", "it is being reshaped", legs, {}, delta=1)
     parity("with chunks of another length", "other chunks than the text", legs, {}, chunk=16)
     parity("in another layout than the text's", "a layout that isn't followed", legs, {leg: {"raw": superblock(3, leg, 5, 0)} for leg in range(3)})
-    moved = [b"\xff" * EXTENT * SECTOR + leg[:-EXTENT * SECTOR] for leg in parity_legs(five[:-2 * EXTENT * SECTOR] + bytes(2 * EXTENT * SECTOR), 5, 2, 3)]
+    moved = [b"\xff" * EXTENT * SECTOR + leg[:-EXTENT * SECTOR] for leg in parity_legs(five[:-2 * EXTENT * SECTOR] + bytes(2 * EXTENT * SECTOR), 5, 2, 3, CHUNK)]
     reshaped = Raid("home", "raid5", five[:-2 * EXTENT * SECTOR], moved, 5, 2, reshaped=1, offset=EXTENT)
     check("that was reshaped, so that its data begins later", reshaped.content, reshaped, {}, [])
     check("the same without a leg", reshaped.content, reshaped, {}, [0])
@@ -270,7 +218,7 @@ def check_owners(tally, pile):
             for leg, data in enumerate(raid.legs):
                 for row in range(ROWS):
                     sector = DATA + raid.place * EACH * EXTENT + META * EXTENT + row * CHUNK + 3
-                    is_data = raid.level not in (5, 6) or leg in row_of(raid.level, raid.layout, raid.count, row)[0]
+                    is_data = raid.level not in (5, 6) or leg in stripe_of(raid.level, raid.layout, raid.count, row)[0]
                     at = raid.content.index(data[(row * CHUNK + 3) * SECTOR:][:SECTOR]) // SECTOR if is_data else -1
                     asked.append("%s %d 1\n" % (images[leg], sector))
                     wanted.append("vg0/%s %d" % (raid.name, at) if at >= 0 else "parity of vg0/%s" % raid.name)
@@ -286,12 +234,11 @@ def check_damaged(tally, pile):
     """Random damage in superblocks and bitmaps: the right bytes, or a refusal in words."""
     dice = random.Random(11)
     five = content_of("five", ROWS * CHUNK * 2)
-    raids = [Raid("v5", "raid5", five, parity_legs(five, 5, 2, 3), 5, 2), Raid("v1", "raid1", five[:ROWS * CHUNK * SECTOR], [five[:ROWS * CHUNK * SECTOR]] * 3, 1, 0, 1)]
+    raids = [Raid("v5", "raid5", five, parity_legs(five, 5, 2, 3, CHUNK), 5, 2), Raid("v1", "raid1", five[:ROWS * CHUNK * SECTOR], [five[:ROWS * CHUNK * SECTOR]] * 3, 1, 0, 1)]
     put(pile, raids)
     sound = {}
     for image in pile.images():
-        with open(os.path.join(pile.folder, image), "rb") as file:
-            sound[image] = file.read()
+        sound[image] = pile.read(image)
     for number in range(60):
         for image, content in sound.items():
             changed = bytearray(content)

@@ -14,7 +14,7 @@ import machine_rows
 import physical_volumes
 import tool_calls
 from harness import Case, run
-from tool_calls import TOOL
+from tool_calls import TOOL, read
 
 SAMPLES = ("ls", "status", "lsblk")
 
@@ -30,14 +30,6 @@ def called(program, top, words, inputs):
     folder = os.path.dirname(program.file("machines/disks"))
     files = [program.file("machines/%d" % place, text) for place, text in enumerate(inputs, 1)]
     return tool_calls.call(top, [*words, *files], folder=folder), read(os.path.join(folder, "disks"))
-
-
-def read(path):
-    """The bytes of a file, or None where there is none."""
-    if not os.path.exists(path):
-        return None
-    with open(path, "rb") as it:
-        return it.read()
 
 
 def check_row(tally, program, top, command, words, inputs, output, message, status, disks):

@@ -5,9 +5,11 @@ import contextlib
 import importlib
 import os
 
+import images
 import tool_calls
 from harness import NOBODY, Case, run
 from physical_volumes import FIRST, MAGIC, SECTOR, area, gpt, label, mbr, md_member, text_of_area, volume, with_backup
+from tool_calls import read
 
 # Where the sample has the text of a group that was removed, and where the valid one, which goes round the ring.
 OLD, VALID = 2048, 3840
@@ -50,11 +52,6 @@ class Command:
         """It refuses an image, with this message, and tells something before."""
         self.program.file("head", head)
         self.tally.same("the text of " + name, self.answer(words), 1, "", told + SAID + path + ": " + message + "\n")
-
-
-def read(path):
-    with open(path, "rb") as it:
-        return it.read()
 
 
 def sample(group):
@@ -234,6 +231,13 @@ TAKEN = [
 ]
 
 
+def check_whole(tally, program, command):
+    """Of a whole image dmremap's own answer is printed, so that nothing is told of an area that isn't used."""
+    path = program.file("whole", images.disk("a", images.area(), images.area(b"x", flags=1)))
+    env = dict(os.environ, PATH=os.path.dirname(program.path) + os.pathsep + os.environ["PATH"])
+    tally.same("the text of a whole image", command.run(path, env=env), 0, images.TEXT[:-1])
+
+
 def check_rows(command):
     for name, head, *told, message in REFUSED:
         command.refuses(name, head, message, told="".join(told))
@@ -264,8 +268,6 @@ def disk_of(head, *parts):
 MBR_DISK = disk_of(mbr((0x83, 64, 8), (0x8E, 128, 256)), (128, ONE_AREA))
 LOGICAL_DISK = disk_of(mbr((0x83, 64, 8), (0x05, 128, 512)), (128, mbr((0x83, 8, 8), (0x05, 64, 200))), (192, mbr((0x8E, 8, 100))),
                        (200, ONE_AREA))
-THIRD_LOGICAL = disk_of(mbr((0x05, 128, 512)), (128, mbr((0x83, 8, 8), (0x05, 64, 64))), (192, mbr((0x83, 8, 8), (0x05, 128, 128))),
-                        (256, mbr((0x8E, 8, 100))), (264, ONE_AREA))
 GPT_DISK = disk_of(gpt((64, 71), None, (128, 255)), (128, ONE_AREA))
 LARGE_SECTORS = disk_of(gpt((16, 31), sector=4096), (128, ONE_AREA))
 BOTH = disk_of(mbr((0x83, 64, 8)), (1, ONE_AREA[SECTOR:]))
@@ -455,7 +457,7 @@ HOSTILE = [("a long word", b"a" * (1 << 19)), ("braces", b' {\nid = "' * (1 << 1
 
 
 class MetadataAreas(Case, checks=[
-    check_sample, check_rings, check_flips, check_lengths, check_rows, check_disks, check_places, check_heads,
+    check_sample, check_rings, check_flips, check_lengths, check_whole, check_rows, check_disks, check_places, check_heads,
     check_files, check_texts
 ]):
     """All that the command is tried on."""

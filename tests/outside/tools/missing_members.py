@@ -6,7 +6,8 @@ import os
 import models
 from harness import Case
 from models import EXTENT, HIDDEN, SECTOR, content_of, disk, leg_bitmap, leg_superblock, linear, member, segment, text, volume
-from plain_comparison import changed, parity_legs
+from plain_comparison import changed
+from plain_model import parity_legs
 
 DROPPED, CHUNK = 0xFFFE, 8
 

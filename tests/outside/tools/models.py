@@ -20,6 +20,8 @@ import physical_volumes
 import tool_calls
 import used
 from harness import Case
+from physical_volumes import section
+from plain_model import parity_legs
 
 SECTOR = 512
 MIB = 1 << 20
@@ -38,6 +40,9 @@ class Pile:
         with open(os.path.join(self.folder, name), "wb") as image:
             image.write(content)
 
+    def read(self, name):
+        return tool_calls.read(os.path.join(self.folder, name))
+
     def call(self, *words):
         return tool_calls.call(self.top, [words[0], "--program", self.program.path, *words[1:]], folder=self.folder)
 
@@ -54,10 +59,7 @@ class Pile:
         if os.path.exists(path):
             os.unlink(path)
         got = self.call("save", volume, "out", *(images or self.images()), *more)
-        if not os.path.exists(path):
-            return got, None
-        with open(path, "rb") as saved:
-            return got, saved.read()
+        return got, tool_calls.read(path)
 
     def holds(self, tally, name, volume, content, *images):
         """A volume that is saved whole."""
@@ -92,12 +94,7 @@ def identity(letter):
 
 def dashed(letter):
     """The same, as a text has it."""
-    groups = [letter * count for count in (6, 4, 4, 4, 4, 4, 6)]
-    return "-".join(groups)
-
-
-def section(name, *fields):
-    return "%s {\n%s}\n" % (name, "".join(field if field.endswith("\n") else field + "\n" for field in fields))
+    return physical_volumes.dashed(letter * 32)
 
 
 def linear(first, count, *areas, kind="striped", more=()):
@@ -470,11 +467,7 @@ def member(data, level, number, roles, events, layout=0, chunk=8, size=64, disks
     head += struct.pack("<QQQQLL16sBBHl", *places, number, 0, b"amember", 0, shift, bool(bad), 8)
     tail = struct.pack("<QQQ", 0, events, resync)
     table = struct.pack("<%dH" % len(roles), *roles)
-    def with_sum(value):
-        return head + tail + struct.pack("<LL32x", value, len(roles)) + table
-    words = with_sum(0)
-    total = sum(struct.unpack("<%dL" % (len(words) // 4), words[:len(words) // 4 * 4])) + (struct.unpack("<H", words[-2:])[0] if len(words) % 4 else 0)
-    superblock = with_sum((total & 0xFFFFFFFF) + (total >> 32) & 0xFFFFFFFF)
+    superblock = physical_volumes.md_summed(bytearray(head + tail + struct.pack("<LL32x", 0, len(roles)) + table), 216)
     image = bytearray(start * SECTOR) + data + bytes((tail_sectors if version else 64 + tail_sectors) * SECTOR)
     image[place * SECTOR:place * SECTOR + len(superblock)] = superblock
     if bad:
@@ -483,25 +476,10 @@ def member(data, level, number, roles, events, layout=0, chunk=8, size=64, disks
     return bytes(image)
 
 
-def xor(*parts):
-    made = bytes(len(parts[0]))
-    for part in parts:
-        made = bytes(one ^ other for one, other in zip(made, part))
-    return made
-
-
 def check_arrays(tally, pile):
     """Arrays whole and with members missing or stale, one of unequal members, and a group on one."""
     data = content_of("array", 128)
-    size = 8 * SECTOR
-    chunks = [data[at:at + size] for at in range(0, len(data), size)]
-    rows = [[] for _ in range(3)]
-    for row in range(8):
-        parity = 2 - row % 3
-        rows[parity].append(xor(chunks[2 * row], chunks[2 * row + 1]))
-        for column in range(2):
-            rows[(parity + 1 + column) % 3].append(chunks[2 * row + column])
-    legs = [b"".join(each) for each in rows]
+    legs = parity_legs(data, 5, 2, 3, 8)
     for number, leg in enumerate(legs):
         pile.put("m%d" % number, member(leg, 5, number, (0, 1, 2), 7, layout=2))
     pile.holds(tally, "raid5", "md:array", data)
@@ -750,8 +728,7 @@ def check_names(tally, pile):
     os.rename(os.path.join(pile.folder, "one"), os.path.join(pile.folder, "other"))
     pile.refuses(tally, "a volume that is called as an image", "other", "say ./other, or vg0/other")
     pile.holds(tally, "the volume", "vg0/other", extents_of(A, 30, 2))
-    with open(os.path.join(pile.folder, "other"), "rb") as image:
-        pile.holds(tally, "the image", "./other", image.read())
+    pile.holds(tally, "the image", "./other", pile.read("other"))
     pile.refuses(tally, "no such volume", "vg0/nothing", "`scan` lists what is there")
     pile.refuses(tally, "no such group", "nowhere/home", "no group is called nowhere")
 
@@ -794,25 +771,20 @@ def check_saving(tally, pile):
     wanted = extents_of(A, 3, 5)
     pile.put("out", b"mine")
     got = pile.call("save", "vg0/home", "out", "one")
-    with open(os.path.join(pile.folder, "out"), "rb") as there:
-        tally.holds("a file that is there", got.status == 1 and there.read() == b"mine" and b"it is there already: give another name, or remove it first" in got.err, got.err)
+    tally.holds("a file that is there", got.status == 1 and pile.read("out") == b"mine" and b"it is there already: give another name, or remove it first" in got.err, got.err)
     os.unlink(os.path.join(pile.folder, "out"))
     size = len(wanted)
-    with open(os.path.join(pile.folder, "one"), "rb") as image:
-        before = image.read()
+    before = pile.read("one")
     for name, words in (("as OUT", ["one"]), ("as MAP", ["out", "--resume", "one"])):
         got = pile.call("save", "vg0/home", *words[:1], "one", *words[1:])
-        with open(os.path.join(pile.folder, "one"), "rb") as image:
-            tally.holds("an image " + name, got.status in (1, 2) and image.read() == before, "status %s, %r" % (got.status, got.err))
+        tally.holds("an image " + name, got.status in (1, 2) and pile.read("one") == before, "status %s, %r" % (got.status, got.err))
     pile.call("save", "vg0/home", "out", "one", "--resume", "map")
-    with open(os.path.join(pile.folder, "map"), "rb") as rescue:
-        own = rescue.readline()
+    own = pile.read("map").splitlines(True)[0]
     tally.holds("what a map is of", own.startswith(b"# Of vg0/home of 40 sectors, from %s %s " % (dashed("h").encode(), dashed("a").encode())), own)
     pile.put("out", bytes(4096) + wanted[4096:8192] + bytes(size - 8192))
     pile.put("map", own + b"0x0 ?\n0x0 0x1000 ?\n0x1000 0x1000 +\n0x2000 0x%x ?\n" % (size - 0x2000))
     got = pile.call("save", "vg0/home", "out", "one", "--resume", "map")
-    with open(os.path.join(pile.folder, "out"), "rb") as saved:
-        tally.holds("a run that goes on", got.status == 0 and saved.read() == wanted, got.err)
+    tally.holds("a run that goes on", got.status == 0 and pile.read("out") == wanted, got.err)
     os.unlink(os.path.join(pile.folder, "out"))
     got = pile.call("save", "vg0/home", "out", "one", "--resume", "map")
     tally.holds("a map without its file", got.status == 1 and b"the map says that it was begun, and it isn't there" in got.err, got.err)
@@ -822,9 +794,8 @@ def check_saving(tally, pile):
     pile.put("d", disk("d", A, halves))
     begun = pile.call("save", "vg1/both", "out", "d", "--resume", "map")
     got = pile.call("save", "vg1/both", "out", "c", "--resume", "map")
-    with open(os.path.join(pile.folder, "out"), "rb") as saved:
-        is_so = (begun.status, got.status) == (4, 0) and saved.read() == wanted * 2
-        tally.holds("a run that goes on without the disk of what is there", is_so, got.err)
+    is_so = (begun.status, got.status) == (4, 0) and pile.read("out") == wanted * 2
+    tally.holds("a run that goes on without the disk of what is there", is_so, got.err)
     for name in ("c", "d", "out", "map"):
         os.unlink(os.path.join(pile.folder, name))
     got = pile.call("save", "vg0/home", "out", "one", "--map", "map")
@@ -906,8 +877,7 @@ def check_served(tally, pile):
     server.terminate()
     status = server.wait(30)
     server.stdout.close()
-    with open(os.path.join(pile.folder, "out"), "rb") as copy:
-        tally.holds("a copy from a server", copy.read() == extents_of(A, 3, 5), uri)
+    tally.holds("a copy from a server", pile.read("out") == extents_of(A, 3, 5), uri)
     tally.holds("how a server ends", status in (130, 143) and not os.path.exists(path), status)
     pile.put("out.sock", b"kept")
     got = pile.call(*words[1:2], *words[4:])

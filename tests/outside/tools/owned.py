@@ -11,11 +11,11 @@ import containers
 import models
 import physical_volumes
 import tool_calls
-from dmremap_tools.base import disk_image, signatures
+from dmremap_tools.formats import disk_image, signatures
 from dmremap_tools.model.device import Image, Lenient
 from harness import Case
-from models import (A, B, DATA, EXTENT, MIB, SECTOR, content_of, disk, empty_pile, extents_of, linear, member, named, text,
-                    volume, xor)
+from models import A, B, DATA, EXTENT, MIB, SECTOR, content_of, disk, empty_pile, extents_of, linear, member, named, text, volume
+from plain_model import parity_legs
 
 HOME = [volume("home", "h", linear(0, 5, ("pv0", 3)))]
 ROOT = [volume("root", "r", linear(0, 5, ("pv0", 3)))]
@@ -129,14 +129,7 @@ def check_filled(tally, pile):
     """Members that were being rebuilt: not read where others are, alone refused without a fault, and read as far as they were filled
     where another one is missing."""
     data = content_of("array", 128)
-    chunks = [data[at:at + 8 * SECTOR] for at in range(0, len(data), 8 * SECTOR)]
-    rows = [[] for _ in range(3)]
-    for row in range(8):
-        parity = 2 - row % 3
-        rows[parity].append(xor(chunks[2 * row], chunks[2 * row + 1]))
-        for column in range(2):
-            rows[(parity + 1 + column) % 3].append(chunks[2 * row + column])
-    legs = [b"".join(each) for each in rows]
+    legs = parity_legs(data, 5, 2, 3, 8)
     def filling(content, level, number, roles, up_to, layout=0):
         made = bytearray(member(content[:up_to * SECTOR].ljust(64 * SECTOR, b"?"), level, number, roles, 7, layout=layout))
         struct.pack_into("<L", made, 8 * SECTOR + 8, 2)

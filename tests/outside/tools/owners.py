@@ -10,6 +10,7 @@ import physical_volumes
 from harness import Case
 from models import A, DATA, EXTENT, HIDDEN, SECTOR, content_of, disk, extents_of, linear, member, segment, text, volume
 from physical_volumes import gpt, mbr
+from plain_model import parity_legs
 
 
 UNMAPPED = b"no map was given: only what the images lack counts as missing\n"
@@ -26,8 +27,7 @@ def asked(pile, given, *words):
 
 def lines_of(pile, name, *images):
     """The lines about all of an image: the first sector, how many, and the steps."""
-    with open(os.path.join(pile.folder, name), "rb") as image:
-        sectors = len(image.read()) // SECTOR
+    sectors = len(pile.read(name)) // SECTOR
     got = asked(pile, "%s 0 %d\n" % (name, sectors), *images)
     rows = []
     for line in got.out.decode().splitlines():
@@ -41,8 +41,7 @@ def agrees(tally, title, pile, name, contents, *images):
     """Each sector of an image has an answer, and where that is a sector of one of these contents, it has its bytes. Returns the
     sectors of each content that were found, and what is said besides."""
     got, sectors, rows = lines_of(pile, name, *images)
-    with open(os.path.join(pile.folder, name), "rb") as image:
-        here = image.read()
+    here = pile.read(name)
     answered, wrong, found, besides = set(), [], {}, {}
     for first, count, steps in rows:
         answered.update(range(first, first + count))
@@ -251,26 +250,17 @@ def check_arrays(tally, pile):
     """Members of arrays of each level: each sector of data is where the array has it."""
     data = content_of("array", 128)
     chunks = [data[at:at + 8 * SECTOR] for at in range(0, len(data), 8 * SECTOR)]
-    five, six = [[] for _ in range(3)], [[] for _ in range(4)]
-    for row in range(8):
-        parity = 2 - row % 3
-        five[parity].append(models.xor(chunks[2 * row], chunks[2 * row + 1]))
-        place = 3 - row % 4
-        six[place].append(models.xor(chunks[2 * row], chunks[2 * row + 1]))
-        six[(place + 1) % 4].append(b"Q" * 8 * SECTOR)
-        for column in range(2):
-            five[(parity + 1 + column) % 3].append(chunks[2 * row + column])
-            six[(place + 2 + column) % 4].append(chunks[2 * row + column])
-    near = [[chunk for number, chunk in enumerate(chunks) if number % 2 == leg // 2] for leg in range(4)]
-    far = [[chunks[2 * row + leg] for row in range(8)] + [chunks[2 * row + (leg - 1) % 2] for row in range(8)] for leg in range(2)]
+    five, six = parity_legs(data, 5, 2, 3, 8), parity_legs(data, 6, 2, 4, 8)
+    even, odd = (b"".join(chunks[leg::2]) for leg in range(2))
+    near, far = [even, even, odd, odd], [even + odd, odd + even]
     for name, level, layout, legs, size in (
             ("raid5", 5, 2, five, 64), ("raid6", 6, 2, six, 64), ("raid10 near", 10, 0x102, near, 64), ("raid10 far", 10, 0x201, far, 128),
-            ("raid1", 1, 0, [[data], [data]], 128), ("raid0", 0, 1, [chunks[0::2], chunks[1::2]], 0),
+            ("raid1", 1, 0, [data, data], 128), ("raid0", 0, 1, [even, odd], 0),
             # The rest of a chunk isn't data of the array.
             ("raid5 of 60 sectors", 5, 2, five, 60)):
         roles, found, count = tuple(range(len(legs))), set(), 112 if size == 60 else 128
         for number, leg in enumerate(legs):
-            pile.put("m%d" % number, member(b"".join(leg), level, number, roles, 7, layout=layout, size=size))
+            pile.put("m%d" % number, member(leg, level, number, roles, 7, layout=layout, size=size))
         for number in roles:
             contents = {"md:array": data[:count * SECTOR]}
             here, besides = agrees(tally, "member %d of %s" % (number, name), pile, "m%d" % number, contents)
@@ -280,7 +270,7 @@ def check_arrays(tally, pile):
         for number in roles:
             os.unlink(os.path.join(pile.folder, "m%d" % number))
     for number, leg in enumerate(five):
-        pile.put("m%d" % number, member(b"".join(leg), 5, number, (0, 1, 2), 7 - 4 * (number == 1), layout=2))
+        pile.put("m%d" % number, member(leg, 5, number, (0, 1, 2), 7 - 4 * (number == 1), layout=2))
     got = asked(pile, "m1 70\n")
     tally.holds("a stale member", b"a member of md:array that is stale" in got.out, got.out)
     pile.put("m1", struct.pack("<L", 0) * 4096)

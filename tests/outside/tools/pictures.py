@@ -28,7 +28,7 @@ PICTURES = [
 ]
 DISKS = "sda 1500\nsdb 150\n"
 MEMORY = 100 << 20
-PLOT = ["--plot", "plot.svg", "--disks"]
+PLOT = ["--plot", "plot.svg", "--lengths"]
 
 
 def drawn(tally, program, top, words, given):

@@ -51,22 +51,6 @@ def some_runs(dice, sectors, most=3):
     return [(first, min(end, first + 1 + dice.randrange(12))) for first, end in zip(ends[::2], ends[1::2])]
 
 
-def parity_legs(data, level, layout, disks, chunk):
-    """The legs of raid4, 5 or 6 over some data."""
-    columns, size = disks - (2 if level == 6 else 1), chunk * SECTOR
-    legs = [bytearray() for _ in range(disks)]
-    for stripe in range(len(data) // size // columns):
-        members, p, q, powers = plain_model.stripe_of(level, layout, disks, stripe)
-        row = {role: data[(stripe * columns + column) * size:][:size] for column, role in enumerate(members)}
-        sectors = [{role: part[at:at + SECTOR] for role, part in row.items()} for at in range(0, size, SECTOR)]
-        row[p] = b"".join(plain_model.added(*each.values()) for each in sectors)
-        if q is not None:
-            row[q] = b"".join(plain_model.q_sum(each, powers) for each in sectors)
-        for role, leg in enumerate(legs):
-            leg += row[role]
-    return [bytes(leg) for leg in legs]
-
-
 def placed_legs(data, lengths, places):
     """Legs of these lengths with the sectors of some data, of which `places` gives the members and their sectors."""
     legs = [bytearray(length * SECTOR) for length in lengths]
@@ -137,7 +121,7 @@ def array(dice, machine, data=None):
         else:
             size = -(-len(data) // SECTOR // chunk // columns) * chunk
             data = data.ljust(size * columns * SECTOR, b"\0")
-        legs = [leg.ljust(size * SECTOR, b"\0") for leg in parity_legs(data, level, layout, disks, chunk)]
+        legs = [leg.ljust(size * SECTOR, b"\0") for leg in plain_model.parity_legs(data, level, layout, disks, chunk)]
     put_members(dice, machine, data, legs, level, layout, chunk, size)
     return level
 
@@ -323,7 +307,7 @@ def raid_kind(dice, group):
         legs = placed_legs(noise(dice, count * EXTENT), [length] * disks, places)
     else:
         count = rows * (disks - (2 if level == 6 else 1))
-        legs = parity_legs(noise(dice, count * EXTENT), *plain_model.PARITY_KINDS[kind], disks, chunk)
+        legs = plain_model.parity_legs(noise(dice, count * EXTENT), *plain_model.PARITY_KINDS[kind], disks, chunk)
     failed = dice.choice([(), (), (dice.randrange(disks),), tuple(dice.sample(range(disks), 2))]) if level else ()
     rebuilt = dice.choice([None] * 4 + [role for role in range(disks) if role not in failed]) if level else None
     region = dice.choice([8, 16])

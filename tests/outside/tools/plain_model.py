@@ -150,6 +150,22 @@ def q_sum(parts, powers):
     return added(bytes(SECTOR), *(scaled(power_of_two(powers[role]), part) for role, part in parts.items()))
 
 
+def parity_legs(data, level, layout, disks, chunk):
+    """The legs of raid4, 5 or 6 over some data."""
+    columns, size = disks - (2 if level == 6 else 1), chunk * SECTOR
+    legs = [bytearray() for _ in range(disks)]
+    for stripe in range(len(data) // size // columns):
+        members, p, q, powers = stripe_of(level, layout, disks, stripe)
+        row = {role: data[(stripe * columns + column) * size:][:size] for column, role in enumerate(members)}
+        sectors = [{role: part[at:at + SECTOR] for role, part in row.items()} for at in range(0, size, SECTOR)]
+        row[p] = b"".join(added(*each.values()) for each in sectors)
+        if q is not None:
+            row[q] = b"".join(q_sum(each, powers) for each in sectors)
+        for role, leg in enumerate(legs):
+            leg += row[role]
+    return [bytes(leg) for leg in legs]
+
+
 def parity_sector(read, level, layout, disks, chunk, number, computes):
     """A sector of raid4, 5 or 6: as it is, or else computed from the other members, where that is said to be right."""
     stripe, column = divmod(number // chunk, disks - (2 if level == 6 else 1))

@@ -1,5 +1,5 @@
 """Every command that dmremap-tools explain or dmremap help prints as a remedy is typed, with what it needs of a machine put in its
-place: it ends with status 0. A request that explain prints is asked."""
+place: it ends with status 0."""
 
 import ast
 import glob
@@ -20,11 +20,11 @@ MACHINE = {
     "dmsetup": 'case $* in ls|status) cat "$SAMPLES/$1.txt";; "table --concise") cat "$SAMPLES/concise.txt";; "ls --tree"|table|"table "*) cat tables;; *) exit 1;; esac',
     "lsblk": '[ "$*" = "-brno MAJ:MIN,SIZE,KNAME,PKNAME" ] && cat "$SAMPLES/lsblk.txt"',
     "lvs": '[ "$*" = -a ]',
-    "vgcfgbackup": '[ "$1 $2 $3" = "-f GROUP.backup GROUP" ] && echo > "$2"',
+    "sudo": 'exec "$@"',
+    "vgcfgbackup": '[ "$1" = -f ] && [ $# = 3 ] && cat vg0.backup > "$2"',
 }
 # What stands in a command for what only the user knows.
 NAMED = {"REQUESTS": "R a 0 8\n", "DISKS": "/dev/sda1 100\n", "FILE": "a: 0 8 linear /dev/sda1 0\n"}
-REQUEST = re.compile("[RW] .*")
 # A command as it stands in the sources, and what is put into it.
 COMMAND, PUT = re.compile("  [a-z].*"), re.compile(r"%[sd]|NUMBER")
 # What help prints as a command, and what is typed for it, with what only the user knows.
@@ -73,14 +73,8 @@ def check_typed(tally, program, top):
     environment = dict(os.environ, PATH=machine + os.pathsep + os.environ["PATH"])
     one = explained.Explain(program, top, put_files(program, top))
     for words, given, files in (row[1:4] for row in explained_rows.rows()):
-        commands = []
-        one.put(files)
-        for remedy in explained.remedy_of(one.run(words, given).out.decode().splitlines()).splitlines():
-            if REQUEST.fullmatch(remedy):
-                got = program.run([it for it in words if not explained.REQUEST.match(it)], given=remedy + "\n", folder=one.folder)
-                tally.holds("the request %s" % remedy, got.status == 0, got.err)
-            else:
-                commands.append(remedy)
+        one.put({**files, "REQUESTS": given or NAMED["REQUESTS"]})
+        commands = explained.remedy_of(one.run(words, given).out.decode().splitlines()).splitlines()
         if typed.issuperset(commands):
             continue
         typed.update(commands)

@@ -10,6 +10,7 @@ import models
 import tool_calls
 from harness import Case
 from models import A, DATA, EXTENT, SECTOR, content_of, disk, extents_of, linear, member, text, volume
+from plain_model import parity_legs
 
 OTHER = "--map-of-other-length"
 HOME = extents_of(A, 3, 5)
@@ -116,14 +117,7 @@ def check_lengths(tally, pile):
 def check_rows(tally, pile):
     """A raid5 without a member, of which another lacks one sector: that of the missing one is lost as well, and not the chunk."""
     data = content_of("array", 128)
-    chunks = [data[at:at + 8 * SECTOR] for at in range(0, len(data), 8 * SECTOR)]
-    legs = [bytearray() for _ in range(3)]
-    for row in range(len(chunks) // 2):
-        parity, pair = (2 - row) % 3, chunks[2 * row:2 * row + 2]
-        legs[parity] += models.xor(*pair)
-        for column, chunk in enumerate(pair):
-            legs[(parity + 1 + column) % 3] += chunk
-    images = [member(bytes(leg), 5, number, (0, 1, 2), 7, layout=2) for number, leg in enumerate(legs)]
+    images = [member(leg, 5, number, (0, 1, 2), 7, layout=2) for number, leg in enumerate(parity_legs(data, 5, 2, 3, 8))]
     # In the first row the missing member has the parity, in the third row the one with the gap.
     for lacking, lost in ((3, 1), (8 + 3, 2), (16 + 3, 1)):
         words = put(pile, "m0", images[0], (64 + lacking, 1))
@@ -162,8 +156,7 @@ def check_tables(tally, pile):
     tally.same("a volume of a disk with a gap", got, 1, "", "dmremap-tools save: v: sda lacks its bytes 5120 to 6143, as its map says; or give --resume MAP to save the rest: the map says "
                "then what is missing\n")
     got = pile.call("save", "v", "out", *words, "--allow-missing")
-    with open(os.path.join(pile.folder, "out"), "rb") as saved:
-        tally.holds("the rest of it", saved.read() == without(content_of("a", 64)[8 * SECTOR:24 * SECTOR], (2, 2)), got.err)
+    tally.holds("the rest of it", pile.read("out") == without(content_of("a", 64)[8 * SECTOR:24 * SECTOR], (2, 2)), got.err)
     os.unlink(os.path.join(pile.folder, "out"))
     tally.same("a volume beside the gap", pile.call("save", "w", "out", *words), 0)
     os.unlink(os.path.join(pile.folder, "out"))
@@ -176,13 +169,13 @@ def check_sources(tally, pile):
     pile.put("one", disk("a", A, GROUP))
     first = ["out.map", "out"]
     tally.same("a first volume", pile.call("save", "vg0/home", "out", "one", "--resume", "out.map"), 0)
-    kept = [read(pile, name) for name in first]
+    kept = [pile.read(name) for name in first]
     for name, image, asked in (("another volume of that length", GROUP, "vg0/next"),
                                ("that of another text", GROUP.replace(b"seqno = 4", b"seqno = 5").replace(b'"pv0", 3', b'"pv0", 9'), "vg0/home")):
         pile.put("one", disk("a", A, image))
         got = pile.call("save", asked, "out", "one", "--resume", "out.map")
         tally.holds(name, got.status == 1 and b"out.map: it is the map of vg0/home of 40 sectors" in got.err and b"give a new name as --resume, and another OUT" in got.err, got.err)
-        tally.holds("what that leaves", [read(pile, each) for each in first] == kept, "something else")
+        tally.holds("what that leaves", [pile.read(each) for each in first] == kept, "something else")
     pile.put("one", disk("a", A, GROUP))
     for asked in ("home", models.dashed("g") + "/home"):
         tally.same("the same as " + asked, pile.call("save", asked, "out", "one", "--resume", "out.map"), 0)
@@ -194,11 +187,6 @@ def check_sources(tally, pile):
     os.rename(os.path.join(pile.folder, "two"), os.path.join(pile.folder, "one"))
     got = pile.call("save", "one", "out", "one", "--resume", "out.map")
     tally.holds("another image of that name", got.status == 1 and b"it is the map of one of 40 sectors, from other images, and this is one of 40" in got.err, got.err)
-
-
-def read(pile, name):
-    with open(os.path.join(pile.folder, name), "rb") as file:
-        return file.read()
 
 
 @contextlib.contextmanager
@@ -226,18 +214,18 @@ def check_turns(tally, pile):
     with beaten("out.map"):
         got = pile.call("save", "vg0/home", "out", "one", "--resume", "out.map")
     tally.same("a map that another run began", got, 1, "", "dmremap-tools save: " + told)
-    tally.holds("what that leaves", read(pile, "out.map") == b"of another run" and sorted(os.listdir(pile.folder)) == ["one", "out.map"], os.listdir(pile.folder))
+    tally.holds("what that leaves", pile.read("out.map") == b"of another run" and sorted(os.listdir(pile.folder)) == ["one", "out.map"], os.listdir(pile.folder))
     os.unlink(os.path.join(pile.folder, "out.map"))
     pile.put("out", b"mine")
     got = pile.call("save", "vg0/home", "out", "one", "--resume", "out.map")
-    tally.holds("a file that is there", got.status == 1 and not os.path.exists(os.path.join(pile.folder, "out.map")) and read(pile, "out") == b"mine", got.err)
+    tally.holds("a file that is there", got.status == 1 and not os.path.exists(os.path.join(pile.folder, "out.map")) and pile.read("out") == b"mine", got.err)
     os.unlink(os.path.join(pile.folder, "out"))
     tally.same("a map of this run", pile.call("save", "vg0/home", "out", "one", "--resume", "out.map"), 0)
-    kept = [read(pile, name) for name in ("out", "out.map")]
+    kept = [pile.read(name) for name in ("out", "out.map")]
     with open(os.path.join(pile.folder, "out.map"), "rb") as held:
         fcntl.flock(held, fcntl.LOCK_EX)
         tally.same("a map by which another run goes on", pile.call("save", "vg0/home", "out", "one", "--resume", "out.map"), 1, "", "dmremap-tools save: " + told)
-    tally.holds("what that leaves", [read(pile, name) for name in ("out", "out.map")] == kept, os.listdir(pile.folder))
+    tally.holds("what that leaves", [pile.read(name) for name in ("out", "out.map")] == kept, os.listdir(pile.folder))
     tally.same("and once that has ended", pile.call("save", "vg0/home", "out", "one", "--resume", "out.map"), 0)
 
 
@@ -247,14 +235,14 @@ def check_again(tally, pile):
     words = put(pile, "one", content, (first + 7, 2))
     again = ["save", "vg0/home", "out", "one", "--resume", "out.map"]
     tally.holds("a run with a map", pile.call(*again, *words).status == 4, "it ends otherwise")
-    kept = [read(pile, name) for name in ("out", "out.map")]
+    kept = [pile.read(name) for name in ("out", "out.map")]
     tally.same("going on without it", pile.call(*again), 1, "", "dmremap-tools save: out.map: it was begun with 1 maps of images: give them again as --map IMAGE=MAP\n")
-    tally.holds("what that leaves", [read(pile, name) for name in ("out", "out.map")] == kept, "something else")
+    tally.holds("what that leaves", [pile.read(name) for name in ("out", "out.map")] == kept, "something else")
     # Meanwhile ddrescue read more.
     put(pile, "one", content, (first + 8, 1))
-    tally.holds("going on with it", pile.call(*again, *words).status == 4 and read(pile, "out") == without(HOME, (8, 1)), "it ends otherwise")
+    tally.holds("going on with it", pile.call(*again, *words).status == 4 and pile.read("out") == without(HOME, (8, 1)), "it ends otherwise")
     put(pile, "one", content)
-    tally.holds("going on with all", pile.call(*again, *words).status == 0 and read(pile, "out") == HOME, "it ends otherwise")
+    tally.holds("going on with all", pile.call(*again, *words).status == 0 and pile.read("out") == HOME, "it ends otherwise")
     for name in ("out", "out.map"):
         os.unlink(os.path.join(pile.folder, name))
     put(pile, "one", content, (first + 7, 2))

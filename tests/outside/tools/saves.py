@@ -14,13 +14,9 @@ import time
 import physical_volumes
 import tool_calls
 from harness import Case
+from tool_calls import read
 
 SECTOR = 512
-
-
-def read(path):
-    with open(path, "rb") as it:
-        return it.read()
 
 
 @contextlib.contextmanager
@@ -156,33 +152,6 @@ def check_gaps(tally, program, top):
     tally.holds("its last map", read(disks.target("map")).decode() == MAP % (sectors, ids, SECTOR * 48, "+") + text, read(disks.target("map")))
 
 
-OF_PARTITION = """contents = "Text Format Volume Group"
-version = 1
-g {
-	extent_size = 8
-	physical_volumes {
-		p {
-			device = ""
-			dev_size = 56
-			pe_start = 0
-			pe_count = 7
-		}
-	}
-	logical_volumes {
-		v {
-			status = ["READ", "WRITE", "VISIBLE"]
-			segment_count = 1
-			segment1 {
-				start_extent = 0
-				extent_count = 1
-				type = "striped"
-				stripe_count = 1
-				stripes = ["p", 0]
-			}
-		}
-	}
-}
-"""
 WHOLE = "dmremap-tools save: %s: the image of a whole disk (%s), and p has %d sectors: give the partition that it is, as IMAGE?offset=BYTES\n"
 
 
@@ -210,7 +179,7 @@ def check_whole_disks(tally, program, top):
     path = program.file("save/disk", gpt.ljust(40 * SECTOR, b"\0") + bytes(range(256)) * 112)
     listed = program.file("save/paths", "p %s?offset=%d\n" % (path, 40 * SECTOR))
     for form, more in (("table", [program.file("save/disks", "p 56\n")]), ("lvm", [])):
-        source = program.file("save/source", "v: 0 8 linear p 0\n" if more else OF_PARTITION)
+        source = program.file("save/source", "v: 0 8 linear p 0\n" if more else physical_volumes.one_volume(("p", "", 56, 0)))
         target = os.path.join(program.folder, "save", "of partition " + form)
         got = tool_calls.call(top, ["save", "--program", program.path, "--paths", listed, "v" if more else "g-v", target, form, source, *more])
         tally.same("saving from a partition by its place, " + form, got, 0)
@@ -219,7 +188,7 @@ def check_whole_disks(tally, program, top):
 
 IDENTITIES = [it.ljust(32, b"x") for it in (b"first", b"other")]
 OWN, OTHER = ("%s-xxxx-xxxx-xxxx-xxxx-xxxx-xxxxxx" % it for it in ("firstx", "otherx"))
-OF_VOLUME = OF_PARTITION.replace("device =", 'id = "%s"\n\t\t\tdevice =' % OWN)
+OF_VOLUME = physical_volumes.one_volume(("p", "", 56, 0, OWN))
 PHYSICAL, BESIDE = (physical_volumes.volume(length=56 * SECTOR, identity=it) for it in IDENTITIES)
 BOTH = "the disk has a partition table (MBR) as well, which was made later, so that others may have written there: to take it as it was, take the table out " \
        "of a copy (dd if=/dev/zero of=COPY count=1 conv=notrunc)"

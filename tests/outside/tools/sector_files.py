@@ -10,6 +10,7 @@ import unittest
 
 import tool_calls
 from harness import Case, run
+from tool_calls import read
 
 # Names that debugfs prints as they are. The last makes a line that looks like one about another inode.
 ODD = ["plain", "sp ace ", "two\nlines", "esc\x1b[2Jape", 'q"uote \\back', b"bad\xff".decode("utf-8", "surrogateescape")]
@@ -199,11 +200,6 @@ def check_lost_inodes(tally, program, top):
     lost = range(first, last + 1)
     rows = [(sum(2 * (table + at) + half in lost for half in (0, 1)), "inode table: " + name) for name, at in sorted(blocks.items())]
     tally.same("the names of lost inodes", got, 0, said(*rows, sectors=16384, lost=len(lost)))
-
-
-def read(path):
-    with open(path, "rb") as it:
-        return it.read()
 
 
 def check_xfs(tally, program, top):

@@ -7,7 +7,7 @@ import random
 
 import lvm2_rows
 from harness import Case, run
-from tool_calls import TOOL, call
+from tool_calls import TOOL, call, read
 from used import store
 
 SECTOR, CHUNK, LENGTH = 512, 8, 64
@@ -67,11 +67,7 @@ class Readers:
         return self.program.file("%s/%s" % (ASIDE, name), content)
 
     def read(self, name):
-        path = os.path.join(self.folder, name)
-        if not os.path.exists(path):
-            return None
-        with open(path, "rb") as it:
-            return it.read()
+        return read(os.path.join(self.folder, name))
 
     def call(self, command, *words, given=""):
         return call(self.top, [command, "--program", self.program.path, *words], given, self.folder)

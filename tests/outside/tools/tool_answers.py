@@ -4,7 +4,7 @@ import os
 import random
 
 from harness import Case, run
-from tool_calls import call, check_rows, good, lost
+from tool_calls import call, check_rows, good, lost, read
 
 # What is made of answers.
 
@@ -27,7 +27,7 @@ def some(total, length, *rest):
 
 ANSWERED = [
     good("report", [], [ANSWERS], FIGURES),
-    good("report", ["--disks", "2"], [ANSWERS, "sdb 32\nsda 32\n"],
+    good("report", ["--lengths", "2"], [ANSWERS, "sdb 32\nsda 32\n"],
          "".join(sorted(FIGURES.splitlines(True), key=lambda it: (it[:2] != "to", it[:2] == "sp", it.split()[1] != "-", it.split()[1] != "sdb")))),
     good("report", [], ["1 R a 0 1048576\n" * 3], some("3 3145728 1610612736", "1048576 3 " + BAR, "seek a 1048576", "split 3 1")),
     good("report", [], [f"1 R a 0 {LONG}\n" * 3], some("3 55340232221128654845 28334198897217871280640", f"{1 << 63} 3 {BAR}", f"seek a {LONG}", "split 3 1")),
@@ -45,13 +45,13 @@ ANSWERED = [
     good("report", [], [b"1 R \xffa\xe4 0 8\n"], b"total \xffa\xe4 R 1 8 4096\nlength \xffa\xe4 R 8 1 " + BAR.encode() + b"\nsplit 1 1\n"),
     # Times, of which one goes back.
     good("report", ["--times", "2"], ["1 zero 1\n2 zero 1\n4 zero 1\n", "5.5\n6\n8\n7.25\n"], "total - zero 3 3 1536\ntime 2.5\n"),
-    lost("report", ["--times", "2"], ["1 R a 0 1\n2 R b 0 1\n", "0.5\n"], "1:2: no time of the request, give what `trace --times` wrote: 2 R b 0 1"),
-    lost("report", ["--times", "2"], ["1 R a 0 1\n2 R b 0 1\n", "0.5\nrefused\n"], "1:2: no time of the request, give what `trace --times` wrote: 2 R b 0 1"),
-    lost("report", ["--disks", "2"], ["1 R a 0 8\n2 zero 8\n2 copy a 0 8 b 0\n", "a 8\n"], "1:3: DISKS has no b, give those of the answers: 2 copy a 0 8 b 0"),
-    lost("report", ["--disks", "2"], ["1 R a 0 8\n2 fill 2 a 7\n", "a 8\n"], "1:2: past the end of the disk, give the DISKS of the answers: 2 fill 2 a 7"),
-    ("report", ["--plot", "3"], [ANSWERS], "", "dmremap-tools report: --plot needs --disks\n", 2),
-    lost("report", ["--disks", "2"], ["1 R a 0 8\n", b"\xfd7zXZ\0\n"], "2: it is compressed (xz): unpack it"),
-    lost("report", ["--disks", "2"], ["1 R a 0 8\n", b"sda\0 1\n"], "2: it is no text: see by `file` what it is"),
+    lost("report", ["--times", "2"], ["1 R a 0 1\n2 R b 0 1\n", "0.5\n"], "1:2: no time of the request, give what `trace --write-times` wrote: 2 R b 0 1"),
+    lost("report", ["--times", "2"], ["1 R a 0 1\n2 R b 0 1\n", "0.5\nrefused\n"], "1:2: no time of the request, give what `trace --write-times` wrote: 2 R b 0 1"),
+    lost("report", ["--lengths", "2"], ["1 R a 0 8\n2 zero 8\n2 copy a 0 8 b 0\n", "a 8\n"], "1:3: DISKS has no b, give those of the answers: 2 copy a 0 8 b 0"),
+    lost("report", ["--lengths", "2"], ["1 R a 0 8\n2 fill 2 a 7\n", "a 8\n"], "1:2: past the end of the disk, give the DISKS of the answers: 2 fill 2 a 7"),
+    ("report", ["--plot", "3"], [ANSWERS], "", "dmremap-tools report: --plot needs --lengths\n", 2),
+    lost("report", ["--lengths", "2"], ["1 R a 0 8\n", b"\xfd7zXZ\0\n"], "2: it is compressed (xz): unpack it"),
+    lost("report", ["--lengths", "2"], ["1 R a 0 8\n", b"sda\0 1\n"], "2: it is no text: see by `file` what it is"),
     # What a trace of the disks has.
     good("report", ["--compare", "2"], [ANSWERS, LOWER], FIGURES),
     lost("report", ["--compare", "2"], [ANSWERS, LOWER + "W sdb 0 4\n"], "2: " + OTHER % (0, 4), FIGURES + "unanswered W sdb 0 4 1\n"),
@@ -191,13 +191,8 @@ def check_dd(tally, program, top):
         made = call(top, ["dd", *words, *source], given="%s w 0 20\n" % operation, folder=folder)
         got = run(["sh"], given=made.out, folder=folder)
         tally.same("the lines of dd %s %s" % (operation, words), got, 0, b"" if words else image)
-    tally.holds("what dd read", bytes_of(os.path.join(folder, "out")) == image, "it is something else")
-    tally.holds("where dd wrote", bytes_of(os.path.join(folder, "a"))[3 * 512:] == image[:4096] + image[8192:], "it is elsewhere")
-
-
-def bytes_of(path):
-    with open(path, "rb") as it:
-        return it.read()
+    tally.holds("what dd read", read(os.path.join(folder, "out")) == image, "it is something else")
+    tally.holds("where dd wrote", read(os.path.join(folder, "a"))[3 * 512:] == image[:4096] + image[8192:], "it is elsewhere")
 
 
 class ToolAnswers(Case, checks=[check_answers, check_blocks, check_costs, check_dd]):

@@ -55,6 +55,14 @@ def check_rows(tally, program, top, rows):
         tally.same("%s %s over %r" % (command, " ".join(words), inputs[-1][:40] if inputs else ""), got, status, output, wanted)
 
 
+def read(path):
+    """The bytes of a file, or None where there is none."""
+    if not os.path.exists(path):
+        return None
+    with open(path, "rb") as it:
+        return it.read()
+
+
 def call(top, words, given=b"", folder=None, stdout=None, stderr=None, memory=None):
     """Runs the tool with these words, perhaps with other outputs, and with so many bytes of memory besides what this process
     has, which counts for its fork, too."""

@@ -18,7 +18,7 @@ def check_times(tally, program, top):
     lines = "".join((QUEUED % what).replace("0.000000000", "%.9f" % time) for time, what in rows)
     folder = os.path.dirname(program.file("long-times/ls", LS))
     program.file("long-times/tables", KEPT)
-    got = call(top, ["trace", "--times", "beside", "ls", "tables"], given=lines, folder=folder)
+    got = call(top, ["trace", "--write-times", "beside", "ls", "tables"], given=lines, folder=folder)
     cut = "R vg0-lv0 0 1048576\nR vg0-lv0 1048576 1048576\nR vg0-lv0 2097152 1048576\nR vg0-lv0 3145728 1\n"
     tally.same("a trace with long requests", got, 0, "R vg0-lv0 8 16\n%sW vg0-lv0 0 1048576\nW vg0-lv0 1048576 1\nR vg0-lv0 8 1048576\n" % cut,
                "left out: 1 requests that are neither reads nor writes\n")
@@ -150,13 +150,13 @@ DEBUGFS = [
     bad("filefrag", BY_DEBUGFS + V, [SUPER % 4096, ""], "2: no list of extents, which only files with extents have: make the text anew by `debugfs -R 'ex /FILE' IMAGE`"),
     bad("filefrag", BY_DEBUGFS + V, ["Fragment size:  4096\n", TREE + LEAF], "1:1: no line 'Block size': give what `dumpe2fs -h` prints"),
     bad("filefrag", BY_DEBUGFS + V, [SUPER % 4096, TREE + LEAF + TREE + LEAF], "2:3: more than one file: give the list of one", "R v 16560 17584\n"),
-    ("filefrag", BY_DEBUGFS + V + ["--device", "i", "--size", ""], [SUPER % 4096, TREE + LEAF], "refused\n",
+    ("filefrag", BY_DEBUGFS + V + ["--name", "i", "--size", ""], [SUPER % 4096, TREE + LEAF], "refused\n",
      "dmremap-tools filefrag: --size: give a whole number below 2^64, and not ''\n", 2),
 ]
 
 # A file as a device.
 
-FILE = ["--device", "i"]
+FILE = ["--name", "i"]
 HOLES = ("   0:        8..      15:       1000..      1007:      8:             \n"
          "   1:       20..      35:       5000..      5015:     16:       1008: last,eof\n")
 UNWRITTEN = ("   0:        0..       7:       1000..      1007:      8:             unwritten\n"
@@ -188,10 +188,10 @@ DEVICES = [
     # A line for every second sector is more than dmremap takes.
     bad("filefrag", V + FILE, [frag("".join("%d: %d.. %d: 5.. 5: 1:\n" % (it, 2 * it, 2 * it) for it in range(40000)), 80000 * 512)],
         "i: it has more than 65536 lines, or 1048576 bytes of them, which is all that dmremap takes: ask for a part, with --part START SECTORS"),
-    no_file(["--on", "sda"], "--on, --size and --part are for --device"),
-    no_file(FILE + ["--size", "8"], "--device needs --size with --debugfs, and has the size without it"),
+    no_file(["--on", "sda"], "--on, --size and --part are for --name"),
+    no_file(FILE + ["--size", "8"], "--name needs --size with --debugfs, and has the size without it"),
     ("filefrag", BY_DEBUGFS + V + FILE, [SUPER % 4096, TREE + LEAF], "refused\n",
-     "dmremap-tools filefrag: --device needs --size with --debugfs, and has the size without it\n", 2),
+     "dmremap-tools filefrag: --name needs --size with --debugfs, and has the size without it\n", 2),
 ]
 
 # Requests of traces, logs and bytes.
@@ -275,7 +275,7 @@ TRACE += [
          "left out: 1 requests to 253,0, which lsblk has not\nno request came to a disk of DISKS\n"),
     bad("trace", ["--lower"], [LSBLK, "", LOWER], "2: no disk in it: give lines NAME SECTORS"),
     bad("trace", ["--lower"], [LS, "/dev/sda 99\n", LOWER], "1: not what `lsblk -brno MAJ:MIN,SIZE,KNAME,PKNAME` prints of devices"),
-    ("trace", ["--fio", "--times", "times"], [LS, KEPT, ""], "refused\n", "dmremap-tools trace: --times isn't for the logs of fio\n", 2),
+    ("trace", ["--fio", "--write-times", "times"], [LS, KEPT, ""], "refused\n", "dmremap-tools trace: --write-times isn't for the logs of fio\n", 2),
 ]
 
 FIO = "fio version 2 iolog\n/dev/mapper/a add\n/dev/mapper/a open\n"

@@ -13,19 +13,19 @@ import subprocess
 import sys
 
 from harness import Case, Outcome, run
-from tool_calls import TOOL, call, samples
+from tool_calls import TOOL, call, read, samples
 
 # For each command the words of a call that has an answer, in a folder with the samples and what is made of them here. Words
 # that end in `<` are given as standard input.
 CALLS = {
     "filefrag": ["vg0-lv0", "extents.txt"],
-    "trace": ["--times", "beside", "ls.txt", "vg0.table", "blkparse.txt"],
+    "trace": ["--write-times", "beside", "ls.txt", "vg0.table", "blkparse.txt"],
     "cut": ["in-bytes"],
     "machine": ["--disks", "beside", "ls.txt", "status.txt", "lsblk.txt", "concise.txt"],
     "elsewhere": ["--paths", "paths.txt", "vg0.concise"],
     "metadata": ["vg0-head.img"],
     "lvm2-text": ["--program", "./dmremap", "vgm.backup"],
-    "report": ["--times", "times", "--disks", "stack.disks", "--plot", "beside", "pieces.txt"],
+    "report": ["--times", "times", "--lengths", "stack.disks", "--plot", "beside", "pieces.txt"],
     "dd": ["--program", "./dmremap", "--image", "image", "--requests", "image.requests", "table", "image.table", "image.disks"],
     "spans": ["stack.disks", "stack.table"],
     "tree": ["stack.table"],
@@ -33,21 +33,21 @@ CALLS = {
     "store": ["--program", "./dmremap", "--fresh", "--requests", "writes", "table", "snap.table", "snap.disks"],
     "md": ["--name", "md0", "raid1.txt"],
     "thin": ["--data", "tdata", "--device", "1", "vg0-thin1", "4000", "thin.meta"],
-    "btrfs": ["--name", "fs", "--device", "1", "/dev/sda", "--device", "2", "/dev/sdb", "chunks.txt"],
+    "btrfs": ["--name", "fs", "--disk", "1", "/dev/sda", "--disk", "2", "/dev/sdb", "chunks.txt"],
     "picture": ["spans"],
 }
 # Other ways to call a command, in which it reads other inputs.
 WAYS = [
-    ("filefrag", ["--debugfs", "super.txt", "--device", "i", "--size", "31981568", "vg0-lv0", "ex.txt"]),
+    ("filefrag", ["--debugfs", "super.txt", "--name", "i", "--size", "31981568", "vg0-lv0", "ex.txt"]),
     ("cut", ["--bytes", "in-bytes"]),
     ("trace", ["--fio", "ls.txt", "vg0.table", "fio.log"]),
-    ("trace", ["--lower", "--times", "beside", "lower.lsblk", "lower.disks", "lower.txt"]),
+    ("trace", ["--lower", "--write-times", "beside", "lower.lsblk", "lower.disks", "lower.txt"]),
     ("report", ["--compare", "lower.requests", "lower.pieces"]),
     ("spans", ["--free", "stack.disks", "stack.table"]),
     ("spans", ["--clashes", "clashes.disks", "clashes.table"]),
-    ("spans", ["--align", "--to", "4096", "stack.disks", "stack.table"]),
+    ("spans", ["--align", "--multiple", "4096", "stack.disks", "stack.table"]),
     ("tree", ["--dot", "stack.table"]),
-    ("store", ["--size", "writes"]),
+    ("store", ["--writes", "writes"]),
     ("thin", ["--cache", "cdata", "--origin", "corig", "--name", "home", "--sectors", "1000", "cache.meta"]),
 ]
 # What is made beside the samples.
@@ -55,7 +55,6 @@ MADE = {
     "in-bytes": "R vg0-lv0 1000 3000\nW vg0-lv0 4096 2500000000\n",
     "vg0.table": "vg0-lv0: 0 204800 linear /dev/sda1 2048\nvg0-lv--1: 0 32768 striped 2 128 /dev/sda1 206848 /dev/sda1 223232\n",
     "vg0.concise": "vg0-lv0,,,rw,0 204800 linear /dev/sda1 2048\n",
-    "both.disks": "/dev/sda 1054720\n/dev/sda1 1050624\n8:1 1050624\n/dev/dm-7 2097152\n",
     "times": "0.5\n0.6\n0.75\n1.0\n12.5\n",
     "lower.lsblk": "8:0 1048576 sda \n8:1 524288 sda1 sda\n",
     "lower.disks": "/dev/sda 2048\n",
@@ -67,19 +66,10 @@ MADE = {
     "image.table": "vol: 0 64 linear sda 4096\nvol: 64 8 zero\n",
     "image.disks": "sda 1052672\n",
     "image.requests": "W vol 0 16\nR vol 60 12\n",
-    "md.pieces": "1 R /dev/md1 100 200\n2 R sda 0 8\n3 zero 8\n",
-    "sda1.table": "sda1: 0 1050624 linear /dev/sda 2048\n",
-    "places": "size 20001\n0 16\n32 8\n",
-    "places.requests": "R vg0-lv0 8000 16\nR vg0-lv0 40960 8\n",
     "writes": "W snap 0 8\nW snap 4096 8\nR snap 0 8\n",
     "snap.table": "snap: 0 819200 snapshot base cow P 8\n",
     "snap.disks": "base 819200\ncow 32\n",
-    "sda1.table": "sda1: 0 1050624 linear /dev/sda 2048\n",
-    "file.places": "size 20000\n0 16\n16 8\n32 8\n",
-    "file.requests": "R vg0-lv0 8000 16\nR vg0-lv0 40960 8\nR vg0-lv0 40968 8\n",
 }
-DERIVED = [("spans", "spans", ["stack.disks", "stack.table"]),
-           ("machine.tables", "machine", ["--disks", "machine.disks", "ls.txt", "status.txt", "lsblk.txt", "concise.txt"])]
 # Commands that make a file in place of printing, pass on what dmremap prints, or have images or files for its words. They are
 # tried in `layouts`, `saves`, `used`, `models` and `explained`.
 UNPRINTED = {"save", "scan", "serve", "lost", "owner", "tables", "explain"}
@@ -119,8 +109,7 @@ def make_folder(program, top):
     os.symlink(program.path, os.path.join(folder, "dmremap"))
     for name, text in MADE.items():
         program.file(os.path.join("streams", name), text)
-    for name, command, words in DERIVED:
-        program.file(os.path.join("streams", name), call(top, [command, *words], folder=folder).out)
+    program.file(os.path.join("streams", "spans"), call(top, ["spans", *CALLS["spans"]], folder=folder).out)
     return folder
 
 
@@ -162,7 +151,7 @@ def check_cuts(tally, top, folder, command, words):
     """Inputs that end anywhere: an answer, or a refusal in words."""
     dice = random.Random(command.name)
     for place, name in inputs_of(words, folder):
-        content = bytes_of(os.path.join(folder, name))
+        content = read(os.path.join(folder, name))
         for length in sorted({0, *(dice.randrange(len(content)) for _ in range(CUTS))}):
             got = with_input(top, folder, [command.name, *words], place + 1, content[:length])
             why = fault_of(command, got)
@@ -176,7 +165,7 @@ def check_standard_input(tally, top, folder, command, called):
         plain = call(top, [command.name, *words], folder=folder)
         words[place] = "-"
         title = "%s of standard input for %s" % (command.name, name)
-        got = call(top, [command.name, *words], given=bytes_of(os.path.join(folder, name)), folder=folder)
+        got = call(top, [command.name, *words], given=read(os.path.join(folder, name)), folder=folder)
         tally.same(title, got, ANSWERED, plain.out, plain.err.replace(name.encode(), b"standard input"))
         got = call(top, [command.name, *words], given="\1 nonsense\n", folder=folder)
         is_told = b" -: " not in got.err and b" -:1: " not in got.err
@@ -216,7 +205,7 @@ def check_mutations(tally, top, folder, commands):
     """Random changes of all inputs."""
     dice = random.Random(0)
     choices = [(command, words, *it) for command, words in commands for it in inputs_of(words, folder)]
-    kept = {name: bytes_of(os.path.join(folder, name)) for _, _, _, name in choices}
+    kept = {name: read(os.path.join(folder, name)) for _, _, _, name in choices}
     for number in range(MUTATIONS):
         command, words, place, name = dice.choice(choices)
         content = mutated(kept[name], dice)
@@ -295,18 +284,18 @@ def check_many(tally, top, folder):
                for it in range(MANY)]
     with open(os.path.join(folder, "moments"), "w") as it:
         it.writelines("%d.25\n" % number for number in range(MANY))
-    traced = [(["trace", "--times", "beside", "ls.txt", "vg0.table"], lines, "hello\n") for lines in (queued, events)]
+    traced = [(["trace", "--write-times", "beside", "ls.txt", "vg0.table"], lines, "hello\n") for lines in (queued, events)]
     made = [(words, answers, "s: 0 8 snapshot 16/64 16\n") for words in (["report"], ["report", "--times", "moments"])]
     fio = ["trace", "--fio", "ls.txt", "vg0.table"]
     for words, lines, other in [*traced, (fio, ["fio version 2 iolog\n"] + logged, "/dev/mapper/vg0-lv0 sync\n"), *made]:
         many = call(top, words, given="".join(lines), folder=folder)
-        beside = bytes_of(os.path.join(folder, "beside")) if "beside" in words else b""
+        beside = read(os.path.join(folder, "beside")) if "beside" in words else b""
         single = call(top, words, given=other.join(lines), folder=folder)
         passed = b"left out: %d lines that tell of no request\n" % (len(lines) - 1) if other == "hello\n" else b""
         tally.same("%s of many lines, and of each by itself" % words[0], single, 0, many.out, passed + many.err)
         tally.holds("%s of many lines" % words[0], many.out, "nothing is printed")
         if "beside" in words:
-            tally.holds("the times of many lines", beside and bytes_of(os.path.join(folder, "beside")) == beside, "they differ")
+            tally.holds("the times of many lines", beside and read(os.path.join(folder, "beside")) == beside, "they differ")
 
 
 def queued_line(dice):
@@ -319,7 +308,7 @@ def queued_line(dice):
 def check_interrupt(tally, top, folder):
     """Who interrupts a command, or tells it to end, has it end in silence. It spoils what it printed, and what it began to write
     beside is gone. A signal that is passed over, as nohup wants it, does nothing."""
-    words = ["trace", "--times", "times beside", "ls.txt", "vg0.table"]
+    words = ["trace", "--write-times", "times beside", "ls.txt", "vg0.table"]
     for before in None, b"as before\n":
         for number, status in ENDS:
             if before:
@@ -350,7 +339,7 @@ def left_beside(folder):
     """What is there under the name that was asked, or None, and what is there under a like one."""
     found = [it for it in os.listdir(folder) if it.startswith("times beside")]
     if found == ["times beside"]:
-        return bytes_of(os.path.join(folder, found[0]))
+        return read(os.path.join(folder, found[0]))
     return found or None
 
 
@@ -365,31 +354,31 @@ def check_outputs(tally, top, folder):
     shutil.copy(os.path.join(folder, "blkparse.txt"), os.path.join(folder, "e"))
     os.symlink("e", os.path.join(folder, "linked"))
     os.link(os.path.join(folder, "e"), os.path.join(folder, "another name"))
-    kept = bytes_of(os.path.join(folder, "e"))
+    kept = read(os.path.join(folder, "e"))
     said = TOOL + " trace: %s: it is read, too: give another file to write\n"
     for name in "e", "./e", "linked", "another name":
-        got = call(top, ["trace", "--times", name, "ls.txt", "vg0.table", "e"], folder=folder)
+        got = call(top, ["trace", "--write-times", name, "ls.txt", "vg0.table", "e"], folder=folder)
         tally.same("an input that is written as " + name, got, 2, "refused\n", said % name)
-        tally.holds("what is left of it", bytes_of(os.path.join(folder, "e")) == kept, "it is another")
-    got = call(top, ["trace", "--times", "e", "ls.txt", "vg0.table", "-"], given=kept, folder=folder)
+        tally.holds("what is left of it", read(os.path.join(folder, "e")) == kept, "it is another")
+    got = call(top, ["trace", "--write-times", "e", "ls.txt", "vg0.table", "-"], given=kept, folder=folder)
     tally.holds("times of standard input", got.status == 0 and got.out.startswith(b"R vg0-lv0 "), "status %s, %r" % (got.status, got.err))
     write(folder, "damaged", kept.replace(b" + 8 ", b" x 8 "))
     write(folder, "precious", b"precious\n")
     os.chmod(os.path.join(folder, "precious"), 0o640)
     os.symlink("precious", os.path.join(folder, "to precious"))
-    got = call(top, ["trace", "--times", "to precious", "ls.txt", "vg0.table", "damaged"], folder=folder)
-    tally.holds("a refusal", got.status == REFUSED and bytes_of(os.path.join(folder, "precious")) == b"precious\n", "status %s" % got.status)
-    got = call(top, ["trace", "--times", "to precious", "ls.txt", "vg0.table", "another name"], folder=folder)
+    got = call(top, ["trace", "--write-times", "to precious", "ls.txt", "vg0.table", "damaged"], folder=folder)
+    tally.holds("a refusal", got.status == REFUSED and read(os.path.join(folder, "precious")) == b"precious\n", "status %s" % got.status)
+    got = call(top, ["trace", "--write-times", "to precious", "ls.txt", "vg0.table", "another name"], folder=folder)
     is_so = os.path.islink(os.path.join(folder, "to precious")) and os.stat(os.path.join(folder, "precious")).st_mode & 0o777 == 0o640
-    tally.holds("a link that was given", is_so and bytes_of(os.path.join(folder, "precious")).count(b"."), "status %s, %r" % (got.status, got.err))
+    tally.holds("a link that was given", is_so and read(os.path.join(folder, "precious")).count(b"."), "status %s, %r" % (got.status, got.err))
     with open(os.path.join(folder, "both"), "wb") as both:
-        got = call(top, ["trace", "--times", "both", "ls.txt", "vg0.table", "another name"], folder=folder, stdout=both.fileno())
+        got = call(top, ["trace", "--write-times", "both", "ls.txt", "vg0.table", "another name"], folder=folder, stdout=both.fileno())
     tally.same("a file beside that is standard output", got, 2, "", TOOL + " trace: both: standard output goes there, too: give another file\n")
     for name, why in ("", "No such file or directory"), ("none/", "Is a directory"), ("none/it", "No such file or directory"), (".", "Is a directory"):
-        got = call(top, ["trace", "--times", name, "ls.txt", "vg0.table", "another name"], folder=folder)
+        got = call(top, ["trace", "--write-times", name, "ls.txt", "vg0.table", "another name"], folder=folder)
         tally.same("a file beside that is %r" % name, got, FULL, "refused\n", "%s trace: %s: %s\n" % (TOOL, name, why))
     os.unlink(os.path.join(folder, "both"))
-    ran = subprocess.Popen([*tool(top), "trace", "--times", "both", "ls.txt", "vg0.table", "another name"], stdout=subprocess.PIPE,
+    ran = subprocess.Popen([*tool(top), "trace", "--write-times", "both", "ls.txt", "vg0.table", "another name"], stdout=subprocess.PIPE,
                            stderr=subprocess.DEVNULL, cwd=folder)
     ran.stdout.read()
     tally.holds("a file beside, once standard output ends", os.path.exists(os.path.join(folder, "both")), "it isn't there yet")
@@ -400,12 +389,12 @@ def check_outputs(tally, top, folder):
 
 def check_unsaid(tally, top, folder):
     """Where the message of a refusal can't be written either, what was printed is spoiled all the same."""
-    words = ["trace", "--times", "beside", "ls.txt", "vg0.table"]
+    words = ["trace", "--write-times", "beside", "ls.txt", "vg0.table"]
     for closed, wanted in (2, b"refused\n"), (1, b""):
         write(folder, "beside", b"as before\n")
         got = run(tool(top) + words, given=b"253,0 0 7 0.5 4101 Q R x + 16 [fio]\n", folder=folder, before=lambda it=closed: os.close(it))
         tally.holds("a refusal without stream %d" % closed, (got.status, got.out) == (FULL, wanted), "%s, %r" % (got.status, got.out))
-        found = bytes_of(os.path.join(folder, "beside"))
+        found = read(os.path.join(folder, "beside"))
         tally.holds("what it leaves beside", found == b"as before\n", "it is %r" % found)
     got = run(tool(top) + ["cut"], folder=folder, stdin=subprocess.DEVNULL, before=lambda: os.close(0))
     tally.same("no input", got, REFUSED, "refused\n", TOOL + " cut: standard input: Bad file descriptor\n")
@@ -495,11 +484,6 @@ def check_words(tally, top):
     tally.same("two files from one input", call(top, ["report", "--times", "-", "-"]), 2, "", TOOL + " report: standard input can't be two files: give the path of one\n")
     got = run(tool(top) + ["--help"])
     tally.holds("--help", got.status == 0 and b"\nanswers:\n" in got.out and got.err == b"", "%s, %r" % (got.status, got.err))
-
-
-def bytes_of(path):
-    with open(path, "rb") as it:
-        return it.read()
 
 
 class ToolStreams(Case, checks=[

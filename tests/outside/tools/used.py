@@ -9,7 +9,7 @@ import struct
 import tool_streams
 import walks
 from harness import Case, run
-from physical_volumes import gpt, volume
+from physical_volumes import dashed, gpt, volume
 from tool_calls import TOOL, call
 
 MAGIC, CHUNK, SECTOR = 0x70416E53, 8, 512
@@ -168,7 +168,7 @@ def check_places(case):
     case.tally.holds("used: a group", got.status == 0 and got.out.decode().startswith(extents) and got.err.decode() == told, "%r, %r" % (got.out[:200], got.err))
     # The same on a partition of a whole disk, whose label has the id of the physical volume.
     with open(os.path.join(case.folder, "group"), encoding="ascii") as it:
-        case.put("group.ids", it.read().replace("    pv0 {\n", '    pv0 {\n      id = "%s"\n' % walks.dashed(walks.IDS[0])))
+        case.put("group.ids", it.read().replace("    pv0 {\n", '    pv0 {\n      id = "%s"\n' % dashed(walks.IDS[0])))
     case.put("whole.img", gpt((64, 1050687)).ljust(64 * SECTOR, b"\0") + volume(identity=walks.IDS[0].encode()))
     with open(os.path.join(case.folder, "whole.img"), "r+b") as it:
         it.seek((64 + 206848) * SECTOR)

@@ -7,7 +7,8 @@ import shutil
 
 import tool_calls
 from harness import Case, run
-from physical_volumes import FIRST, SECTOR, TIME, area, gpt, md_member, volume, with_backup
+from physical_volumes import FIRST, SECTOR, TIME, area, dashed, gpt, md_member, volume, with_backup
+from tool_calls import read
 
 # Sectors of an extent, those before the first, and the bytes of a metadata area, which ends there.
 EXTENT, BEFORE, AREA = 8, 24, 8192
@@ -83,11 +84,6 @@ def laid_out(count):
     return [(ends, [(0, 0), (1, 0)]), (middle, [(2, 0)]), (ends, [(0, ends // 2), (1, ends // 2)])]
 
 
-def dashed(letters):
-    """An id as a text has it."""
-    return "-".join(letters[begin:end] for begin, end in ((0, 6), (6, 10), (10, 14), (14, 18), (18, 22), (22, 26), (26, 32)))
-
-
 def metadata(segments, sizes):
     """What lvm2 writes into a metadata area of this group."""
     physicals = "".join(PHYSICAL % (place, dashed(IDS[place]), HINTS[place], size, BEFORE, (size - BEFORE) // EXTENT) for place, size in enumerate(sizes))
@@ -154,11 +150,6 @@ def check_walks(tally, program, top):
         return
     for seed in range(2):
         check_walk(tally, program, top, random.Random(seed))
-
-
-def read(path):
-    with open(path, "rb") as it:
-        return it.read()
 
 
 def file_system(program, dice):

@@ -23,18 +23,19 @@ class Compared:
         # How many sectors were answered that LOWER didn't have yet.
         self._ahead = self._places = 0
 
-    def answer(self, uses: Sequence[str], starts: List[int], ends: List[int]) -> None:
+    def add_answers(self, uses: Sequence[str], starts: List[int], ends: List[int]) -> None:
+        """Adds what was answered: R or W with the disk, and the first sector of each and the one after its last."""
         for use, start, end in zip(uses, starts, ends):
             self._add(use, start, end, 1)
             self._ahead += end - start
-        self._take()
+        self._take_lower()
 
-    def check(self) -> None:
+    def refuse_if_different(self) -> None:
         """Takes the rest of LOWER, prints where the two differ, and refuses them if they do."""
-        self._take(is_all=True)
+        self._take_lower(is_all=True)
         sectors = {"untraced": 0, "unanswered": 0}
         for use in sorted(self._steps, key=lambda it: (it[2:], it)):
-            for start, end, times in runs(self._steps[use]):
+            for start, end, times in differing_runs(self._steps[use]):
                 side = "untraced" if times > 0 else "unanswered"
                 streams.out.write(f"{side} {use} {start} {end - start} {abs(times)}\n")
                 sectors[side] += (end - start) * abs(times)
@@ -43,7 +44,7 @@ class Compared:
                    "the lines that are printed say which")
             raise Refusal(self._source.name, why.format(**sectors))
 
-    def _take(self, is_all: bool = False) -> None:
+    def _take_lower(self, is_all: bool = False) -> None:
         """Takes the next lines of LOWER, as far as the answers are, or all."""
         while is_all or self._ahead > 0:
             what, disk, start, count = next(self._rows, ("", "", 0, 0))
@@ -55,6 +56,8 @@ class Compared:
             self._ahead -= count
 
     def _add(self, use: str, start: int, end: int, times: int) -> None:
+        """Counts sectors of a use from one up to another so many times more. Refuses it where the two differ at too
+        many places."""
         steps = self._steps[use]
         self._places -= len(steps)
         for place, step in ((start, times), (end, -times)):
@@ -68,7 +71,7 @@ class Compared:
             raise Refusal(self._source.name, why)
 
 
-def runs(steps: Dict[int, int]) -> Iterator[Tuple[int, int, int]]:
+def differing_runs(steps: Dict[int, int]) -> Iterator[Tuple[int, int, int]]:
     """From where to where the two differ by how much."""
     times, begin = 0, 0
     for place in sorted(steps):

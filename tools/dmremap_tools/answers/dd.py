@@ -16,9 +16,10 @@ import tempfile
 from argparse import ArgumentParser, Namespace
 from typing import Iterator, Optional, Tuple
 
-from dmremap_tools.base import disk_image, given, names, numbers, paths, pieces, quoting, requests, streams, written
+from dmremap_tools.base import given, names, numbers, paths, pieces, quoting, requests, streams, written
 from dmremap_tools.base.refusal import Refusal, WrongWords
-from dmremap_tools.layers import stack
+from dmremap_tools.formats import disk_image
+from dmremap_tools.model import loaded_stack
 
 EXAMPLE = "echo 'R vg0-lv0 8000 16' | dmremap-tools dd lvm vg0.backup | sh | cmp -n 8192 - /mnt/report.odt"
 
@@ -27,7 +28,7 @@ def add_words(parser: ArgumentParser) -> None:
     given.add_words(parser)
     parser.add_argument("--requests", metavar="REQUESTS", default="-", help="a file of requests; else standard input")
     parser.add_argument("--image", metavar="IMAGE", help="the file with the sectors of the requests, one after the other")
-    stack.add_words(parser)
+    loaded_stack.add_words(parser)
 
 
 def run(words: Namespace) -> None:
@@ -36,6 +37,7 @@ def run(words: Namespace) -> None:
     devices, operations = set(), set()
 
     def asked() -> Iterator[str]:
+        """The requests as lines, while their devices and operations are noted."""
         lines = streams.Lines(words.requests)
         for operation, name, first, count in requests.read(lines, names.Names().device, requests.NO_REQUEST):
             devices.add(name)
@@ -46,39 +48,40 @@ def run(words: Namespace) -> None:
         kept = os.path.join(folder, "REQUESTS")
         given.put(kept, asked())
         # What is written to an origin goes to the stores of its snapshots, too.
-        begun = stack.start(words, source, None if "W" in operations else sorted(devices), folder)
+        begun = loaded_stack.start(words, source, None if "W" in operations else sorted(devices), folder)
         with open(kept, encoding="utf-8", errors="surrogateescape") as it, pieces.Mapped(begun.words, it) as mapped:
             writer = Writer(mapped.answers, image, begun.places)
             streams.out.write("set -e\n")
             for piece in mapped.answers:
-                writer.take(piece)
+                writer.write_line(piece)
 
 
 class Writer:
     """Writes the lines; `at` is the place in the image, in sectors."""
 
-    def __init__(self, source: pieces.Answers, image: "str | None", here: "dict[str, paths.Place]") -> None:
+    def __init__(self, source: pieces.Answers, image: "str | None", here: "dict[str, paths.DiskPlace]") -> None:
         self.source, self.image, self.here = source, image, here
         self.at = 0
         self._known = written.identity_at(image) if image is not None else None
 
-    def take(self, piece: pieces.Piece) -> None:
+    def write_line(self, piece: pieces.Piece) -> None:
+        """Writes the line for a piece. Refuses one without sectors of a disk, and a write without an image."""
         if piece.what == "error" or (piece.what in ("W", "drop") and self.image is None):
             is_error = piece.what == "error"
             self.source.refuse_line("no sectors of a disk, leave them out" if is_error else "a write, give --image")
         in_image = self.image, self.at
         origin: Tuple[Optional[str], int] = in_image if piece.what == "W" else ("/dev/zero", 0)
         if piece.what in ("copy", "R"):
-            origin = self._place(piece.disk, piece.start, piece.count)
+            origin = self._dd_operand(piece.disk, piece.start, piece.count)
         name, start = (piece.disk, piece.start) if piece.what == "W" else (piece.to, piece.to_start)
-        target = self._place(name, start) if name else in_image
+        target = self._dd_operand(name, start) if name else in_image
         self.at += 0 if piece.to else piece.count
         if piece.what != "drop":
             line = f"dd if={quoting.for_shell(origin[0] or '')} bs=512 skip={origin[1]} count={piece.count} status=none"
             seek = f" of={quoting.for_shell(target[0])} seek={target[1]} conv=notrunc" if target[0] is not None else ""
             streams.out.write(f"{line}{seek}\n")
 
-    def _place(self, name: str, start: int, read: int = 0) -> Tuple[str, int]:
+    def _dd_operand(self, name: str, start: int, read: int = 0) -> Tuple[str, int]:
         """Where sectors are. `dd` says nothing of a file that ends before those that it reads, so that is refused."""
         path, first, end = self._disk(name)
         if read and end is not None and end < (first + start + read) * numbers.SECTOR:
@@ -89,7 +92,7 @@ class Writer:
     @functools.lru_cache(maxsize=None)
     def _disk(self, name: str) -> Tuple[str, int, Optional[int]]:
         """The path of a disk, its first sector there, and where what --paths names ends, if it is there."""
-        place, end = self.here.get(name) or paths.Place(name), None
+        place, end = self.here.get(name) or paths.DiskPlace(name), None
         if self._known and written.identity_at(place.path) == self._known:
             shown = f"{quoting.shown(self.image or '')} is the disk {quoting.shown(name)}"
             raise WrongWords(f"--image: {shown}, too: give another file")

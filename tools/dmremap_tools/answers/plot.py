@@ -7,9 +7,8 @@ from collections import Counter
 from operator import add
 from typing import Dict, Iterator, List, Optional, Sequence, Tuple
 
-from dmremap_tools.base import pieces, streams
+from dmremap_tools.base import pieces, streams, svg
 from dmremap_tools.base.refusal import Refusal
-from dmremap_tools.layouts import svg
 
 COLUMNS, ROWS, CELL, MARGIN = 450, 150, 2, 20
 # A column has a byte for each cell, with how often it was read, up to the darkest, and then how often it was written.
@@ -35,7 +34,8 @@ class Moments:
         self._begun: Optional[float] = None
         self.of: Dict[int, float] = {}
 
-    def take(self, source: pieces.Answers, requests: List[int]) -> None:
+    def take_moments(self, source: pieces.Answers, requests: List[int]) -> None:
+        """Takes the moments of some requests. Refuses the answers where TIMES has none of a request."""
         if self._times is None:
             self.last = requests[-1] if requests else self.last
             return
@@ -45,7 +45,7 @@ class Moments:
             while self._times.number < number:
                 row = next(self._rows, "")
                 if not TIME.fullmatch(row):
-                    source.refuse_where("no time of the request, give what `trace --times` wrote",
+                    source.refuse_where("no time of the request, give what `trace --write-times` wrote",
                                         lambda it: it.request == number)
                 self._begun = float(row) if self._begun is None else self._begun
                 self.last = max(self.last, float(row) - self._begun)
@@ -54,6 +54,7 @@ class Moments:
 
 @functools.lru_cache(maxsize=None)
 def pixel(read: int, written: int) -> bytes:
+    """Four bytes of a cell, red, green, blue and how dense it is, by how often it was read and written."""
     most = read + written
     if not most:
         return bytes(4)
@@ -67,8 +68,8 @@ def pixels(columns: Dict[int, bytearray]) -> List[bytes]:
     places, blank = [4 * (place - first) for place in columns], bytes(4 * (max(columns) + 1 - first))
     rows: List[bytes] = []
     for read, written in zip(reversed(cells[:ROWS]), reversed(cells[ROWS:])):
-        row = bytearray(blank) if any(read) or any(written) else blank
-        for place, colour in zip(places, map(pixel, read, written)) if row is not blank else ():
+        row = bytearray(blank)
+        for place, colour in zip(places, map(pixel, read, written)) if any(read) or any(written) else ():
             row[place:place + 4] = colour
         rows.append(row)
     return rows
@@ -83,7 +84,7 @@ def halved(columns: Dict[int, bytearray]) -> Dict[int, bytearray]:
     return made
 
 
-class Fields:
+class DiskFields:
     """The fields of all disks. A column is of so many requests, or so much time: twice as much, when all are used."""
 
     def __init__(self, sizes: Dict[str, int], moments: Moments) -> None:
@@ -94,7 +95,9 @@ class Fields:
 
     def columns(self, requests: List[int]) -> Iterator[Tuple[int, int, int]]:
         """Which of some requests, from one up to another, stand in which column."""
-        places: Sequence[float] = [self._moments.of[it] for it in requests] if self._moments.are_times else requests
+        places: Sequence[float] = requests
+        if self._moments.are_times:
+            places = [self._moments.of[it] for it in requests]
         first = self._moments.first
         while places[-1] - first >= self._step * COLUMNS:
             self._step *= 2
@@ -128,6 +131,7 @@ class Fields:
             counts[first + cell] = min(DARKEST, counts[first + cell] + times)
 
     def draw(self, out: streams.Output) -> None:
+        """Writes the picture: a field for each disk in which something was done, in the order of DISKS."""
         width, high = COLUMNS * CELL, ROWS * CELL
         reach = f"{self._moments.last:g} seconds" if self._moments.are_times else f"requests 1 to {self._moments.last}"
         shown = [it for it in self._sizes if it in self._fields]

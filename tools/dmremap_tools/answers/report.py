@@ -9,8 +9,8 @@ Takes the output of `dmremap map`. Prints lines that begin with what they say:
     time SECONDS                            with --times: from the first request to the last
 
 A copy is a read and a write, and a fill a write; neither counts for `seek` and `split`. A kernel also writes the list of a
-snapshot's store, which answers leave out: the disk of a store does more than is counted here. With --disks the lines are in the
-order of DISKS; disks that it lacks are refused, and so are pieces past their ends.
+snapshot's store, which answers leave out: the disk of a store does more than is counted here. With --lengths the lines are in
+the order of DISKS; disks that it lacks are refused, and so are pieces past their ends.
 
 --plot draws a field for each disk: to the right the numbers of the requests, or with --times their times; upwards the sectors.
 Reads are blue and writes red, the more the darker.
@@ -31,7 +31,7 @@ from operator import add, sub
 from typing import Dict, List, Optional, Sequence, Tuple
 
 from dmremap_tools.answers.compared import Compared
-from dmremap_tools.answers.plot import Fields, Moments
+from dmremap_tools.answers.plot import DiskFields, Moments
 from dmremap_tools.base import numbers, pieces, quoting, streams, tables
 from dmremap_tools.base.refusal import Refusal, WrongWords
 
@@ -46,24 +46,24 @@ Use = Tuple[str, str, List[int], List[int]]
 def add_words(parser: ArgumentParser) -> None:
     parser.add_argument("file", metavar="PIECES", nargs="?", default="-",
                         help="what dmremap map printed; else standard input")
-    parser.add_argument("--disks", metavar="DISKS", help="the disks with their lengths, for the order")
-    parser.add_argument("--plot", metavar="OUT.svg", help="a picture to write; it needs --disks")
-    parser.add_argument("--times", metavar="TIMES", help="what trace --times wrote: line N is the time of request N, in seconds")
+    parser.add_argument("--lengths", metavar="DISKS", help="the disks with their lengths, for the order")
+    parser.add_argument("--plot", metavar="OUT.svg", help="a picture to write; it needs --lengths")
+    parser.add_argument("--times", metavar="TIMES", help="what trace --write-times wrote: line N is the time of request N, in seconds")
     parser.add_argument("--compare", metavar="LOWER", help="requests of a trace of the disks")
 
 
 def run(words: Namespace) -> None:
-    if words.plot is not None and words.disks is None:
-        raise WrongWords("--plot needs --disks")
+    if words.plot is not None and words.lengths is None:
+        raise WrongWords("--plot needs --lengths")
     picture = streams.beside(words.plot) if words.plot is not None else None
-    sizes = tables.read_disks(words.disks) if words.disks is not None else None
+    sizes = tables.read_disks(words.lengths) if words.lengths is not None else None
     moments = Moments(words.times)
-    fields = Fields(sizes, moments) if picture and sizes is not None else None
+    fields = DiskFields(sizes, moments) if picture and sizes is not None else None
     compared = Compared(words.compare) if words.compare is not None else None
     report, source = Report(sizes, fields, compared), pieces.Answers(words.file)
-    for requests, *done in source.by_blocks():
-        moments.take(source, requests)
-        report.take(source, *done)
+    for requests, moves, copied, others in source.by_blocks():
+        moments.take_moments(source, requests)
+        report.count_pieces(source, moves, copied, others)
     if source.number == source.statuses:
         streams.tell("no piece came")
     report.write()
@@ -72,26 +72,28 @@ def run(words: Namespace) -> None:
     if picture and fields:
         fields.draw(picture)
     if compared:
-        compared.check()
+        compared.refuse_if_different()
 
 
 class Report:
     """The figures of answers."""
 
-    def __init__(self, sizes: Optional[Dict[str, int]], fields: Optional[Fields], compared: Optional[Compared]) -> None:
+    def __init__(self, sizes: Optional[Dict[str, int]], fields: Optional[DiskFields],
+                 compared: Optional[Compared]) -> None:
         self._sizes, self._fields, self._compared = sizes, fields, compared
         # By disk and what is done, the pieces and the sectors; and of lengths with so many binary digits, the pieces.
         self._counts: Dict[Tuple[str, str], int] = Counter()
         self._sectors: Dict[Tuple[str, str], int] = Counter()
-        self._lengths: Dict[Tuple[str, str], Dict[int, int]] = defaultdict(Counter)
+        self._lengths: Dict[Tuple[str, str], "Counter[int]"] = defaultdict(Counter)
         # By disk: the end of the last piece, how far all moves were together, and how many there were.
         self._heads: Dict[str, List[int]] = {}
-        self._splits: Dict[int, int] = Counter()
+        self._splits: "Counter[int]" = Counter()
         # The last request, and its pieces so far.
         self._request = self._pieces = 0
 
-    def take(self, source: pieces.Answers, moves: pieces.Moves, copied: pieces.Moves, others: List[Tuple[str, str]]
-             ) -> None:
+    def count_pieces(self, source: pieces.Answers, moves: pieces.Moves, copied: pieces.Moves,
+                     others: List[Tuple[str, str]]) -> None:
+        """Counts the pieces of some requests: those for which heads move, those that copy, and those without a disk."""
         if moves.requests:
             counts = Counter(moves.requests)
             counts[self._request] += self._pieces
@@ -106,6 +108,7 @@ class Report:
             self._sectors["-", what] += times * int(length)
 
     def write(self) -> None:
+        """Writes the lines: totals, lengths, seeks and splits."""
         rank = {disk: place for place, disk in enumerate(self._sizes or ())}
         uses = sorted(self._counts, key=lambda use: (rank.get(use[0], -1), use))
         for disk, what in uses:
@@ -141,7 +144,7 @@ class Report:
                 if self._fields:
                     self._fields.mark(source, place, disk, what, firsts, lasts)
             if self._compared:
-                self._compared.answer(list(map(" ".join, zip(whats, disks))), starts, ends)
+                self._compared.add_answers(list(map(" ".join, zip(whats, disks))), starts, ends)
         if len(self._counts) > MOST_TOTALS:
             raise Refusal(source.name, f"pieces on more than {MOST_TOTALS // 2} disks: give those of fewer")
 

@@ -9,14 +9,14 @@ import os
 import re
 import stat
 import time
-from typing import Dict, Iterable, Iterator, List, NamedTuple, Optional, Sequence, Set, Tuple
+from typing import Dict, Iterable, Iterator, List, NamedTuple, Optional, Sequence, Tuple
 
 from dmremap_tools.base import quoting, streams, written
 from dmremap_tools.base.numbers import SECTOR
 from dmremap_tools.base.refusal import Refusal
-from dmremap_tools.layouts import rescue_map
-from dmremap_tools.layouts.rescue_map import BAD, FINISHED, UNTRIED, Area
-from dmremap_tools.model.device import BLOCK, ZEROS, Device, Extent, Image, Lenient, Missing, Run, cut, read_blocks
+from dmremap_tools.formats import rescue_map
+from dmremap_tools.formats.rescue_map import BAD, FINISHED, UNTRIED, Area
+from dmremap_tools.model.device import BLOCK, ZEROS, Device, Extent, Image, Lenient, Missing, Run, cut, joint, read_blocks
 
 OF = re.compile(r"# Of (.*) of ([0-9]+) sectors, from (.*?)(?:, with ([0-9]+) maps)?")
 HEAD = "# Mapfile. Created by dmremap-tools save\n# current_pos  current_status  current_pass\n"
@@ -29,9 +29,11 @@ PARTLY = "give --resume MAP to save the rest: the map says then what is missing"
 NOTHING = bytes(BLOCK)
 # Into how many places one call reads at most.
 MOST_VIEWS = 1024
-UNREADABLE, END = Missing("it can't be read"), Missing("it ends")
+UNREADABLE, END = Missing("it can't be read"), Extent(Missing("it ends"), 0, 1)
 # How often a map is written, in seconds.
 STEP = 30
+# Bytes of a file: the first one, and where they come from.
+Transfer = Tuple[int, Extent]
 
 
 class Absent(Missing):
@@ -61,17 +63,6 @@ def merged(one: str, other: str) -> Optional[str]:
     if one.endswith(ANY) and other.startswith(one[:-len(ANY)]):
         return other
     return one if one == other or other.endswith(ANY) and one.startswith(other[:-len(ANY)]) else None
-
-
-class Transfer(NamedTuple):
-    """Bytes of a file: the first one, how many, and where they come from; `what` they are if they aren't read, zeros or
-    missing."""
-
-    at: int
-    size: int
-    source: Device
-    start: int
-    what: Optional[Device] = None
 
 
 class SavedMap:
@@ -220,6 +211,8 @@ class Target:
         with self.place.failing():
             while left:
                 count = os.pwrite(self._descriptor, left, at)
+                # Its disk begins to take them now, so that the wait for it at the end is short.
+                os.posix_fadvise(self._descriptor, at, count, os.POSIX_FADV_DONTNEED)
                 left, at = left[count:], at + count
 
     def sync(self) -> None:
@@ -227,7 +220,7 @@ class Target:
             os.fdatasync(self._descriptor)
 
 
-def put_together(path: str, saved: SavedMap, extents: Iterator[Tuple[int, Extent]]) -> bool:
+def put_together(path: str, saved: SavedMap, extents: Iterator[Transfer]) -> bool:
     """Makes a file of its parts, which come in their order, each with its first byte, or goes on with it. Tells what is
     missing, and says whether something is. Without a map the file gets to its place once it is whole."""
     target = Target(path, saved.size, saved.is_begun)
@@ -283,35 +276,38 @@ def tell(gap: range) -> None:
         streams.tell(f"{len(gap)} sectors of the file from {gap.start} on can't be read")
 
 
-def parts_of(extents: Iterable[Tuple[int, Extent]]) -> Iterator[Transfer]:
-    """The bytes of extents, each with the place of its first byte, in blocks."""
-    for at, (source, begin, size) in extents:
+def parts_of(extents: Iterable[Transfer]) -> Iterator[Transfer]:
+    """The same in blocks, of which some are holes: zeros, and what is missing."""
+    for part in extents:
+        at, (source, begin, size) = part
         why = None if isinstance(source, Image) or source is ZEROS else source.lack(begin, size)
         if why is not None:
-            yield Transfer(at, size, source, begin, source if isinstance(source, Missing) else Missing(why))
-        elif size < BLOCK or source is ZEROS:
-            yield Transfer(at, size, source, begin, ZEROS if source is ZEROS else None)
+            yield at, Extent(source if source.is_hole else Missing(why), begin, size)
+        elif size < BLOCK or source.is_hole:
+            yield part
         else:
             # Holes of an image aren't read.
             runs = list(source.runs(begin, begin + size)) if isinstance(source, Image) else [(begin, begin + size)]
             for first, stop, run in cut(runs, begin, begin + size):
-                for start in range(first, stop, BLOCK if run else stop - first):
-                    count = min(BLOCK, stop - start) if run else stop - start
-                    yield Transfer(at + start - begin, count, source, start, None if run else ZEROS)
+                step = BLOCK if run else stop - first
+                for start in range(first, stop, step):
+                    yield at + start - begin, Extent(source if run else ZEROS, start, min(step, stop - start))
 
 
 def windows(parts: Iterable[Transfer]) -> Iterator[List[Transfer]]:
     """Parts that follow each other, as many as a BLOCK has room for, or a longer one that isn't read: larger windows go
     through the processor's cache twice."""
     window: List[Transfer] = []
-    end, refused = 0, None
+    end, most, refused = 0, 0, None
     try:
         for part in parts:
-            if window and not (part.at == end and end + part.size <= window[0].at + BLOCK):
-                yield window
-                window = []
+            at, (_, _, size) = part
+            if at != end or at + size > most:
+                if window:
+                    yield window
+                window, most = [], at + BLOCK
             window.append(part)
-            end = part.at + part.size
+            end = at + size
     except Refusal as refusal:
         # What came before it is saved, and the map says so.
         refused = refusal
@@ -323,46 +319,44 @@ def windows(parts: Iterable[Transfer]) -> Iterator[List[Transfer]]:
 
 def results(parts: List[Transfer], buffer: memoryview, target: Target) -> Iterator[Tuple[int, int, Optional[Missing]]]:
     """Puts the parts of a window into a file: from where to where, and what lacks there."""
-    first, unread, before = parts[0].at, read(parts, buffer), None  # type: int, Set[Transfer], Optional[Device]
+    first, before = parts[0][0], None  # type: int, Optional[Device]
     begin = end = first
-    for part in [*parts, Transfer(0, 0, ZEROS, 0, END)]:
-        for size, what in loaded(part, buffer[end - first:]) if unread and part in unread else ((part.size, part.what),):
-            if what is None and target.has(end, buffer[end - first:end - first + size]):
-                what = ZEROS
-            if what is not before:
-                if before is None:
-                    target.write(begin, buffer[begin - first:end - first])
-                if begin < end:
-                    yield begin, end, before if isinstance(before, Missing) else None
-                begin, before = end, what
-            end += size
+    for _, (source, _, size) in [*read(parts, buffer), (0, END)]:
+        what = source if source.is_hole else None
+        if what is None and not buffer[end - first] and target.has(end, buffer[end - first:end - first + size]):
+            what = ZEROS
+        if what is not before:
+            if before is None:
+                target.write(begin, buffer[begin - first:end - first])
+            if begin < end:
+                yield begin, end, before if isinstance(before, Missing) else None
+            begin, before = end, what
+        end += size
 
 
-def read(parts: List[Transfer], buffer: memoryview) -> Set[Transfer]:
-    """Reads parts of images to their places in a window, by one call where they go on there. Returns those that are
-    to be read one by one."""
+def read(parts: List[Transfer], buffer: memoryview) -> List[Transfer]:
+    """Reads parts to their places in a window, by one call where they go on in an image. Returns them, with what can't be
+    read as missing."""
     runs: List[List[Transfer]] = []
-    last: Dict[Optional[Device], List[Transfer]] = {}
+    last: Dict[Device, List[Transfer]] = {}
+    ends: Dict[Device, int] = {}
     for part in parts:
-        if part.what is None:
-            run = last.get(part.source)
-            if run and run[-1].start + run[-1].size == part.start and len(run) < MOST_VIEWS:
-                run.append(part)
-            else:
-                last[part.source] = [part]
-                runs.append(last[part.source])
-    first, unread = parts[0].at, set()  # type: int, Set[Transfer]
+        source, start, size = part[1]
+        if not source.is_hole:
+            if ends.get(source) != start or len(last[source]) == MOST_VIEWS:
+                last[source] = []
+                runs.append(last[source])
+            last[source].append(part)
+            ends[source] = start + size
+    first, lost = parts[0][0], []  # type: int, List[Run]
     for run in runs:
-        views = [buffer[part.at - first:part.at - first + part.size] for part in run]
-        if not (isinstance(run[0].source, Image) and run[0].source.fill(run[0].start, views)):
-            unread.update(run)
-    return unread
-
-
-def loaded(part: Transfer, view: memoryview) -> Iterator[Tuple[int, Optional[Missing]]]:
-    """The bytes of a part that are read as far as they can be: how many, and what lacks there."""
-    at = 0
-    for size, content, is_there in read_blocks(part.source.load, part.start, part.start + part.size):
-        view[at:at + len(content)] = content
-        yield size, None if is_there else UNREADABLE
-        at += size
+        views, (_, (source, start, _)) = [buffer[at - first:at - first + extent.size] for at, extent in run], run[0]
+        if isinstance(source, Image) and source.fill(start, views):
+            continue
+        for at, (source, start, size) in run:
+            for count, content, is_there in read_blocks(source.load, start, start + size):
+                buffer[at - first:at - first + len(content)] = content
+                lost += [] if is_there else [(at, at + count)]
+                at += count
+    return [(begin, Extent(UNREADABLE if gap else source, 0, end - begin)) for at, (source, _, size) in parts
+            for begin, end, gap in cut(joint(lost), at, at + size)] if lost else parts

@@ -20,6 +20,7 @@ class Given(NamedTuple):
     disks: Optional[str]
 
     def words(self) -> List[str]:
+        """The words of a command line of dmremap that load it."""
         return [self.form, self.file] + ([] if self.disks is None else [self.disks])
 
     def copied(self, folder: str) -> "Given":
@@ -38,6 +39,7 @@ def add_words(parser: ArgumentParser) -> None:
 
 
 def put(path: str, parts: Iterable[str]) -> None:
+    """Writes a text to a file for dmremap. Raises OutputFailed."""
     try:
         with open(path, "w", encoding="utf-8", errors="surrogateescape") as file:
             file.writelines(parts)
@@ -46,6 +48,7 @@ def put(path: str, parts: Iterable[str]) -> None:
 
 
 def given_in(words: Namespace, usage: str) -> Given:
+    """What the words of a command line load. Refuses them where DISKS is missing, or is one too many."""
     if (words.form == "lvm") == (words.disks is not None):
         raise WrongWords("give DISKS, or leave it out with lvm", "usage: " + usage)
     return Given(words.form, words.file, words.disks)

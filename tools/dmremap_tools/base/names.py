@@ -19,7 +19,7 @@ LSBLK = re.compile(r"(\d{1,10}:\d{1,10}) (\d{1,20})(?: (\S+)(?: \S*)?)?")
 LSBLK_COMMAND = "lsblk -brno MAJ:MIN,SIZE,KNAME,PKNAME"
 MOST_KEPT = 4096
 # Where a name stands: in lines, or in the word of the command line that is called so in the usage.
-Place = Union[streams.Lines, str]
+NamePlace = Union[streams.Lines, str]
 
 
 def of_path(path: str) -> str:
@@ -38,24 +38,27 @@ class Names:
 
     @functools.cached_property
     def _of_minor(self) -> Dict[str, str]:
+        """The names of devices by their minor numbers, as digits."""
         return {number.partition(":")[2]: name for name, number in read_ls(self._ls or "")}
 
-    def known(self, path: str, place: Place) -> str:
+    def known(self, path: str, place: NamePlace) -> str:
         """The name that a path stands for, or the path; empty for a /dev/dm-N that `dmsetup ls` has not."""
         minor = MINOR.fullmatch(path) if path.startswith("/dev/dm-") else None
         if minor and self._ls is None:
-            refuse(place, f"which device is {path}? Give --ls LS")
+            refuse_at(place, f"which device is {path}? Give --ls LS")
         return self._of_minor.get(minor[1], "") if minor else of_path(path)
 
     @functools.lru_cache(MOST_KEPT)
-    def device(self, path: str, place: Place) -> str:
+    def device(self, path: str, place: NamePlace) -> str:
+        """The name that a path stands for, which is refused if it is none of a device."""
         name = self.known(path, place)
         if not FORM.fullmatch(name):
-            refuse(place, f"no name of a device, give it as dmsetup ls prints it: '{quoting.shown(path)}'")
+            refuse_at(place, f"no name of a device, give it as dmsetup ls prints it: '{quoting.shown(path)}'")
         return name
 
 
-def refuse(place: Place, reason: str) -> NoReturn:
+def refuse_at(place: NamePlace, reason: str) -> NoReturn:
+    """Refuses what stands at a place."""
     if isinstance(place, str):
         raise Refusal(place, reason)
     place.refuse(reason)

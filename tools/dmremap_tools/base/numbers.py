@@ -33,20 +33,24 @@ def word(text: str) -> int:
 
 
 def add_sector_size(parser: "argparse._ActionsContainer", said: str) -> None:
+    """Adds --sector-size, of which the help says this."""
     parser.add_argument("--sector-size", type=word, metavar="BYTES", help=said)
 
 
 def check_sector_size(size: Optional[int]) -> None:
+    """Refuses a size that no sector has; None is the usual one."""
     if size is not None and (size % SECTOR or not 0 < size <= LARGEST_SECTOR):
         raise WrongWords(f"--sector-size is a multiple of 512, up to 2^30: {size}")
 
 
 def check_length(option: str, sectors: int) -> int:
+    """So many sectors as an option says, which are refused if no device has as many."""
     if not 0 < sectors <= LONGEST_DEVICE:
         raise WrongWords(f"{option}: give from 1 to 2^50 sectors, and not {sectors}")
     return sectors
 
 
 def sectors_touched(begin: int, count: int) -> Tuple[int, int]:
+    """The first sector that some bytes touch, and how many they touch."""
     first = begin // SECTOR
     return first, -(-(begin + count) // SECTOR) - first

@@ -2,7 +2,7 @@
 
 import re
 from argparse import ArgumentParser
-from typing import Container, Dict, Iterable, NamedTuple, Optional, Pattern
+from typing import Dict, NamedTuple, Optional, Pattern
 
 from dmremap_tools.base import quoting, streams
 from dmremap_tools.base.numbers import SECTOR
@@ -12,7 +12,7 @@ from dmremap_tools.base.refusal import Refusal
 PLACED = re.compile(r"(.*)\?offset=([0-9]{1,18})", re.S)
 
 
-class Place(NamedTuple):
+class DiskPlace(NamedTuple):
     """Where the bytes of a disk are: a file or a disk here, the byte at which they begin, and whether that was said."""
 
     path: str
@@ -20,19 +20,21 @@ class Place(NamedTuple):
     is_said: bool = False
 
     def check_sectors(self, disk: str) -> None:
+        """Refuses a place of a disk within a sector."""
         if self.start % SECTOR:
             raise Refusal("--paths", f"{quoting.shown(disk)} begins at byte {self.start}, within a sector: "
                           "give a multiple of 512")
 
 
-def place_of(path: str) -> Place:
+def place_of(path: str) -> DiskPlace:
+    """The place that a path of PATHS says, with or without an offset in bytes."""
     match = PLACED.fullmatch(path)
-    return Place(match[1], int(match[2]), True) if match else Place(path)
+    return DiskPlace(match[1], int(match[2]), True) if match else DiskPlace(path)
 
 
 def line(name: str, path: str, start: int = 0) -> str:
     """The line of PATHS by which a disk is read in this file from this byte on. A path that no line says is refused."""
-    place = Place(path, start)
+    place = DiskPlace(path, start)
     said = path if not start and place_of(path) == place else f"{path}?offset={start}"
     place.check_sectors(name)
     if "\n" in path or place_of(said)[:2] != place[:2]:
@@ -40,10 +42,9 @@ def line(name: str, path: str, start: int = 0) -> str:
     return f"{name} {said}\n"
 
 
-def add_words(parser: ArgumentParser, is_needed: bool = False) -> None:
-    parser.add_argument("--paths", metavar="PATHS", required=is_needed,
-                        help="lines NAME PATH: a disk of the tables, and its path on this machine; PATH?offset=BYTES "
-                        "is a partition of a whole disk, which begins there")
+def add_words(parser: ArgumentParser) -> None:
+    parser.add_argument("--paths", metavar="PATHS", help="lines NAME PATH: a disk of the tables, and its path on this "
+                        "machine; PATH?offset=BYTES is a partition of a whole disk, which begins there")
 
 
 def read(path: str, form: Optional[Pattern[str]] = None, are_apart: bool = True) -> Dict[str, str]:
@@ -63,14 +64,6 @@ def read(path: str, form: Optional[Pattern[str]] = None, are_apart: bool = True)
     return paths
 
 
-def places(path: Optional[str], are_apart: bool = True) -> Dict[str, Place]:
+def places(path: Optional[str], are_apart: bool = True) -> Dict[str, DiskPlace]:
     """The place of each name, of a file that may not be given."""
     return {name: place_of(it) for name, it in read(path, None, are_apart).items()} if path is not None else {}
-
-
-def check_known(where: Optional[str], named: Iterable[str], disks: Container[str]) -> None:
-    """Refuses a name in the file `where` that no disk has: the disk that was meant would be read at its own name."""
-    for name in named:
-        if name not in disks:
-            why = f"no disk is called {quoting.shown(name)}: give a name that the tables have"
-            raise Refusal(streams.name_of(where or "--paths"), why)

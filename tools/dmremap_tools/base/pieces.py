@@ -139,7 +139,9 @@ class Mapped(contextlib.AbstractContextManager):
         with tempfile.TemporaryFile() as given:
             given.writelines(it.encode("utf-8", "surrogateescape") for it in requests)
             given.seek(0)
-            self._child = program.start(command, stdin=given, stdout=subprocess.PIPE)
+            # On a terminal dmremap would name what explains a command that nobody typed.
+            self._said = tempfile.TemporaryFile()
+            self._child = program.start(command, stdin=given, stdout=subprocess.PIPE, stderr=self._said)
         self.answers = Answers(f"/dev/fd/{self._child.stdout.fileno()}")
         self.answers.name = command[0]
 
@@ -151,5 +153,8 @@ class Mapped(contextlib.AbstractContextManager):
             self._child.kill()
         answers.close()
         status = self._child.wait()
+        with self._said:
+            self._said.seek(0)
+            streams.tell(*self._said.read().decode("utf-8", "replace").splitlines())
         if (kind is None or kind is Refusal) and (status > 0 or status and is_ended):
             program.fail(self.answers.name, status)

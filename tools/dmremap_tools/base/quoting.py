@@ -30,6 +30,7 @@ def shown(text: str) -> str:
 
 
 def some(words: List[str], between: str = ", ") -> str:
+    """The first of some words as one text, with two dots where there are more."""
     return between.join(words[:MOST_NAMED] + [".."] * (len(words) > MOST_NAMED))
 
 
@@ -41,4 +42,5 @@ def printable(text: str) -> str:
 
 
 def for_shell(text: str) -> str:
+    """The text as one word of a shell."""
     return "'" + text.replace("'", "'\\''") + "'"

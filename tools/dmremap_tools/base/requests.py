@@ -15,7 +15,7 @@ _write = streams.out.write
 _MOST_LINES = re.compile(fr"([RW]) (\S+) {numbers.SHORT} {numbers.SHORT}")
 
 
-def read(source: streams.Lines, device: Callable[[str, names.Place], str], form: str
+def read(source: streams.Lines, device: Callable[[str, names.NamePlace], str], form: str
          ) -> Iterator[Tuple[str, str, int, int]]:
     """The lines that say R or W, a device, whose name a function gives, and two numbers; `form` tells of others."""
     for line in source:

@@ -1,6 +1,5 @@
 """Devices and their lines, in table text and in concise text, and DISKS, the disks that they may name."""
 
-import re
 from typing import Callable, Dict, Iterator, List, Optional, Sequence, Tuple
 
 from dmremap_tools.base import names, numbers, quoting, streams
@@ -30,6 +29,7 @@ class Line:
         return range(2, most, 2) if self.target == "striped" else range(min(most, LOWERS.get(self.target, 0)))
 
     def lowers(self) -> List[str]:
+        """The disks and devices that its words name, with some twice."""
         return [self.words[it] for it in self.places()]
 
     def spans(self) -> Iterator[Tuple[str, int, Optional[int]]]:
@@ -63,7 +63,7 @@ class Line:
         return "a snapshot of another kind" if self.target == "snapshot" and words[2] not in KINDS else None
 
 
-class Device:
+class TableDevice:
     """A device: its name, `rw`, `ro` or nothing where its text doesn't say, and its lines."""
 
     def __init__(self, name: str, flags: str = "") -> None:
@@ -71,17 +71,19 @@ class Device:
         self.lines: List[Line] = []
 
     def end(self) -> int:
+        """The sector after its last one."""
         return self.lines[-1].start + self.lines[-1].length
 
     def lowers(self) -> List[str]:
+        """What its lines name."""
         return [lower for line in self.lines for lower in line.lowers()]
 
 
-def read(path: str) -> Tuple[List[Device], bool]:
+def read(path: str) -> Tuple[List[TableDevice], bool]:
     """The devices of table text or concise text, as dmremap prints it, and whether it is the latter."""
     text = "\n".join(streams.rows(path)).rstrip("\n")
     is_concise = "," in text.split(" ", 1)[0]
-    devices: List[Device] = []
+    devices: List[TableDevice] = []
     for number, row in enumerate(text.split(";" if is_concise else "\n") if text else (), 1):
         place = f"{streams.name_of(path)}:{number}"
         if is_concise:
@@ -89,14 +91,14 @@ def read(path: str) -> Tuple[List[Device], bool]:
             if len(fields) < 4 or fields[2] not in ("", "ro", "rw"):
                 why = "not a device of concise text, take what `dmremap concise` prints: "
                 raise Refusal(place, why + quoting.shown(row))
-            devices.append(Device(name, fields[2]))
+            devices.append(TableDevice(name, fields[2]))
             lines = fields[3:]
         else:
             name, is_named, line = row.partition(": ")
             if not name or not is_named:
                 raise Refusal(place, "not table text, give NAME: START LENGTH TARGET ..: " + quoting.shown(row))
             if not devices or devices[-1].name != name:
-                devices.append(Device(name))
+                devices.append(TableDevice(name))
             lines = [line]
         devices[-1].lines += [line_of(place, it) for it in lines]
     return devices, is_concise
@@ -115,14 +117,7 @@ def line_of(place: str, text: str) -> Line:
     return line
 
 
-def names_in(path: str) -> List[str]:
-    """What a disk or a device may be called in FILE: with and without /dev/ in front, or as a device of that name."""
-    short = re.sub("^/dev/", "", path)
-    name = names.of_path(path)
-    return [path, "/dev/" + path, short, path if name == path else names.MAPPER + name, names.MAPPER + short]
-
-
-def text_of(devices: List[Device], is_concise: bool) -> str:
+def text_of(devices: Sequence[TableDevice], is_concise: bool) -> str:
     """Devices as table text or in the concise form, as dmremap reads it."""
     if is_concise:
         return ";".join(",".join([it.name, "", "", it.flags, *map(str, it.lines)]) for it in devices) + "\n"

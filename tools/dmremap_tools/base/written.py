@@ -74,7 +74,7 @@ class Place:
         self._descriptor: Optional[int] = None
         with self.failing():
             self._there = self._look(is_word)
-            self.known = identity(self._there) if self._there else None
+            self.known: Optional[Identity] = identity(self._there) if self._there else None
             self.is_special = self._there is not None and not self.known
             if not self.is_special:
                 self.path = os.path.realpath(self.path) if is_word else self.path
@@ -110,6 +110,7 @@ class Place:
         return descriptor
 
     def go_on(self) -> int:
+        """Opens the file that is there already, and returns its descriptor."""
         with self.failing():
             self._descriptor = descriptor = os.open(self.path, os.O_RDWR | os.O_NOFOLLOW)
         return descriptor
@@ -153,6 +154,7 @@ class Place:
             os.unlink(self.path)
 
     def check_new(self) -> None:
+        """Refuses it where something is there."""
         if os.path.lexists(self.path):
             raise Refusal(self.shown, "it is there already: give another name, or remove it first")
 
@@ -160,10 +162,12 @@ class Place:
         raise WrongWords(f"{self.shown}: it is read, too: give another file to write")
 
     def fail(self, fault: Exception) -> NoReturn:
+        """Ends the command, as this output failed."""
         raise OutputFailed(f"{self.shown}: {getattr(fault, 'strerror', None) or fault}")
 
     @contextlib.contextmanager
     def failing(self) -> Iterator[None]:
+        """What is done within ends the command where the system has a fault."""
         try:
             yield
         except (OSError, OverflowError, ValueError) as fault:

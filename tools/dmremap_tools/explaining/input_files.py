@@ -2,10 +2,12 @@
 has; and how a refusal is shown, with the place in one of them."""
 
 import errno
+import os
 import re
 from typing import Any, Dict, Iterator, List, NamedTuple, Optional, Sequence, Tuple
 
-from dmremap_tools.base import disk_image, quoting, streams
+from dmremap_tools.base import near_names, quoting, streams
+from dmremap_tools.formats import disk_image
 from dmremap_tools.base.given import MOST_TEXT
 from dmremap_tools.explaining import remedies
 
@@ -19,7 +21,7 @@ _WIDE = re.compile(rb"((?:[^\0]\0){2,}|(?:\0[^\0]){2,}).?", re.S)
 
 class TextPlace(NamedTuple):
     """Characters of a line, from `first` to `end`: the name of the text, the number of the line, and what stands in it.
-    In concise text it is a device in place of a line."""
+    In concise text it is a device in place of a line. A note says what is wrong with them, if that is known."""
 
     name: str
     number: int
@@ -27,6 +29,7 @@ class TextPlace(NamedTuple):
     first: int
     end: int
     is_device: bool = False
+    note: str = ""
 
     def of_words(self, words: Sequence[str], at: int, count: int = 1, begin: int = 0) -> "TextPlace":
         """Some of the words that begin at a character of the line, with a space between two; behind them its end."""
@@ -36,12 +39,12 @@ class TextPlace(NamedTuple):
     def shown_rows(self) -> List[str]:
         """The place as a compiler shows it: the part of the line around it, underlined."""
         begun = max(0, min(self.first - BEFORE, len(self.text) - WIDTH))
-        part = self.text[begun:begun + WIDTH].replace("\t", " ")
+        part = self.text[begun:begun + WIDTH]
         before, marked = part[:self.first - begun], part[self.first - begun:self.end - begun]
         lead = "  " + ".." * (begun > 0)
         shown = lead + quoting.escaped(part) + ".." * (begun + WIDTH < len(self.text))
         mark = " " * (len(lead) + len(quoting.escaped(before))) + "^" * max(1, len(quoting.escaped(marked)))
-        return ["%s%s%d" % (self.name, ", device " if self.is_device else ":", self.number), shown, mark]
+        return ["%s%s%d" % (self.name, ", device " if self.is_device else ":", self.number), shown, (mark + " " + self.note).rstrip()]
 
     def as_json(self) -> Dict[str, Any]:
         """It as an object of JSON."""
@@ -88,6 +91,11 @@ class InputText(NamedTuple):
         return quoting.shown(self.path)
 
     @property
+    def is_denied(self) -> bool:
+        """Whether only somebody else may read it."""
+        return os.path.isfile(self.path) and not os.access(self.path, os.R_OK)
+
+    @property
     def kind(self) -> str:
         """What it is by its beginning, in the words of `remedies`."""
         beginning = self.content[:streams.LOOKED_AT]
@@ -129,5 +137,13 @@ def read_input(path: Optional[str]) -> InputText:
         with open(path, "rb") as it:
             return InputText(path, it.read(MOST_TEXT + 1))
     except OSError as fault:
-        code = errno.errorcode.get(fault.errno or 0, "an error")
-        return InputText(path, b"", "%s can't be read: %s (%s)" % (quoting.shown(path), streams.why(fault), code))
+        why = "%s can't be read: %s (%s)" % (quoting.shown(path), streams.why(fault), errno.errorcode.get(fault.errno or 0, "an error"))
+        return InputText(path, b"", "; ".join(filter(None, (why, _note_on(path, fault.errno)))))
+
+
+def _note_on(path: str, code: Optional[int]) -> str:
+    """What is there in place of a file: names that are near, or all those of the folder."""
+    folder = path if code == errno.EISDIR else os.path.dirname(path) or "."
+    if code == errno.EISDIR or code == errno.ENOENT and os.path.isdir(folder) and not near_names.near_names(path):
+        return "the folder has: " + quoting.some(list(map(quoting.shown, sorted(os.listdir(folder)))))
+    return near_names.missing_note(path) if code == errno.ENOENT else ""

@@ -11,15 +11,16 @@ import itertools
 import os
 from typing import Any, Collection, Dict, Iterator, List, NamedTuple, Optional, Tuple
 
-from dmremap_tools.base import names, paths, quoting, store_places, streams, tables
+from dmremap_tools.base import names, paths, quoting, streams, tables
+from dmremap_tools.formats import store_places
 from dmremap_tools.base.given import put
 from dmremap_tools.base.numbers import SECTOR
-from dmremap_tools.base.pieces import Mapped as Answering, Piece
+from dmremap_tools.base.pieces import Mapped, Piece
 from dmremap_tools.base.refusal import Refusal
 from dmremap_tools.explaining.refusals import CopiedCommand
-from dmremap_tools.layers.stack import Stack
+from dmremap_tools.model.loaded_stack import Stack
 from dmremap_tools.model.device import Image, Missing, Part as DiskPart
-from dmremap_tools.model.mapping import Mapped, Tables, copy_store
+from dmremap_tools.model.mapping import MappedDevice, Tables, copy_store
 
 TAKEN, NOT_TAKEN, TAKEN_NOW = "taken", "not taken yet", "taken now"
 SNAPSHOT, ORIGIN = "snapshot", "snapshot-origin"
@@ -79,7 +80,7 @@ class LinePiece:
     """A piece that a line makes, with paths of devices and disks; a note on it, or nothing; and in `below` the requests
     that it is for those devices."""
 
-    def __init__(self, piece: Piece, note: str, devices: Dict[str, tables.Device]) -> None:
+    def __init__(self, piece: Piece, note: str, devices: Dict[str, tables.TableDevice]) -> None:
         self.piece, self.note = piece, note
         ends = [piece]
         if piece.to:
@@ -137,7 +138,7 @@ class LevelQuery(NamedTuple):
     path of the origin, if that stays in the level's stack; a write `is_watched` if reads of the snapshot come before
     and after."""
 
-    device: tables.Device
+    device: tables.TableDevice
     line: Optional[tables.Line]
     operation: str
     start: int
@@ -209,7 +210,7 @@ class LevelQuery(NamedTuple):
         return UNREAD % (lower, self.start // int(line.words[3]), device.name) if fails else FULL % device.name
 
 
-def queries_of(step: DeviceRequest, device: tables.Device, kept: Optional[str]) -> Iterator[LevelQuery]:
+def queries_of(step: DeviceRequest, device: tables.TableDevice, kept: Optional[str]) -> Iterator[LevelQuery]:
     """A request cut so that each answer has one line of the device, and one chunk of a snapshot that is written."""
     at, end = step.start, step.start + step.count
     if end > device.end():
@@ -301,7 +302,7 @@ class LevelQueries:
         line = self._by_path[names.MAPPER + name].lines[0]
         return OVER + line.words[0] if line.target in (SNAPSHOT, ORIGIN) else name
 
-    def _devices_of(self, unit: str) -> List[tables.Device]:
+    def _devices_of(self, unit: str) -> List[tables.TableDevice]:
         """The devices that are asked at once."""
         return [it for it in self._stack.devices if self._unit_of(it.name) == unit]
 
@@ -343,7 +344,7 @@ class LevelQueries:
         devices = {it.name: it for it in self._stack.devices} if has_state else {}
         sizes, stores, copies = dict(self._stack.sizes), {}, {}
         for device in self._devices_of(unit):
-            changed = devices[device.name] = tables.Device(device.name, device.flags)
+            changed = devices[device.name] = tables.TableDevice(device.name, device.flags)
             changed.lines += [self._line_over_disks(it, kept) for it in device.lines]
             for disk in filter(self._meant.get, changed.lowers()):
                 path = self._meant[disk]
@@ -354,7 +355,7 @@ class LevelQueries:
                 if self._copied.listed and kind != "N":
                     # What the store says of itself, which is a disk here.
                     path, copy = self._meant[store], os.path.join(self._folder, store)
-                    below = self._source.disks.get(path) or Mapped(path, self._source, names.of_path(path))
+                    below = self._source.disks.get(path) or MappedDevice(path, self._source, names.of_path(path))
                     copy_store(below, int(chunk), copy)
                     copies[store] = paths.line(store, copy)
         if not has_state:
@@ -377,7 +378,7 @@ class LevelQueries:
         """dmremap's pieces for each request about the stack of these words, after earlier ones if that has a state."""
         found: List[List[Piece]] = [[] for _ in requests]
         command = [self._copied.asked, "map", *words, *["--before", self._before] * has_state]
-        with Answering(command, (it + "\n" for it in requests)) as mapped:
+        with Mapped(command, (it + "\n" for it in requests)) as mapped:
             for piece in mapped.answers:
                 found[piece.request - 1].append(piece)
         return found

@@ -4,11 +4,12 @@ them. A line may make no sense."""
 import os
 import re
 import shlex
-from typing import Dict, Iterator, Tuple
+from typing import Dict, Iterator, List, Sequence, Tuple
 
-from dmremap_tools.base import names, tables
+from dmremap_tools.base import names, paths, tables
 from dmremap_tools.explaining import remedies
 from dmremap_tools.explaining.input_files import InputText, Marked, TextPlace
+from dmremap_tools.model import placed
 
 NUMBER, NUMBERED = re.compile(r"0|[1-9][0-9]{0,18}"), re.compile("[0-9]+:[0-9]+")
 # Words of a line from the one after its target on, which is word -1: the first, how many, and what mends them.
@@ -102,7 +103,9 @@ def mark_in_file(word: str, number: int, form: str, file: InputText, disks: Inpu
                 return place._replace(end=max(1, len(line.device))), line.compared if word == "twice" else ""
             end = before.start + before.length if before and before.device == line.device else 0
             for at, count, remedy in _wrong_words(word, line, end, lengths, disks_command(file)):
-                return place.of_words(line.typed, at + 3, count, line.begin), remedy
+                place = place.of_words(line.typed, at + 3, count, line.begin)
+                is_size = word == "field" and form == "table" and remedies.in_sectors(place.text[place.first:place.end])
+                return _in_sectors(place, file) if is_size else (place, remedy)
     return place, remedies.COMPARE_TREE if word == "cycle" else ""
 
 
@@ -110,21 +113,41 @@ def mark_in_disks(word: str, number: int, disks: InputText, file: InputText) -> 
     """The part of a line of DISKS that dmremap refuses by this word."""
     place = disks.place(number)
     end = len(place.text.partition(" ")[0])
-    if word == "text" or word == "syntax" and _is_unended(disks, number):
+    if word == "text" or re.match(r"#|\s*$", place.text) or word == "syntax" and _is_unended(disks, number):
         return _wrong_part(word, place, disks)
     part = {"name": place._replace(end=end), "twice": place._replace(end=end), "field": place._replace(first=end + 1)}
+    if word == "syntax":
+        place = place._replace(note=remedies.NO_LENGTH)
+    if word == "field" and remedies.in_sectors(place.text[end + 1:]):
+        return _in_sectors(part[word], disks)
     return part.get(word, place), "" if word == "name" else disks_command(file)
+
+
+def _in_sectors(place: TextPlace, text: InputText) -> Marked:
+    """The place of a size with a unit, and what puts its sectors there."""
+    size = place.text[place.first:place.end]
+    sectors = remedies.in_sectors(size)
+    by = "sed '%ds/ %s\\b/ %s/'" % (place.number, size, sectors)
+    return place._replace(note=remedies.IN_SECTORS % sectors), remedies.as_typed(by, text.path)
+
+
+def mark_in_paths(word: str, number: int, listed: InputText, remedy: str) -> Marked:
+    """The part of a line of PATHS that dmremap refuses by this word; `remedy` lists the images anew."""
+    place = listed.place(number)
+    end = len(place.text.partition(" ")[0])
+    is_disk = word in ("name", "twice", "unknown")
+    return place._replace(end=end) if is_disk else place._replace(first=end + 1) if word == "field" else place, remedy
 
 
 def _wrong_part(word: str, place: TextPlace, text: InputText) -> Marked:
     """The part of a line that isn't of the form of tables: the end of one without a newline, or all where none is
     known."""
     if word == "syntax" and _is_unended(text, place.number):
-        return place.of_words([], 0), remedies.END_LINE % shlex.quote(text.path)
-    for form, by in remedies.OF_ROW[word]:
+        return place.of_words([], 0)._replace(note=remedies.UNENDED), remedies.END_LINE % shlex.quote(text.path)
+    for form, note, by in remedies.OF_ROW.get(word, []):
         part = re.search(form, place.text)
         if part:
-            place = place._replace(first=part.start(1), end=max(1, part.end(1)))
+            place = place._replace(first=part.start(1), end=max(1, part.end(1)), note=note)
             return place, remedies.as_typed(by.replace("NUMBER", str(place.number)), text.path)
     return place, ""
 
@@ -134,14 +157,48 @@ def _is_unended(text: InputText, number: int) -> bool:
     return number == text.content.count(b"\n") + 1 and not text.content.endswith(b"\n")
 
 
-def disks_command(file: InputText) -> str:
-    """The command that lists the disks which tables name, with their sectors; DISK stands for those of another file.
-    Where tables have the kernel's numbers, the command makes tables with names, too."""
+def lowers_in(file: InputText) -> List[str]:
+    """The disks that tables name, each once."""
     form = remedies.FORM_OF.get(file.kind, "lvm")
     lowers = [lower for line in typed_lines(form, file) for lower in line.lowers()] if form != "lvm" else []
-    disks = [*dict.fromkeys(it for it in lowers if not it.startswith(names.MAPPER))] or ["DISK"]
-    entries = ('echo %s "$(%s)"' % (shlex.quote(it), _length_command(it)) for it in disks)
-    return remedies.GET_MACHINE if any(map(NUMBERED.fullmatch, disks)) else remedies.LIST % "; ".join(entries)
+    return [*dict.fromkeys(it for it in lowers if not it.startswith(names.MAPPER))]
+
+
+def disks_command(file: InputText, images: Sequence[str] = ()) -> str:
+    """The command that lists the disks which tables name, with their sectors; DISK stands for those of another file.
+    Where tables have the kernel's numbers, the command makes tables with names, too. A single disk has the length of
+    a single image."""
+    disks = lowers_in(file) or ["DISK"]
+    if any(map(NUMBERED.fullmatch, disks)):
+        return remedies.GET_MACHINE
+    sources = images if len(disks) == len(images) == 1 else disks
+    entries = ('echo %s "$(%s)"' % (shlex.quote(disk), _length_command(it)) for disk, it in zip(disks, sources))
+    return remedies.LIST % ("; ".join(entries), remedies.LISTED)
+
+
+def paths_command(disks: Sequence[str], images: Sequence[str]) -> str:
+    """The command that lists the images of disks; IMAGE stands for one that isn't known. Without disks, it lists the
+    physical volumes in images."""
+    rows = [paths.line(disk, _image_of(disk, disks, images)) for disk in disks] or list(_volume_rows(images))
+    return remedies.LIST % ("; ".join("echo " + shlex.quote(it.rstrip("\n")) for it in rows), remedies.PATHS)
+
+
+def _image_of(disk: str, disks: Sequence[str], images: Sequence[str]) -> str:
+    """The image that has the name of a disk, or the only one of the only disk; else the disk itself, if it is there."""
+    called = [it for it in images if os.path.basename(it).split(".")[0] == os.path.basename(disk)]
+    alone = images if len(disks) == len(images) == 1 else []
+    return next(iter([*called, *alone]), disk if os.path.exists(disk) else "IMAGE")
+
+
+def _volume_rows(images: Sequence[str]) -> Iterator[str]:
+    """A line of PATHS for each physical volume in images, or for an image in which none is found."""
+    pile = placed.pile_at(images)
+    for path in images:
+        image = placed.image_at(pile, path)
+        begins = [begin for it in pile.volumes if image for begin in placed.begins_in(pile, it.device, image)] or [0]
+        name = re.sub(r"[^!-~]|[,;\\]", "-", os.path.basename(path).split(".")[0])
+        for number, begin in enumerate(begins, 1):
+            yield paths.line(name + "-%d" % number * (len(begins) > 1), path, begin)
 
 
 def _length_command(disk: str) -> str:

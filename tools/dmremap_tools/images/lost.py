@@ -29,11 +29,11 @@ from typing import Optional, Sequence
 from dmremap_tools.answers.saved import parts_of
 from dmremap_tools.base import program, streams
 from dmremap_tools.base.numbers import SECTOR
-from dmremap_tools.base.paths import Place
-from dmremap_tools.layouts import rescue_map
-from dmremap_tools.layouts.file_systems import NoSystem, Run, system_in
-from dmremap_tools.model.device import Image, joined, lacking, read_blocks
-from dmremap_tools.model.pile import Pile, Target
+from dmremap_tools.base.paths import DiskPlace
+from dmremap_tools.formats import rescue_map
+from dmremap_tools.model.device import Image, blocks_of, joined, lacking, read_blocks
+from dmremap_tools.model.file_systems import NoSystem, SectorRun, system_in
+from dmremap_tools.model.pile import Pile, NamedDevice
 
 EXAMPLE = "dmremap-tools lost vg0/home sda.img sdb.img --map sda.img=sda.map"
 TABLE = "inode table: "
@@ -51,48 +51,49 @@ def run(words: Namespace) -> None:
     pile = Pile(words.images, words.program, rescue_map.unread_in(words, words.images))
     target = pile.target(words.volume)
     lost = lacking(target.device, target.size)
-    runs = [Run(begin // SECTOR, (end - begin) // SECTOR) for begin, end in lost]
+    runs = [(begin // SECTOR, (end - begin) // SECTOR) for begin, end in lost]
     if runs:
         with tempfile.TemporaryDirectory(prefix="dmremap-tools-") as folder:
-            place = Place(words.saved) if words.saved else place_of(target) or copied(target, os.path.join(folder, "volume.img"))
+            saved = DiskPlace(words.saved) if words.saved else place_of(target)
+            place = saved or copied(target, os.path.join(folder, "volume.img"))
             for line in lines_of(place, target.name, runs):
                 streams.out.write(line + "\n")
     unmapped = "" if words.map else "; no map was given: only sectors that the images lack"
-    streams.out.write(f"{sum(run.count for run in runs)} sectors lost of {target.size // SECTOR}{unmapped}\n")
+    streams.out.write(f"{sum(count for _, count in runs)} sectors lost of {target.size // SECTOR}{unmapped}\n")
 
 
-def place_of(target: Target) -> Optional[Place]:
+def place_of(target: NamedDevice) -> Optional[DiskPlace]:
     """Where a volume lies, if it is all in one piece of an image, by a path that debugfs takes."""
     (_, first), *others = joined(target.device, 0, target.size)
     if others or not isinstance(first.source, Image) or "?" in first.source.path:
         return None
-    return Place(first.source.path, first.start)
+    return DiskPlace(first.source.path, first.start)
 
 
-def copied(target: Target, path: str) -> Place:
+def copied(target: NamedDevice, path: str) -> DiskPlace:
     """A copy of a volume, with holes where it has zeros or lacks bytes."""
     with open(path, "wb") as file:
-        for at, size, source, start, what in parts_of(joined(target.device, 0, target.size)):
+        for at, (source, start, size) in parts_of(joined(target.device, 0, target.size)):
             streams.show_progress(f"copying {target.name}: {at >> 20} of {target.size >> 20} MiB")
-            for size, content, _ in () if what else read_blocks(source.load, start, start + size):
+            for size, content, _ in () if source.is_hole else read_blocks(source.load, start, start + size):
                 if content.strip(b"\0"):
                     file.seek(at)
                     file.write(content)
                 at += size
         file.truncate(target.size)
-    return Place(path)
+    return DiskPlace(path)
 
 
-def lines_of(place: Place, volume: str, runs: Sequence[Run]) -> "list[str]":
+def lines_of(place: DiskPlace, volume: str, runs: Sequence[SectorRun]) -> "list[str]":
     """A line for each file that some of these sectors belong to."""
     try:
         system = system_in(place, volume, runs)
     except NoSystem:
-        return [f"{sum(run.count for run in runs)} sectors: no file system"]
+        return [f"{sum(count for _, count in runs)} sectors: no file system"]
     counts: "Counter[str]" = Counter()
     for each in runs:
-        for block, first, end in each.parts(system.sectors):
-            for file in system.users(block, first, end):
-                counts[file] += end - first
+        for part in blocks_of(*each, system.sectors):
+            for file in system.users(*part):
+                counts[file] += part[2]
     folders = system.folders(file[len(TABLE):] if file.startswith(TABLE) else file for file in counts)
     return [f"{count} sectors: {'folder ' if file in folders else ''}{file}" for file, count in sorted(counts.items())]

@@ -24,9 +24,9 @@ from typing import Iterator, Tuple
 from dmremap_tools.base import numbers, program, quoting, streams
 from dmremap_tools.base.numbers import SECTOR
 from dmremap_tools.base.refusal import Refusal
-from dmremap_tools.layouts import rescue_map
+from dmremap_tools.formats import rescue_map
 from dmremap_tools.model.image_owners import Owners
-from dmremap_tools.model.owners import Step, unknown, ways
+from dmremap_tools.model.owners import Step, unknown_owner, ways
 from dmremap_tools.model.pile import Pile
 
 EXAMPLE = "echo 'sda.img 12096 8' | dmremap-tools owner sda.img sdb.img"
@@ -49,27 +49,27 @@ def add_words(parser: ArgumentParser) -> None:
 
 def run(words: Namespace) -> None:
     unread = rescue_map.unread_in(words, words.images)
-    paths = [path for path, _ in rescue_map.pairs(words.map, words.images)]
+    paths = [path for path, _ in rescue_map.images_with_maps(words.map, words.images)]
     mapped = ((path, begin // SECTOR, (end - begin) // SECTOR) for path in paths for begin, end in unread[path])
     pile = Pile(words.images, words.program, unread)
     owners = Owners(pile)
     device_named = functools.lru_cache(maxsize=None)(pile.device_named)
-    for name, first, count in mapped if words.map else asked(words):
+    for name, first, count in mapped if words.map else queries(words):
         device = device_named(name)
         if device is None:
             raise Refusal(quoting.shown(name), "no image is called so, and no partition or array of one: see `scan` "
                           "for their names")
         inside, end = device.size // SECTOR, first + count
         for way in ways(owners.on(device), first, min(end, inside)):
-            write(name, way.first, way.count, *way.steps)
+            print_owners(name, way.first, way.count, *way.steps)
         first = max(inside, first)
         if first < end:
-            write(name, first, end - first, (unknown(device.ended()), None))
+            print_owners(name, first, end - first, (unknown_owner(device.ended()), None))
     if not words.map:
         streams.tell(UNMAPPED)
 
 
-def asked(words: Namespace) -> Iterator[Tuple[str, int, int]]:
+def queries(words: Namespace) -> Iterator[Tuple[str, int, int]]:
     """What the lines of standard input ask for: an image, a partition or an array, the first sector, and how many."""
     numbers.check_sector_size(words.sector_size)
     unit = 1 if words.bytes else words.sector_size or SECTOR
@@ -90,7 +90,8 @@ def asked(words: Namespace) -> Iterator[Tuple[str, int, int]]:
         streams.tell(f"left out: {passed} lines of a kernel's log that name no sector")
 
 
-def write(name: str, first: int, count: int, *steps: Step) -> None:
+def print_owners(name: str, first: int, count: int, *steps: Step) -> None:
+    """Writes the line of some sectors of a device, with what has them, from below."""
     said = [quoting.escaped(step) + ("" if sector is None else f" {sector}")
-            for step, sector in steps or ((unknown("nothing says who has it"), None),)]
+            for step, sector in steps or ((unknown_owner("nothing says who has it"), None),)]
     streams.out.write(f"{quoting.escaped(name)} {first} {count} = {' = '.join(said)}\n")

@@ -12,15 +12,15 @@ import nbdkit  # type: ignore
 from dmremap_tools.base import streams
 from dmremap_tools.base.numbers import SECTOR
 from dmremap_tools.base.refusal import Refusal
-from dmremap_tools.layouts import rescue_map
+from dmremap_tools.formats import rescue_map
 from dmremap_tools.model.device import ZEROS, joined
-from dmremap_tools.model.pile import Pile, Target
+from dmremap_tools.model.pile import Pile, NamedDevice
 
 API_VERSION = 2
 # Of how many bytes a client is told at once what reads as zeros, and in how many extents: it goes on asking.
 MOST_BYTES, MOST_EXTENTS = 1 << 26, 1 << 10
 _given: Dict[str, List[str]] = {}
-_target: Target
+_target: NamedDevice
 
 
 def thread_model() -> int:
@@ -29,15 +29,17 @@ def thread_model() -> int:
 
 
 def config(key: str, value: str) -> None:
+    """Takes a word KEY=VALUE of the command line."""
     _given.setdefault(key, []).append(value)
 
 
 def get_ready() -> None:
+    """Looks at the images once all words came. A refusal ends the server with status 1."""
     global _target
     try:
         words = Namespace(map=_given.get("map", []), map_of_other_length="map_of_other_length" in _given)
         unread = rescue_map.unread_in(words, _given["image"])
-        _target = Pile(_given["image"], _given.get("program", [None])[-1], unread).target(_given["volume"][-1])
+        _target = Pile(_given["image"], next(reversed(_given.get("program", [])), None), unread).target(_given["volume"][-1])
     except Refusal as refusal:
         streams.tell(f"dmremap-tools serve: {refusal}")
         os._exit(1)
@@ -70,6 +72,7 @@ def answered(ask: Callable[..., Any]) -> Callable[..., Any]:
 
 @answered
 def pread(handle: int, buffer: bytearray, offset: int, flags: int) -> None:
+    """Fills a buffer with the bytes of the disk from an offset on."""
     buffer[:] = _target.device.read(offset, len(buffer))
 
 

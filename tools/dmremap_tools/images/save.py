@@ -30,10 +30,10 @@ from dmremap_tools.base import given, names, quoting, streams
 from dmremap_tools.base.numbers import SECTOR
 from dmremap_tools.base.refusal import INCOMPLETE, Refusal, WrongWords
 from dmremap_tools.images.save_by_tables import target_of
-from dmremap_tools.layers import stack
-from dmremap_tools.layouts import rescue_map
+from dmremap_tools.model import loaded_stack
+from dmremap_tools.formats import rescue_map
 from dmremap_tools.model.device import Extent, joined, lacking
-from dmremap_tools.model.pile import Pile, Target
+from dmremap_tools.model.pile import NamedDevice, Pile
 
 EXAMPLE = "dmremap-tools save vg0/home home.img sda.img sdb.img --resume home.map"
 USAGE = "usage: GROUP/VOLUME OUT IMAGE.., or VOLUME TARGET FORMAT FILE [DISKS]"
@@ -50,7 +50,7 @@ def add_words(parser: ArgumentParser) -> None:
     parser.add_argument("--allow-missing", action="store_true", help="save what is there, and end with status 0")
     parser.add_argument("--extents", metavar="EXTENTS", help="with FORMAT: what filefrag -v printed of a file")
     names.add_words(parser)
-    stack.add_words(parser)
+    loaded_stack.add_words(parser)
 
 
 def run(words: Namespace) -> Optional[int]:
@@ -70,7 +70,7 @@ def run(words: Namespace) -> Optional[int]:
     return INCOMPLETE if is_partly and not words.allow_missing else None
 
 
-def copy(words: Namespace, target: Target) -> bool:
+def copy(words: Namespace, target: NamedDevice) -> bool:
     """Copies a volume, and says whether something is missing; which is refused unless words say otherwise."""
     why = target.device.lack(0, sectors_of(target))
     if why and not (words.resume or words.allow_missing):
@@ -84,12 +84,12 @@ def copy(words: Namespace, target: Target) -> bool:
     return put_together(words.target, saved, extents_of(target, saved))
 
 
-def sectors_of(target: Target) -> int:
+def sectors_of(target: NamedDevice) -> int:
     """The bytes of the sectors that it takes; a file may end within the last one."""
     return -(-target.size // SECTOR) * SECTOR
 
 
-def extents_of(target: Target, saved: SavedMap) -> Iterator[Tuple[int, Extent]]:
+def extents_of(target: NamedDevice, saved: SavedMap) -> Iterator[Tuple[int, Extent]]:
     """Where what is left to do lies, each part with its first byte."""
     for begin, end in saved.left(0, target.size):
         for start in range(begin, end, WINDOW):

@@ -25,19 +25,20 @@ import shlex
 from argparse import ArgumentParser, Namespace
 from typing import Any, Callable, Dict, Iterator, List, Optional
 
-from dmremap_tools.base import partition_table, program, quoting, streams
-from dmremap_tools.base.luks_header import Container, container_in
+from dmremap_tools.base import program, quoting, streams
 from dmremap_tools.base.numbers import SECTOR
 from dmremap_tools.base.program import NoProgram
 from dmremap_tools.base.refusal import INCOMPLETE, Refusal
+from dmremap_tools.formats import partition_table
+from dmremap_tools.formats.luks_header import Container, container_in
 from dmremap_tools.model import md_superblock
-from dmremap_tools.model.device import Device, Lenient
+from dmremap_tools.model.device import Device, Image, Lenient
 from dmremap_tools.model.groups import UNKNOWN, WHOLE, Group, Volume
 from dmremap_tools.model.md_array import Array
-from dmremap_tools.model.pile import Found, Pile, Spot
+from dmremap_tools.model.pile import Found, Pile
 
 EXAMPLE = "dmremap-tools scan disk1.img disk2.img /dev/sdc"
-Row = Dict[str, Any]
+JsonObject = Dict[str, Any]
 UNITS = ("bytes", "KiB", "MiB", "GiB", "TiB", "PiB", "EiB")
 COPIES = {"first": " (first copy)", "backup": " (backup copy, as the first is damaged)"}
 # How many columns the name of a volume gets at least, and its length, its kind and what begins there.
@@ -67,8 +68,9 @@ def run(words: Namespace) -> Optional[int]:
     return INCOMPLETE if whys else None
 
 
-def object_of(pile: Pile) -> Row:
-    return {"images": [image_row(pile, spot) for spot in pile.spots() if spot.device is spot.image],
+def object_of(pile: Pile) -> JsonObject:
+    """All that was found, as `--json` prints it."""
+    return {"images": [image_row(pile, spot.image) for spot in pile.spots() if spot.image and spot.device is spot.image],
             "arrays": [array_row(pile, array) for array in pile.arrays],
             "luks": list(luks_rows(pile)),
             "groups": [{"name": group.name, "id": group.identity, "seqno": group.seqno, "state": group.state,
@@ -76,17 +78,22 @@ def object_of(pile: Pile) -> Row:
                         "volumes": [volume_row(volume) for volume in group.volumes]} for group in pile.groups]}
 
 
-def luks_rows(pile: Pile) -> Iterator[Row]:
+def luks_rows(pile: Pile) -> Iterator[JsonObject]:
     """The containers in images and arrays, and those in volumes."""
-    found = [(spot.place, *((spot.path, spot.partition) if spot.image else (None, 0)), container)
-             for spot, container in pile.containers]
-    volumes = (volume for group in pile.groups for volume in group.volumes
-               if asked(volume.file_system, UNASKED) == "luks")
-    found += [(volume.path, None, 0, container_in(Lenient(volume.device()))) for volume in volumes]
-    for name, image, partition, container in found:
-        yield {"name": name, "image": image or name, "partition": partition, "version": container.version,
-               "id": container.identity, "start": container.start, "sectors": container.length,
-               "why": container.fault, "ways": ways_in(container, name, image, partition)}
+    for spot, container in pile.containers:
+        yield luks_row(container, spot.place, spot.path if spot.image else None, spot.partition if spot.image else 0)
+    for volume in (volume for group in pile.groups for volume in group.volumes):
+        is_luks = asked_or(volume.file_system, UNASKED) == "luks"
+        inner = container_in(Lenient(volume.device())) if is_luks else None
+        if inner:
+            yield luks_row(inner, volume.path, None, 0)
+
+
+def luks_row(container: Container, name: str, image: Optional[str], partition: int) -> JsonObject:
+    """A container by its name, and the image and the partition that it is, if it is in one."""
+    return {"name": name, "image": image or name, "partition": partition, "version": container.version,
+            "id": container.identity, "start": container.start, "sectors": container.length,
+            "why": container.fault, "ways": ways_in(container, name, image, partition)}
 
 
 def ways_in(container: Container, name: str, image: Optional[str], partition: int) -> List[str]:
@@ -102,15 +109,17 @@ def ways_in(container: Container, name: str, image: Optional[str], partition: in
     return [f"{root} && dmremap-tools scan /dev/mapper/opened", " && ".join(copy) + " && dmremap-tools scan opened.img"]
 
 
-def image_row(pile: Pile, spot: Spot) -> Row:
-    table = pile.tables.get(spot.device)
+def image_row(pile: Pile, image: Image) -> JsonObject:
+    """An image: its partition table, if it has one, and what lies in it."""
+    table = pile.tables.get(image)
     holds = [{"partition": found.spot.partition, "what": found.what, "why": found.note or None}
-             for found in pile.found if found.spot.image is spot.image]
+             for found in pile.found if found.spot.image is image]
     row = table and {"kind": table.kind, "copy": table.copy, "sector": table.sector, "why": table.fault}
-    return {"image": spot.path, "bytes": spot.image.bytes, "table": row, "holds": holds}
+    return {"image": image.path, "bytes": image.bytes, "table": row, "holds": holds}
 
 
-def array_row(pile: Pile, array: Array) -> Row:
+def array_row(pile: Pile, array: Array) -> JsonObject:
+    """An array: which members it has, lacks, and leaves out."""
     members = [pile.spot_of[member.device].place for member in array.by_role.values()]
     stale = [pile.spot_of[member.device].place for member in array.stale]
     return {"name": array.label, "id": array.identity, "level": array.level, "members": members,
@@ -118,14 +127,15 @@ def array_row(pile: Pile, array: Array) -> Row:
             "why": array.note}
 
 
-def volume_row(volume: Volume) -> Row:
+def volume_row(volume: Volume) -> JsonObject:
+    """A volume of a group, with its file system and what is missing of it."""
     return {"name": volume.name, "id": volume.identity, "sectors": volume.sectors, "kind": volume.kind,
-            "file_system": asked(volume.file_system, UNASKED), "state": asked(volume.state, UNKNOWN),
-            "why": asked(volume.why, program.NOT_BUILT), "origin": volume.origin,
-            "chunks_used": asked(volume.chunks_used, None)}
+            "file_system": asked_or(volume.file_system, UNASKED), "state": asked_or(volume.state, UNKNOWN),
+            "why": asked_or(volume.why, program.NOT_BUILT), "origin": volume.origin,
+            "chunks_used": asked_or(volume.chunks_used, None)}
 
 
-def asked(ask: Callable[[], Any], otherwise: Any) -> Any:
+def asked_or(ask: Callable[[], Any], otherwise: Any) -> Any:
     """What is found out of a volume, or something else where that takes dmremap and there is none."""
     try:
         return ask()
@@ -135,13 +145,14 @@ def asked(ask: Callable[[], Any], otherwise: Any) -> Any:
 
 
 def lines_of(pile: Pile) -> Iterator[str]:
+    """The tree: images with what they hold, arrays, groups, and containers."""
     on = pile.found_on
     for spot in (spot for spot in pile.spots() if spot.device is spot.image):
         table, inner = pile.tables.get(spot.device), held_by(pile, spot.device)
         if table:
             count = f"{len(table.partitions)} partition" + "s" * (len(table.partitions) != 1)
             fault = f": {table.fault}" if table.fault else ""
-            own = f"; and {what_is(pile, on, spot.device)}" if spot.device in on else ""
+            own = f"; and {contents_of(pile, on, spot.device)}" if spot.device in on else ""
             yield f"{quoting.shown(spot.place)}: {table.kind}{COPIES.get(table.copy, '')}, {count}{fault}{own}"
             yield from (f"  {line}" for line in inner)
         else:
@@ -167,11 +178,12 @@ def held_by(pile: Pile, device: Device) -> List[str]:
     """What lies on a device, in words: a line for each partition, or one for all of it."""
     table, found = pile.tables.get(device), pile.found_on
     if not table:
-        return [what_is(pile, found, device)]
-    return [f"{number}: {what_is(pile, found, partition)}" for number, partition in table.partitions.items()]
+        return [contents_of(pile, found, device)]
+    return [f"{number}: {contents_of(pile, found, partition)}" for number, partition in table.partitions.items()]
 
 
-def what_is(pile: Pile, on: Dict[Device, List[Found]], device: Device) -> str:
+def contents_of(pile: Pile, on: Dict[Device, List[Found]], device: Device) -> str:
+    """What lies on a device, in words; `on` has what was found by the devices."""
     for array in pile.arrays:
         if any(member.device is device for member in [*array.by_role.values(), *array.stale]):
             return f"member of {array.label}"
@@ -186,6 +198,7 @@ def what_is(pile: Pile, on: Dict[Device, List[Found]], device: Device) -> str:
 
 
 def group_lines(group: Group) -> Iterator[str]:
+    """The lines of a group: what it is, where it lies, and its volumes."""
     former = f", formerly {quoting.some(group.former_names)}" if group.former_names else ""
     yield f"group {quoting.shown(group.name)}: {group.state}, seqno {group.seqno}, id {group.identity}{former}"
     yield f"  on {shown_list(group.places) or 'none of these images'}"
@@ -198,7 +211,7 @@ def group_lines(group: Group) -> Iterator[str]:
         notes = [origin, chunks, row["state"] if row["state"] != WHOLE else "", row["why"] or ""]
         line = " ".join(column.ljust(width) for column, width in zip(columns, COLUMNS))
         yield f"  {line} {': '.join(filter(None, notes))}".rstrip()
-        inner = asked(functools.partial(held_in, volume), None) if row["why"] is None else None
+        inner = asked_or(functools.partial(held_in, volume), None) if row["why"] is None else None
         if inner:
             name = shlex.quote(f"{group.name}/{volume.name}")
             way = quoting.escaped(f"dmremap-tools save {name} inner.img IMAGE.. && dmremap-tools scan inner.img")
@@ -221,6 +234,7 @@ def held_in(volume: Volume) -> Optional[str]:
 
 
 def shown_list(words: List[str]) -> str:
+    """Texts side by side, fit to be shown."""
     return ", ".join(map(quoting.shown, words))
 
 

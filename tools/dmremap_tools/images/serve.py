@@ -23,9 +23,9 @@ from argparse import ArgumentParser, Namespace
 from typing import List, Optional
 
 from dmremap_tools.base import program, quoting, streams
-from dmremap_tools.base.disk_image import mount_command
 from dmremap_tools.base.refusal import Refusal
-from dmremap_tools.layouts import rescue_map
+from dmremap_tools.formats import rescue_map
+from dmremap_tools.formats.disk_image import mount_command
 from dmremap_tools.model.groups import file_system_in
 from dmremap_tools.model.pile import Pile
 
@@ -66,7 +66,8 @@ def run(words: Namespace) -> None:
     asked = os.path.abspath(shutil.which(program.dmremap(words.program)) or "dmremap")
     plugin = os.path.join(os.path.dirname(os.path.abspath(__file__)), "plugin.py")
     given = [f"program={asked}", f"volume={words.volume}", *(f"image={os.path.abspath(path)}" for path in words.images)]
-    maps = [f"map={os.path.abspath(image)}={os.path.abspath(path)}" for image, path in rescue_map.pairs(words.map, words.images)]
+    pairs = rescue_map.images_with_maps(words.map, words.images)
+    maps = [f"map={os.path.abspath(image)}={os.path.abspath(path)}" for image, path in pairs]
     given += [*maps, "map_of_other_length=1"] if words.map_of_other_length else maps
     with tempfile.TemporaryDirectory(prefix="dmremap-tools-") as folder:
         path = os.path.abspath(words.socket or os.path.join(folder, "socket"))

@@ -11,23 +11,23 @@ reported; `save` and `serve` read it.
 
 import os
 import shlex
-import tempfile
 from argparse import ArgumentParser, Namespace
-from typing import Dict, List, Optional, Tuple, Union
+from typing import Dict, Optional, Tuple, Union
 
-from dmremap_tools.base import names, paths, program, quoting, streams, tables
+from dmremap_tools.base import names, program, quoting, streams, tables
 from dmremap_tools.base.given import put
 from dmremap_tools.base.numbers import SECTOR
 from dmremap_tools.base.program import NoProgram
 from dmremap_tools.base.refusal import Refusal
-from dmremap_tools.layouts import rescue_map
-from dmremap_tools.model.device import Copies, Device, Image, Part, whole_run
+from dmremap_tools.formats import rescue_map
+from dmremap_tools.model.device import Copies, Device, Image, Part
+from dmremap_tools.model.heads import path_of, read_by_heads
 from dmremap_tools.model.layout import Layout
-from dmremap_tools.model.mapping import FILES, Mapped, Tables
+from dmremap_tools.model.mapping import FILES, MappedDevice, Tables
 from dmremap_tools.model.pile import Pile
 
 EXAMPLE = "dmremap-tools tables vg0 sda.img sdb.img --to vg0.tables"
-Devices = Dict[str, tables.Device]
+Devices = Dict[str, tables.TableDevice]
 
 
 def add_words(parser: ArgumentParser) -> None:
@@ -86,7 +86,7 @@ class GroupTables(Tables):
         if not record and not others:
             return self._plain(name, called)
         origin = record.origin or b"" if record else name
-        real, store, device = self._name_of(origin, "real"), self._name_of(name, "cow"), tables.Device(called)
+        real, store, device = self._name_of(origin, "real"), self._name_of(name, "cow"), tables.TableDevice(called)
         if record:
             layout.volume(name)
         made = {**self._plain(origin, real), **(self._plain(name, store) if record else {}), called: device}
@@ -96,6 +96,7 @@ class GroupTables(Tables):
         return made
 
     def _plain(self, name: bytes, called: str) -> Devices:
+        """The tables of what the segments of a volume have, under another name for it."""
         return self._renamed(self._layout.tables, self._layout.key_of(name), called)
 
     def _renamed(self, source: Tables, key: str, called: str) -> Devices:
@@ -106,7 +107,7 @@ class GroupTables(Tables):
         new = {other: f"{called}-below-{number}" for number, other in enumerate(closure.devices)}
         new[key] = called
         for other, device in closure.devices.items():
-            made = tables.Device(new[other])
+            made = tables.TableDevice(new[other])
             for line in device.lines:
                 words, has_starts = list(line.words), line.target in ("linear", "striped")
                 for place in line.places():
@@ -134,7 +135,7 @@ class GroupTables(Tables):
             name = self._names.setdefault(device, f"disk{len(self.disks)}")
             self.disks[name] = device
             return name, start // SECTOR
-        if not isinstance(device, Mapped):
+        if not isinstance(device, MappedDevice):
             computed = f"{device.name} is computed, and no table can say how: use `save` or `serve`"
             raise Refusal(device.name, device.lack(0, device.size) or computed)
         called = self._arrays.setdefault(device, f"array-{len(self._arrays)}")
@@ -150,44 +151,19 @@ class GroupTables(Tables):
         for path in (os.path.join(folder, name) for name in FILES):
             if os.path.lexists(path):
                 raise Refusal(quoting.shown(path), "it is there already: give another folder, or remove it first")
-        heads = self._heads()
-        if asked and heads and is_taken(asked, heads):
+        heads = read_by_heads(asked, "check", self._layout.physical.values()) if asked else None
+        if heads:
             listed = os.path.join(folder, FILES[-1])
-            put(listed, heads)
+            put(listed, heads[0])
             streams.tell(f"dmremap reads the text of {quoting.shown(self._layout.name)} in its images")
             streams.out.write(f"dmremap map images {shlex.quote(listed)}\n")
             return
-        places = {name: absolute(image) for name, image in self.disks.items()}
+        places = {name: path_of(image) for name, image in self.disks.items() if isinstance(image, Image)}
         file, disks, listed = map(shlex.quote, self.write(folder, places))
         has_snapshots = any(line.target == "snapshot" for line in self.lines())
         streams.out.write(f"dmremap map table {file} {disks}" + f" --paths {listed}" * has_snapshots + "\n")
-
-    def _heads(self) -> List[str]:
-        """The lines of PATHS by which the heads of all physical volumes are read, or none if one is no part of an image."""
-        found: List[str] = []
-        for number, device in enumerate(self._layout.physical.values()):
-            run = whole_run(device)
-            if not run:
-                return []
-            found.append(paths.line(f"disk{number}", absolute(run[0]), run[1]))
-        return found
 
     def _name_of(self, *parts: Union[bytes, str]) -> str:
         """The name that lvm2 gives a device: each hyphen of a part is doubled."""
         words = (part if isinstance(part, str) else part.decode("utf-8", "replace") for part in parts)
         return "-".join(word.replace("-", "--") for word in (self._layout.name, *words))
-
-
-def absolute(image: Image) -> str:
-    """The path of an image for PATHS."""
-    path = os.path.abspath(image.path)
-    if quoting.is_odd(path):
-        raise Refusal(quoting.shown(path), "it is no UTF-8, as PATHS has to be: give the image another name, or a link to it")
-    return path
-
-
-def is_taken(asked: str, heads: List[str]) -> bool:
-    """Whether dmremap takes a group from these images by their heads."""
-    with tempfile.NamedTemporaryFile(prefix="dmremap-tools-") as listed:
-        put(listed.name, heads)
-        return program.ask([asked, "check", "images", listed.name])[2] == 0

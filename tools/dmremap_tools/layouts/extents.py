@@ -12,7 +12,7 @@ from typing import Optional
 
 from dmremap_tools.base import given, names, pieces, requests, streams
 from dmremap_tools.base.refusal import Refusal
-from dmremap_tools.layers import stack
+from dmremap_tools.model import loaded_stack
 
 EXAMPLE = "dmremap-tools extents home table t d"
 
@@ -21,14 +21,14 @@ def add_words(parser: argparse.ArgumentParser) -> None:
     parser.add_argument("volume", metavar="VOLUME", help="the device, by its name or path")
     given.add_words(parser)
     names.add_words(parser)
-    stack.add_words(parser)
+    loaded_stack.add_words(parser)
 
 
 def run(words: argparse.Namespace) -> None:
     source = given.given_in(words, "VOLUME FORMAT FILE [DISKS]")
     name = names.Names(words.ls).device(words.volume, "VOLUME")
     with tempfile.TemporaryDirectory(prefix="dmremap-tools-") as folder:
-        begun = stack.start(words, source, [name], folder)
+        begun = loaded_stack.start(words, source, [name], folder)
         end = begun.loaded.length(name, words.file)
         if end > requests.LONGEST:
             raise Refusal(streams.name_of(words.file), "%s is %s: give `dmremap map` requests for parts of it" % (name, requests.TOO_LONG))
@@ -38,7 +38,7 @@ def run(words: argparse.Namespace) -> None:
         with pieces.Mapped(begun.words, asked) as mapped:
             for piece in itertools.chain(mapped.answers, [None]):
                 follows = last and (last.what, last.disk, last.start + last.count if last.disk else 0)
-                if piece and (piece.what, piece.disk, piece.start) == follows:
+                if last and piece and (piece.what, piece.disk, piece.start) == follows:
                     last = last._replace(count=last.count + piece.count)
                     continue
                 if last:

@@ -12,9 +12,8 @@ import itertools
 from argparse import ArgumentParser, Namespace
 from typing import Dict, List, Set, Tuple
 
-from dmremap_tools.base import quoting, streams
+from dmremap_tools.base import quoting, streams, svg
 from dmremap_tools.base.refusal import Refusal
-from dmremap_tools.layouts import svg
 from dmremap_tools.layouts.spans import END, MEET, Span, kind_of
 
 EXAMPLE = "dmremap-tools spans stack.disks stack.table | dmremap-tools picture > disks.svg"
@@ -29,7 +28,7 @@ def add_words(parser: ArgumentParser) -> None:
 
 
 def run(words: Namespace) -> None:
-    bars = read(words.spans)
+    bars = read_spans(words.spans)
     lanes = [lanes_of(ranges) for ranges, _ in bars.values()]
     numbers = {name: place for place, name in enumerate(dict.fromkeys(it.device for ranges, _ in bars.values() for it in ranges))}
     legend, rows = legend_of(numbers)
@@ -48,11 +47,11 @@ def run(words: Namespace) -> None:
             span = ranges[place]
             x, wide = MARGIN + width * span.first / size, max(0.5, width * (span.end - span.first) / size)
             edge = "red" if place in clashing else "#555"
-            draw(span, x, top + 7 + LANE * of_ranges[place], wide, svg.colour(numbers[span.device]), edge)
+            draw_range(span, x, top + 7 + LANE * of_ranges[place], wide, svg.colour(numbers[span.device]), edge)
     streams.out.write('<g transform="translate(0,%d)">\n%s</g>\n</svg>\n' % (end, legend))
 
 
-def read(path: str) -> Dict[str, Tuple[List[Span], int]]:
+def read_spans(path: str) -> Dict[str, Tuple[List[Span], int]]:
     """The ranges of each disk or device, and how long it is."""
     source = streams.Lines(path)
     ranges: Dict[str, List[Span]] = {}
@@ -107,7 +106,8 @@ def clashing_in(ranges: List[Span]) -> Set[int]:
     return found
 
 
-def draw(span: Span, x: float, y: int, wide: float, colour: str, edge: str) -> None:
+def draw_range(span: Span, x: float, y: int, wide: float, colour: str, edge: str) -> None:
+    """Draws a range at a place, so many pixels wide, with its name where there is room for that."""
     streams.out.write('<g><title>%s</title><rect x="%.2f" y="%d" width="%.2f" height="24" fill="%s" stroke="%s"/>\n' % (
         svg.escaped("%s (%s): sectors %d to %d, %s" % (
             span.device, span.kind, span.first, span.end - 1, svg.size_of(span.end - span.first))),

@@ -8,7 +8,7 @@ With --requests, prints one more for each: the request that makes it invalid, an
 all as new. dmremap is run over the first half of the requests, then over less or more of them, and so on: about twenty times
 for a million requests.
 
-With --size in place of FORMAT, FILE and DISKS, prints for each device that is written how much of a store that fills: its name,
+With --writes in place of FORMAT, FILE and DISKS, prints for each device that is written how much of a store that fills: its name,
 how many chunks a snapshot of it takes, how many sectors of the store are used, and how many of these are the header and the
 chunk numbers. Writes to the snapshot and to its origin take the same chunks. Refuses what dmremap refuses, and a FILE without
 snapshots.
@@ -21,10 +21,11 @@ from argparse import ArgumentParser, Namespace
 from collections import Counter, defaultdict
 from typing import Dict, Iterator, List, Tuple
 
-from dmremap_tools.base import given, names, numbers, pieces, program, requests, store_places, streams
+from dmremap_tools.base import given, names, numbers, pieces, program, requests, streams
 from dmremap_tools.base.refusal import Refusal, WrongWords
-from dmremap_tools.layers import stack
-from dmremap_tools.layouts.file_systems import Run
+from dmremap_tools.formats import store_places
+from dmremap_tools.model import loaded_stack
+from dmremap_tools.model.device import blocks_of
 
 EXAMPLE = "dmremap-tools store table snaps.table snaps.disks"
 STATUS = re.compile(r"^([^ \n]+): 0 [0-9]+ snapshot (.*)$", re.M)
@@ -41,32 +42,32 @@ def add_words(parser: ArgumentParser) -> None:
     parser.add_argument("disks", metavar="DISKS", nargs="?", help="with table and concise")
     asked = parser.add_mutually_exclusive_group()
     asked.add_argument("--requests", metavar="REQUESTS", help="requests to the snapshots or their origins")
-    asked.add_argument("--size", metavar="REQUESTS", help="the writes of a day, say, to devices that have no snapshot yet")
-    parser.add_argument("--chunk", type=numbers.word, default=8, metavar="SECTORS", help="with --size: the chunk, a power of two; else 8")
-    parser.add_argument("--kind", choices=("P", "N", "K"), default="P", help="with --size: the kind of the snapshot; else P")
-    stack.add_words(parser)
+    asked.add_argument("--writes", metavar="REQUESTS", help="the writes of a day, say, to devices that have no snapshot yet")
+    parser.add_argument("--chunk", type=numbers.word, default=8, metavar="SECTORS", help="with --writes: the chunk, a power of two; else 8")
+    parser.add_argument("--kind", choices=("P", "N", "K"), default="P", help="with --writes: the kind of the snapshot; else P")
+    loaded_stack.add_words(parser)
 
 
 def run(words: Namespace) -> None:
-    if words.size is not None:
+    if words.writes is not None:
         if words.form is not None:
-            raise WrongWords("--size needs no FORMAT, FILE and DISKS")
-        write_sizes(words.size, words.chunk, words.kind)
+            raise WrongWords("--writes needs no FORMAT, FILE and DISKS")
+        write_sizes(words.writes, words.chunk, words.kind)
         return
     if words.file is None:
-        raise WrongWords("give FORMAT, FILE and DISKS, or --size REQUESTS")
+        raise WrongWords("give FORMAT, FILE and DISKS, or --writes REQUESTS")
     text = streams.plain_bytes(words.requests) if words.requests is not None else None
     source = given.given_in(words, "FORMAT FILE [DISKS] [--requests REQUESTS]")
     with tempfile.TemporaryDirectory(prefix="dmremap-tools-") as folder:
         if text is None:
-            loaded, ends = stack.load(program.dmremap(words.program), source, folder), []
+            loaded, ends = loaded_stack.load(program.dmremap(words.program), source, folder), []
         else:
-            begun = stack.start(words, source, None, folder)
+            begun = loaded_stack.start(words, source, None, folder)
             loaded, ends = begun.loaded, list(Runs(text, [*begun.words, "--status"]).ends())
     streams.out.write("".join([*places_of(loaded, streams.name_of(words.file)), *ends]))
 
 
-def places_of(loaded: stack.Stack, name: str) -> Iterator[str]:
+def places_of(loaded: loaded_stack.Stack, name: str) -> Iterator[str]:
     """A line for each snapshot: whether its store can be full."""
     lengths = dict(loaded.sizes, **{path: device.end() for path, device in loaded.by_path().items()})
     served = {line.words[0] for device in loaded.devices for line in device.lines if line.target == "snapshot-origin"}
@@ -91,9 +92,9 @@ class Runs:
 
     def __init__(self, text: bytes, command: List[str]) -> None:
         self._text, self._command, self._count = text, command, 0
-        self.statuses = functools.lru_cache(None)(self._statuses)
 
-    def _statuses(self, size: int) -> Dict[str, str]:
+    @functools.lru_cache(None)
+    def statuses(self, size: int) -> Dict[str, str]:
         """The status of each snapshot after the requests in so many bytes."""
         self._count += 1
         streams.show_progress(f"run {self._count}, over {size} of {len(self._text)} bytes")
@@ -127,9 +128,10 @@ def write_sizes(path: str, chunk: int, kind: str) -> None:
         if not match:
             source.refuse_line(requests.NO_REQUEST)
         if match[1] == "W" and match[4] != "0":
-            chunks = Run(source.whole(match[3]), source.whole(match[4])).blocks(chunk)
-            for number, first, end in Run(chunks.start, chunks.stop - chunks.start).parts(PAGE):
-                pages[match[2], number][first % PAGE:first % PAGE + end - first] = b"\1" * (end - first)
+            start, count = source.whole(match[3]), source.whole(match[4])
+            first, last = start // chunk, (start + count - 1) // chunk
+            for number, begin, times in blocks_of(first, last + 1 - first, PAGE):
+                pages[match[2], number][begin:begin + times] = b"\1" * times
                 if len(pages) > MOST_PAGES:
                     source.refuse(TOO_FAR)
     source.tell_if_none()

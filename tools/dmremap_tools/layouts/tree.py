@@ -26,7 +26,7 @@ def run(words: argparse.Namespace) -> None:
     if not devices:
         streams.tell("no device came")
     if words.dot:
-        draw(devices)
+        print_graph(devices)
         return
     lines: Dict[str, List[tables.Line]] = {}
     for device in devices:
@@ -36,10 +36,10 @@ def run(words: argparse.Namespace) -> None:
     for name in lines:
         if names.MAPPER + name not in under:
             streams.out.write(name + "\n")
-            show(name, "", lines, shown)
+            print_subtree(name, "", lines, shown)
 
 
-def devices_in(path: str) -> List[tables.Device]:
+def devices_in(path: str) -> List[tables.TableDevice]:
     """The devices of a stack, of which none stands on itself, or on more others than dmremap loads."""
     devices = tables.read(path)[0]
     left: Dict[str, Set[str]] = {names.MAPPER + it.name: set() for it in devices}
@@ -53,7 +53,7 @@ def devices_in(path: str) -> List[tables.Device]:
     return devices
 
 
-def show(name: str, indent: str, lines: Dict[str, List[tables.Line]], shown: Set[str]) -> None:
+def print_subtree(name: str, indent: str, lines: Dict[str, List[tables.Line]], shown: Set[str]) -> None:
     """Prints the lines of a device, and below each the devices that it is the first to name."""
     if name in shown:
         streams.out.write(indent + "(as above)\n")
@@ -67,16 +67,17 @@ def show(name: str, indent: str, lines: Dict[str, List[tables.Line]], shown: Set
                 told.add(lower)
                 device = lower[len(names.MAPPER):]
                 streams.out.write(f"{indent}|    {device}\n")
-                show(device, indent + "|    ", lines, shown)
+                print_subtree(device, indent + "|    ", lines, shown)
 
 
-def draw(devices: List[tables.Device]) -> None:
+def print_graph(devices: List[tables.TableDevice]) -> None:
+    """Prints devices as a graph of Graphviz."""
     steps: Dict[str, None] = {}
     for device in devices:
-        name = node(device.name)
+        name = quoted_node(device.name)
         for line in device.lines:
             for place, lower in enumerate(line.lowers()):
-                below = node(lower[len(names.MAPPER):] if lower.startswith(names.MAPPER) else "disk " + lower)
+                below = quoted_node(lower[len(names.MAPPER):] if lower.startswith(names.MAPPER) else "disk " + lower)
                 if not lower.startswith(names.MAPPER):
                     steps[below + " [shape=box]"] = None
                 kind = ("origin", "store")[place] if line.target == "snapshot" else line.target
@@ -85,5 +86,6 @@ def draw(devices: List[tables.Device]) -> None:
     streams.out.write("digraph stack {\n" + "".join(f"  {step}\n" for step in steps) + "}\n")
 
 
-def node(text: str) -> str:
+def quoted_node(text: str) -> str:
+    """The name of a node, in quotes."""
     return '"%s"' % text.replace("\\", "\\\\").replace('"', '\\"')

@@ -34,7 +34,7 @@ from typing import Dict, Iterator, List, Optional, Set, Tuple
 from dmremap_tools.base import program, quoting, streams
 from dmremap_tools.base.refusal import Refusal
 from dmremap_tools.model.config_text import ANEW, Document, Item, Node, shown
-from dmremap_tools.model.volume_group import LINEAR, NOT_ASKED, STRIPED, Group, Volume
+from dmremap_tools.model.volume_group import LINEAR, NOT_ASKED, STRIPED, GroupText, VolumeText
 
 EXAMPLE = "dmremap-tools lvm2-text vgm.backup > copy.backup && dmremap table lvm copy.backup"
 # How many bytes of a text are taken, and dmremap takes of the copy.
@@ -78,7 +78,8 @@ class Copy:
     def content(self, given: bytes) -> bytes:
         """The copy of what was given, in which each key has the line that it had, and U+FFFD stands for what is no
         UTF-8."""
-        content, made, end = self.document.content, [], 0
+        made: List[bytes] = []
+        content, end = self.document.content, 0
         if b"\0" in given:
             self.say(len(content), "left out: the NUL here, and what comes after it")
         for at, text in [*self._kept_parts(self.document.top), (len(content), b"")]:
@@ -160,12 +161,12 @@ def run(words: argparse.Namespace) -> None:
     streams.out.write(made.decode())
 
 
-def group_of(copy: Copy) -> Group:
+def group_of(copy: Copy) -> GroupText:
     """The group of a text, without what is there twice: lvm2 reads the first section alone, and the last of several
     values of one key. It puts sections of one key together; here that isn't done."""
     document = copy.document
     for section, node in document.twice:
-        counting = section.children[node.key]
+        counting = (section.children or {})[node.key]
         if node.children is not None or counting.children is not None:
             raise document.refused(counting.start, f"{shown(node.key)} is there twice, first in line "
                                    f"{document.line_at(node.start)}: put the two together")
@@ -176,10 +177,10 @@ def group_of(copy: Copy) -> Group:
                       "prints")
     for node in others:
         copy.drop(node, "lvm2 reads one section of a text, the first")
-    return Group(group)
+    return GroupText(group)
 
 
-def drop_volumes(copy: Copy, group: Group) -> None:
+def drop_volumes(copy: Copy, group: GroupText) -> None:
     """Leaves out the volumes that can't stay, and says what answers lack of origins that lose snapshots."""
     for volume in group.volumes.values():
         if volume.node.value(b"segment_count", int) not in (None, len(volume.segments)):
@@ -189,9 +190,9 @@ def drop_volumes(copy: Copy, group: Group) -> None:
             copy.left_out.add(volume.node)
         elif volume.why:
             copy.drop(volume.node, volume.why)
-    without: Dict[Volume, List[bytes]] = {}
+    without: Dict[VolumeText, List[bytes]] = {}
     for record in group.records:
-        origin = group.volumes.get(record.origin)
+        origin = group.volumes.get(record.origin or b"")
         if record.volume.why and origin and not origin.why:
             without.setdefault(origin, []).append(record.store or record.volume.name)
     for origin, snapshots in without.items():
@@ -199,7 +200,7 @@ def drop_volumes(copy: Copy, group: Group) -> None:
                  "on a machine, a write to it also copies what it overwrites, which the answers don't show")
 
 
-def _leave_physicals(copy: Copy, group: Group) -> None:
+def _leave_physicals(copy: Copy, group: GroupText) -> None:
     """Leaves out the physical volumes that nothing lies on which stays. One stays whose disk has the path of another
     that does, as dmremap names both by their keys; and one of a group of which all volumes need none."""
     staying = [it for it in group.volumes.values() if not it.why]
@@ -212,7 +213,7 @@ def _leave_physicals(copy: Copy, group: Group) -> None:
         group.physicals = kept
 
 
-def mend_group(copy: Copy, group: Group) -> None:
+def mend_group(copy: Copy, group: GroupText) -> None:
     """Changes what dmremap would refuse of a group, or read in another way than lvm2."""
     staying = [it for it in group.volumes.values() if not it.why]
     segments = [it for volume in group.volumes.values() for it in volume.segments]
@@ -223,11 +224,12 @@ def mend_group(copy: Copy, group: Group) -> None:
         _mend_part(copy, volume)
     for node in group.physicals.values():
         _mend_physical(copy, group, node)
-    for kind in (it.node.child(b"type") for volume in staying for it in volume.segments if it.kind == LINEAR):
+    kinds = (it.node.child(b"type") for volume in staying for it in volume.segments if it.kind == LINEAR)
+    for kind in filter(None, kinds):
         kind.items = [Item(b'"%s"' % STRIPED, kind.start)]
 
 
-def _mend_part(copy: Copy, volume: Volume) -> None:
+def _mend_part(copy: Copy, volume: VolumeText) -> None:
     """lvm2 loads all parts of raid volumes as writable, whatever their status is."""
     status, words = volume.node.child(b"status"), [*volume.node.values(b"status"), *volume.node.values(b"flags")]
     if status and status.children is None and b"WRITE" not in words and b"WRITE_LOCKED" not in words:
@@ -237,7 +239,7 @@ def _mend_part(copy: Copy, volume: Volume) -> None:
         status.items = before + status.items
 
 
-def _mend_physical(copy: Copy, group: Group, node: Node) -> None:
+def _mend_physical(copy: Copy, group: GroupText, node: Node) -> None:
     """Gives a disk the length that its extents need at least, and a name. After a change of its size lvm2 writes
     less, and old versions wrote no size; the true one stands nowhere in the text."""
     start, count, size = (node.value(it, int) for it in (b"pe_start", b"pe_count", b"dev_size"))
@@ -251,7 +253,9 @@ def _mend_physical(copy: Copy, group: Group, node: Node) -> None:
     missing = (b"device", b'""', "so that the disk has this name"), (b"dev_size", b"%d" % least, f"and {long}")
     for key, value, why in missing:
         if node.child(key) is None:
-            node.children[key] = Node(key, node.value_at, node.value_at, node.level + 1)
-            copy.change_value(node.children[key], value, f"{name} has none, {why}")
-    if size is not None and size < least:
-        copy.change_value(node.child(b"dev_size"), b"%d" % least, f"{name} {long}, and not {size}")
+            added = Node(key, node.value_at, node.value_at, node.level + 1)
+            node.add(added)
+            copy.change_value(added, value, f"{name} has none, {why}")
+    field = node.child(b"dev_size")
+    if field and size is not None and size < least:
+        copy.change_value(field, b"%d" % least, f"{name} {long}, and not {size}")

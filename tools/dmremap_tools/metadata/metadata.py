@@ -29,9 +29,10 @@ from dmremap_tools.base.numbers import SECTOR
 from dmremap_tools.base.refusal import Refusal, WrongWords
 from dmremap_tools.model import md_superblock
 from dmremap_tools.model.device import Device, Image, Lenient, Part
-from dmremap_tools.model.physical_volume import (EMPTY, MISSING, SEARCHED, Area, PhysicalVolume, Text,
+from dmremap_tools.model.physical_volume import (EMPTY, MISSING, SEARCHED, MetadataArea, PhysicalVolume, Text,
                                                  leftover_in, texts_of_ring, volume_in)
 from dmremap_tools.model.pile import Pile, place_of
+from dmremap_tools.model.heads import text_by_heads
 from dmremap_tools.model.placed import image_of
 
 EXAMPLE = "dmremap-tools metadata vg0-head.img > vg0.backup && dmremap table lvm vg0.backup"
@@ -77,8 +78,7 @@ def run(words: argparse.Namespace) -> None:
     if words.list:
         for text in texts_in(images[0], volumes):
             time = (text.said_time() or b"cut").decode("utf-8", "surrogateescape")
-            line = f"{text.at} {text.group} {text.identity} seqno {text.seqno} - {time}"
-            streams.out.write(quoting.escaped(line) + "\n")
+            streams.out.write(quoting.escaped(f"{text.at} {text.group} {text.identity} seqno {text.seqno} - {time}") + "\n")
         return
     content = older_text(images[0], volumes, words.seqno, words.at) if is_of_one else first_if_equal(volumes)
     streams.out.write(content.decode("utf-8", "surrogateescape"))
@@ -100,7 +100,11 @@ def volume_of(device: Device) -> Optional[PhysicalVolume]:
 
 
 def first_if_equal(volumes: List[PhysicalVolume]) -> bytes:
-    """The first of the valid texts of these volumes. Refuses texts that differ in more than their times."""
+    """The text that dmremap reads in these volumes, if it is there and takes them; else the first of their valid texts.
+    Refuses texts that differ in more than their times."""
+    read = None if any(volume.faults for volume in volumes) else text_by_heads(None, [volume.device for volume in volumes])
+    if read:
+        return read
     texts = [valid_text(volume) for volume in volumes]
     if len({it.body() for it in texts}) > 1:
         for volume, text in zip(volumes, texts):
@@ -143,7 +147,7 @@ def valid_text(volume: PhysicalVolume) -> Text:
     return newest[0].text
 
 
-def areas_in_words(areas: List[Area]) -> str:
+def areas_in_words(areas: List[MetadataArea]) -> str:
     """What areas are called in messages, by the bytes at which they begin."""
     return f"the metadata area{'s' * (len(areas) > 1)} at byte {' and '.join(str(it.start) for it in areas)}"
 

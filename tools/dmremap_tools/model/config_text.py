@@ -5,7 +5,7 @@ that are missing or left over, keys in quotes, other white space."""
 import functools
 import itertools
 import re
-from typing import Dict, Iterator, List, NamedTuple, Optional, Tuple, Union
+from typing import Dict, Iterator, List, NamedTuple, Optional, Tuple, Type, TypeVar, Union
 
 from dmremap_tools.base import quoting
 from dmremap_tools.base.refusal import Refusal
@@ -25,6 +25,8 @@ ANEW = "take the text anew, from /etc/lvm/backup"
 MOST_PARTS, BLOCK = 150000, 1 << 16
 # An integer, the bytes of a string, or None for a number that is neither whole nor in range.
 Value = Union[int, bytes, None]
+# What a value is asked for as.
+Kind = TypeVar("Kind", int, bytes)
 # A token, and where it begins. The one at the end is empty.
 Token = Tuple[bytes, int]
 
@@ -38,6 +40,7 @@ class Item(NamedTuple):
 
     @property
     def value(self) -> Value:
+        """What it says: a number as C reads it, or a string without its quotes and backslashes."""
         if not NUMBER.match(self.text):
             return unquoted(self.text)
         octal = OCTAL.match(self.text)
@@ -58,14 +61,17 @@ class Node:
         self.items: List[Item] = []
         self.children: Optional[Dict[bytes, "Node"]] = None
 
-    @property
-    def is_list(self) -> bool:
-        return not self.items or self.items[0].start > self.value_at
-
     def child(self, key: bytes) -> Optional["Node"]:
+        """The field or the section of this key in a section, or None."""
         return (self.children or {}).get(key)
 
+    def add(self, node: "Node") -> None:
+        """Puts a field or a section into this one, in the place of another that has its key."""
+        self.children = {} if self.children is None else self.children
+        self.children[node.key] = node
+
     def sections(self) -> List["Node"]:
+        """The sections in a section, in their order."""
         return [it for it in (self.children or {}).values() if it.children is not None]
 
     def sections_in(self, key: bytes) -> List["Node"]:
@@ -78,7 +84,7 @@ class Node:
         child = self.child(key)
         return [it.value for it in child.items] if child else []
 
-    def value(self, key: bytes, kind: type) -> Value:
+    def value(self, key: bytes, kind: Type[Kind]) -> Optional[Kind]:
         """The value of a field that has one, if it is of this kind, or None."""
         values = self.values(key)
         return values[0] if len(values) == 1 and isinstance(values[0], kind) else None
@@ -96,14 +102,17 @@ class Document:
 
     @functools.cached_property
     def _lines(self) -> List[int]:
+        """How many lines end before each block of the text."""
         starts = range(0, len(self.content), BLOCK)
         return [0, *itertools.accumulate(self.content.count(b"\n", start, start + BLOCK) for start in starts)]
 
     def line_at(self, at: int) -> int:
+        """The number of the line that has a byte, from 1 on."""
         block = at // BLOCK
         return 1 + self._lines[block] + self.content.count(b"\n", block * BLOCK, at)
 
     def refused(self, at: int, why: str) -> Refusal:
+        """The refusal of the text for what stands at a byte."""
         return Refusal(f"{self.path}:{self.line_at(at)}", why)
 
     def tokens(self) -> Iterator[Token]:
@@ -111,10 +120,11 @@ class Document:
         text, end, token, number = b"{", 0, TOKEN.match, NUMBER.match
         while text:
             found, may_be_number = token(self.content, end), text in BEFORE_VALUE
+            assert found, "a token stands everywhere, at the end an empty one"
             text, (start, end) = found[1], found.span(1)
-            if may_be_number and number(text):
-                text = number(text)[0]
-                end = start + len(text)
+            figure = number(text) if may_be_number else None
+            if figure:
+                text, end = figure[0], start + len(figure[0])
             elif text in QUOTES:
                 raise self.refused(start, "a string without an end: " + ANEW)
             yield text, start
@@ -128,9 +138,9 @@ class Document:
                 opened.pop().end = start + 1
             elif text:
                 node = self._node(text, start, tokens, len(opened))
-                section, before = opened[-1], opened[-1].children.get(node.key)
+                section, before = opened[-1], opened[-1].child(node.key)
                 self.twice += [(section, before)] if before else []
-                section.children[node.key] = node
+                section.add(node)
                 opened += [node] if node.children is not None else []
         if len(opened) > 1:
             raise self.refused(len(self.content), f"the end is missing: {shown(opened[-1].key)}, "
@@ -157,6 +167,7 @@ class Document:
         return node
 
     def _read_values(self, node: Node, tokens: Iterator[Token]) -> None:
+        """Reads the values of a field, which follow its equals sign."""
         text, start = next(tokens)
         is_list, node.value_at, last = text == b"[", start, None
         for text, start in tokens if is_list else [(text, start)]:
@@ -175,6 +186,7 @@ class Document:
         node.end = start + len(text)
 
     def _count_part(self, at: int) -> None:
+        """Counts a key or a value at a byte. Refuses a text that has too many."""
         self._parts += 1
         if self._parts > MOST_PARTS:
             raise self.refused(at, f"more than {MOST_PARTS} keys and values: give the text of one group, "
@@ -189,4 +201,5 @@ def unquoted(text: bytes) -> bytes:
 
 
 def shown(content: bytes) -> str:
+    """Bytes of a text, fit to be shown in a message."""
     return quoting.shown(content.decode("utf-8", "surrogateescape"))

@@ -10,7 +10,8 @@ import os
 from array import array
 from typing import Any, Callable, Dict, Iterable, Iterator, List, NamedTuple, Optional, Sequence, Tuple, TypeVar
 
-from dmremap_tools.base import disk_image, quoting, streams, written
+from dmremap_tools.base import quoting, streams, written
+from dmremap_tools.formats import disk_image
 from dmremap_tools.base.numbers import SECTOR
 from dmremap_tools.base.refusal import Refusal
 
@@ -42,6 +43,8 @@ class Device:
 
     # Whether all its bytes are known to be there. Devices that can tell that sooner than by their extents do.
     is_whole = False
+    # Whether a copy has a hole for its bytes: zeros, and what is missing.
+    is_hole = False
 
     def __init__(self, name: str, size: int = ALL) -> None:
         self.name, self.size = name, size
@@ -82,6 +85,8 @@ class Device:
 
 class Missing(Device):
     """Bytes that aren't there; the name says why."""
+
+    is_hole = True
 
     def lack(self, start: int, size: int) -> Optional[str]:
         return self.name
@@ -408,3 +413,4 @@ def joined(device: Device, start: int, size: int) -> Iterator[Tuple[int, Extent]
 
 # Bytes that nobody wrote.
 ZEROS = Known("zeros", ALL, lambda start, size: bytes(size))
+ZEROS.is_hole = True

@@ -5,11 +5,12 @@ import functools
 import re
 from typing import Callable, Iterable, Iterator, List, NamedTuple, Optional, Sequence, Set, Tuple
 
-from dmremap_tools.base.disk_image import file_system_of
+from dmremap_tools.formats.disk_image import file_system_of
 from dmremap_tools.base.numbers import SECTOR
 from dmremap_tools.base.refusal import Refusal
 from dmremap_tools.model.config_text import shown
 from dmremap_tools.model.device import Device, Doubt, Lenient, Missing
+from dmremap_tools.model.heads import text_by_heads
 from dmremap_tools.model.layout import Layout
 from dmremap_tools.model.mapping import INVALID_SNAPSHOT, NoProgram, Tables
 from dmremap_tools.model.physical_volume import Leftover, PhysicalVolume, Text
@@ -120,7 +121,7 @@ class Group:
         return next((it for it in self.volumes if name == it.name or same_id(name, it.identity)), hidden)
 
 
-class Unread(NamedTuple):
+class UnreadTexts(NamedTuple):
     """What has texts of groups of which none can be read as current: a physical volume, by its id, or what is left of
     one, and why."""
 
@@ -201,13 +202,14 @@ class Texts:
     """All texts of some physical volumes, of any group: those that are current, with the ones that have them, and older
     ones, whose volumes may have written where a removed volume was; and those of which nothing tells what is current."""
 
-    def __init__(self, volumes: Sequence[PhysicalVolume], leftovers: Sequence[Leftover] = ()) -> None:
-        self._volumes, self._known = volumes, holders_of(volumes)
+    def __init__(self, volumes: Sequence[PhysicalVolume], leftovers: Sequence[Leftover] = (),
+                 program: Optional[str] = None) -> None:
+        self._volumes, self._known, self._program = volumes, holders_of(volumes), program
         # Why the current text of a physical volume can't be read, by its id.
         unread = [volume for volume in volumes if volume.faults and not volume.current]
         self._later = Later(self._known, {volume.identity: f"{volume.place}: {volume.faults[0]}" for volume in unread})
-        self._unread = [Unread(volume.place, volume.identity, volume.faults[0], volume.texts) for volume in unread]
-        self._unread = sorted(self._unread + [Unread(left.device.name, "", left.fault, left.texts) for left in leftovers])
+        self._unread = [UnreadTexts(volume.place, volume.identity, volume.faults[0], volume.texts) for volume in unread]
+        self._unread = sorted(self._unread + [UnreadTexts(left.device.name, "", left.fault, left.texts) for left in leftovers])
         # The removed volumes of all texts are loaded together.
         self._tables = Tables()
 
@@ -240,7 +242,8 @@ class Texts:
 
     def _sides(self, holders: Sequence[Holder], texts: List[Text]) -> Iterator[Group]:
         """The group that has these texts, or each side of it."""
-        sides = [Layout(holder.text, self._find) for holder in holders]
+        current = [holder.text for holder in holders] if len(holders) > 1 else [self._read_by_heads(*holders)] if holders else []
+        sides = [Layout(text, self._find) for text in current]
         living = {identity for side in sides for identity in side.ids.values()}
         places = sorted(", ".join(sorted(volume.place for volume in holder.volumes)) for holder in holders)
         refused, is_forked = TWO_SIDES.format(" or ".join(places)), len(sides) > 1
@@ -266,6 +269,13 @@ class Texts:
             if is_forked or any(each.is_apart(holder) for each in unread):
                 state = FORKED
             yield Group(side, state, self._volumes, known, listed, doubt, notes + told)
+
+    def _read_by_heads(self, holder: Holder) -> Text:
+        """The text of a group as dmremap reads it in the heads of its physical volumes; as it was read here where one of them
+        has a fault, or dmremap takes them not."""
+        is_sound = not any(volume.faults for volume in holder.volumes)
+        read = text_by_heads(self._program, [volume.device for volume in holder.volumes]) if is_sound else None
+        return holder.text._replace(content=read) if read else holder.text
 
     def _newer(self, holder: Holder, side: Layout) -> Optional[str]:
         """Why a text may not be the last: a disk that it names has a later one, or one of another sum."""
@@ -299,7 +309,7 @@ class Texts:
                     yield Volume(side, name, functools.partial(self._refused, side, name, history, doubt), True)
 
 
-def doubt_of(name: bytes, unread: Iterable[Unread], holder: Holder) -> Optional[str]:
+def doubt_of(name: bytes, unread: Iterable[UnreadTexts], holder: Holder) -> Optional[str]:
     """Why a volume isn't given, that one side of a group has and the other may have, whose text can't be read."""
     for each in unread:
         names = each.names(holder)
@@ -308,7 +318,7 @@ def doubt_of(name: bytes, unread: Iterable[Unread], holder: Holder) -> Optional[
     return None
 
 
-def doubt_by(lost: Unread, name: bytes, side: Layout) -> Optional[str]:
+def doubt_by(lost: UnreadTexts, name: bytes, side: Layout) -> Optional[str]:
     """Why a volume isn't given that lies on a missing disk, if what is left of one may be that; None if it may be."""
     lacking = {side.physical_ids[key] for key, device in side.physical.items() if isinstance(device, Missing)}
     is_on_it = any(identity in lacking for identity, _, _ in side.uses(name))

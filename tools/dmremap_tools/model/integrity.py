@@ -11,7 +11,7 @@ from typing import Any, Iterator, NamedTuple, Optional, Set, Tuple
 from dmremap_tools.base.numbers import SECTOR
 from dmremap_tools.base.refusal import Refusal
 from dmremap_tools.model.device import Device, Gap, Known, Overlaid, sorted_entries
-from dmremap_tools.model.pools import sum_of
+from dmremap_tools.model.pools import crc32c
 from dmremap_tools.model.volume_group import Segment
 
 # Magic, version, integrity_tag_size, journal_sections, provided_data_sectors, flags, log2_sectors_per_block and salt.
@@ -31,6 +31,7 @@ Journal = NamedTuple("Journal", [
 
 
 def integrity_of(layout: Any, name: str, segment: Segment, size: int) -> Device:
+    """The device of a segment with integrity. Refuses metadata that isn't as the text says, or has no journal."""
     data, meta = (layout.lower(segment, key) for key in (b"origin", b"meta_dev"))
     if not data or not meta:
         raise Refusal(name, f"its text doesn't say where its metadata is: {OTHER_LEG}")
@@ -54,7 +55,8 @@ def integrity_of(layout: Any, name: str, segment: Segment, size: int) -> Device:
     has_sums = segment.node.value(b"internal_hash", bytes) == HASH and tag >= HASH_SIZE
     summed = (salt if flags & FIXED_HMAC else b"") if has_sums else None
     journal = Journal(meta, sections, section, entry, sectors * SECTOR, ID_AT // entry, summed)
-    blocks = (each for place in sections_in_order(journal) for each in blocks_in(journal, section_of(journal, place)))
+    contents = (section_bytes(journal, place) for place in sections_in_order(journal))
+    blocks = (each for content in contents for each in blocks_in(journal, content))
     held = {block: content for block, content in blocks if (block + 1) * journal.block <= size}
     content = b"".join(held.values())
     known = Known(f"the journal of {name}", len(content), lambda start, size: content[start:start + size])
@@ -62,7 +64,8 @@ def integrity_of(layout: Any, name: str, segment: Segment, size: int) -> Device:
     return Overlaid(name, data, known, journal.block, sorted_entries(pairs), size)
 
 
-def section_of(journal: Journal, section: int) -> bytes:
+def section_bytes(journal: Journal, section: int) -> bytes:
+    """The bytes of a section of a journal."""
     return journal.meta.read(JOURNAL_START * SECTOR + section * journal.size, journal.size)
 
 
@@ -87,7 +90,7 @@ def sections_in_order(journal: Journal) -> Iterator[int]:
 
 def commits_of(journal: Journal, section: int) -> Set[int]:
     """The commits that the sectors of a section are of. One that was being written has sectors of two."""
-    content = section_of(journal, section)
+    content = section_bytes(journal, section)
     words = (struct.unpack_from("<Q", content, at + ID_AT)[0] ^ at // SECTOR for at in range(0, len(content), SECTOR))
     ids = {word ^ section << 32 for word in words}
     if not ids <= set(IDS):
@@ -107,6 +110,6 @@ def blocks_in(journal: Journal, content: bytes) -> Iterator[Tuple[int, bytes]]:
         places = zip(range(start, start + journal.block, SECTOR), range(ends, ends + 8 * sectors, 8))
         block = b"".join(content[begin:begin + ID_AT] + content[end:end + 8] for begin, end in places)
         tag = int.from_bytes(content[ends + 8 * sectors:ends + 8 * sectors + HASH_SIZE], "little")
-        if journal.salt is not None and sum_of(journal.salt + content[at:ends] + block) ^ 0xFFFFFFFF != tag:
+        if journal.salt is not None and crc32c(journal.salt + content[at:ends] + block) ^ 0xFFFFFFFF != tag:
             raise Gap(journal.meta.name, f"what its journal has of sector {sector} is damaged: {OTHER_LEG}")
         yield sector // sectors, block

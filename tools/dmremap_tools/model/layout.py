@@ -9,11 +9,11 @@ from dmremap_tools.base import names, tables
 from dmremap_tools.base.numbers import SECTOR
 from dmremap_tools.base.refusal import Refusal
 from dmremap_tools.model import integrity, pools, raid_volume
-from dmremap_tools.model.config_text import Node, shown
+from dmremap_tools.model.config_text import Node, Value, shown
 from dmremap_tools.model.device import Device, Extent, Missing
-from dmremap_tools.model.mapping import Mapped, NoProgram, Tables, snapshot_of
+from dmremap_tools.model.mapping import MappedDevice, NoProgram, Tables, snapshot_of
 from dmremap_tools.model.physical_volume import Text
-from dmremap_tools.model.volume_group import Group, Record, Segment, Volume
+from dmremap_tools.model.volume_group import GroupText, Record, Segment, VolumeText
 
 # The most sectors of an extent, and extents of a volume: more than lvm2 makes.
 MOST_EXTENT, MOST_EXTENTS = 1 << 34, 1 << 32
@@ -37,7 +37,7 @@ ODD = "restore an older text by vgcfgrestore on copies of the disks (`metadata -
 # What devices are called in tables.
 NUMBERS = itertools.count()
 # Sectors of a physical volume: its id, the first one, and the one after the last.
-Use = Tuple[str, int, int]
+UsedSectors = Tuple[str, int, int]
 
 
 class Layout:
@@ -46,7 +46,7 @@ class Layout:
     with `shared` those of several texts that are wanted."""
 
     def __init__(self, text: Text, find: Callable[[str], Device], shared: Optional[Tables] = None) -> None:
-        self.text, self.name, self._find, self.group = text, text.group, find, Group(text.node())
+        self.text, self.name, self._find, self.group = text, text.group, find, GroupText(text.node())
         self.extent = (self.group.extent_size or 0) * SECTOR
         self.ids = {name: identity_of(volume.node) for name, volume in self.group.volumes.items()}
         self.physical_ids = {key: identity_of(node) for key, node in self.group.physicals.items()}
@@ -63,6 +63,7 @@ class Layout:
 
     @functools.cached_property
     def physical(self) -> Dict[bytes, Device]:
+        """The devices of the physical volumes, by their keys."""
         return {key: self._find(identity) for key, identity in self.physical_ids.items()}
 
     @functools.cached_property
@@ -76,6 +77,7 @@ class Layout:
         return dict.fromkeys(deep, f"it lies on itself, or on others in more than {MOST_LEVELS} levels: {ODD}")
 
     def path(self, name: bytes) -> str:
+        """A volume by its group and its name, for messages."""
         return f"{self.name}/{shown(name)}"
 
     def refuse(self, name: bytes, why: str) -> NoReturn:
@@ -96,6 +98,8 @@ class Layout:
                 and (name in self.origins or b"VISIBLE" in volume.node.values(b"status"))]
 
     def _volume(self, name: bytes) -> Device:
+        """The bytes of a volume as its user sees them: of a snapshot, or of an origin that one is merged into, by its
+        store."""
         record = self.records.get(name)
         if record is None or record.is_merging:
             record = next((other for other in self.group.records if other.is_merging and other.origin == name), None)
@@ -110,7 +114,7 @@ class Layout:
         """The bytes that the segments of a volume have."""
         key = self.key_of(name)
         self.tables.add_waiting()
-        return Mapped(self.path(name), self.tables, key)
+        return MappedDevice(self.path(name), self.tables, key)
 
     def lower(self, segment: Segment, field: bytes) -> Optional[Device]:
         """The bytes of the volume that a field of a segment names, or None where it has none."""
@@ -134,10 +138,12 @@ class Layout:
         return key
 
     def size_of(self, name: bytes) -> int:
+        """The bytes of a volume; 0 where the text has none of this name."""
         volume = self.group.volumes.get(name)
         return volume.extents * self.extent if volume else 0
 
-    def _lines(self, volume: Volume) -> Iterator[tables.Line]:
+    def _lines(self, volume: VolumeText) -> Iterator[tables.Line]:
+        """The lines of a volume. Refuses one whose segments don't follow each other."""
         start = 0
         if not volume.segments or volume.extents > MOST_EXTENTS:
             self.refuse(volume.name, "its text says no length")
@@ -148,7 +154,8 @@ class Layout:
             yield self._line(volume, segment, start * self.extent // SECTOR, count * self.extent // SECTOR)
             start += count
 
-    def _line(self, volume: Volume, segment: Segment, first: int, length: int) -> tables.Line:
+    def _line(self, volume: VolumeText, segment: Segment, first: int, length: int) -> tables.Line:
+        """The line of a segment, in sectors of its volume. Refuses a type that isn't followed."""
         name, which, kind = volume.name, shown(segment.node.key), segment.kind or b"none"
         if kind in (b"zero", b"error"):
             return tables.Line(first, length, kind.decode(), [])
@@ -163,16 +170,18 @@ class Layout:
             return tables.Line(first, length, "linear", self._area(name, *legs[moved == segment.count], length))
         maker = LAYERS.get(kind.partition(b"+RESHAPE")[0])
         if maker is None:
-            legs = [self.path(leg) for leg, _ in areas_of(segment) if leg in self.group.volumes]
+            names_of_legs = [leg for leg, _ in areas_of(segment) if isinstance(leg, bytes)]
+            sides = [self.path(leg) for leg in names_of_legs if leg in self.group.volumes]
             what = f"its {which} is of type {shown(kind)}, which isn't followed"
-            if len(legs) > 1:
-                raise Refusal(self.path(name), f"{what}: save {legs[0]}, or if it was in sync {' or '.join(legs[1:])}")
+            if len(sides) > 1:
+                raise Refusal(self.path(name), f"{what}: save {sides[0]}, or if it was in sync {' or '.join(sides[1:])}")
             raise Refusal(self.path(name), f"{what}: {NEXT}")
         size = length * SECTOR
         device = Deferred(self.path(name), size, functools.partial(maker, self, self.path(name), segment, size))
         return tables.Line(first, length, "linear", [self.tables.disk(device), "0"])
 
     def _striped(self, name: bytes, segment: Segment, first: int, length: int) -> tables.Line:
+        """The line of a linear or striped segment."""
         columns, which = len(segment.stripes), f"its {shown(segment.node.key)}"
         if not columns or columns != (segment.node.value(b"stripe_count", int) or columns):
             self.refuse(name, f"{which} has other stripes than it counts")
@@ -211,14 +220,14 @@ class Layout:
             found += self.group.volumes.keys() & lower - set(found)
         return found[1:]
 
-    def uses(self, name: bytes) -> Set[Use]:
+    def uses(self, name: bytes) -> Set[UsedSectors]:
         """What a volume and what it lies on use of physical volumes."""
         found, sectors = set(), self.extent // SECTOR
         volumes = [self.group.volumes[lower] for lower in (name, *self.below(name))]
         for segment in (segment for volume in volumes for segment in volume.segments):
             length = (segment.count or 0) // (len(segment.stripes) or 1) * sectors
             for area, start in segment.stripes or areas_of(segment):
-                if area in self.group.physicals and isinstance(start, int):
+                if isinstance(area, bytes) and area in self.group.physicals and isinstance(start, int):
                     first = (self.group.physicals[area].value(b"pe_start", int) or 0) + start * sectors
                     found.add((self.physical_ids[area], first, first + length))
         return found
@@ -233,6 +242,7 @@ class Deferred(Device):
 
     @functools.cached_property
     def _made(self) -> Device:
+        """The device, once it is asked for, or one that says why there is none."""
         try:
             return self._make()
         except NoProgram:
@@ -247,7 +257,7 @@ class Deferred(Device):
         return self._made.extents(start, size)
 
 
-def lower_in(volume: Volume) -> Iterator[object]:
+def lower_in(volume: VolumeText) -> Iterator[object]:
     """What a volume lies on, beside numbers. A thin one has from the pool what it shares with its origin."""
     for segment in volume.segments:
         for key in LOWER:
@@ -255,7 +265,7 @@ def lower_in(volume: Volume) -> Iterator[object]:
                 yield from segment.node.values(key)
 
 
-def areas_of(segment: Segment) -> List[Tuple[object, object]]:
+def areas_of(segment: Segment) -> List[Tuple[Value, Value]]:
     """The legs of a mirror: pairs of a name and an extent."""
     values = segment.node.values(b"mirrors")
     return list(zip(values[::2], values[1::2]))

@@ -10,27 +10,28 @@ import struct
 import subprocess
 import tempfile
 import weakref
-from typing import Any, Callable, Dict, Iterator, List, NamedTuple, NoReturn, Optional, Sequence, Tuple
+from typing import Any, Callable, Dict, Iterator, List, NoReturn, Optional, Sequence, Tuple
 
-from dmremap_tools.base import names, numbers, paths, program, quoting, store_places, tables
+from dmremap_tools.base import names, numbers, paths, program, quoting, tables
 from dmremap_tools.base.given import put
 from dmremap_tools.base.numbers import SECTOR
 from dmremap_tools.base.program import NoProgram
 from dmremap_tools.base.refusal import Refusal
+from dmremap_tools.formats import store_places
 from dmremap_tools.model.config_text import shown
-from dmremap_tools.model.device import ZEROS, Device, Extent, Gap, Image, Lenient, Missing, whole_run
+from dmremap_tools.model.device import ALL, ZEROS, Device, Extent, Gap, Lenient, Missing, whole_run
 from dmremap_tools.model.volume_group import Record
 
 # Sectors that one request asks for, and answers to these that are kept.
 WINDOW, MOST_WINDOWS = 1 << 15, 20
 # Devices that are loaded together, of which the program takes 1,024 with what they lie on, and programs that run.
 MOST_DEVICES, MOST_CHILDREN = 400, 16
-ANSWER = re.compile(r"^([0-9]+) (?:R ([^ \n]+) ([0-9]+)|(zero|error)) ([0-9]+)$", re.M)
+ANSWER = re.compile(r"^([0-9]+) (?:R ([^ \n]+)|(zero|error)) (?=([0-9]+))(?(2)[0-9]+ )([0-9]+)$", re.M)
 # Bytes of an answer that are taken at a time.
 MOST_READ = 1 << 20
-READ, ZERO = "R", "zero"
 FILES = ("FILE", "DISKS", "PATHS")
 FAILS = "reads fail there, as the tables say"
+OTHERS = {"zero": (ZEROS, 0, ALL), "error": (Missing(FAILS), 0, ALL)}
 ASKED = "it is asked where volumes lie: build it, put it beside this tool, or give --program"
 # What a snapshot is called in tables of its own, and why one is refused.
 NAME, NEXT, OLDER = "snapshot", "activate it with lvm2, or save the origin", "give an older image of its disk"
@@ -40,19 +41,21 @@ LOST = f"the store: its header is zeros, and what follows isn't, so that it isn'
 UNKNOWN = f"the store: its header is zeros, and nothing tells whether the merge ended: {OLDER}"
 ODD = f"the store: its header says neither that it is valid nor that it isn't, {store_places.DAMAGED}: {OLDER}"
 BROKEN = f"the store: its list goes on behind a free place, {store_places.DAMAGED}: {OLDER}"
-# Sectors of an answer: a disk and a start there, unless they are zeros or fail.
-Piece = NamedTuple("Piece", [("what", str), ("disk", str), ("start", int), ("count", int)])
+
+# A disk, or what else is done; the start there, which without a disk means nothing; and how many sectors.
+MappedPiece = Tuple[str, str, int, int]
 
 
 class Tables:
     """Tables that are loaded together. A line names a device here by its path, and anything else below it as a disk."""
 
     def __init__(self) -> None:
-        self.devices: Dict[str, tables.Device] = {}
+        self.devices: Dict[str, tables.TableDevice] = {}
         self.disks: Dict[str, Device] = {}
         # What writes to a file what the program reads of the disk that a store is.
         self.stores: Dict[str, Callable[[str], None]] = {}
         self._names: Dict[Device, str] = {}
+        self._whole_run = functools.lru_cache(None)(lambda name: whole_run(self.disks[name]) or (ZEROS, 0, 0))
         # What adds devices that are to be loaded together with those that are there.
         self.waiting: List[Callable[[], object]] = []
 
@@ -62,12 +65,8 @@ class Tables:
         self.disks[name] = device
         return name
 
-    @functools.lru_cache(None)
-    def whole_run(self, name: str) -> Optional[Tuple[Image, int, int]]:
-        return whole_run(self.disks[name])
-
     def add(self, name: str, lines: Sequence[tables.Line]) -> None:
-        self.devices[name] = tables.Device(name)
+        self.devices[name] = tables.TableDevice(name)
         self.devices[name].lines += lines
 
     def add_waiting(self) -> None:
@@ -100,13 +99,20 @@ class Tables:
         return (span for line in self.lines() for span in line.spans() if span[0] in self.disks)
 
     @functools.lru_cache(MOST_WINDOWS)
-    def window(self, name: str, start: int) -> List[Piece]:
-        """Where the sectors of a window are read. Where the program was ended meanwhile, it is asked once more."""
+    def window(self, name: str, start: int) -> List[Extent]:
+        """Where the bytes of a window lie. Where the program was ended meanwhile, it is asked once more."""
         count, child = min(WINDOW, self.devices[name].end() - start), self.child_of(name)
-        with contextlib.suppress(Refusal):
-            return child.ask(name, start, count)
-        self._child.cache_clear()
-        return self.child_of(name).ask(name, start, count)
+        try:
+            pieces = child.ask(name, start, count)
+        except Refusal:
+            self._child.cache_clear()
+            pieces = self.child_of(name).ask(name, start, count)
+        found: List[Extent] = []
+        for disk, other, place, length in pieces:
+            at, size = place * SECTOR, length * SECTOR
+            source, begin, most = OTHERS[other] if other else self._whole_run(disk)
+            found += [Extent(source, begin + at, size)] if at + size <= most else self.disks[disk].extents(at, size)
+        return found
 
     def child_of(self, name: str) -> "Child":
         """The program that knows a device and others around it, or this one alone where it refuses another."""
@@ -157,7 +163,7 @@ class Tables:
 class LoadedTables(Tables):
     """Tables that somebody gave, which one program has loaded, by these words; and the devices of their disks."""
 
-    def __init__(self, devices: Sequence[tables.Device], disks: Dict[str, Device], words: Sequence[str]) -> None:
+    def __init__(self, devices: Sequence[tables.TableDevice], disks: Dict[str, Device], words: Sequence[str]) -> None:
         super().__init__()
         self.devices.update((device.name, device) for device in devices)
         self.disks.update(disks)
@@ -191,7 +197,7 @@ class Child:
         weakref.finalize(self, self._child.kill)
         self.ask(name, 0, 1)
 
-    def ask(self, name: str, first: int, count: int) -> List[Piece]:
+    def ask(self, name: str, first: int, count: int) -> List[MappedPiece]:
         """The answer to one request, which has its number."""
         try:
             self._child.stdin.write(f"R {name} {first} {count}\n".encode())
@@ -199,17 +205,18 @@ class Child:
         except OSError:
             self._fail()
         self._number += 1
-        found: List[Piece] = []
+        found: List[MappedPiece] = []
         text = b""
         while count > 0:
             more = self._child.stdout.read1(MOST_READ)
             whole, newline, text = (text + more).rpartition(b"\n")
             rows = ANSWER.findall(whole.decode())
-            if not more or {row[0] for row in rows} - {str(self._number)} or len(rows) != whole.count(b"\n") + len(newline):
+            requests, disks, others, places, lengths = zip(*rows) if rows else [()] * 5
+            if not more or set(requests) - {str(self._number)} or len(rows) != whole.count(b"\n") + len(newline):
                 self._fail()
-            pieces = [Piece(what or READ, disk, int(start or 0), int(length)) for _, disk, start, what, length in rows]
-            found += pieces
-            count -= sum(piece.count for piece in pieces)
+            counts = list(map(int, lengths))
+            found += zip(disks, others, map(int, places), counts)
+            count -= sum(counts)
         if count or text:
             self._fail()
         return found
@@ -224,7 +231,7 @@ class Child:
         raise Refusal(quoting.shown(self._name), f"{said} (status {status}): see what `dmremap-tools explain` says")
 
 
-class Mapped(Device):
+class MappedDevice(Device):
     """A device of tables. One that is a snapshot has `chunks_used`, which says how many are in its store."""
 
     chunks_used: Optional[int] = None
@@ -256,20 +263,15 @@ class Mapped(Device):
     def _extents(self, start: int, size: int) -> Iterator[Extent]:
         if start % SECTOR or size % SECTOR:
             raise Gap(self.name, "no whole sectors: ask for these")
-        first, end = start // SECTOR, (start + size) // SECTOR
-        for at in range(first // WINDOW * WINDOW, end, WINDOW):
-            for what, disk, place, count in self.source.window(self.key, at):
-                begin, stop = max(first, at), min(end, at + count)
-                if begin < stop and what == READ:
-                    where, length = (place + begin - at) * SECTOR, (stop - begin) * SECTOR
-                    run = self.source.whole_run(disk)
-                    if run and where + length <= run[2]:
-                        yield Extent(run[0], run[1] + where, length)
-                    else:
-                        yield from self.source.disks[disk].extents(where, length)
-                elif begin < stop:
-                    yield Extent(ZEROS if what == ZERO else Missing(FAILS), 0, (stop - begin) * SECTOR)
-                at += count
+        end, step = start + size, WINDOW * SECTOR
+        for at in range(start // step * step, end, step):
+            for extent in self.source.window(self.key, at // SECTOR):
+                stop = at + extent.size
+                if start <= at and stop <= end:
+                    yield extent
+                elif max(start, at) < min(end, stop):
+                    yield Extent(extent.source, extent.start + max(start - at, 0), min(end, stop) - max(start, at))
+                at = stop
 
 
 def snapshot_of(layout: Any, record: Record) -> Device:
@@ -283,7 +285,7 @@ def snapshot_of(layout: Any, record: Record) -> Device:
                       "the origin instead")
     if origin not in layout.group.volumes or record.volume.extents != layout.group.volumes[origin].extents:
         raise Refusal(name, f"its origin {shown(origin)} isn't there, or was resized since: {NEXT}")
-    if not store_places.is_chunk(chunk) or chunk > store_places.MOST_IN_CHUNK:
+    if not store_places.is_chunk(chunk):
         raise Refusal(name, f"its text says chunks of {chunk} sectors, which aren't followed: {NEXT}")
     kept, key = layout.plain(store), layout.key_of(origin)
     source = layout.tables.closure([key])
@@ -293,12 +295,12 @@ def snapshot_of(layout: Any, record: Record) -> Device:
     source.add(NAME, [tables.Line(0, layout.size_of(origin) // SECTOR, "snapshot", words)])
     try:
         chunks = source.child_of(NAME).chunks[NAME]
-    except store_places.Unread as refusal:
+    except store_places.RefusedStore as refusal:
         raise Refusal(name, refusal.word == "read" and kept.lack(0, kept.size) or f"the store: {refusal.why}")
     fault = INVALID_SNAPSHOT if chunks is None else store_fault(kept, chunk, record.is_merging)
     if fault:
         raise Refusal(name, fault)
-    made = Mapped(name, source, NAME)
+    made = MappedDevice(name, source, NAME)
     made.chunks_used = chunks
     return made
 

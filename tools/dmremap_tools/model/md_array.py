@@ -9,7 +9,7 @@ from dmremap_tools.base.refusal import Refusal
 from dmremap_tools.model import md_chunks, md_superblock
 from dmremap_tools.model.device import (Agreed, Copies, Device, Doubt, Extent, Missing, Part, Run, blocks_of, copied,
                                         cut, joint)
-from dmremap_tools.model.mapping import Mapped, Tables
+from dmremap_tools.model.mapping import MappedDevice, Tables
 from dmremap_tools.model.md_superblock import Member, level_name
 
 # Sectors of a chunk, and members of an array that is followed.
@@ -33,8 +33,8 @@ def put_together(members: Sequence[Member]) -> "Array":
     first, *others = map(Array, sides)
     if not others:
         return first
-    why, devices = Doubt(apart(sides)), [side.device for side in (first, *others)]
-    first.device, first.apart = Agreed(first.label, devices, why) if all(devices) else None, why
+    why, devices = Doubt(apart(sides)), [side.device for side in (first, *others) if side.device]
+    first.device, first.apart = Agreed(first.label, devices, why) if len(devices) == len(sides) else None, why
     first.why = None if first.device else why
     for side in others:
         first.members, first.stale = [*first.members, *side.members], [*first.stale, *side.members]
@@ -84,14 +84,15 @@ class Array(md_chunks.Shape):
         self.apart: Optional[str] = None
         self.device: Optional[Device] = None
         try:
-            self._take()
-            self._check()
+            self._sort_members()
+            self._check_supported()
             self.device = self._made()
         except Refusal as refusal:
             self.why = refusal.why
 
     @property
     def missing(self) -> int:
+        """How many members are missing."""
         return self.count - len(self.by_role)
 
     @property
@@ -111,7 +112,7 @@ class Array(md_chunks.Shape):
         """Says why nobody can say its bytes."""
         self.device, self.why = None, why
 
-    def _take(self) -> None:
+    def _sort_members(self) -> None:
         """Those with the most events, or one less, count, in the role that the freshest superblock gives them. Of one
         that was being filled what it has counts where no other one is there."""
         best, twice = self.best.superblock, None
@@ -136,7 +137,7 @@ class Array(md_chunks.Shape):
     def refuse(self, why: str) -> NoReturn:
         raise Refusal(self.label, why)
 
-    def _check(self) -> None:
+    def _check_supported(self) -> None:
         """Refuses what isn't followed."""
         superblock, copies = self.best.superblock, self.copies.near * self.copies.far
         if superblock.level not in md_superblock.NAMES:
@@ -179,7 +180,7 @@ class Array(md_chunks.Shape):
         if self.level == "raid10" and not is_whole:
             return CopiedChunks(self, self._data, self._dirty)
         self.tables.add("array", list(self.lines()) or self.refuse(NO_CHUNK))
-        return Mapped(self.label, self.tables, "array")
+        return MappedDevice(self.label, self.tables, "array")
 
     def source(self, roles: Iterable[int]) -> Optional[int]:
         """Of the members with these roles the first that is in the array, from which others are filled."""
@@ -214,11 +215,11 @@ class Array(md_chunks.Shape):
             why = f"{name} is missing, and {member.device.name} was being filled in its place: give its image"
         return Part(name, member.device, first, length, joint(runs), why)
 
-    def spot(self, role: int, row: int = 0) -> List[str]:
+    def disk_words(self, role: int, row: int = 0) -> List[str]:
         """A member's disk, and a sector of its data, as words of a line."""
         return [self.tables.disk(self._data[role]), str(row)]
 
-    def whole(self, role: int) -> int:
+    def whole_chunk_sectors(self, role: int) -> int:
         """The sectors of a member of linear or raid0 that make whole chunks; one that is missing is refused."""
         if role not in self.by_role:
             self.refuse(f"member {role} of {self.label} is missing, and nothing else has its bytes: give its image")
@@ -234,11 +235,11 @@ class Array(md_chunks.Shape):
             if self.sectors:
                 yield self.striped(0, self.sectors, [role for role, _ in found], found[0][1] * self.chunk)
             return
-        size = {role: self.whole(role) for role in range(self.count)}
+        size = {role: self.whole_chunk_sectors(role) for role in range(self.count)}
         row = start = 0
         if self.level == "linear":
             for role in size:
-                yield tables.Line(start, size[role], "linear", self.spot(role))
+                yield tables.Line(start, size[role], "linear", self.disk_words(role))
                 start += size[role]
             return
         for end in sorted(set(size.values()) - {0}):
@@ -253,7 +254,7 @@ class Array(md_chunks.Shape):
 
     def striped(self, start: int, length: int, roles: Sequence[int], row: int) -> tables.Line:
         """A line of whole rows over the members of these roles."""
-        spots = [word for role in roles for word in self.spot(role, row)]
+        spots = [word for role in roles for word in self.disk_words(role, row)]
         if len(roles) == 1:
             return tables.Line(start, length, "linear", spots)
         if len(roles) > tables.MOST_COLUMNS:
@@ -275,7 +276,7 @@ class CopiedChunks(Device):
             yield role, row * self._chunk
 
     @functools.cached_property
-    def is_whole(self) -> bool:
+    def is_whole(self) -> bool:  # type: ignore[override]
         """Where each member has all of its bytes or none, as many chunks as there are members tell it."""
         length = self._array.chunks * self._chunk
         whole = [role for role, member in enumerate(self._members) if member.lack(0, length) is None]
@@ -283,6 +284,7 @@ class CopiedChunks(Device):
         return not self._dirty and all(any(role in whole for role, _ in self._copies_of(it)) for it in numbers)
 
     def _extents(self, start: int, size: int) -> Iterator[Extent]:
+        """Each part of a chunk from the first of its copies that is there and in step."""
         for begin, end, run in cut(self._dirty, start, start + size):
             for number, offset, count in blocks_of(begin, end - begin, self._chunk):
                 copies = list(self._copies_of(number))

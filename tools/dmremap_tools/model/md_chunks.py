@@ -133,7 +133,7 @@ class Rows(Device):
                 yield row, begin, end - begin
 
     @functools.cached_property
-    def _why(self) -> Optional[str]:
+    def _lack_of_members(self) -> Optional[str]:
         """What the members lack of all. Between edges rows come again after as many of them as there are members."""
         for begin, end in zip(self._edges, self._edges[1:]):
             blocks = blocks_of(begin, end - begin, self._chunk)
@@ -145,8 +145,8 @@ class Rows(Device):
         return None
 
     def lack(self, start: int, size: int) -> Optional[str]:
-        is_known = (start, size) == (0, self.size) or self._why is None and start + size <= self.size
-        return self._why if is_known else super().lack(start, size)
+        is_known = (start, size) == (0, self.size) or self._lack_of_members is None and start + size <= self.size
+        return self._lack_of_members if is_known else super().lack(start, size)
 
     def _extents(self, start: int, size: int) -> Iterator[Extent]:
         for number, offset, count in blocks_of(start, size, self._chunk):
@@ -162,6 +162,7 @@ class Computed(Device):
         self._rows, self._shape, self._members, self._role = rows, rows.shape, rows.members, role
 
     def lack(self, start: int, size: int) -> Optional[str]:
+        """Why some of its bytes can't be computed, or None."""
         try:
             for part in self._rows.parts(start, size):
                 self._gone(*part)
@@ -199,19 +200,19 @@ class Computed(Device):
         have = {role: self._members[role].read(at, count) for role in range(self._shape.count) if role not in gone}
         lost = [role for role in gone if role in roles.data]
         if len(lost) == 1 and roles.parity in have:
-            return added([have[role] for role in have if role != roles.syndrome])
+            return sum_in_field([have[role] for role in have if role != roles.syndrome])
         data = [(roles.powers[role], have[role]) for role in roles.data if role in have]
-        syndrome = added([have[roles.syndrome or 0]] + [times(content, power) for power, content in data])
+        syndrome = sum_in_field([have[roles.syndrome or 0]] + [multiplied(content, power) for power, content in data])
         mine = roles.powers[self._role]
         if len(lost) == 1:
-            return times(syndrome, -mine)
+            return multiplied(syndrome, -mine)
         # g^x D_x + g^y D_y = syndrome and D_x + D_y = both, so D_x = (syndrome + g^y both) / (g^x + g^y).
         other = next(roles.powers[role] for role in lost if role != self._role)
-        both = added([have[roles.parity]] + [content for _, content in data])
-        return times(added([syndrome, times(both, other)]), -LOGARITHMS[POWERS[mine] ^ POWERS[other]])
+        both = sum_in_field([have[roles.parity]] + [content for _, content in data])
+        return multiplied(sum_in_field([syndrome, multiplied(both, other)]), -LOGARITHMS[POWERS[mine] ^ POWERS[other]])
 
 
-def added(parts: Sequence[bytes]) -> bytes:
+def sum_in_field(parts: Sequence[bytes]) -> bytes:
     """The sum of bytes in GF(2^8), place by place."""
     total = 0
     for part in parts:
@@ -219,12 +220,14 @@ def added(parts: Sequence[bytes]) -> bytes:
     return total.to_bytes(len(parts[0]), "little")
 
 
-def times(content: bytes, power: int) -> bytes:
-    return content.translate(_times(power % 255))
+def multiplied(content: bytes, power: int) -> bytes:
+    """Bytes times a power of g, which may be negative, place by place."""
+    return content.translate(products_of(power % 255))
 
 
 @functools.lru_cache(None)
-def _times(power: int) -> bytes:
+def products_of(power: int) -> bytes:
+    """What each byte is times a power of g."""
     return bytes([0] + [POWERS[(LOGARITHMS[value] + power) % 255] for value in range(1, 256)])
 
 

@@ -5,9 +5,9 @@ import itertools
 import struct
 from typing import Iterator, List, NamedTuple, Optional, Sequence, Tuple
 
-from dmremap_tools.base import partition_table
 from dmremap_tools.base.numbers import SECTOR
 from dmremap_tools.base.refusal import Refusal
+from dmremap_tools.formats import partition_table
 from dmremap_tools.model.device import Device, Lenient, Run, joint
 
 MAGIC = 0xA92B4EFC
@@ -53,6 +53,7 @@ Member = NamedTuple("Member", [("device", Device), ("superblock", Superblock)])
 
 
 def level_name(superblock: Superblock) -> str:
+    """The level of an array as mdadm calls it."""
     return NAMES.get(superblock.level, f"level {superblock.level}")
 
 

@@ -38,10 +38,10 @@ POOL_DATA, CACHE = (b"pool", b"data"), (b"cache_pool", b"cache_vol")
 Above = NamedTuple("Above", [("volume", bytes), ("segment", Segment), ("field", bytes), ("place", int), ("start", int)])
 # Sectors up to an end, the name of what has them, which of its own they begin with, where it counts them, and who has
 # these. Without a name nothing is said of them, as of an origin's that its snapshots read.
-Run = namedtuple("Run", "first end name sector above", defaults=("", None, None))
+OwnedRun = namedtuple("OwnedRun", "first end name sector above", defaults=("", None, None))
 FIRST = operator.itemgetter(0)
 # Who has sectors of a device, from the first one up to an end. What no run has goes no further up.
-Ground = Callable[[int, int], Iterable[Run]]
+Ground = Callable[[int, int], Iterable[OwnedRun]]
 # Sectors that go one way up: the first, how many, and each thing that has them, with which of its own they begin.
 Step = Tuple[str, Optional[int]]
 Way = NamedTuple("Way", [("first", int), ("count", int), ("steps", Tuple[Step, ...])])
@@ -70,10 +70,10 @@ def ways(ground: Ground, first: int, end: int) -> Iterator[Way]:
 
 def ways_at_once(ground: Ground, first: int, end: int, depth: int = 0) -> Iterator[Way]:
     """The same of so few sectors that their runs can be listed."""
-    found = ground(first, end) if depth < DEEPEST else [Run(first, end, unknown("it lies on itself"))]
+    found = ground(first, end) if depth < DEEPEST else [OwnedRun(first, end, unknown_owner("it lies on itself"))]
     runs = list(dict.fromkeys(found))
     if len(runs) != 1 or runs[0][:2] != (first, end):
-        runs = sorted(runs + [Run(*gap) for gap in gaps(runs, first, end)], key=FIRST)
+        runs = sorted(runs + [OwnedRun(*gap) for gap in gaps(runs, first, end)], key=FIRST)
     for run in runs:
         start, count = run.sector or 0, run.end - run.first
         above = run.above and ways_at_once(run.above, start, start + count, depth + bool(run.name))
@@ -82,7 +82,7 @@ def ways_at_once(ground: Ground, first: int, end: int, depth: int = 0) -> Iterat
             yield Way(run.first + way.first - start, way.count, (*own, *way.steps))
 
 
-def gaps(runs: Iterable[Run], first: int, end: int) -> Iterator[Tuple[int, int]]:
+def gaps(runs: Iterable[OwnedRun], first: int, end: int) -> Iterator[Tuple[int, int]]:
     """Those of some sectors that no run has."""
     for begin, stop, *_ in sorted(runs, key=FIRST):
         if first < begin and first < end:
@@ -93,31 +93,33 @@ def gaps(runs: Iterable[Run], first: int, end: int) -> Iterator[Tuple[int, int]]
         yield first, end
 
 
-def unknown(why: str) -> str:
+def unknown_owner(why: str) -> str:
+    """What is said of sectors whose owner nobody can be sure of."""
     return f"unknown: {why}"
 
 
-def all_of(name: str) -> Ground:
-    return lambda first, end: [Run(first, end, name)]
+def owned_by_one(name: str) -> Ground:
+    """The ground of which one thing has all."""
+    return lambda first, end: [OwnedRun(first, end, name)]
 
 
-def within(claims: Iterable[Run], first: int, end: int) -> Iterator[Run]:
+def claims_within(claims: Iterable[OwnedRun], first: int, end: int) -> Iterator[OwnedRun]:
     """What claims have of some sectors."""
     for run in claims:
         begin, stop = max(first, run.first), min(end, run.end)
         if begin < stop:
             sector = None if run.sector is None else run.sector + begin - run.first
-            yield Run(begin, stop, run.name, sector, run.above)
+            yield OwnedRun(begin, stop, run.name, sector, run.above)
 
 
-def claimed(claims: Iterable[Run], rest: Ground) -> Ground:
+def claimed(claims: Iterable[OwnedRun], rest: Ground) -> Ground:
     """The ground of some claims, and of what none of them has."""
-    return filled(lambda first, end: within(claims, first, end), rest)
+    return filled(lambda first, end: claims_within(claims, first, end), rest)
 
 
 def filled(ground: Ground, rest: Ground) -> Ground:
     """A ground, and another one of the sectors that it says nothing of."""
-    def both(first: int, end: int) -> Iterator[Run]:
+    def both(first: int, end: int) -> Iterator[OwnedRun]:
         runs = list(ground(first, end))
         yield from runs
         for gap in gaps(runs, first, end):
@@ -125,43 +127,44 @@ def filled(ground: Ground, rest: Ground) -> Ground:
     return both
 
 
-def free(device: Device, what: str) -> Ground:
+def owners_of_unclaimed(device: Device, what: str) -> Ground:
     """The ground of what nothing claims: nobody has zeros. What else is there may be in use, as a boot loader."""
     def name_of(window: Tuple[int, int]) -> str:
+        """Who has the sectors of a window: nobody, or why that isn't known."""
         try:
             is_empty = not device.read(window[0] * SECTOR, (window[1] - window[0]) * SECTOR).strip(b"\0")
         except Gap as gap:
-            return unknown(gap.why)
-        return "nobody" if is_empty else unknown(f"{what}, and yet something is written there")
+            return unknown_owner(gap.why)
+        return "nobody" if is_empty else unknown_owner(f"{what}, and yet something is written there")
 
-    def ground(first: int, end: int) -> Iterator[Run]:
+    def ground(first: int, end: int) -> Iterator[OwnedRun]:
         windows = ((start, min(end, start + WINDOW)) for start in range(first, end, WINDOW))
         for name, same in itertools.groupby(windows, name_of):
             begin, *_, stop = itertools.chain.from_iterable(same)
-            yield Run(begin, stop, name)
+            yield OwnedRun(begin, stop, name)
     return ground
 
 
 def chunks_of(first: int, end: int, chunk: int, numbers: Callable[[int], Iterable[Optional[int]]], name: str,
-              above: Ground, parity: str = "", begin: int = 0, to: int = 0, length: int = ALL) -> Iterator[Run]:
+              above: Ground, parity: str = "", begin: int = 0, to: int = 0, length: int = ALL) -> Iterator[OwnedRun]:
     """Sectors of a column that begins at one: `numbers` says which chunks of so many sectors of what has them are in a
     row of the column, or None for parity."""
     for row, skipped, count in blocks_of(first - begin, end - first, chunk):
         at = begin + row * chunk + skipped
         for number in numbers(row):
             if number is None:
-                yield Run(at, at + count, parity)
+                yield OwnedRun(at, at + count, parity)
             elif number * chunk + skipped < length:
-                yield Run(at, at + count, name, to + number * chunk + skipped, above)
+                yield OwnedRun(at, at + count, name, to + number * chunk + skipped, above)
 
 
-class Stack:
+class TextOwners:
     """The volumes of a text, from below. `doubt` says why nobody can be sure what is free."""
 
     def __init__(self, side: Layout, doubt: Optional[str]) -> None:
         self.side, self.group, self.extent = side, side.group, side.group.extent_size or 0
         self._above: Dict[bytes, List[Above]] = {}
-        self._visible = set(side.visible())
+        self._visible, self._named = set(side.visible()), side.group.physicals.keys() | side.group.volumes.keys()
         self._stores = {record.store for record in side.group.records}
         self._reading = functools.lru_cache(None)(lambda name: reading_of(side.volume(name)))
         self._grounds = functools.lru_cache(None)(lambda name: [self._through(name, it) for it in self._above.get(name, ())])
@@ -174,6 +177,7 @@ class Stack:
         self.doubt = next(filter(None, doubts), None)
 
     def path(self, name: bytes) -> str:
+        """What a volume is called, which is the store of a snapshot where that has its name."""
         return ("store of " if name in self._stores else "") + self.side.path(name)
 
     def _add(self, name: bytes, segment: Segment) -> Iterator[str]:
@@ -186,9 +190,8 @@ class Stack:
             values, has_starts = segment.node.values(field), field in (b"stripes", b"mirrors")
             pairs = zip(values[::2], values[1::2]) if has_starts else zip(values, itertools.repeat(0))
             for place, (lower, start) in enumerate(pairs):
-                physical = self.group.physicals.get(lower)
-                is_known = (physical or lower in self.group.volumes) and isinstance(start, int) and start >= 0
-                if is_known:
+                if isinstance(lower, bytes) and lower in self._named and isinstance(start, int) and start >= 0:
+                    physical = self.group.physicals.get(lower)
                     sector = start * self.extent + (physical.value(b"pe_start", int) or 0 if physical else 0)
                     self._above.setdefault(lower, []).append(Above(name, segment, field, place, sector))
                     is_named = True
@@ -197,9 +200,10 @@ class Stack:
         if not is_named and segment.kind not in BARE:
             yield f"nothing is known of the type {shown(segment.kind or b'none')} of {shown(name)}"
 
-    def _runs(self, name: bytes, first: int, end: int) -> Iterator[Run]:
+    def _runs(self, name: bytes, first: int, end: int) -> Iterator[OwnedRun]:
+        """Who has sectors of a volume or a physical volume: itself where a user sees it, and what lies on it."""
         if name in self._visible and name not in self._stores:
-            yield Run(first, end)
+            yield OwnedRun(first, end)
         for ground in self._grounds(name):
             yield from ground(first, end)
         for record in self.group.records:
@@ -219,17 +223,17 @@ class Stack:
         chunks = functools.partial(chunks_of, name=self.path(upper), above=self.on(upper), begin=begin, to=to,
                                    length=length)
         if field == b"stripes" and columns > 1 and not chunk:
-            return all_of(unknown(f"the text says no stripes of {self.path(upper)}"))
+            return owned_by_one(unknown_owner(f"the text says no stripes of {self.path(upper)}"))
         if field in (b"stripes", b"mirrors") or is_leg and kind == b"raid1" or (field, kind) == INTEGRITY:
             if field != b"stripes" or columns == 1:
                 columns, chunk, place = 1, ALL, 0
             stop = begin - -length // columns
             return lambda first, end: chunks(max(first, begin), min(end, stop), chunk, lambda row: [row * columns + place])
         if numbers:
-            parity = self._part("parity", upper)
-            return lambda first, end: chunks(first, end, chunk, lambda row: [numbers(leg, row)], parity=parity)
+            parity, of_leg = self._part("parity", upper), functools.partial(numbers, leg)
+            return lambda first, end: chunks(first, end, chunk, lambda row: [of_leg(row)], parity=parity)
         if field in (b"raids", b"raid0_lvs"):
-            return all_of(self._part("part" if is_leg else "superblock", upper))
+            return owned_by_one(self._part("part" if is_leg else "superblock", upper))
         if field in SNAPSHOT and not kind.startswith(b"cache"):
             # What a snapshot reads of its origin and of its store is found otherwise; a thin one reads its pool.
             return lambda first, end: ()
@@ -238,17 +242,18 @@ class Stack:
         users = [other.volume for other in self._above.get(pool, ()) if other.field in (b"thin_pool", *CACHE)]
         readers = dict.fromkeys([upper] if field == b"origin" else users)
 
-        def ground(first: int, end: int) -> Iterator[Run]:
+        def ground(first: int, end: int) -> Iterator[OwnedRun]:
             runs = [run for reader in readers for run in self._read(reader, lower, first, end)]
             yield from runs
             # Where nobody can be sure of a volume, it is told as well what is sure.
             for gap in gaps([run for run in runs if run.above], first, end):
-                yield Run(*gap, self._part(ROLES.get(field, "part"), upper))
+                yield OwnedRun(*gap, self._part(ROLES.get(field, "part"), upper))
         return ground
 
     def _part(self, role: str, name: bytes) -> str:
         """What is a part of a volume, and which volumes that a user sees are above that."""
-        found, waiting = [], [name]
+        found: List[bytes] = []
+        waiting = [name]
         while waiting:
             uppers = dict.fromkeys(above.volume for above in self._above.get(waiting.pop(), ()))
             new = [upper for upper in uppers if upper not in found]
@@ -256,7 +261,7 @@ class Stack:
         seen = [shown(other) for other in found if other in self._visible]
         return f"{role} of {self.path(name)}" + (f", below {', '.join(seen)}" if seen else "")
 
-    def _read(self, upper: bytes, lower: bytes, first: int, end: int) -> Iterator[Run]:
+    def _read(self, upper: bytes, lower: bytes, first: int, end: int) -> Iterator[OwnedRun]:
         """The sectors of a volume that another one reads, which its own layer says. A snapshot's are its own."""
         called, over = self.side.path(upper), None if upper in self._stores else self.on(upper)
         try:
@@ -268,13 +273,13 @@ class Stack:
                     begin, until = max(extent.start, starts[row]), min(stop, starts[row] + sizes[row])
                     if begin < until:
                         sector = (places[row] + begin - starts[row]) // SECTOR
-                        yield Run((begin + moved) // SECTOR, (until + moved) // SECTOR, called, sector, over)
+                        yield OwnedRun((begin + moved) // SECTOR, (until + moved) // SECTOR, called, sector, over)
         except NoProgram:
             raise
         except Refusal as refusal:
             why = refusal.why
         if why and why != INVALID_SNAPSHOT:
-            yield Run(first, end, unknown(f"whether {called} has it: {why}"))
+            yield OwnedRun(first, end, unknown_owner(f"whether {called} has it: {why}"))
 
 
 def reading_of(device: Device) -> Tuple[Optional[str], Dict[Device, List["array[int]"]]]:
@@ -289,51 +294,52 @@ def reading_of(device: Device) -> Tuple[Optional[str], Dict[Device, List["array[
     return lacks, {source: [array("Q", each) for each in zip(*sorted(found))] for source, found in rows.items()}
 
 
-class Groups:
+class GroupOwners:
     """All groups, to be asked for the sectors of physical volumes."""
 
     def __init__(self, groups: Sequence[Group]) -> None:
         doubts = {group.side: group.doubt for group in groups if group.state != REMOVED}
-        self._stacks = [Stack(side, doubt) for side, doubt in doubts.items()]
-        self._removed: Dict[str, List[Run]] = {}
+        self._stacks = [TextOwners(side, doubt) for side, doubt in doubts.items()]
+        self._removed: Dict[str, List[OwnedRun]] = {}
         for volume in (volume for group in groups for volume in group.volumes if volume.is_removed):
             for identity, first, end in volume.side.uses(volume.key):
-                self._removed.setdefault(identity, []).append(Run(first, end, f"{volume.path}, removed"))
+                self._removed.setdefault(identity, []).append(OwnedRun(first, end, f"{volume.path}, removed"))
 
     def of(self, volume: PhysicalVolume) -> Ground:
         """Who has the sectors of a physical volume."""
         sector, area = volume.label.sector, "metadata area of LVM"
-        claims = [Run(sector, sector + 1, "label of LVM")]
-        claims += [Run(at // SECTOR, -(-(at + size) // SECTOR), area) for at, size in volume.label.areas]
+        claims = [OwnedRun(sector, sector + 1, "label of LVM")]
+        claims += [OwnedRun(at // SECTOR, -(-(at + size) // SECTOR), area) for at, size in volume.label.areas]
         keys = [(stack, key) for stack in self._stacks for key, identity in stack.side.physical_ids.items()
                 if identity == volume.identity]
         grounds = [self._extents(stack, key, volume) for stack, key in keys]
         grounds = grounds or [self._and_once(without_group(volume), volume)]
         return claimed(claims, lambda first, end: [run for ground in grounds for run in ground(first, end)])
 
-    def _extents(self, stack: Stack, key: bytes, volume: PhysicalVolume) -> Ground:
+    def _extents(self, stack: TextOwners, key: bytes, volume: PhysicalVolume) -> Ground:
         """Who has the sectors of a physical volume by the text of one group."""
         group, node = stack.side.name, stack.group.physicals[key]
         start, count = node.value(b"pe_start", int), node.value(b"pe_count", int)
         if start is None or count is None or start < 0 or count < 0:
-            return all_of(unknown(f"the text of {group} doesn't say where the extents of {shown(key)} are"))
-        free = unknown(f"no volume of {group} has it, but {stack.doubt}") if stack.doubt else f"free in {group}"
+            return owned_by_one(unknown_owner(f"the text of {group} doesn't say where the extents of {shown(key)} are"))
+        free = unknown_owner(f"no volume of {group} has it, but {stack.doubt}") if stack.doubt else f"free in {group}"
         extents = filled(stack.on(key), self._and_once(free, volume))
-        return claimed([Run(start, start + count * stack.extent, "", start, extents)],
-                       all_of(f"physical volume of {group}, outside of its extents"))
+        return claimed([OwnedRun(start, start + count * stack.extent, "", start, extents)],
+                       owned_by_one(f"physical volume of {group}, outside of its extents"))
 
     def _and_once(self, name: str, volume: PhysicalVolume) -> Ground:
         """The same for all, and the volumes that were removed, and had some of the sectors."""
         once = self._removed.get(volume.identity, ())
-        return lambda first, end: [Run(first, end, name), *within(once, first, end)]
+        return lambda first, end: [OwnedRun(first, end, name), *claims_within(once, first, end)]
 
 
 def without_group(volume: PhysicalVolume) -> str:
+    """What is said of a physical volume that no current text of a group names."""
     if volume.faults:
-        return unknown(volume.faults[0])
+        return unknown_owner(volume.faults[0])
     if volume.current:
         group = volume.current[0].group
-        return unknown(f"the current text of {group} doesn't name this physical volume, whose own is older")
+        return unknown_owner(f"the current text of {group} doesn't name this physical volume, whose own is older")
     if volume.label.is_used is False:
         return "physical volume of no group"
-    return unknown("nothing says to which group this physical volume belongs: give the images of the others")
+    return unknown_owner("nothing says to which group this physical volume belongs: give the images of the others")

@@ -65,8 +65,9 @@ class Text(NamedTuple):
     def said_time(self) -> Optional[bytes]:
         """The same in words, or None where the text isn't there to its end."""
         time = TIME.search(self.content)
-        is_whole = time and self.content.find(CONTENTS, 0, time.start() + 1) >= 0
-        return (time[2] or b"no time") if is_whole else None
+        if not time or self.content.find(CONTENTS, 0, time.start() + 1) < 0:
+            return None
+        return time[2] or b"no time"
 
     @functools.lru_cache(MOST_KEPT)
     def body(self) -> bytes:
@@ -113,6 +114,7 @@ class Text(NamedTuple):
                 yield (node.value(b"id", bytes) or b"").decode("ascii", "replace")
 
     def summary(self) -> str:
+        """It in a line: the group, the number, the time, and the volumes."""
         name, time = f"{self.group} seqno {self.seqno}" if self.group else "another text", self.said_time()
         nodes = self.node().sections_in(b"logical_volumes") if not self.fault() else []
         volumes = quoting.some([shown(it.key) for it in nodes]) or "none"
@@ -127,7 +129,8 @@ Label = NamedTuple("Label", [
     ("sector", int), ("identity", bytes), ("size", int), ("areas", List[Run]), ("is_used", Optional[bool])])
 # An area with its text, or with what is wrong with it, and what its header says of a text: how many bytes it has, and
 # their sum.
-Area = NamedTuple("Area", [("start", int), ("text", Optional[Text]), ("fault", Optional[str]), ("told", bytes)])
+MetadataArea = NamedTuple("MetadataArea", [
+    ("start", int), ("text", Optional[Text]), ("fault", Optional[str]), ("told", bytes)])
 
 
 def text_of(content: bytes) -> Text:
@@ -137,6 +140,7 @@ def text_of(content: bytes) -> Text:
 
 
 def _beginnings(content: bytes) -> Iterator[Text]:
+    """Where texts begin in some bytes, each without its own."""
     for match in BEGINNING.finditer(content):
         name = NAME.search(content, max(0, match.start() - LONGEST_NAME), match.start())
         if name:
@@ -156,6 +160,7 @@ def texts_of_ring(start: int, ring: bytes, is_ring: bool = True) -> List[Text]:
 
 
 def checksum(content: bytes) -> int:
+    """The sum of some bytes, as lvm2 makes it."""
     return zlib.crc32(content, INITIAL ^ 0xFFFFFFFF) ^ 0xFFFFFFFF
 
 
@@ -173,6 +178,7 @@ def label_of(image: Lenient) -> Tuple[Optional[Label], List[str]]:
 
 
 def label_fault(sector: bytes, place: int) -> Optional[str]:
+    """What is wrong with a sector that begins as a label, or None; `place` is its number."""
     if len(sector) < SECTOR:
         return "is cut off"
     belongs, stored, offset, kind = struct.unpack_from("<QLL8s", sector, 8)
@@ -188,14 +194,15 @@ def _label_in(sector: bytes, place: int) -> Label:
     at, = struct.unpack_from("<L", sector, 20)
     letters, (size,) = IDENTITY_FORM.unpack_from(sector, at), struct.unpack_from("<Q", sector, at + 32)
     # Pairs of a start and a size in bytes; each list ends with one that begins at 0.
-    pairs = struct.iter_unpack("<QQ", sector[at + 40:SECTOR - (SECTOR - at - 40) % 16])
+    rows = struct.iter_unpack("<QQ", sector[at + 40:SECTOR - (SECTOR - at - 40) % 16])
+    pairs = ((start, length) for start, length in rows)
     data, areas = (list(itertools.takewhile(lambda pair: pair[0], pairs)) for _ in range(2))
     at += 40 + 16 * (len(data) + len(areas) + 2)
     version, flags = struct.unpack_from("<LL", sector, at) if at + 8 <= SECTOR else (0, 0)
     return Label(place, b"-".join(letters), size, areas[:MOST_AREAS], bool(flags & IN_USE) if version >= 2 else None)
 
 
-def area_at(image: Lenient, start: int, size: int, end: int) -> Area:
+def area_at(image: Lenient, start: int, size: int, end: int) -> MetadataArea:
     """The area at this place, of at most so many bytes, with its valid text, or with what is wrong with it. The volume
     ends at `end`."""
     header = image.read(start, SECTOR)
@@ -212,12 +219,12 @@ def area_at(image: Lenient, start: int, size: int, end: int) -> Area:
         (not (SECTOR <= offset < ring and length <= ring - SECTOR), "its header names a place outside of it"))
     fault = next((why for is_so, why in faults if is_so), None)
     if fault:
-        return Area(start, None, fault, told)
+        return MetadataArea(start, None, fault, told)
     before_end = min(length, ring - offset)
     text = image.read(start + offset, before_end) + image.read(start + SECTOR, length - before_end)
     if len(text) < length or checksum(text) != stored:
-        return Area(start, None, MISSING if len(text) < length else "the sum of its text is wrong", told)
-    return Area(start, text_of(text.rstrip(b"\0")), None, told)
+        return MetadataArea(start, None, MISSING if len(text) < length else "the sum of its text is wrong", told)
+    return MetadataArea(start, text_of(text.rstrip(b"\0")), None, told)
 
 
 def header_fault(header: bytes, start: int) -> Optional[str]:
@@ -232,7 +239,7 @@ def header_fault(header: bytes, start: int) -> Optional[str]:
     return None if belongs == start else f"its header says that it begins at byte {belongs}"
 
 
-def search(image: Lenient) -> List[Tuple[int, int, int, Optional[str]]]:
+def area_headers_in(image: Lenient) -> List[Tuple[int, int, int, Optional[str]]]:
     """What looks like the header of an area and is there to its end, in the first and the last bytes: where it is,
     where it says that its area begins, how many bytes that has, and what else is wrong with the header."""
     headers = set()
@@ -250,7 +257,7 @@ def older_texts(image: Lenient) -> List[Text]:
     """The texts in all areas, by the label, or else by their headers: those in force, older ones, and what is left of
     some."""
     label, texts = label_of(image)[0], []
-    found = [] if label else search(image)
+    found = [] if label else area_headers_in(image)
     places = label.areas if label else [(at, size) for at, belongs, size, fault in found if at == belongs and not fault]
     for start, size in [it for it in places if SECTOR < it[1] <= MOST_AREA][:MOST_AREAS]:
         texts += texts_of_ring(start + SECTOR, image.read(start + SECTOR, size - SECTOR))
@@ -279,7 +286,7 @@ class PhysicalVolume:
                 fault = "its text doesn't begin as that of a group"
             elif text and text.fault():
                 fault = f"its text can't be read: {text.fault()}"
-            if not fault:
+            if text and not fault:
                 self.current.append(text)
                 self.told.update({text.key(): told} if told else {})
             elif fault not in (EMPTY, NO_COPY):
@@ -348,7 +355,7 @@ def leftover_in(device: Device, is_disk: bool) -> Optional[Leftover]:
     damaged label tells, or an area that begins where lvm2 has the first."""
     image, first = Lenient(device), Lenient(Part(device.name, device, 0, FIRST_AREA + SECTOR))
     faults = label_of(image)[1]
-    found = search(image) if is_disk or faults or search(first) else []
+    found = area_headers_in(image) if is_disk or faults or area_headers_in(first) else []
     if not faults and not any(at == belongs for at, belongs, _, _ in found):
         return None
     areas = [(at, size) for at, belongs, size, fault in found if at == belongs and not fault]

@@ -2,14 +2,15 @@
 
 from typing import Dict, List, NamedTuple, Optional, Sequence, Tuple
 
-from dmremap_tools.base import disk_image, quoting, signatures
-from dmremap_tools.base.disk_image import file_system_of
-from dmremap_tools.base.luks_header import SECOND_ALONE, Container, container_in
+from dmremap_tools.base import quoting
 from dmremap_tools.base.numbers import SECTOR
-from dmremap_tools.base.partition_table import Table, backup_of, table_of
 from dmremap_tools.base.program import NoProgram
 from dmremap_tools.base.refusal import Refusal
-from dmremap_tools.base.signatures import Signature
+from dmremap_tools.formats import disk_image, signatures
+from dmremap_tools.formats.disk_image import file_system_of
+from dmremap_tools.formats.luks_header import SECOND_ALONE, Container, container_in
+from dmremap_tools.formats.partition_table import Table, backup_of, table_of
+from dmremap_tools.formats.signatures import Signature
 from dmremap_tools.model import mapping, md_superblock, physical_volume
 from dmremap_tools.model.device import Device, Doubt, Image, Lenient, Part, Run
 from dmremap_tools.model.groups import REMOVED, Group, Texts, Volume, same_id
@@ -72,7 +73,7 @@ class Spot(NamedTuple):
 
 
 # What is meant by a name: what it is called, its bytes, and the ids of what it lies on, if that has some.
-Target = NamedTuple("Target", [("name", str), ("device", Device), ("size", int), ("ids", List[str])])
+NamedDevice = NamedTuple("NamedDevice", [("name", str), ("device", Device), ("size", int), ("ids", List[str])])
 # What a spot is: a word for it, and what is to be said of it.
 Found = NamedTuple("Found", [("spot", Spot), ("what", str), ("note", str)])
 
@@ -82,7 +83,7 @@ class Pile:
 
     def __init__(self, paths: Sequence[str], program: Optional[str],
                  unread: Optional[Dict[str, List[Run]]] = None) -> None:
-        mapping.Child.program = program
+        mapping.Child.program = self._program = program
         self.found: List[Found] = []
         self.tables: Dict[Device, Table] = {}
         self.arrays: List[Array] = []
@@ -127,7 +128,7 @@ class Pile:
         """Looks through the whole of the images in which nothing sound was found."""
         waiting, self._unknown, known = self._unknown, [], len(self.volumes)
         for spot in waiting:
-            for volume in physical_volume.volumes_within(spot.image):
+            for volume in physical_volume.volumes_within(spot.image) if spot.image else ():
                 inner = self.spot_of[volume.device] = Spot(volume.device, spot.image)
                 volume.question = self._question_of(spot)
                 self.volumes.append(volume)
@@ -150,7 +151,7 @@ class Pile:
             image, end = self.spot_of[volume.device].image, place_of(volume.device) + volume.size
             if image and volume.question is None and self._is_striped(image, end):
                 volume.question = STRIPES.format(volume.size, image.size)
-        self.groups = list(Texts(self.volumes, self.leftovers).groups())
+        self.groups = list(Texts(self.volumes, self.leftovers, self._program).groups())
 
     def spots(self) -> List[Spot]:
         """All devices that were looked at: images, partitions, arrays and their partitions."""
@@ -174,7 +175,7 @@ class Pile:
         as some of them, or longer than this one, where another one of that length has nothing that is known."""
         times = -(-end // image.size)
         is_multiple = 1 < times <= MOST_STRIPES and end > times * (image.size - image.size // SLACK)
-        alike = (spot.image for spot in self._unknown if spot.image is not image)
+        alike = (spot.image for spot in self._unknown if spot.image and spot.image is not image)
         return end > image.size and (is_multiple or any(other.size == image.size for other in alike))
 
     def _question_of(self, spot: Spot) -> Optional[str]:
@@ -293,29 +294,26 @@ class Pile:
             self._recognise_leftover(spot, known, question or self._question_of(spot))
 
     def _recognise_leftover(self, spot: Spot, known: Optional[str], question: Optional[str]) -> None:
-        """Says what a device is without a sound label: what is left of a physical volume, or something else."""
+        """Says what a device is without a sound label: what is left of a physical volume, or something else, which blkid
+        names where it can be asked."""
         known = None if known == "lvm2" else known
         leftover = None if known else physical_volume.leftover_in(spot.device, spot.device is spot.image)
         volume = leftover.volume() if leftover else None
-        if volume:
+        if leftover and volume:
             volume.question = question
             self.volumes.append(volume)
             self._say(spot, "physical volume", question or leftover.fault)
             return
         self.leftovers += [leftover] if leftover else []
-        known, other = self._named(spot, known)
+        told = self._told_by_blkid(spot)
+        kind, table = told.get("TYPE"), told.get("PTTYPE")
+        other = disk_image.other_table_of(Lenient(spot.device)) or (table if table not in (None, "dos", "gpt") else None)
+        if kind and (known or spot.partition):
+            known = SAME.get(kind, kind)
         note = leftover.note() if leftover else OTHER_TABLE.format(other) if other else NOTHING if not known else ""
         self._say(spot, known or "unknown", question or note)
         if not known and spot.image and not spot.partition:
             self._unknown.append(spot)
-
-    def _named(self, spot: Spot, known: Optional[str]) -> Tuple[Optional[str], Optional[str]]:
-        """The names of what begins a device, and of a partition table that isn't followed, as blkid says them where it
-        can be asked."""
-        told = self._told_by_blkid(spot)
-        kind, table = told.get("TYPE"), told.get("PTTYPE")
-        other = disk_image.other_table_of(Lenient(spot.device)) or (table if table not in (None, "dos", "gpt") else None)
-        return SAME.get(kind, kind) if kind and (known or spot.partition) else known, other
 
     def _assemble(self) -> None:
         """Puts the arrays together and looks at them, again if one turns out to be a member of another."""
@@ -373,7 +371,7 @@ class Pile:
         for member in array.members:
             self._say(self.spot_of[member.device], "md member", OLDER_ARRAY.format(array.label, spot.device.name))
 
-    def target(self, name: str) -> Target:
+    def target(self, name: str) -> NamedDevice:
         """What a name means. One that means nothing, or several things, is refused, with what to say instead."""
         device, shown = self.device_named(name), quoting.shown(name)
         if device:
@@ -385,7 +383,7 @@ class Pile:
                 path = quoting.shown(self._volume_named(name).path)
             except Refusal:
                 ids = [array.identity for array in self.arrays if array.device is device]
-                return Target(name, device, device.size, ids)
+                return NamedDevice(name, device, device.size, ids)
             raise Refusal(shown, f"both an image and a volume are called so: say ./{shown}, or {path}")
         try:
             is_whole = self._volume_named(name).why() is None
@@ -395,7 +393,7 @@ class Pile:
             self.search()
         volume = self._volume_named(name)
         ids = [volume.identity, *sorted(volume.side.physical_ids.values()), volume.side.text.key().hex()[:16]]
-        return Target(volume.path, volume.device(), volume.sectors * SECTOR, ids)
+        return NamedDevice(volume.path, volume.device(), volume.sectors * SECTOR, ids)
 
     def device_named(self, name: str) -> Optional[Device]:
         """The image, the partition or the array of this name."""
@@ -452,6 +450,7 @@ class Pile:
 
 
 def known_in(device: Device) -> Optional[str]:
+    """What begins a device by its magic, or a sound label of LVM; None where nothing does."""
     image = Lenient(device)
     return "lvm2" if physical_volume.label_of(image)[0] else file_system_of(image)
 
@@ -459,8 +458,8 @@ def known_in(device: Device) -> Optional[str]:
 def volumes_of(table: Table) -> Tuple[List[Part], List[Part]]:
     """The partitions in which physical volumes are, and those of them that are just as long as these."""
     labels = {part: physical_volume.label_of(Lenient(part))[0] for part in table.partitions.values()}
-    found = [part for part, label in labels.items() if label]
-    return found, [part for part in found if labels[part].size == part.size]
+    found = {part: label for part, label in labels.items() if label}
+    return list(found), [part for part, label in found.items() if label.size == part.size]
 
 
 def place_of(device: Device) -> int:

@@ -4,18 +4,18 @@ member of an array that has only some of these."""
 
 import os
 import re
-from typing import Dict, Iterable, Iterator, List, Optional, Tuple
+from typing import Dict, Iterable, Iterator, Optional, Tuple
 
 from dmremap_tools.base import quoting, streams, written
 from dmremap_tools.base.numbers import SECTOR
-from dmremap_tools.base.paths import Place
+from dmremap_tools.base.paths import DiskPlace
 from dmremap_tools.base.refusal import Refusal
 from dmremap_tools.model.config_text import Document, shown
 from dmremap_tools.model.device import Device, Image, Lenient, Part
 from dmremap_tools.model.md_superblock import BAD_BLOCKS, HARMLESS, Member, has_all
 from dmremap_tools.model.physical_volume import Label, label_of
 from dmremap_tools.model.pile import Pile
-from dmremap_tools.model.volume_group import Group, disk_names
+from dmremap_tools.model.volume_group import GroupText, disk_names
 
 # What tables call an array, and a partition of one.
 ARRAY, PARTITION = re.compile(r"(?:/dev/)?md(?:_?d?\d+(?:p\d+)?|/.+)|9:\d+"), re.compile(r".*p\d+")
@@ -30,19 +30,14 @@ OLDER = ("a member of an md array that was away when others changed: it has the 
          "take that")
 
 
-def groups_in(path: str) -> Tuple[Document, List[Group]]:
-    """A text of lvm2, and its groups that have physical volumes. Refuses a text without any."""
+def disks_of(path: str) -> Iterator[Tuple[str, int, Optional[bytes]]]:
+    """The name of each physical volume of a text's group, its sectors, and its id, if it has one. Refuses a text without
+    any, and a physical volume without a length."""
     document = Document(streams.name_of(path), streams.read_bytes(path))
-    groups = [group for group in map(Group, document.top.sections()) if group.physicals]
-    if not groups:
+    group = next((group for group in map(GroupText, document.top.sections()) if group.physicals), None)
+    if not group:
         raise Refusal(document.path, "no physical volumes of a group: give a text of /etc/lvm/backup, or what "
                       "`metadata` prints")
-    return document, groups
-
-
-def disks_of(path: str) -> Iterator[Tuple[str, int, Optional[bytes]]]:
-    """The name of each physical volume of a group, its sectors, and its id, if it has one."""
-    document, (group, *_) = groups_in(path)
     physicals = list(group.physicals.values())
     for name, node in zip(disk_names(physicals), physicals):
         size = node.value(b"dev_size", int)
@@ -52,7 +47,8 @@ def disks_of(path: str) -> Iterator[Tuple[str, int, Optional[bytes]]]:
         yield name, size, node.value(b"id", bytes)
 
 
-def by_ids(text: Optional[str], places: Dict[str, Place], sizes: Dict[str, int], asked: str) -> Dict[str, Place]:
+def by_ids(text: Optional[str], places: Dict[str, DiskPlace], sizes: Dict[str, int],
+           asked: str) -> Dict[str, DiskPlace]:
     """The places of disks, of which some may be whole disks that have a physical volume on a partition. Without `text`,
     the metadata of their group, they are what was given. `sizes` has the sectors of each disk, and `asked` is dmremap.
     Refuses an image of another disk, and one of which nothing says where the disk is."""
@@ -103,11 +99,11 @@ def begins_in(pile: Pile, device: Device, image: Image) -> Iterator[int]:
     elif isinstance(device, Part):
         yield from (begin + device.start for begin in begins_in(pile, device.lower, image))
     for member in (member for array in pile.arrays if array.device is device for member in array.by_role.values()):
-        if not fault_of(member, pile):
+        if not md_member_fault(member, pile):
             yield from (begin + member.superblock.start * SECTOR for begin in begins_in(pile, member.device, image))
 
 
-def place_of_volume(pile: Pile, image: Image, name: str, identity: bytes, place: Place) -> Place:
+def place_of_volume(pile: Pile, image: Image, name: str, identity: bytes, place: DiskPlace) -> DiskPlace:
     """Where an image has the physical volume with this id: in all of it, or at a place that was given. That place
     itself where nothing says which volume is there. Refuses the image of another volume, and one in question."""
     members = [(begin, member) for member in pile.members for begin in begins_in(pile, member.device, image)]
@@ -127,7 +123,7 @@ def place_of_volume(pile: Pile, image: Image, name: str, identity: bytes, place:
     if mine is not None and whys.get(mine):
         raise Refusal(image.name, whys[mine] or "")
     if mine is not None:
-        return Place(place.path, mine, True)
+        return DiskPlace(place.path, mine, True)
     if found:
         wrong, ids = f"it isn't {quoting.shown(name)}, whose id is {shown(identity)}", map(shown, found.values())
         raise Refusal(image.name, f"{wrong}, but has the id {' or '.join(ids)}: give the path of that")
@@ -138,7 +134,7 @@ def place_of_volume(pile: Pile, image: Image, name: str, identity: bytes, place:
     if any(each.device is image for each in pile.damaged):
         raise Refusal(image.name, note)
     for member in (member for begin, member in members if begin == place.start and member.superblock.start):
-        raise Refusal(image.name, fault_of(member, pile) or NO_VOLUME)
+        raise Refusal(image.name, md_member_fault(member, pile) or NO_VOLUME)
     return place
 
 
@@ -147,7 +143,7 @@ def label_at(image: Image, begin: int) -> Optional[Label]:
     return label_of(Lenient(Part(image.name, image, begin, max(0, image.size - begin))))[0]
 
 
-def check_places(places: Dict[str, Place], pile: Pile, are_volumes: bool = False) -> None:
+def check_places(places: Dict[str, DiskPlace], pile: Pile, are_volumes: bool = False) -> None:
     """Refuses places behind the superblocks of members that don't have all data of their arrays, or of which another
     one here is newer; or behind one that is damaged, so that nothing says of which level the array is. The names are
     those of disks. Where they are physical volumes or arrays, a place at which a member begins is the same."""
@@ -165,7 +161,7 @@ def check_places(places: Dict[str, Place], pile: Pile, are_volumes: bool = False
                 data = begin + member.superblock.start * SECTOR
                 is_beginning, is_behind = place.start in (begin, data), spot in behind
                 is_volume = are_volumes and (is_beginning or not place.is_said) and bool(label_at(image, data))
-                why = fault_of(member, pile) if is_behind or is_volume or is_array and is_beginning else None
+                why = md_member_fault(member, pile) if is_behind or is_volume or is_array and is_beginning else None
                 if why:
                     raise Refusal(quoting.shown(place.path), why)
                 is_array_place = is_array and not are_volumes and (is_behind or is_beginning)
@@ -174,7 +170,7 @@ def check_places(places: Dict[str, Place], pile: Pile, are_volumes: bool = False
                                   f"a member of one whose data begins at byte {data}: give that, as IMAGE?offset=BYTES")
 
 
-def fault_of(member: Member, pile: Pile) -> Optional[str]:
+def md_member_fault(member: Member, pile: Pile) -> Optional[str]:
     """Why the bytes of a member aren't those of its array, or None."""
     mine = member.superblock
     if not has_all(mine):
@@ -184,4 +180,6 @@ def fault_of(member: Member, pile: Pile) -> Optional[str]:
     alike = (it for it in pile.members if it.superblock.array == mine.array)
     newer = ((pile.spot_of[it.device].path, it.superblock.events) for it in alike)
     ages = (OLDER.format(mine.events, path, events) for path, events in newer if events > mine.events)
-    return BAD if mine.features & BAD_BLOCKS else next(ages, None)
+    if mine.features & BAD_BLOCKS:
+        return BAD
+    return next(ages, None)

@@ -42,10 +42,10 @@ def entries_of(device: Device, block: int, wanted: Run = ALL_KEYS, bounds: Run =
     block, or of what is below one of its blocks."""
     try:
         if level == MOST_LEVELS:
-            raise damage(device, "its tree has too many levels")
+            raise damaged(device, "its tree has too many levels")
         is_leaf, keys, values = node_of(device, block, level == 0)
         if keys and not (bounds[0] <= keys[0] and keys[-1] < bounds[1]):
-            raise damage(device, f"the keys of block {block} of its tree lie in another place")
+            raise damaged(device, f"the keys of block {block} of its tree lie in another place")
     except Gap as gap:
         yield Entry(max(bounds[0], wanted[0]), min(bounds[1], wanted[1]), 0, gap.why)
         return
@@ -59,14 +59,14 @@ def entries_of(device: Device, block: int, wanted: Run = ALL_KEYS, bounds: Run =
 @functools.lru_cache(MOST_KEPT)
 def node_of(device: Device, block: int, is_root: bool) -> Tuple[bool, Tuple[int, ...], Tuple[int, ...]]:
     """Whether a node is a leaf, its keys, and for each the block below it or a value."""
-    content = checked(device, block, NODE_SUM)
+    content = checked_block(device, block, NODE_SUM)
     _, flags, _, count, most, size, _ = NODE.unpack_from(content)
     is_fitting = size == WORD and count <= most and NODE.size + most * 2 * WORD <= BLOCK
     if flags & (INTERNAL | LEAF) not in (INTERNAL, LEAF) or not is_fitting or not count and not is_root:
-        raise damage(device, f"block {block} of its tree is no node")
+        raise damaged(device, f"block {block} of its tree is no node")
     keys = struct.unpack_from(f"<{count}Q", content, NODE.size)
     if any(one >= other for one, other in zip(keys, keys[1:])):
-        raise damage(device, f"the keys of block {block} of its tree are out of order")
+        raise damaged(device, f"the keys of block {block} of its tree are out of order")
     return flags & LEAF != 0, keys, struct.unpack_from(f"<{count}Q", content, NODE.size + most * WORD)
 
 
@@ -76,11 +76,11 @@ def array_values(device: Device, root: int) -> Iterator[int]:
         if entry.why:
             raise Gap(device.name, entry.why)
         if entry.key != expected:
-            raise damage(device, "its array has holes")
-        content = checked(device, entry.value, ARRAY_SUM, ARRAY.size - WORD)
+            raise damaged(device, "its array has holes")
+        content = checked_block(device, entry.value, ARRAY_SUM, ARRAY.size - WORD)
         _, _, count, size, _ = ARRAY.unpack_from(content)
         if size != WORD or ARRAY.size + count * size > BLOCK:
-            raise damage(device, "a block of its array is none")
+            raise damaged(device, "a block of its array is none")
         yield from struct.unpack_from(f"<{count}Q", content, ARRAY.size)
 
 
@@ -88,7 +88,7 @@ def superblock_of(meta: Device, kind: Tuple[Any, ...], block: int = 0) -> PoolSu
     """The superblock in the metadata of a pool or a cache, or its copy in another block; a Gap where it isn't
     followed."""
     form, changed, magic, what, tool, owner = kind
-    found = PoolSuperblock(*form.unpack_from(checked(meta, block, changed)))
+    found = PoolSuperblock(*form.unpack_from(checked_block(meta, block, changed)))
     is_known = found.magic == magic and found.version in VERSIONS and found.metadata_block_size * SECTOR == BLOCK
     if not is_known or not found.data_block_size:
         raise Gap(meta.name, f"it has no superblock of {what} that is followed: run {tool} on a copy of it")
@@ -103,23 +103,23 @@ def check_blocks(name: str, superblock: PoolSuperblock, settings: Segment, short
         raise Refusal(name, f"the {short}'s metadata has other blocks than the text: {ONE_TIME}")
 
 
-def damage(device: Device, what: str) -> Gap:
+def damaged(device: Device, what: str) -> Gap:
     """What is said of metadata that isn't sound."""
     return Gap(device.name, f"{what}: mend a copy of the metadata by thin_repair or cache_repair")
 
 
-def checked(device: Device, block: int, changed: int, number_at: int = 8) -> bytes:
+def checked_block(device: Device, block: int, changed: int, number_at: int = 8) -> bytes:
     """The bytes of a block, if its sum and its number are right."""
     if (block + 1) * BLOCK > device.size:
-        raise damage(device, f"block {block} of its metadata is past its end")
+        raise damaged(device, f"block {block} of its metadata is past its end")
     content = device.read(block * BLOCK, BLOCK)
     stored, (said,) = int.from_bytes(content[:4], "little"), struct.unpack_from("<Q", content, number_at)
-    if said != block or sum_of(content[4:]) ^ changed != stored:
-        raise damage(device, f"block {block} of its metadata is damaged")
+    if said != block or crc32c(content[4:]) ^ changed != stored:
+        raise damaged(device, f"block {block} of its metadata is damaged")
     return content
 
 
-def sum_of(content: bytes) -> int:
+def crc32c(content: bytes) -> int:
     """The CRC-32C of some bytes, as the kernel's crc32c gives it for ~0."""
     value, table = 0xFFFFFFFF, TABLE
     for byte in content:
@@ -167,11 +167,11 @@ def thin_device(name: str, meta: Device, superblock: PoolSuperblock, number: int
                       "lists what is left")
     if root.why:
         raise Refusal(name, root.why)
-    block = superblock.data_block_size * SECTOR
+    tree, block = root.value, superblock.data_block_size * SECTOR
     past = f"{name}: a block lies past the end of its pool: {ONE_TIME}"
 
     def entries(first: int, end: int) -> Iterator[Entry]:
-        for key, stop, value, why in entries_of(meta, root.value, (first, end)):
+        for key, stop, value, why in entries_of(meta, tree, (first, end)):
             place = value >> TIME_BITS
             yield Entry(key, stop, place, why or (past if (place + 1) * block > data.size else None))
     return Overlaid(name, lower, data, block, entries, size)
@@ -214,9 +214,9 @@ def cache_of(layout: Any, segment: Segment, pool: bytes) -> Tuple[Optional[Devic
         keys = (b"metadata_start", b"metadata_len", b"data_start", b"data_len")
         runs = [segment.node.value(key, int) for key in keys]
         places = [run * SECTOR for run in runs if run is not None and run >= 0]
-        if len(places) == 4:
-            whole = layout.plain(pool)
-            return Part(whole.name, whole, *places[:2]), Part(whole.name, whole, *places[2:]), segment
+        if len(places) == len(keys):
+            whole, (start, size, data_start, data_size) = layout.plain(pool), places
+            return Part(whole.name, whole, start, size), Part(whole.name, whole, data_start, data_size), segment
     elif volume and len(volume.segments) == 1:
         inner = volume.segments[0]
         return layout.lower(inner, b"metadata"), layout.lower(inner, b"data"), inner

@@ -11,7 +11,7 @@ from dmremap_tools.base.numbers import SECTOR
 from dmremap_tools.base.refusal import Refusal
 from dmremap_tools.model.config_text import shown
 from dmremap_tools.model.device import ALL, Copies, Device, Gap, Missing, Part
-from dmremap_tools.model.mapping import Mapped, Tables
+from dmremap_tools.model.mapping import MappedDevice, Tables
 from dmremap_tools.model.md_chunks import LAYOUTS, PARITY, Rows, Shape
 from dmremap_tools.model.md_superblock import CLEAN, marked_in
 from dmremap_tools.model.volume_group import Segment
@@ -174,9 +174,10 @@ class Legs:
         made = Tables()
         places = [word for column in columns for word in (made.disk(column), "0")]
         made.add("legs", [tables.Line(0, size // SECTOR, "striped", [str(len(columns)), str(self._chunk), *places])])
-        return Mapped(self._name, made, "legs")
+        return MappedDevice(self._name, made, "legs")
 
     def _check_even(self, columns: int, size: int) -> None:
+        """Refuses a segment that so many columns don't divide."""
         if not self._chunk or size % (columns * self._chunk * SECTOR):
             raise Refusal(self._name, f"it isn't divided evenly by its stripes, so that no kernel takes it: {NEXT}")
 

@@ -52,7 +52,8 @@ class Later:
             return f"it was removed, and the text with the seqno {lost} that came after it is lost: {SINCE}"
         # The current text of a disk of this side that can't be read may be a later one, too.
         faults = map(self._lost.get, side.physical_ids.values())
-        unreadable = next(filter(None, itertools.chain(faults, self._faults_after(side.text))), None)
+        later = (fault for fault, age in self._faults if is_after(age, side.text))
+        unreadable = next(filter(None, itertools.chain(faults, later)), None)
         if unreadable:
             return f"only an older text has it, and a later one can't be read ({unreadable}), so that {SINCE}"
         for identity, first, end in sorted(side.uses(name)):
@@ -72,10 +73,8 @@ class Later:
             if first < each.end and is_after(each.age, text):
                 yield each.owner
 
-    def _faults_after(self, text: Text) -> Iterator[str]:
-        return (fault for fault, age in self._faults if is_after(age, text))
-
     def _ages(self) -> Iterator[Tuple[Text, Age]]:
+        """Each text that is known, with its group and its time."""
         for identity, holders in self._known.items():
             for text, volumes in holders.values():
                 yield text, Age(identity, text.seqno, text.time, bool(volumes))
@@ -90,13 +89,14 @@ class Later:
     def _owned(self) -> Dict[str, Tuple[List[Owned], List[int]]]:
         """What volumes of all texts use of each physical volume, in its order, and the greatest end up to each."""
         ages: Dict[Tuple[str, int, int, str, str], Age] = {}
-        for text, age in self._ages():
-            side = None if text.fault() else Layout(text, Missing)
-            for name in side.group.volumes if side else ():
-                for use in side.uses(name):
-                    key = (*use, side.path(name), age.group)
+        for text, age in ((text, age) for text, age in self._ages() if not text.fault()):
+            side = Layout(text, Missing)
+            for name in side.group.volumes:
+                for identity, first, end in side.uses(name):
+                    key = (identity, first, end, side.path(name), age.group)
                     other = ages.get(key, age)
-                    ages[key] = Age(*map(max, age, other))
+                    ages[key] = Age(age.group, max(age.seqno, other.seqno), max(age.time, other.time),
+                                    age.is_current or other.is_current)
         found: Dict[str, List[Owned]] = {}
         for (identity, first, end, owner, _), age in sorted(ages.items()):
             found.setdefault(identity, []).append(Owned(first, end, owner, age))
@@ -113,9 +113,9 @@ def holders_of(volumes: Iterable[PhysicalVolume]) -> Dict[str, Dict[bytes, Holde
     """The texts of physical volumes, each once, by the ids of their groups and by their keys."""
     known: Dict[str, Dict[bytes, Holder]] = {}
     for volume in volumes:
-        for text, its_own in [(text, []) for text in volume.older] + [(text, [volume]) for text in volume.current]:
+        for text, is_current in [(text, False) for text in volume.older] + [(text, True) for text in volume.current]:
             holders, key = known.setdefault(text.identity, {}), text.key()
             same, others = holders.get(key, Holder(text, []))
             # They differ in when they were written, and in no more.
-            holders[key] = Holder(max(text, same, key=lambda each: each.content), others + its_own)
+            holders[key] = Holder(max(text, same, key=lambda each: each.content), others + [volume] * is_current)
     return known

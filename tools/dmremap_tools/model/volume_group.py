@@ -3,7 +3,8 @@
 import collections
 from typing import Dict, List, NamedTuple, Optional, Tuple
 
-from dmremap_tools.base import names, store_places
+from dmremap_tools.base import names
+from dmremap_tools.formats import store_places
 from dmremap_tools.model.config_text import Node, Value, shown
 
 # The types of segments that dmremap reads, and what lvm2 calls the first of them as well.
@@ -43,7 +44,7 @@ class Segment:
         return columns <= COLUMNS and self.stripe_size > 0 and size % (columns * self.stripe_size) == 0
 
 
-class Volume:
+class VolumeText:
     """A logical volume, with the place of its section, and why it can't stay, if it can't."""
 
     def __init__(self, node: Node) -> None:
@@ -66,18 +67,18 @@ class Volume:
 
 
 # A snapshot: `store` is the volume that has its name; one that `is_merging` is written back to its origin.
-Record = NamedTuple("Record", [("volume", Volume), ("origin", Optional[bytes]), ("store", Optional[bytes]),
+Record = NamedTuple("Record", [("volume", VolumeText), ("origin", Optional[bytes]), ("store", Optional[bytes]),
                                ("is_merging", bool), ("chunk", Optional[int])])
 
 
-class Group:
+class GroupText:
     """A volume group: its physical volumes and its volumes, by their keys."""
 
     def __init__(self, node: Node) -> None:
         self.node, self.name = node, node.key
         self.extent_size: Optional[int] = node.value(b"extent_size", int)
         self.physicals = {it.key: it for it in node.sections_in(b"physical_volumes")}
-        self.volumes: Dict[bytes, Volume] = {it.key: Volume(it) for it in node.sections_in(b"logical_volumes")}
+        self.volumes: Dict[bytes, VolumeText] = {it.key: VolumeText(it) for it in node.sections_in(b"logical_volumes")}
         self.records = [it for it in (volume.record() for volume in self.volumes.values()) if it]
 
     def leave_others(self, wanted: List[bytes]) -> None:
@@ -109,7 +110,7 @@ class Group:
             if before == [it.why for it in self.volumes.values()]:
                 break
 
-    def _own_fault(self, volume: Volume) -> Optional[str]:
+    def _own_fault(self, volume: VolumeText) -> Optional[str]:
         if not volume.segments:
             return "it has no segments"
         if not volume.record() and self._is_too_long(volume.name):

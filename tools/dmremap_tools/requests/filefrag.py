@@ -10,7 +10,7 @@ With --debugfs SUPER, FILE is what `debugfs -R 'ex /FILE' IMAGE` prints of an ex
 `dumpe2fs -h IMAGE` prints; it gives the size of a block. Files without a list of extents are refused: those of ext2 and ext3,
 and small ones that are kept in their inode.
 
-With --device, prints the file as a device of that name, such as an image on a volume as a disk: table text, whose lines lie on
+With --name, prints the file as a device of that name, such as an image on a volume as a disk: table text, whose lines lie on
 VOLUME, or on the disk that --on names. Where the file has no place, the line is `zero`. The last sector is whole. With
 --debugfs, --size gives the bytes of the file, as `debugfs -R 'stat /FILE' IMAGE` prints. A file of more lines than dmremap
 takes is refused, unless --part names the sectors that are wanted.
@@ -23,9 +23,8 @@ import re
 from argparse import ArgumentParser, Namespace
 from typing import Dict, Iterable, Iterator, Set, Tuple
 
-from dmremap_tools.base import names, numbers, quoting, requests, streams, tables
+from dmremap_tools.base import made_device, names, numbers, quoting, requests, streams, tables
 from dmremap_tools.base.refusal import WrongWords
-from dmremap_tools.layers import parts
 
 EXAMPLE = "filefrag -s -v -b512 /mnt/report.odt | dmremap-tools filefrag vg0-lv0 | dmremap map lvm vg0.backup"
 
@@ -50,7 +49,7 @@ INNER = re.compile(r" *[0-9]+ - +[0-9]+ +[0-9]+ +[0-9]+")
 MOST_LEVELS = 64
 LIST_ANEW = "make the text anew by `debugfs -R 'ex /FILE' IMAGE`"
 # The sector of the file, that of the device, and how many there are; at the end of a file its bytes and ENDED.
-Extent = Tuple[int, int, int]
+FileExtent = Tuple[int, int, int]
 ENDED = (-1, 0)
 
 
@@ -60,18 +59,18 @@ def add_words(parser: ArgumentParser) -> None:
     kinds = parser.add_mutually_exclusive_group()
     kinds.add_argument("--addresses", action="store_true", help="for files of btrfs; VOLUME is the device of its addresses")
     kinds.add_argument("--debugfs", metavar="SUPER", help="what dumpe2fs -h printed; FILE is what debugfs printed")
-    parser.add_argument("--device", metavar="NAME", help="the file as a device of this name")
-    parser.add_argument("--on", metavar="DISK", help="with --device: what the file system lies on, a disk or /dev/mapper/NAME")
-    parser.add_argument("--size", metavar="BYTES", help="with --device and --debugfs: how many bytes the file has")
-    parts.add_words(parser)
+    parser.add_argument("--name", metavar="NAME", help="the file as a device of this name")
+    parser.add_argument("--on", metavar="DISK", help="with --name: what the file system lies on, a disk or /dev/mapper/NAME")
+    parser.add_argument("--size", metavar="BYTES", help="with --name and --debugfs: how many bytes the file has")
+    made_device.add_words(parser)
     names.add_words(parser)
 
 
 def run(words: Namespace) -> None:
-    if words.device is None and (words.on is not None or words.size is not None or words.part is not None):
-        raise WrongWords("--on, --size and --part are for --device")
-    if words.device is not None and (words.size is None) == (words.debugfs is not None):
-        raise WrongWords("--device needs --size with --debugfs, and has the size without it")
+    if words.name is None and (words.on is not None or words.size is not None or words.part is not None):
+        raise WrongWords("--on, --size and --part are for --name")
+    if words.name is not None and (words.size is None) == (words.debugfs is not None):
+        raise WrongWords("--name needs --size with --debugfs, and has the size without it")
     name = names.Names(words.ls).device(words.volume, "VOLUME")
     source = streams.Lines(words.file)
     if words.debugfs is None:
@@ -83,17 +82,18 @@ def run(words: Namespace) -> None:
         if not blocks:
             printed.refuse("no line 'Block size': give what `dumpe2fs -h` prints")
         extents = read_list(source, blocks[-1], size)
-    if words.device is None:
+    if words.name is None:
         for _, first, count in extents:
             if (first, count) != ENDED:
                 requests.write(source, "R", name, first, count)
         return
-    disk = parts.disk_in(words.on, "--on") if words.on is not None else names.MAPPER + name
-    device = parts.device_of(words.device, "", lines_of(source, extents, disk), parts.part_of(words))
+    disk = made_device.disk_in(words.on, "--on") if words.on is not None else names.MAPPER + name
+    device = made_device.device_of(words.name, "", lines_of(source, extents, disk), made_device.part_of(words))
     streams.out.write(tables.text_of([device], False))
 
 
-def lines_of(source: streams.Lines, extents: Iterable[Extent], disk: str) -> Iterator[tables.Line]:
+def lines_of(source: streams.Lines, extents: Iterable[FileExtent], disk: str) -> Iterator[tables.Line]:
+    """The lines of a device that is a file: where its extents lie, and zeros between. Refuses several files."""
     end = files = size = 0
     for at, first, count in extents:
         if (first, count) == ENDED:
@@ -109,7 +109,7 @@ def lines_of(source: streams.Lines, extents: Iterable[Extent], disk: str) -> Ite
         yield tables.Line(end, size - end, "zero", [])
 
 
-def read_filefrag(source: streams.Lines, known: Set[str]) -> Iterator[Extent]:
+def read_filefrag(source: streams.Lines, known: Set[str]) -> Iterator[FileExtent]:
     """The extents as they come. `opened` is the line that the list of a file began with."""
     opened, is_known, is_last = "", False, False
     files = size = block = number = after = 0
@@ -151,7 +151,7 @@ def read_filefrag(source: streams.Lines, known: Set[str]) -> Iterator[Extent]:
         source.refuse("no file: " + ANEW)
 
 
-def read_list(source: streams.Lines, block: int, size: int) -> Iterator[Extent]:
+def read_list(source: streams.Lines, block: int, size: int) -> Iterator[FileExtent]:
     """The extents that debugfs lists of a file of so many bytes. Each node of the tree has entries 1 to N."""
     # By level, the last entry, and how many its node has.
     entries: Dict[int, Tuple[int, int]] = {}
@@ -164,7 +164,9 @@ def read_list(source: streams.Lines, block: int, size: int) -> Iterator[Extent]:
             continue
         text = line.strip(" ")
         entry = ENTRY.fullmatch(text) if is_listed else None
-        level, depth, number, count = map(source.whole, entry.groups()[:4]) if entry else (1, 0, 0, 0)
+        if not entry:
+            source.refuse(f"not a line of ex, {LIST_ANEW}: {quoting.shown(text)}")
+        level, depth, number, count = map(source.whole, entry.groups()[:4])
         refuse_if(source, text, LIST_ANEW, {"not a line of ex": level > depth or depth > MOST_LEVELS})
         last, most = entries.get(level, (0, 0))
         is_next = number == (last + 1 if last < most else 1) and number <= count
@@ -188,12 +190,14 @@ def read_list(source: streams.Lines, block: int, size: int) -> Iterator[Extent]:
 
 
 def refuse_if(source: streams.Lines, text: str, anew: str, faults: Dict[str, bool]) -> None:
+    """Refuses a line for the first of these faults that it has; `anew` says how to make the text again."""
     for why, is_so in faults.items():
         if is_so:
             source.refuse(f"{why}, {anew}: {quoting.shown(text)}")
 
 
-def in_sectors(source: streams.Lines, text: str, block: int, extent: Extent, is_unwritten: bool) -> Iterator[Extent]:
+def in_sectors(source: streams.Lines, text: str, block: int, extent: FileExtent,
+               is_unwritten: bool) -> Iterator[FileExtent]:
     """An extent that is counted in blocks, in sectors, unless it is one that is told."""
     if is_unwritten:
         streams.tell("unwritten, so that it reads as zeros: " + quoting.shown(text))

@@ -2,7 +2,7 @@
 
 Takes what `dmsetup ls` prints (LS), the tables that will be asked (TABLES, table text or concise text), and a trace: that of
 `blkparse` or `btrace`, or the event block_bio_queue as trace_pipe, `trace-cmd report` and `perf script` print it. Prints the
-reads and writes as they come; --times writes the time of each to a file. Discards, flushes, requests to devices that the tables
+reads and writes as they come; --write-times writes the time of each to a file. Discards, flushes, requests to devices that the tables
 don't have, and lines without a request are left out and counted. Refuses a trace that says that events were lost, and zone
 appends and other requests whose sectors aren't those of the trace.
 
@@ -58,7 +58,7 @@ def add_words(parser: ArgumentParser) -> None:
     parser.add_argument("ls", metavar="LS", help="what dmsetup ls printed at the time of the trace")
     parser.add_argument("tables", metavar="TABLES", help="table or concise text")
     parser.add_argument("file", metavar="TRACE", nargs="?", default="-", help="the trace; else standard input")
-    parser.add_argument("--times", metavar="TIMES", help="a file to write: line N is the time of request N")
+    parser.add_argument("--write-times", metavar="TIMES", help="a file to write: line N is the time of request N")
     kinds = parser.add_mutually_exclusive_group()
     kinds.add_argument("--lower", action="store_true", help="a trace of disks; LS is what lsblk prints, and TABLES is DISKS")
     kinds.add_argument("--fio", action="store_true", help="TRACE is a log that fio wrote")
@@ -66,11 +66,11 @@ def add_words(parser: ArgumentParser) -> None:
 
 def run(words: Namespace) -> None:
     if words.fio:
-        if words.times is not None:
-            raise WrongWords("--times isn't for the logs of fio")
+        if words.write_times is not None:
+            raise WrongWords("--write-times isn't for the logs of fio")
         read_log(streams.Lines(words.file), Kept(words.tables), names.Names(words.ls))
         return
-    times = streams.beside(words.times) if words.times is not None else None
+    times = streams.beside(words.write_times) if words.write_times is not None else None
     known = names.read_lsblk(words.ls)[1] if words.lower else {number: name for name, number in names.read_ls(words.ls)}
     by_number = {number.replace(":", ","): name for number, name in known.items()}
     read_trace(streams.Lines(words.file), by_number, Kept(words.tables, words.lower), times)
@@ -136,7 +136,7 @@ def read_trace(source: streams.Lines, known: Dict[str, str], kept: Kept, times: 
         if others + len(usual) == block.count("\n") and None not in {kind_of(it[2]) for it in usual}:
             events += len(usual)
             for event in usual:
-                take(source, event, known, kept, times)
+                print_request(source, event, known, kept, times)
             continue
         for line in filter(None, source.again(left)):
             found = event_in(source, line)
@@ -145,7 +145,7 @@ def read_trace(source: streams.Lines, known: Dict[str, str], kept: Kept, times: 
                 continue
             events += 1
             if found[2]:
-                take(source, found, known, kept, times)
+                print_request(source, found, known, kept, times)
     if not events:
         source.refuse("no request in the trace: give what `blkparse` prints of the devices")
     if passed:
@@ -153,7 +153,8 @@ def read_trace(source: streams.Lines, known: Dict[str, str], kept: Kept, times: 
     kept.tell("requests that are neither reads nor writes", ": a trace of the disks below them takes --lower")
 
 
-def take(source: streams.Lines, event: Sequence[str], known: Dict[str, str], kept: Kept, times: Optional[streams.Output]) -> None:
+def print_request(source: streams.Lines, event: Sequence[str], known: Dict[str, str], kept: Kept,
+                  times: Optional[streams.Output]) -> None:
     """Prints the request that an event tells of, and its time, or counts it as left out."""
     number, time, what, first, count = event
     name, start, sectors = known.get(number), source.whole(first), source.whole(count)

@@ -14,24 +14,24 @@ _dmremap_tools() {
             lost) offered="--help --map --map-of-other-length --saved --program" ;;
             owner) offered="--help --map --map-of-other-length --bytes --sector-size --program" ;;
             tables) offered="--help --map --map-of-other-length --to --program" ;;
-            filefrag) offered="--help --addresses --debugfs --device --on --size --part --ls" ;;
-            trace) offered="--help --times --lower --fio" ;;
+            filefrag) offered="--help --addresses --debugfs --name --on --size --part --ls" ;;
+            trace) offered="--help --write-times --lower --fio" ;;
             cut) offered="--help --bytes --ls" ;;
             machine) offered="--help --disks --only --store --paths --sector-size" ;;
             elsewhere) offered="--help --paths --prefix --missing --losetup" ;;
             thin) offered="--help --data --device --external --metadata-snap --cache --origin --name --sectors --part" ;;
-            btrfs) offered="--help --name --device --copy --part" ;;
+            btrfs) offered="--help --name --disk --copy --part" ;;
             metadata) offered="--help --list --seqno --at" ;;
             lvm2-text) offered="--help --only --program" ;;
-            report) offered="--help --disks --plot --times --compare" ;;
+            report) offered="--help --lengths --plot --times --compare" ;;
             dd) offered="--help --requests --image --program --paths --fresh" ;;
-            spans) offered="--help --free --clashes --align --to --paths" ;;
+            spans) offered="--help --free --clashes --align --multiple" ;;
             tree) offered="--help --dot" ;;
             extents) offered="--help --ls --program --paths --fresh" ;;
-            store) offered="--help --requests --size --chunk --kind --program --paths --fresh" ;;
+            store) offered="--help --requests --writes --chunk --kind --program --paths --fresh" ;;
             picture) offered="--help --scale" ;;
-            md) offered="--help --name --follow --member --copy --path --size" ;;
-            explain) offered="--help --program --paths --json --before --status" ;;
+            md) offered="--help --name --follow --member --copy --path --sectors" ;;
+            explain) offered="--help --program --json" ;;
         esac
     fi
     mapfile -t COMPREPLY < <(compgen -W "$offered" -- "$word")

@@ -2,7 +2,7 @@
 # it to ~/.local/share/bash-completion/completions/dmremap.
 
 _dmremap() {
-    local commands="map table concise check replay name splitname help" formats="lvm concise table images"
+    local commands="map table concise check replay metadata name splitname help" formats="lvm concise table images"
     local word=${COMP_WORDS[COMP_CWORD]} offered="" files=false it
     # The words before this one that are no options, whether options may still follow, and whether the next word
     # is the value of one.
@@ -38,6 +38,7 @@ _dmremap() {
         case ${given[0]-} in
             "") offered="--version --help" ;;
             map) offered="--status --before --paths --help" ;;
+            replay) offered="--paths --help" ;;
             help) ;;
             *) offered="--help" ;;
         esac
@@ -45,6 +46,7 @@ _dmremap() {
         case ${given[0]-}/${#given[@]}/${given[1]-} in
             /0/ | help/1/) offered=$commands ;;
             name/* | splitname/* | help/*) ;;
+            metadata/1/) offered=images ;;
             */1/) offered=$formats ;;
             */2/* | */3/concise | */3/table) files=true ;;
         esac

@@ -1,5 +1,5 @@
 -- What becomes of a chunk that is to be taken, with the facts that each case rests on: nothing is done, or it is taken, or its snapshot is lost; the state still fits.
-use Rattle.std.proofs.Common.{◌≡◌, ◌⊎◌, inl, inr, ℕ, zero, suc, ◌+◌, ◌<◌, ◌≤◌, Bool, true, false, cond, not, List, [], ◌∷◌, ◌++◌, length-append, Some, length, refl, sym, ap, ◌∙◌, arith}
+use Rattle.std.proofs.Common.{◌≡◌, ◌⊎◌, inl, inr, ℕ, zero, suc, ◌+◌, ◌<◌, ◌≤◌, Bool, true, false, cond, not, [], ◌∷◌, ◌++◌, length-append, Some, length, refl, sym, ap, ◌∙◌, arith}
 use Rattle.std.specs.Prelude.{is_some}
 use Rattle.std.proofs.lemmas.Bool.{and_parts, cases_eq, cases_lt, le-leb, leb-true, not-false, not-true, or_parts}
 use Rattle.std.proofs.lemmas.List.{length-set}
@@ -17,7 +17,6 @@ use Rattle.dm_map.specs.state.State.{lost, put, with_chunk, State, Taken, taken_
 use Rattle.dm_map.specs.walk.Steps.{Step, keep}
 use Rattle.dm_map.specs.state.Tables.{snapshot_at}
 use Rattle.dm_map.specs.pieces.Units.{BlockUnit, ReadOf, Zeros, Fails}
-use Rattle.dm_map.proofs.state.ResolvedLines.{some_is}
 use Rattle.dm_map.proofs.own.Plays.{IsReadable, Reads, AreZeros}
 use Rattle.dm_map.proofs.walk.ChunkTaking.{none_of, taken_other, taken_same}
 use Rattle.dm_map.proofs.own.Takes.{IsTake, chunk_copies, new_number, taken_state}
@@ -88,12 +87,6 @@ full_outcome stack state device chunk snapshot over there =
 
 -- The state still fits
 
-length_push : (xs : List ℕ) (x i : ℕ) → i < length (xs ++ x ∷ []) → (i < length xs) ⊎ (i ≡ length xs)
-length_push xs x i below = elim (cases_lt i (length xs)) [
-  | inl less ↦ inl less
-  | inr more ↦ inr (let e : length (xs ++ x ∷ []) ≡ length xs + 1 = length-append xs (x ∷ []) in omega (arith, below, more, e))
-]
-
 pub fits_put : (stack : Description) (state : State) (device : ℕ) (taken : Taken) → IsFitting stack state → device < length state
     → ((number : ℕ) (snapshot : ResolvedSnapshot) → snapshot_at stack device ≡ Some snapshot → number < length taken.chunks → has_place stack snapshot number ≡ true) → IsFitting stack (put state device taken)
 fits_put stack state device taken fitting there each = record {
@@ -110,10 +103,11 @@ pub full_outcome_fits : (stack : Description) (state : State) (device chunk : �
 full_outcome_fits stack state device chunk snapshot step fitting there (Done is) = rw is fitting
 full_outcome_fits stack state device chunk snapshot step fitting there (Taking take is) =
     rw is (fits_put stack state device (with_chunk (taken_at state device) chunk) fitting there (λ number other over below.
-    elim (length_push (taken_at state device).chunks chunk number below) [
+    elim (cases_lt number (length (taken_at state device).chunks)) [
       | inl old ↦ fitting.places device number other over old
-      | inr new ↦
-          let same = some_is snapshot other (sym take.over ∙ over) in
+      | inr past ↦
+          let new : number ≡ length (taken_at state device).chunks = omega (arith, below, past, length-append (taken_at state device).chunks (chunk ∷ [])) in
+          let same : snapshot ≡ other = cc (sym take.over ∙ over) in
           let room : has_place stack snapshot (new_number state device) ≡ true = le-leb _ _ take.place_there in
           rw new (rw same at room)
     ]))

@@ -26,7 +26,7 @@ use Rattle.dm_map.proofs.own.Losses.{stays_on}
 use Rattle.dm_map.proofs.own.TakenInARow.{grown_same, ran, run_stays, value_kept}
 use Rattle.dm_map.proofs.own.UniqueSteps.{IsRoot, top_root}
 use Rattle.dm_map.proofs.own.WayLemmas.{read_touches}
-use Rattle.dm_map.proofs.state.Numbers.{same_parts}
+use Rattle.std.proofs.lemmas.Nat.{same_from_place}
 use Rattle.dm_map.proofs.state.ResolvedLines.{snapshot_sound}
 use Rattle.dm_map.proofs.state.TableLemmas.{number_within}
 
@@ -37,7 +37,7 @@ pub in_place : (snapshot : ResolvedSnapshot) (number sector : ℕ) → 0 < snaps
 in_place snapshot number sector some =
     let at = store_sector snapshot number sector in
     let whole : at / snapshot.chunk * snapshot.chunk + at % snapshot.chunk ≡ at = div-add-mod' at snapshot.chunk in
-    (same_parts (at / snapshot.chunk) (at % snapshot.chunk) (place snapshot.kind snapshot.chunk number) (sector % snapshot.chunk) snapshot.chunk whole (omega (arith, some)) (omega (arith, some))).0
+    (same_from_place (at / snapshot.chunk) (at % snapshot.chunk) (place snapshot.kind snapshot.chunk number) (sector % snapshot.chunk) snapshot.chunk (omega (arith, some)) (omega (arith, some)) whole).0
 
 true_false : true ≡ false → ⊥
 true_false e = cc

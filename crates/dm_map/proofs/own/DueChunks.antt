@@ -8,7 +8,7 @@ use Rattle.dm_stack.specs.declared.lines.resolved_line.ResolvedLine.{ResolvedLin
 use Rattle.dm_stack.specs.declared.lines.resolved_line.ResolvedOver.{ResolvedOver}
 use Rattle.dm_stack.specs.declared.lines.resolved_line.ResolvedTarget.{ResolvedTarget}
 use Rattle.dm_stack.specs.declared.lines.resolved_line.ResolvedTarget.TheVariants as founds
-use Rattle.dm_stack.specs.lines.Below.{Below, Lies, IsZero, IsError, below_plain, found_at}
+use Rattle.dm_stack.specs.lines.Below.{Below, Lies, below_plain, found_at}
 use Rattle.dm_stack.specs.Description.{Description, device_len, is_ro_at, lower_len}
 use Rattle.dm_stack.specs.checks.Soundness.{IsSound}
 use Rattle.dm_map.specs.own.Losses.{Due, due_at_line, due_at_target, due_in, due_over}
@@ -22,6 +22,7 @@ use Rattle.dm_map.specs.walk.Steps.{Step, keep, and_then}
 use Rattle.dm_map.specs.pieces.Units.{Drops, Fails}
 use Rattle.dm_map.proofs.state.ResolvedLines.{line_origin, line_snapshot, line_sound, origin_sound}
 use Rattle.dm_map.proofs.walk.Overs.{overs}
+use Rattle.dm_table.proofs.Lists.{all_append}
 
 -- the state after one
 abbrev pub due_taken : Description → State → Due → State
@@ -50,8 +51,7 @@ below_leaves : (stack : Description) (b : Below) (state : State) (next : Lower �
     → (by_below b (keep (Drops ∷ []) state) (keep (Fails ∷ []) state) (λ to sector. next to state sector)).state ≡ all_taken stack state (by_below b [] [] (λ to sector. due to state sector))
 unfolding Leaves
 below_leaves stack (Lies to sector) state next due leaves = leaves to state sector
-below_leaves stack IsZero state next due leaves = refl
-below_leaves stack IsError state next due leaves = refl
+below_leaves stack b state next due leaves = refl
 
 unless_leaves : (stack : Description) (not_done : Bool) (state : State) (step : Step) (dues : List Due) → step.state ≡ all_taken stack state dues → (cond not_done (keep (Fails ∷ []) state) step).state ≡ all_taken stack state (cond not_done [] dues)
 unless_leaves stack true state step dues leaves = refl
@@ -93,10 +93,6 @@ pub record IsDue (stack : Description) (one : Due) : Type 0 where
 AreAllDue : Description → (Lower → State → ℕ → List Due) → Type 0
 AreAllDue stack due = (to : Lower) (state : State) (sector : ℕ) → AllByRecursion (IsDue stack) (due to state sector)
 
-all_due_append : (stack : Description) (some more : List Due) → AllByRecursion (IsDue stack) some → AllByRecursion (IsDue stack) more → AllByRecursion (IsDue stack) (some ++ more)
-all_due_append stack [] more p q = q
-all_due_append stack (one ∷ some) more p q = (p.0, all_due_append stack some more p.1 q)
-
 over_due : (stack : Description) (len sector : ℕ) (over : List ResolvedOver) → sector < len → AllByRecursion (IsOver stack len) over → AllByRecursion (IsDue stack) (due_over over sector)
 over_due stack len sector [] inside all = tt
 over_due stack len sector (one ∷ over) inside all =
@@ -106,8 +102,7 @@ over_due stack len sector (one ∷ over) inside all =
 below_due : (stack : Description) (b : Below) (state : State) (due : Lower → State → ℕ → List Due) → AreAllDue stack due → AllByRecursion (IsDue stack) (by_below b [] [] (λ to sector. due to state sector))
 unfolding AreAllDue
 below_due stack (Lies to sector) state due each = each to state sector
-below_due stack IsZero state due each = tt
-below_due stack IsError state due each = tt
+below_due stack b state due each = tt
 
 unless_due : (stack : Description) (not_done : Bool) (dues : List Due) → AllByRecursion (IsDue stack) dues → AllByRecursion (IsDue stack) (cond not_done [] dues)
 unless_due stack true dues all = tt
@@ -129,7 +124,7 @@ target_due stack state device sector line (founds.Origin origin) due sound each 
     let same = soundly.same in
     let len = lower_len stack origin.to in
     let at = sector - line.start in
-    all_due_append stack (due_over origin.over at) (due origin.to (serve stack origin.over at state).state at)
+    all_append (IsDue stack) (due_over origin.over at) (due origin.to (serve stack origin.over at state).state at)
     (over_due stack len at origin.over (omega (arith, inside, same)) (rw soundly.over (overs stack origin.to len sound (omega arith))))
     (each origin.to (serve stack origin.over at state).state at)
 target_due stack state device sector line target due sound each is t = below_due stack (below_plain target (sector - line.start)) state due each

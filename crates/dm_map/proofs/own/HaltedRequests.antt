@@ -1,6 +1,6 @@
 -- Where no claims meet, each top device has what it would have alone, or errors, after the first units of any request of a top device.
 use Rattle.std.proofs.Common.{◌≡◌, inl, inr, ℕ, zero, suc, ◌+◌, ◌-◌, ◌≤◌, Bool, true, false, cond, List, [], ◌++◌, length, take, nat_lt, replicate, refl, ◌∙◌, arith}
-use Rattle.std.proofs.Math.Seq.{take-append-add}
+use Rattle.std.proofs.Math.Seq.{take-append-add, take-nil}
 use Rattle.std.proofs.lemmas.Bool.{cases_lt}
 use Rattle.std.proofs.lemmas.List.{take-append-le}
 use Rattle.dm_table.specs.declared.requests.request.Op.{Op}
@@ -17,10 +17,6 @@ use Rattle.dm_map.specs.walk.Steps.{Step, keep, steps}
 use Rattle.dm_map.specs.own.Halts.{halted_state, halted_units}
 use Rattle.dm_map.specs.pieces.Units.{BlockUnit, Fails}
 use Rattle.dm_map.proofs.own.OwnRequests.{both_own, none_own, played_first, rows_first, step_own}
-
-take_none : (n : ℕ) → take {A = BlockUnit} n [] ≡ []
-take_none zero = refl
-take_none (suc n) = refl
 
 -- some number of sectors is whole, and the state is that after them: it is counted from any sector on
 record IsHalted {V : Type 0} (zeros : V) (written : ℕ → V) (stack : Description) (top : ℕ) (step : State → ℕ → Step) (state : State) (sector at len : ℕ) (units : List BlockUnit) (values : Values V) (rows : Rows V) : Type 0 where
@@ -43,7 +39,7 @@ none_halted zeros written stack top step state sector at len values rows own = r
 steps_halted : {V : Type 0} (zeros : V) (written : ℕ → V) (stack : Description) (op : Op) (top count len : ℕ) (state : State) (sector at : ℕ) (values : Values V) (rows : Rows V) → IsSound stack → IsTidy stack → IsTop stack top → AreOwn zeros stack state values rows
     → IsHalted zeros written stack top (sector_step stack op MOST_DEPTH (Device top)) state sector at len (take count (steps (sector_step stack op MOST_DEPTH (Device top)) state sector len).units) values rows
 steps_halted {V} zeros written stack op top count zero state sector at values rows sound tidy is_top own =
-    rw (take_none count) (none_halted zeros written stack top (sector_step stack op MOST_DEPTH (Device top)) state sector at zero values rows own)
+    rw (take-nil count) (none_halted zeros written stack top (sector_step stack op MOST_DEPTH (Device top)) state sector at zero values rows own)
 steps_halted {V} zeros written stack op top count (suc len) state sector at values rows sound tidy is_top own =
     let step = sector_step stack op MOST_DEPTH (Device top) in
     let first = step_own zeros written stack op state top sector values rows sound tidy is_top own in

@@ -12,6 +12,7 @@ use Rattle.dm_stack.specs.checks.Soundness.{IsSound}
 use Rattle.dm_stack.specs.checks.Store.{is_store_to}
 use Rattle.dm_stack.specs.claims.Claims.{IsTidy, IsTop}
 use Rattle.dm_table.specs.declared.tables.table.Use.TheVariants.{Own}
+use Rattle.dm_table.proofs.Lists.{all_append, all_front}
 use Rattle.dm_stack.specs.Description.{Description, device_len, lower_len}
 use Rattle.dm_stack.specs.lines.Below.{Lies, found_at, has_state}
 use Rattle.dm_stack.specs.lines.StoreLayout.{is_metadata}
@@ -39,7 +40,7 @@ use Rattle.dm_map.proofs.own.HomeLemmas.{home_touched, store_touches}
 use Rattle.dm_map.proofs.own.OwnWrites.{own_write}
 use Rattle.dm_map.proofs.own.Plays.{home_at, stored_other}
 use Rattle.dm_map.proofs.own.StepClaims.{via_snapshot}
-use Rattle.dm_map.proofs.own.TakenInARow.{all_append, all_front, all_row, copy_only, snapshot_there}
+use Rattle.dm_map.proofs.own.TakenInARow.{all_row, copy_only, snapshot_there}
 use Rattle.dm_map.proofs.own.Takes.{new_number}
 use Rattle.dm_map.proofs.own.UniqueSteps.{goes_on_inside, only_by_store, store_no_lines, top_root}
 use Rattle.dm_map.proofs.own.WayLemmas.{Here, Before, back}

@@ -6,7 +6,7 @@ use Rattle.dm_stack.specs.declared.lines.resolved_line.ResolvedTarget.{ResolvedT
 use Rattle.dm_stack.specs.declared.lines.resolved_line.ResolvedTarget.TheVariants as founds
 use Rattle.dm_stack.specs.declared.id.Lower.{Lower}
 use Rattle.dm_stack.specs.declared.id.Lower.TheVariants.{Device, Disk}
-use Rattle.dm_stack.specs.lines.Below.{Below, Lies, IsZero, IsError, below_line, below_target, found_at}
+use Rattle.dm_stack.specs.lines.Below.{Below, Lies, IsError, below_line, below_target, found_at}
 use Rattle.dm_stack.specs.Description.{Description}
 use Rattle.dm_stack.specs.checks.Depth.{lower_depth}
 use Rattle.dm_stack.specs.checks.Soundness.{IsSound}
@@ -52,8 +52,7 @@ lost_next stack state device e sector there = elim (cases_eq e device) [
 
 stays_below : {V : Type 0} (zeros : V) (b : Below) (f h : Lower → ℕ → Option V) → ((to : Lower) (at : ℕ) → b ≡ Lies to at → Stays (f to at) (h to at)) → Stays (by_below b (Some zeros) None f) (by_below b (Some zeros) None h)
 stays_below zeros (Lies to at) f h each = each to at refl
-stays_below zeros IsZero f h each = inl refl
-stays_below zeros IsError f h each = inl refl
+stays_below zeros b f h each = inl refl
 
 AllStay : {V : Type 0} → (zeros : V) → Description → (state other : State) → Values V → Lower → Type 0
 AllStay zeros stack state other values lower = (sector : ℕ) → Stays (content zeros stack state values lower sector) (content zeros stack other values lower sector)

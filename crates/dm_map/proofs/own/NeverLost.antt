@@ -3,13 +3,14 @@ use Rattle.std.proofs.Common.{◌≡◌, inl, inr, ℕ, ◌+◌, ◌-◌, ◌*�
 use Rattle.std.specs.Prelude.{◌||◌}
 use Rattle.std.specs.List.{AllByRecursion, IsDistinct, list_any}
 use Rattle.std.proofs.Math.Nat.{le-div_iff_mul-le}
-use Rattle.std.proofs.lemmas.Bool.{cases_eq, eqb-true, le-leb}
+use Rattle.std.proofs.lemmas.Bool.{cases_eq, eqb-true, le-leb, true_from_ne_false}
 use Rattle.std.proofs.lemmas.List.{length-append}
 use Rattle.std.proofs.lemmas.Map.Steps.{length-le_from_distinct_below}
 use Rattle.dm_table.specs.declared.requests.request.Op.{Op}
 use Rattle.dm_table.specs.declared.tables.table.Line.{Line}
 use Rattle.dm_table.specs.declared.tables.table.Target.{Target}
 use Rattle.dm_table.specs.declared.tables.table.Target.TheVariants as targets
+use Rattle.dm_table.proofs.Lists.{all_append}
 use Rattle.dm_stack.specs.declared.checks.graph.TheConstants.{MOST_DEPTH}
 use Rattle.dm_stack.specs.declared.id.Lower.{Lower}
 use Rattle.dm_stack.specs.declared.id.Lower.TheVariants.{Device}
@@ -46,11 +47,10 @@ use Rattle.dm_map.proofs.own.KeptRequests.{due_fits, past_keeps}
 use Rattle.dm_map.proofs.own.LostSnapshots.{due_there, losing, request_whole}
 use Rattle.dm_map.proofs.own.OwnRequests.{first_own, request_own}
 use Rattle.dm_map.proofs.own.HaltedRequests.{halted_own}
-use Rattle.dm_map.proofs.own.OwnWrites.{none_at, start_fits}
-use Rattle.dm_map.proofs.own.StepClaims.{raw_line}
-use Rattle.dm_map.proofs.state.ResolvedLines.{first_line, line_sound, snapshot_sound}
+use Rattle.dm_map.proofs.own.OwnWrites.{start_fits}
+use Rattle.dm_map.proofs.state.ResolvedLines.{first_line, line_sound, snapshot_sound, some_line}
 use Rattle.dm_map.proofs.state.Numbers.{distinct_more}
-use Rattle.dm_map.proofs.walk.ChunkTaking.{Settled, Took, Lost, ChunkOutcome, chunk_outcome, taken_other, taken_same}
+use Rattle.dm_map.proofs.walk.ChunkTaking.{Settled, Took, Lost, ChunkOutcome, chunk_outcome, taken_other, taken_same, none_at}
 
 -- What the premise says of the line of a sector
 
@@ -67,7 +67,7 @@ ample_target stack len _ good ample = tt
 ample_line : (stack : Description) (device sector : ℕ) (line : ResolvedLine) → IsSound stack → IsAmple stack → found_at stack device sector ≡ Some line → IsAmpleFound stack line.len line.target
 ample_line stack device sector line sound ample is =
     let d = there stack.devices device (line_sound stack device sector line sound is).there in
-    let raw = raw_line stack (line_of (lines_at stack device) sector) line is in
+    let raw = some_line stack (line_of (lines_at stack device) sector) line is in
     let lines = lines_there stack device d.it d.at in
     let P : Line → Type 0 = λ it. IsAmpleTarget stack it.len it.target in
     let held : line_of d.it.lines sector ≡ Some raw.0 = rw (← lines) raw.1 in
@@ -110,14 +110,10 @@ listed : (xs : List ℕ) (count chunk : ℕ) → AllByRecursion (λ taken. taken
 listed [] count chunk each e = absurd cc
 listed (x ∷ xs) count chunk each e = listed_by x count chunk (nat_eq chunk x) (list_any (nat_eq chunk) xs) each.0 refl (listed xs count chunk each.1) e
 
-all_more : (P : ℕ → Type 0) (xs : List ℕ) (x : ℕ) → AllByRecursion P xs → P x → AllByRecursion P (xs ++ x ∷ [])
-all_more P [] x each last = (last, tt)
-all_more P (y ∷ xs) x each last = (each.0, all_more P xs x each.1 last)
-
 one_more : (chunk len taken : ℕ) (chunks : List ℕ) → AreOwnChunks chunk len chunks → number_in taken chunks ≡ None → taken < chunk_count chunk len → AreOwnChunks chunk len (chunks ++ taken ∷ [])
 one_more chunk len taken chunks are fresh inside = record {
   once = distinct_more taken chunks are.once fresh;
-  own = all_more (λ other. other < chunk_count chunk len) chunks taken are.own inside;
+  own = all_append (λ other. other < chunk_count chunk len) chunks (taken ∷ []) are.own (inside, tt);
 }
 
 few : (chunk len : ℕ) (chunks : List ℕ) → AreOwnChunks chunk len chunks → length chunks ≤ chunk_count chunk len
@@ -165,10 +161,6 @@ never_losing stack state device one sound ample intact is losing = elim losing.w
 
 -- A chunk that is due leaves all intact
 
-true_by : (b : Bool) → (b ≡ false → ⊥) → b ≡ true
-true_by true never = refl
-true_by false never = absurd (never refl)
-
 chunks_put : (stack : Description) (state : State) (device other : ℕ) (taken : Taken) (snapshot : ResolvedSnapshot) → device < length state → snapshot_at stack other ≡ Some snapshot → IsIntact stack state
     → ((over : ResolvedSnapshot) → snapshot_at stack device ≡ Some over → AreOwnChunks over.chunk (device_len stack device) taken.chunks)
     → AreOwnChunks snapshot.chunk (device_len stack other) (taken_at (put state device taken) other).chunks
@@ -198,7 +190,7 @@ due_intact stack state one sound ample is intact =
     let step = take_chunk stack one.snapshot one.device one.chunk state in
     record {
       fits = due_fits stack state one sound is intact.fits;
-      valid = λ device. true_by (taken_at step.state device).valid (λ gone. never_losing stack state device one sound ample intact is (losing stack state device one there (intact.valid device) gone));
+      valid = λ device. true_from_ne_false (taken_at step.state device).valid (λ gone. never_losing stack state device one sound ample intact is (losing stack state device one there (intact.valid device) gone));
       chunks = λ other snapshot over. outcome_chunks stack state one step other snapshot sound is intact there (chunk_outcome stack one.snapshot one.device one.chunk state) over;
     }
 

@@ -24,7 +24,7 @@ use Rattle.dm_map.proofs.own.ChunkOutcomes.{IsRead, Sector, Nothing, Fault, is_r
 use Rattle.dm_map.proofs.own.OwnWrites.{own_write, start_fits}
 use Rattle.dm_map.specs.laws.Contents.{past-append}
 use Rattle.dm_map.proofs.own.Plays.{after_false, played_on, stored_other, stored_same}
-use Rattle.dm_map.proofs.own.TakenInARow.{all_front}
+use Rattle.dm_table.proofs.Lists.{all_front}
 
 -- Units before the one that answers
 

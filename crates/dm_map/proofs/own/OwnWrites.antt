@@ -1,5 +1,5 @@
 -- Where no claims meet, no top device sees another's writes.
-use Rattle.std.proofs.Common.{◌≡◌, ℕ, zero, suc, ◌<◌, length, replicate, refl, ap, arith}
+use Rattle.std.proofs.Common.{◌≡◌, ℕ, ◌<◌, length, refl, ap, arith}
 use Rattle.std.proofs.lemmas.List.{length-replicate}
 use Rattle.dm_stack.specs.declared.id.Lower.TheVariants.{Device}
 use Rattle.dm_stack.specs.claims.Claims.{IsTidy, IsTop}
@@ -7,15 +7,17 @@ use Rattle.dm_stack.specs.Description.{Description}
 use Rattle.dm_stack.specs.checks.Soundness.{IsSound}
 use Rattle.dm_map.specs.state.Fitting.{IsFitting}
 use Rattle.dm_map.specs.own.Tops.{IsOwnWrite, write}
-use Rattle.dm_map.specs.state.State.{State, none_taken, start_state, taken_at}
+use Rattle.dm_map.specs.state.State.{State, none_taken, start_state}
 use Rattle.dm_map.specs.own.Ways.{Node, node, Touches}
 use Rattle.dm_map.proofs.own.UniqueSteps.{no_step_to_top, top_root, top_unserved}
 use Rattle.dm_map.proofs.walk.ReadSteps.{read_step}
 use Rattle.dm_map.proofs.own.Losses.{stays_as}
-use Rattle.dm_map.proofs.own.TakenInARow.{IsFresh, all_front, all_moves, fresh_stays, grown_same, ran, run_stays}
+use Rattle.dm_map.proofs.own.TakenInARow.{IsFresh, all_moves, fresh_stays, grown_same, ran, run_stays}
 use Rattle.dm_map.specs.own.Cuts.{take_chunks}
 use Rattle.dm_map.proofs.own.WayLemmas.{Here, Before, back, read_touches}
 use Rattle.dm_map.proofs.own.Written.{written}
+use Rattle.dm_map.proofs.walk.ChunkTaking.{none_at}
+use Rattle.dm_table.proofs.Lists.{all_front}
 
 -- nothing but itself leads to a sector of a top device
 top_touched : (stack : Description) (state : State) (a : Node) (top sector : ℕ) → IsSound stack → IsTop stack top → Touches stack state a (node (Device top) sector) → a ≡ node (Device top) sector
@@ -55,11 +57,6 @@ own_write {V = V} zeros value stack state top sector sound tidy fitting is_top =
     }
 
 -- At the start
-
-pub none_at : (count device : ℕ) → taken_at (replicate count none_taken) device ≡ none_taken
-none_at zero device = refl
-none_at (suc count) zero = refl
-none_at (suc count) (suc device) = none_at count device
 
 pub start_fits : (stack : Description) → IsFitting stack (start_state stack)
 start_fits stack = record {

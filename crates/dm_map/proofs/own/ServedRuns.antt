@@ -29,7 +29,3 @@ takes_append stack (e ∷ es) more state =
 pub each_served : (stack : Description) (len sector : ℕ) (over : List ResolvedOver) → AllByRecursion (IsOver stack len) over → AllByRecursion (IsOfSnapshot stack) (due_over over sector)
 each_served stack len sector [] all = tt
 each_served stack len sector (one ∷ over) all = (all.0.is, each_served stack len sector over all.1)
-
-pub dues_append : (stack : Description) (dues more : List Due) → AllByRecursion (IsOfSnapshot stack) dues → AllByRecursion (IsOfSnapshot stack) more → AllByRecursion (IsOfSnapshot stack) (dues ++ more)
-dues_append stack [] more p q = q
-dues_append stack (e ∷ es) more p q = (p.0, dues_append stack es more p.1 q)

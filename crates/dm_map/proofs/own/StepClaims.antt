@@ -1,6 +1,6 @@
 -- Each step of a read goes by a claim: through a span of a line whose target has no state, through the store or the origin of a snapshot, or through the line of an origin.
-use Rattle.std.proofs.Common.{◌≡◌, ℕ, ◌+◌, ◌-◌, ◌<◌, [], ◌∷◌, Option, Some, None, length, refl, sym, ap, ◌∙◌, arith}
-use Rattle.std.specs.Prelude.{option_map, slice_get}
+use Rattle.std.proofs.Common.{◌≡◌, ℕ, ◌+◌, ◌-◌, ◌<◌, [], ◌∷◌, Some, length, refl, sym, ap, ◌∙◌, arith}
+use Rattle.std.specs.Prelude.{slice_get}
 use Rattle.dm_table.specs.declared.tables.table.DevRef.{DevRef}
 use Rattle.dm_table.specs.declared.tables.table.Line.{Line}
 use Rattle.dm_table.specs.declared.tables.table.Target.{Target}
@@ -20,7 +20,7 @@ use Rattle.dm_table.specs.tables.Span.{target_spans, whole_span}
 use Rattle.dm_stack.proofs.Apart.{IsNamed, IsVia}
 use Rattle.dm_stack.proofs.Parts.{found_place}
 use Rattle.dm_map.specs.state.Tables.{origin_at, snapshot_at}
-use Rattle.dm_map.proofs.state.ResolvedLines.{first_line, first_origin, line_sound, origin_sound, snapshot_sound}
+use Rattle.dm_map.proofs.state.ResolvedLines.{first_line, first_origin, line_sound, origin_sound, snapshot_sound, some_line}
 use Rattle.dm_map.proofs.walk.Spans.{IsPlainStep, plain_before, plain_span, span_distance, span_index}
 
 -- Through a line whose target has no state
@@ -32,13 +32,9 @@ pub record IsLineVia (stack : Description) (device sector : ℕ) (line : Resolve
   pub via : IsVia stack device index (span_index line.target (sector - line.start)) it lower at Own
   pub lies : at ≡ via.span.offset + span_distance line.target (sector - line.start)
 
-pub raw_line : (stack : Description) (o : Option Line) (line : ResolvedLine) → option_map (resolved_line stack) o ≡ Some line → (it : Line) × (o ≡ Some it) × (resolved_line stack it ≡ line)
-raw_line stack None line is = absurd cc
-raw_line stack (Some it) line is = (it, refl, cc)
-
 pub via_line : (stack : Description) (device sector : ℕ) (line : ResolvedLine) (lower : Lower) (at : ℕ) → IsSound stack → found_at stack device sector ≡ Some line → IsPlainStep line.target (sector - line.start) lower at → IsLineVia stack device sector line lower at
 via_line stack device sector line lower at sound is step =
-    let raw = raw_line stack (line_of (lines_at stack device) sector) line is in
+    let raw = some_line stack (line_of (lines_at stack device) sector) line is in
     let index = found_place (holds sector) (lines_at stack device) raw.0 raw.1 in
     let of = line_sound stack device sector line sound is in
     let target : resolved_target stack raw.0.target ≡ line.target = cc in
@@ -113,7 +109,7 @@ whole_via stack device index column it lower kind to there line_at span_at on = 
 pub via_snapshot : (stack : Description) (device : ℕ) (snapshot : ResolvedSnapshot) → IsSound stack → snapshot_at stack device ≡ Some snapshot → IsSnapshotVia stack device snapshot
 via_snapshot stack device snapshot sound at =
     let first = first_line stack device snapshot (found_at stack device 0) refl at in
-    let raw = raw_line stack (line_of (lines_at stack device) 0) first.0 first.1 in
+    let raw = some_line stack (line_of (lines_at stack device) 0) first.0 first.1 in
     let index = found_place (holds 0) (lines_at stack device) raw.0 raw.1 in
     let target : resolved_target stack raw.0.target ≡ founds.Snapshot snapshot = cc in
     let named = snapshot_spans stack raw.0.len raw.0.target snapshot target in
@@ -149,7 +145,7 @@ origin_spans stack len target origin is = absurd cc
 pub via_origin : (stack : Description) (device : ℕ) (origin : ResolvedOrigin) → IsSound stack → origin_at stack device ≡ Some origin → IsOriginVia stack device origin
 via_origin stack device origin sound at =
     let first = first_origin stack device origin (found_at stack device 0) refl at in
-    let raw = raw_line stack (line_of (lines_at stack device) 0) first.0 first.1 in
+    let raw = some_line stack (line_of (lines_at stack device) 0) first.0 first.1 in
     let index = found_place (holds 0) (lines_at stack device) raw.0 raw.1 in
     let target : resolved_target stack raw.0.target ≡ founds.Origin origin = cc in
     let named = origin_spans stack raw.0.len raw.0.target origin target in

@@ -30,6 +30,7 @@ use Rattle.dm_map.proofs.walk.ChunkTaking.{taken_other, taken_same}
 use Rattle.dm_map.proofs.state.TableLemmas.{number_within}
 use Rattle.dm_map.proofs.own.Takes.{IsTake, chunk_copies, new_number, take_keeps}
 use Rattle.dm_map.proofs.own.WayLemmas.{read_touches}
+use Rattle.dm_table.proofs.Lists.{all_append}
 
 -- A unit that copies or fills
 
@@ -58,14 +59,6 @@ all_moves stack state (u ∷ us) each = (fresh_moves stack state u each.0, all_m
 pub all_row : (P : BlockUnit → Type 0) (f : ℕ → BlockUnit) (s n : ℕ) → ((u : ℕ) → s ≤ u → u < s + n → P (f u)) → AllByRecursion P (row f s n)
 all_row P f s zero each = tt
 all_row P f s (suc n) each = (each s (omega arith) (omega arith), all_row P f (suc s) n (λ u low high. each u (omega (arith, low)) (omega (arith, high))))
-
-pub all_append : (P : BlockUnit → Type 0) (xs ys : List BlockUnit) → AllByRecursion P xs → AllByRecursion P ys → AllByRecursion P (xs ++ ys)
-all_append P [] ys p q = q
-all_append P (x ∷ xs) ys p q = (p.0, all_append P xs ys p.1 q)
-
-pub all_front : (P : BlockUnit → Type 0) (xs ys : List BlockUnit) → AllByRecursion P (xs ++ ys) → AllByRecursion P xs
-all_front P [] ys p = tt
-all_front P (x ∷ xs) ys p = (p.0, all_front P xs ys p.1)
 
 -- any number of them, also the first few of many, change nothing that a root has in that state
 

@@ -6,7 +6,7 @@ use Rattle.dm_stack.specs.declared.lines.resolved_line.ResolvedSnapshot.{Resolve
 use Rattle.dm_stack.specs.declared.checks.graph.TheConstants.{MOST_DEPTH}
 use Rattle.dm_stack.specs.declared.id.Lower.{Lower}
 use Rattle.dm_stack.specs.declared.id.Lower.TheVariants.{Device, Disk}
-use Rattle.dm_stack.specs.lines.Below.{Below, Lies, IsZero, IsError, found_at}
+use Rattle.dm_stack.specs.lines.Below.{Below, Lies, found_at}
 use Rattle.dm_stack.specs.claims.Claims.{IsTidy}
 use Rattle.dm_stack.specs.Description.{Description, lower_len}
 use Rattle.dm_stack.specs.checks.Depth.{lower_depth}
@@ -36,8 +36,7 @@ use Rattle.dm_map.proofs.own.WayLemmas.{read_touches, touch_more, touch_self}
 
 value_below : {V : Type 0} (zeros : V) (values : Values V) (b : Below) (f : Lower → ℕ → BlockUnit) → value_read zeros values (by_below b Zeros Fails f) ≡ by_below b (Some zeros) None (λ to at. value_read zeros values (f to at))
 value_below zeros values (Lies to at) f = refl
-value_below zeros values IsZero f = refl
-value_below zeros values IsError f = refl
+value_below zeros values b f = refl
 
 pub content_down : {V : Type 0} (zeros : V) (stack : Description) (state : State) (values : Values V) (device sector : ℕ) → IsSound stack
     → content zeros stack state values (Device device) sector ≡ by_below (read_below stack state device sector) (Some zeros) None (λ to at. content zeros stack state values to at)
@@ -170,8 +169,7 @@ Appends zeros stack state other values later a lower = (s : ℕ) → Touches sta
 same_step : {V : Type 0} (zeros : V) (stack : Description) (state other : State) (values later : Values V) (b : Below) → ((to : Lower) (at : ℕ) → b ≡ Lies to at → content zeros stack other later to at ≡ content zeros stack state values to at)
     → by_below b (Some zeros) None (λ to at. content zeros stack other later to at) ≡ by_below b (Some zeros) None (λ to at. content zeros stack state values to at)
 same_step zeros stack state other values later (Lies to at) each = each to at refl
-same_step zeros stack state other values later IsZero each = refl
-same_step zeros stack state other values later IsError each = refl
+same_step zeros stack state other values later b each = refl
 
 keeps_disk : {V : Type 0} (zeros : V) (written : ℕ → V) (at : ℕ) (stack : Description) (state : State) (values : Values V) (device chunk : ℕ) (snapshot : ResolvedSnapshot) (a : Node) (disk s : ℕ) → IsSound stack → IsFitting stack state → IsTidy stack → IsTake stack state device chunk snapshot → IsRoot stack a.lower
     → Touches stack state a (node (Disk disk) s) → content zeros stack (taken_state state device chunk) (played zeros written at (chunk_copies stack state device chunk snapshot) values) (Disk disk) s ≡ content zeros stack state values (Disk disk) s

@@ -2,7 +2,7 @@
 use Rattle.std.proofs.Common.{◌≡◌, ℕ, ◌<◌, ◌≤◌, List, [], ◌∷◌, ◌++◌, refl, sym, ap, ◌∙◌, arith}
 use Rattle.dm_stack.specs.declared.id.Lower.{Lower}
 use Rattle.dm_stack.specs.declared.id.Lower.TheVariants.{Device, Disk}
-use Rattle.dm_stack.specs.lines.Below.{Below, Lies, IsZero, IsError}
+use Rattle.dm_stack.specs.lines.Below.{Below, Lies}
 use Rattle.dm_stack.specs.Description.{Description}
 use Rattle.dm_stack.specs.checks.Depth.{lower_depth}
 use Rattle.dm_stack.specs.checks.Soundness.{IsSound}
@@ -62,8 +62,7 @@ disk_is disk sector k x e = cc
 touches_below : (stack : Description) (state : State) (device sector disk x : ℕ) (b : Below) → read_below stack state device sector ≡ b → ((to : Lower) (at : ℕ) → b ≡ Lies to at → read stack state to at ≡ ReadOf disk x → Touches stack state (node to at) (node (Disk disk) x))
     → by_below b Zeros Fails (λ to at. read stack state to at) ≡ ReadOf disk x → Touches stack state (node (Device device) sector) (node (Disk disk) x)
 touches_below stack state device sector disk x (Lies to at) is each e = touch_first stack state _ _ _ (record { device = device; on = refl; below = is }) (each to at refl e)
-touches_below stack state device sector disk x IsZero is each e = absurd cc
-touches_below stack state device sector disk x IsError is each e = absurd cc
+touches_below stack state device sector disk x b is each e = absurd cc
 
 Ends : Description → State → Lower → Type 0
 Ends stack state lower = (sector disk x : ℕ) → read stack state lower sector ≡ ReadOf disk x → Touches stack state (node lower sector) (node (Disk disk) x)

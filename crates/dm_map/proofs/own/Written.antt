@@ -2,6 +2,7 @@
 use Rattle.std.proofs.Common.{◌≡◌, ◌⊎◌, inl, inr, ℕ, ◌-◌, ◌/◌, ◌<◌, Bool, true, false, cond, List, [], ◌∷◌, ◌++◌, Option, Some, None, length, refl, sym, ap, ◌∙◌, arith}
 use Rattle.std.specs.List.{AllByRecursion}
 use Rattle.std.proofs.lemmas.List.{append-nil}
+use Rattle.std.proofs.lemmas.Option.{same_Some}
 use Rattle.dm_stack.specs.declared.lines.resolved_line.ResolvedLine.{ResolvedLine}
 use Rattle.dm_stack.specs.declared.lines.resolved_line.ResolvedOrigin.{ResolvedOrigin}
 use Rattle.dm_stack.specs.declared.lines.resolved_line.ResolvedSnapshot.{ResolvedSnapshot}
@@ -30,7 +31,7 @@ use Rattle.dm_map.specs.state.Tables.{origin_at, snapshot_at}
 use Rattle.dm_map.specs.pieces.Units.{BlockUnit, ReadOf, WriteOf, Drops, Fails}
 use Rattle.dm_map.specs.own.Ways.{Node, node, Touches}
 use Rattle.dm_map.proofs.own.UniqueSteps.{IsRoot, IsUnserved, only_by_origin, only_by_store, fits, goes_on_inside}
-use Rattle.dm_map.proofs.state.ResolvedLines.{line_origin, line_snapshot, line_sound, origin_sound, snapshot_sound, some_is}
+use Rattle.dm_map.proofs.state.ResolvedLines.{line_origin, line_snapshot, line_sound, origin_sound, snapshot_sound}
 use Rattle.dm_map.proofs.own.HomeLemmas.{home_node, home_touched, node_is, touch_up}
 use Rattle.dm_map.proofs.walk.ReadSteps.{read_step, line_step}
 use Rattle.dm_map.proofs.walk.Spans.{below_is}
@@ -41,11 +42,12 @@ use Rattle.dm_map.proofs.walk.Overs.{overs}
 use Rattle.dm_map.proofs.walk.Rows.{and_then_at, step_assoc}
 use Rattle.dm_map.proofs.own.TakenInARow.{grown_same, ran}
 use Rattle.dm_map.proofs.walk.Served.{over_there, serve_settled, settled_on}
-use Rattle.dm_map.proofs.own.ServedRuns.{dues_append, each_served, serve_takes, takes_append}
+use Rattle.dm_map.proofs.own.ServedRuns.{each_served, serve_takes, takes_append}
 use Rattle.dm_map.proofs.walk.Settled.{write_keeps_settled}
 use Rattle.dm_map.proofs.walk.Stores.{store_read}
 use Rattle.dm_map.proofs.own.Takes.{snapshot_next}
 use Rattle.dm_map.proofs.own.WayLemmas.{Here, Before, back}
+use Rattle.dm_table.proofs.Lists.{all_append}
 
 pub record Written (stack : Description) (state : State) (lower : Lower) (sector : ℕ) (step : Step) : Type 0 where
   pub dues : List Due
@@ -121,14 +123,12 @@ record IsStoredUnit (stack : Description) (snapshot : ResolvedSnapshot) (taken :
 
 stored_unit : (stack : Description) (snapshot : ResolvedSnapshot) (taken : Taken) (sector disk x : ℕ) (valid : Bool) (number : Option ℕ) → taken.valid ≡ valid → number_in (sector / snapshot.chunk) taken.chunks ≡ number → cond valid (write_numbered stack snapshot number sector) Fails ≡ WriteOf disk x
     → IsStoredUnit stack snapshot taken sector disk x
-stored_unit stack snapshot taken sector disk x false number v n e = absurd (no_write Fails disk x (inl refl) e)
-stored_unit stack snapshot taken sector disk x true None v n e = absurd (no_write Fails disk x (inl refl) e)
 stored_unit stack snapshot taken sector disk x true (Some i) v n e = record { valid = v; number = i; is = n; home = e }
+stored_unit stack snapshot taken sector disk x valid number v n e = absurd (no_write Fails disk x (inl refl) e)
 
 unit_answers : (stack : Description) (snapshot : ResolvedSnapshot) (sector : ℕ) (valid : Bool) (number : Option ℕ) → answers (cond valid (write_numbered stack snapshot number sector) Fails) ≡ true
-unit_answers stack snapshot sector false number = refl
 unit_answers stack snapshot sector true None = refl
-unit_answers stack snapshot sector true (Some i) = refl
+unit_answers stack snapshot sector valid number = refl
 
 node_of_unit : (disk sector k x : ℕ) → WriteOf disk sector ≡ WriteOf k x → node (Disk disk) sector ≡ node (Disk k) x
 node_of_unit disk sector k x e = cc
@@ -215,7 +215,7 @@ origin_written stack state device sector line origin step sound fitting tidy ser
       dues = es ++ w.dues;
       last = w.last;
       is = cc (and_then_at first (λ x. write_step stack MOST_DEPTH origin.to x sector) (λ x. and_then (take_chunks stack w.dues x) last_step) w.is, step_assoc first (λ x. take_chunks stack w.dues x) last_step, takes_append stack es w.dues state);
-      each = dues_append stack es w.dues each w.each;
+      each = all_append (IsOfSnapshot stack) es w.dues each w.each;
       answered = w.answered;
       reads = λ disk x e. cc (read_next stack step.state device sector origin.to sector sound (goes step.state), w.reads disk x e);
       alone = λ disk x a e root unserved touches.
@@ -231,7 +231,7 @@ origin_written stack state device sector line origin step sound fitting tidy ser
 -- Each write
 
 held_is : (stack : Description) (device sector : ℕ) (line held : ResolvedLine) → found_at stack device sector ≡ Some line → has_state line.target ≡ false → found_at stack device sector ≡ Some held → has_state held.target ≡ false
-held_is stack device sector line held is plain held_at = rw (← some_is line held (sym is ∙ held_at)) plain
+held_is stack device sector line held is plain held_at = rw (← same_Some line held (sym is ∙ held_at)) plain
 
 plain_written : (stack : Description) (state : State) (device sector : ℕ) (line : ResolvedLine) (b : Below) (step : Step) → IsSound stack → IsFitting stack state → IsTidy stack → found_at stack device sector ≡ Some line → has_state line.target ≡ false
     → below_plain line.target (sector - line.start) ≡ b → ((to : Lower) → lower_depth stack to < lower_depth stack (Device device) → Writes stack to)

@@ -1,6 +1,5 @@
 -- Rows of legs on disks: their units leg by leg, and a sink that takes them.
-use Rattle.std.proofs.Common.{◌≡◌, ℕ, zero, suc, ◌+◌, ◌-◌, ◌<◌, ◌≤◌, List, [], ◌∷◌, ◌++◌, append_assoc, refl, sym, ap, subst, ◌∙◌, arith}
-use Rattle.std.proofs.lemmas.List.{append-nil}
+use Rattle.std.proofs.Common.{◌≡◌, ℕ, zero, suc, ◌+◌, ◌-◌, ◌<◌, ◌≤◌, List, [], ◌∷◌, ◌++◌, append_assoc, refl, sym, ap, ◌∙◌, arith}
 use Rattle.std.specs.Prelude.{Result, Ok, Err}
 use Rattle.std.specs.Result.{IsErr}
 use Rattle.dm_table.specs.declared.requests.request.Op.{Op}
@@ -70,16 +69,6 @@ took_leg {old} {middle} {new} {op} {legs} {leg} {units} lawful so_far on few sam
   stack = handed.stack ∙ so_far.stack;
   room = let more = handed.room in let before = so_far.room in omega (arith, more, before);
   on = legs_after _ legs leg.len few so_far.on;
-}
-
--- all of them
-pub took_legs : {S F : Type 0} {past : SinkPast S} {fine : Unit {0}} {old new : S} {op : Op} {all rest : LegsView} → rest.left ≡ 0 → HasTakenTo past old new op all rest → AreHanded {F = F} past (Ok fine) old new (legs_units op all)
-took_legs {past} {old} {new} {op} {all} {rest} none so_far = record {
-  took = subst (λ (us : List BlockUnit). past.took old us new) (sym (append-nil so_far.done) ∙ ap (λ (us : List BlockUnit). so_far.done ++ us) (sym (ap (line_units op rest.target rest.distance) none)) ∙ so_far.whole) so_far.took;
-  left = tt;
-  faults = let before = so_far.faults in omega (arith, before);
-  stack = so_far.stack;
-  room = so_far.room;
 }
 
 -- it failed at the next one

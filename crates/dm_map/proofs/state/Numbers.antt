@@ -1,21 +1,20 @@
 -- The numbers of chunks in a list, and their places in a store.
-use Rattle.std.proofs.Common.{◌≡◌, inl, inr, ℕ, zero, suc, ◌+◌, ◌-◌, ◌*◌, ◌/◌, ◌%◌, ◌<◌, ◌≤◌, Bool, true, false, cond, List, [], ◌∷◌, ◌++◌, Option, Some, None, length, get_or, take, nat_eq, refl, sym, ap, ◌∙◌, arith}
-use Rattle.std.specs.List.{AllByRecursion, IsDistinct}
+use Rattle.std.proofs.Common.{◌≡◌, ℕ, zero, suc, ◌+◌, ◌-◌, ◌*◌, ◌/◌, ◌%◌, ◌<◌, ◌≤◌, Bool, true, false, cond, List, [], ◌∷◌, ◌++◌, Option, Some, None, length, get_or, take, nat_eq, refl, sym, ap, ◌∙◌, arith}
+use Rattle.std.specs.List.{IsDistinct}
 use Rattle.std.specs.Prelude.{◌==◌, option_map}
-use Rattle.std.proofs.lemmas.Bool.{cases_order, eq-eqb, eqb-true, ne_eqb}
-use Rattle.std.proofs.Math.Nat.{mul-le-mul_right}
+use Rattle.std.proofs.lemmas.Bool.{eq-eqb, eqb-true, ne_eqb}
 use Rattle.std.proofs.lemmas.List.{take_more}
 use Rattle.std.proofs.lemmas.Map.Keys.{apart_from_distinct}
-use Rattle.std.proofs.lemmas.Nat.{div-add-mod'}
+use Rattle.std.proofs.lemmas.Nat.{div-add-mod', same_from_place}
 use Rattle.dm_stack.specs.lines.StoreLayout.{place}
 use Rattle.dm_stack.specs.declared.lines.resolved_line.ResolvedSnapshot.{ResolvedSnapshot}
 use Rattle.dm_stack.proofs.StoreLayoutLemmas.{place_one}
 use Rattle.dm_map.specs.state.Snapshots.{store_sector, number_in}
+use Rattle.dm_table.proofs.Lists.{all_append}
 
 none_parts : (b : Bool) (o : Option ℕ) → cond b (Some 0) (option_map suc o) ≡ None → (b ≡ false) × (o ≡ None)
-none_parts true o e = absurd cc
 none_parts false None e = (refl, refl)
-none_parts false (Some j) e = absurd cc
+none_parts b o e = absurd cc
 
 -- a chunk that isn't among the chunks before this number has this number, or none
 pub number_here : (c : ℕ) (xs : List ℕ) (i d : ℕ) → number_in c (take i xs) ≡ None → i < length xs → get_or xs i d ≡ c → number_in c xs ≡ Some i
@@ -25,17 +24,13 @@ number_here c (x ∷ xs) (suc i) d none below is =
     let parts = none_parts (x == c) (number_in c (take i xs)) none in
     rw (parts.0, number_here c xs i d parts.1 (omega arith) is) refl
 
-all_more : (P : ℕ → Type 0) (xs : List ℕ) (c : ℕ) → AllByRecursion P xs → P c → AllByRecursion P (xs ++ c ∷ [])
-all_more P [] c all p = (p, tt)
-all_more P (x ∷ xs) c all p = (all.0, all_more P xs c all.1 p)
-
 -- a chunk that isn't there makes no double
 pub distinct_more : (c : ℕ) (xs : List ℕ) → IsDistinct nat_eq xs → number_in c xs ≡ None → IsDistinct nat_eq (xs ++ c ∷ [])
 unfolding IsDistinct
 distinct_more c [] distinct none = (tt, tt)
 distinct_more c (x ∷ xs) distinct none =
     let parts = none_parts (x == c) (number_in c xs) none in
-    (all_more (λ y. nat_eq x y ≡ false) xs c distinct.0 parts.0, distinct_more c xs distinct.1 parts.1)
+    (all_append (λ y. nat_eq x y ≡ false) xs (c ∷ []) distinct.0 (parts.0, tt), distinct_more c xs distinct.1 parts.1)
 
 -- a list that grows: what was there keeps its number, and what comes last has the next one
 some_cons : (b : Bool) (o p : Option ℕ) (i : ℕ) → ((j : ℕ) → o ≡ Some j → p ≡ Some j) → cond b (Some 0) (option_map suc o) ≡ Some i → cond b (Some 0) (option_map suc p) ≡ Some i
@@ -84,20 +79,6 @@ number_distinct (x ∷ xs) (suc i) d distinct within =
 
 -- Whole parts and a rest
 
-less_parts : (q r p t m : ℕ) → q * m + r ≡ p * m + t → r < m → q < p → ⊥
-less_parts q r p t m e small less =
-    let most : (q + 1) * m ≤ p * m = mul-le-mul_right m (let l : q + 1 ≤ p = omega (arith, less) in l) in
-    let one : (q + 1) * m ≡ q * m + m = grind arith in
-    omega (arith, e, small, most, one)
-
--- a number is so in one way
-pub same_parts : (q r p t m : ℕ) → q * m + r ≡ p * m + t → r < m → t < m → (q ≡ p) × (r ≡ t)
-same_parts q r p t m e r_in t_in = elim (cases_order q p) [
-  | inl same ↦ (same, (let k : q * m ≡ p * m = cc in omega (arith, e, k)))
-  | inr (inl less) ↦ absurd (less_parts q r p t m e r_in less)
-  | inr (inr more) ↦ absurd (less_parts p t q r m (sym e) t_in more)
-]
-
 -- the sectors of a chunk
 pub chunk_rest : (c m u : ℕ) → c * m ≤ u → u < c * m + m → u % m ≡ u - c * m
 chunk_rest c m u low high =
@@ -105,7 +86,7 @@ chunk_rest c m u low high =
     let some : 0 < m = omega (arith, low, high) in
     let rest : u % m < m = omega (arith, some) in
     let k : c * m + (u - c * m) ≡ u = omega (arith, low) in
-    (same_parts (u / m) (u % m) c (u - c * m) m (whole ∙ sym k) rest (omega (arith, low, high))).1
+    (same_from_place (u / m) (u % m) c (u - c * m) m rest (omega (arith, low, high)) (whole ∙ sym k)).1
 
 pub of_chunk : (c m u : ℕ) → 0 < m → u / m ≡ c → (c * m ≤ u) × (u < c * m + m)
 of_chunk c m u some is =
@@ -123,7 +104,7 @@ stripe_back chunk_size n o some =
     let r_in : r < chunk_size = omega (arith, some) in
     let w_in : w % chunk_size < chunk_size = omega (arith, some) in
     let whole_w : w / chunk_size * chunk_size + w % chunk_size ≡ w = div-add-mod' w chunk_size in
-    let parts = same_parts (w / chunk_size) (w % chunk_size) q r chunk_size whole_w w_in r_in in
+    let parts = same_from_place (w / chunk_size) (w % chunk_size) q r chunk_size w_in r_in whole_w in
     let whole_c : q * n + o / chunk_size % n ≡ o / chunk_size = div-add-mod' (o / chunk_size) n in
     let whole_o : o / chunk_size * chunk_size + o % chunk_size ≡ o = div-add-mod' o chunk_size in
     cc
@@ -132,7 +113,7 @@ stripe_back chunk_size n o some =
 
 pub store_sector_parts : (snapshot : ResolvedSnapshot) (i j s t : ℕ) → 0 < snapshot.chunk → store_sector snapshot i s ≡ store_sector snapshot j t → (i ≡ j) × (s % snapshot.chunk ≡ t % snapshot.chunk)
 store_sector_parts snapshot i j s t some e =
-    let parts = same_parts (place snapshot.kind snapshot.chunk i) (s % snapshot.chunk) (place snapshot.kind snapshot.chunk j) (t % snapshot.chunk) snapshot.chunk e (omega (arith, some)) (omega (arith, some)) in
+    let parts = same_from_place (place snapshot.kind snapshot.chunk i) (s % snapshot.chunk) (place snapshot.kind snapshot.chunk j) (t % snapshot.chunk) snapshot.chunk (omega (arith, some)) (omega (arith, some)) e in
     (place_one snapshot.kind snapshot.chunk i j parts.0, parts.1)
 
 -- one number and one distance into the chunk are one sector

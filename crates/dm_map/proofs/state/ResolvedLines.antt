@@ -18,10 +18,6 @@ use Rattle.dm_stack.proofs.SameLine.{same_found}
 use Rattle.dm_stack.proofs.SoundLines.{HoldsSoundly, device_sound, lines_there, sector_found, there}
 use Rattle.dm_map.specs.state.Tables.{origin_at, origin_of, snapshot_at, snapshot_of}
 
--- what an option has is one value
-pub some_is : {X : Type 0} (a b : X) → Some a ≡ Some b → a ≡ b
-some_is a b e = cc
-
 -- A sector that has a line is before its device's end
 
 end_after : (end : ℕ) (line : Line) (lines : List Line) → AreInRow end (line ∷ lines) → end + line.len ≤ end_of (line ∷ lines)
@@ -43,7 +39,7 @@ line_inside end sector (first ∷ next ∷ lines) line row is =
 
 pub some_line : (stack : Description) (line : Option Line) (found : ResolvedLine) → option_map (resolved_line stack) line ≡ Some found → (it : Line) × (line ≡ Some it) × (resolved_line stack it ≡ found)
 some_line stack None found is = absurd cc
-some_line stack (Some it) found is = (it, refl, some_is _ _ is)
+some_line stack (Some it) found is = (it, refl, cc)
 
 -- what is said of the line of a sector
 pub record IsLineOf (stack : Description) (device sector : ℕ) (line : ResolvedLine) : Type 0 where
@@ -115,7 +111,7 @@ snapshot_sound stack device snapshot sound at =
       soundly = record { chunk_some = over.chunk_some; chunk_small = over.chunk_small; from = refl; whole = refl; origin = over.origin ∙ whole; store = over.store };
       each = λ sector line is.
           let inside = (line_sound stack device sector line sound is).inside in
-          let same = some_is line first.0 (sym is ∙ same_found stack device 0 sector first.0 sound of.there first.1 (omega (arith, from)) (omega (arith, from, whole, inside))) in
+          let same : line ≡ first.0 = cc (sym is ∙ same_found stack device 0 sector first.0 sound of.there first.1 (omega (arith, from)) (omega (arith, from, whole, inside))) in
           (cc, cc);
     }
 

@@ -1,15 +1,16 @@
 -- Tables take no more chunks than the stores of their snapshots have places.
-use Rattle.std.proofs.Common.{◌≡◌, ℕ, zero, suc, ◌<◌, ◌≤◌, Bool, List, Some, length, sym, ◌∙◌, arith}
+use Rattle.std.proofs.Common.{◌≡◌, ℕ, zero, suc, ◌<◌, ◌≤◌, Bool, true, List, Some, length, sym, ◌∙◌, arith}
 use Rattle.std.specs.Prelude.{slice_get}
 use Rattle.std.proofs.lemmas.Bool.{lt-ltb}
+use Rattle.std.proofs.lemmas.List.{length-map}
 use Rattle.dm_stack.specs.declared.lines.resolved_line.ResolvedSnapshot.{ResolvedSnapshot}
 use Rattle.dm_stack.specs.Description.{Description, lower_len}
 use Rattle.dm_stack.specs.lines.StoreLayout.{place_count}
 use Rattle.dm_stack.specs.checks.Soundness.{IsSound}
 use Rattle.dm_stack.proofs.StoreLayoutLemmas.{has_place}
 use Rattle.dm_stack.proofs.SoundLines.{there}
-use Rattle.dm_map.specs.state.Fitting.{IsWithinPlaces}
-use Rattle.dm_map.specs.state.Tables.{AreTables, snapshot_at, state_of}
+use Rattle.dm_map.specs.state.Fitting.{IsFitting, IsWithinPlaces}
+use Rattle.dm_map.specs.state.Tables.{AreTables, has_room, snapshot_at, state_of}
 use Rattle.dm_map.proofs.state.TableLemmas.{room_place, state_at}
 use Rattle.dm_map.proofs.state.ResolvedLines.{snapshot_sound}
 
@@ -35,3 +36,18 @@ within_places chunks valid places_of stack tables sound are fits device snapshot
     let few = most_within (length (chunks table.it)) (place_count snapshot.kind snapshot.chunk (lower_len stack snapshot.store)) (λ number less.
     within_store places_of stack tables device number table.it snapshot sound are is table.at (let fit = fits table.it in omega (arith, less, fit))) in
     rw kept few
+
+-- so the stack can be in their state
+pub fitting_tables : {T : Type 0} (chunks : T → List ℕ) (valid : T → Bool) (places_of : T → ℕ) (stack : Description) (tables : List T) → IsSound stack → AreTables places_of stack tables → ((table : T) → length (chunks table) ≤ places_of table)
+    → IsFitting stack (state_of chunks valid tables)
+fitting_tables chunks valid places_of stack tables sound are fits = record {
+  count = length-map tables (λ table. record { chunks = chunks table; valid = valid table }) ∙ are.count;
+  places = λ device number snapshot is less.
+      let over = snapshot_sound stack device snapshot sound is in
+      let table = there tables device (omega (arith, are.count, over.there)) in
+      let kept = state_at chunks valid tables device table.it table.at in
+      let few = fits table.it in
+      let taken : number < length (chunks table.it) = rw kept at less in
+      let room : has_room stack device number ≡ true = sym (are.room device number table.it table.at) ∙ lt-ltb number (places_of table.it) (omega (arith, taken, few)) in
+      rw is at room;
+}

@@ -1,5 +1,5 @@
 -- A chunk that was to be taken is settled, and stays so: the sectors of a chunk are written as one step, or all of them fail.
-use Rattle.std.proofs.Common.{◌≡◌, ℕ, zero, suc, ◌+◌, ◌/◌, ◌<◌, Bool, true, false, cond, not, List, [], ◌∷◌, Option, Some, None, length, refl, ap, ◌∙◌, arith}
+use Rattle.std.proofs.Common.{replicate, ◌≡◌, ℕ, zero, suc, ◌+◌, ◌/◌, ◌<◌, Bool, true, false, cond, not, List, [], ◌∷◌, Option, Some, None, length, refl, ap, ◌∙◌, arith}
 use Rattle.std.specs.Prelude.{◌&&◌, is_some}
 use Rattle.std.proofs.lemmas.Bool.{or_parts, or_right, not-false}
 use Rattle.std.proofs.lemmas.List.{get_or-set_same, get_or-set_other}
@@ -12,6 +12,11 @@ use Rattle.dm_map.specs.walk.Steps.{Step, keep, and_then, steps}
 use Rattle.dm_map.specs.pieces.Units.{BlockUnit, Fails, units_in}
 use Rattle.dm_map.proofs.state.Numbers.{number_new}
 use Rattle.dm_map.proofs.walk.Rows.{and_then_at, step_assoc, steps_still}
+
+pub none_at : (count device : ℕ) → taken_at (replicate count none_taken) device ≡ none_taken
+none_at zero device = refl
+none_at (suc count) zero = refl
+none_at (suc count) (suc device) = none_at count device
 
 pub taken_same : (state : State) (device : ℕ) (taken : Taken) → device < length state → taken_at (put state device taken) device ≡ taken
 taken_same state device taken there = get_or-set_same state device taken none_taken there

@@ -1,8 +1,10 @@
 -- A striped line whose columns are all on disks: a sink takes its legs in one go.
 use Rattle.std.proofs.Common.{◌≡◌, ℕ, zero, suc, ◌+◌, ◌≤◌, true, false, [], ◌∷◌, refl, sym, ap, ◌∙◌, arith}
 use Rattle.std.specs.Prelude.{Result}
+use Rattle.std.proofs.lemmas.Result.{on_ok_weaker}
 use Rattle.dm_table.specs.declared.requests.request.Op.{Op}
 use Rattle.dm_table.specs.declared.requests.request.Op.TheVariants as ops
+use Rattle.dm_table.proofs.Lists.{on_ok}
 use Rattle.dm_stack.specs.declared.id.Lower.TheVariants.{Disk}
 use Rattle.dm_stack.specs.declared.lines.resolved_line.ResolvedLine.{ResolvedLine}
 use Rattle.dm_stack.specs.declared.lines.resolved_line.ResolvedTarget.{ResolvedTarget}
@@ -21,7 +23,7 @@ use Rattle.dm_map.specs.walk.Range.{below_step, line_step, target_step}
 use Rattle.dm_map.specs.walk.Reads.{read_unit}
 use Rattle.dm_map.specs.walk.Steps.{Step, keep, steps}
 use Rattle.dm_map.proofs.walk.Ranges.{plain_step}
-use Rattle.dm_map.proofs.walk.Rows.{none_added, on_ok, on_ok_then, walked_as}
+use Rattle.dm_map.proofs.walk.Rows.{none_added, walked_as}
 
 -- its sectors that are left lie on disks
 pub legs_on_disks : (stack other : Description) (device : ℕ) (line : ResolvedLine) (legs : LegsView) (distance len : ℕ) → other ≡ stack → IsLine stack device line → distance + len ≤ line.len → has_disk_columns line.target ≡ true → legs ≡ record { target = line.target; distance = distance; left = len }
@@ -67,7 +69,7 @@ mapped_on_disks {past} {result} {old} {new} {walk} op levels device distance len
         took = same.took;
         state = on_ok result (walk.state ≡ walk.state) refl;
         kept = same.stack;
-        room = on_ok_then result ((past.view old).room ≤ (past.view new).room) ((past.view old).room ≤ (past.view new).room + len) (λ low. omega (arith, low)) same.room;
+        room = on_ok_weaker result (λ low. omega (arith, low)) same.room;
         left = same.left;
         faults = same.faults;
         stack = refl;

@@ -11,8 +11,6 @@ use Rattle.dm_table.specs.declared.tables.table.Target.TheVariants as targets
 use Rattle.dm_table.specs.declared.tables.table.Use.TheVariants.{Reading}
 use Rattle.dm_table.specs.declared.tables.table.Line.{Line}
 use Rattle.dm_table.specs.declared.tables.table.DeviceSpec.{DeviceSpec}
-use Rattle.dm_table.specs.declared.load.load_fault.LoadKind.{LoadKind}
-use Rattle.dm_table.specs.declared.load.load_fault.LoadFault.{LoadFault}
 use Rattle.dm_table.specs.declared.requests.request.Op.TheVariants as ops
 use Rattle.dm_stack.specs.declared.id.Lower.{Lower}
 use Rattle.dm_stack.specs.declared.id.Lower.TheVariants.{Device, Disk}
@@ -26,9 +24,10 @@ use Rattle.dm_stack.specs.checks.Graph.{links_of, greatest, depth_to}
 use Rattle.dm_stack.specs.declared.lines.resolved_line.ResolvedSnapshot.{ResolvedSnapshot}
 use Rattle.dm_stack.specs.lines.Below.{Below, Lies, IsZero, IsError, below, below_line, below_plain, below_target, resolved_line, resolved_target, found_at, holds, line_of}
 use Rattle.dm_stack.specs.lines.Over.{resolved_snapshot}
-use Rattle.dm_stack.specs.checks.Soundness.{IsSound, faults_by_id, depth_of}
+use Rattle.dm_stack.specs.checks.Soundness.{IsSound, depth_of}
 use Rattle.dm_stack.proofs.Passes.{passes_all}
 use Rattle.dm_stack.proofs.SoundLines.{found}
+use Rattle.dm_stack.proofs.DepthRule.{none_at}
 use Rattle.dm_map.specs.pieces.Units.{Zeros, Drops, Fails}
 use Rattle.dm_map.specs.walk.Serving.{serve}
 use Rattle.dm_map.specs.state.Snapshots.{number_in, read_numbered, read_over}
@@ -71,8 +70,7 @@ unfolding OnBelow
 on_plain stack P len target distance (Lies to at) each is =
     let in_span = plain_span stack len target distance to at is in
     subst (OnLower P) in_span.on (at_index (λ span. OnLower P (lower_of stack span.to)) (target_spans len target) (span_index (resolved_target stack target) distance) in_span.span (on_spans stack P (target_spans len target) each) in_span.is)
-on_plain stack P len target distance IsZero each is = tt
-on_plain stack P len target distance IsError each is = tt
+on_plain stack P len target distance b each is = tt
 
 -- a snapshot goes on in its store or its origin, where it goes on
 unfoldable pub GoesOn : (over : ResolvedSnapshot → ℕ → Below) (P : ℕ → Type 0) → Type 0
@@ -146,8 +144,7 @@ some_level g n k device h = omega (arith, h)
 pub same_below : {X : Type 0} (P : ℕ → Type 0) (b : Below) (zeros fails : X) (f h : Lower → ℕ → X) → OnBelow P b → ((to : Lower) (sector : ℕ) → OnLower P to → f to sector ≡ h to sector) → by_below b zeros fails f ≡ by_below b zeros fails h
 unfolding OnBelow
 same_below P (Lies to sector) zeros fails f h on same = same to sector on
-same_below P IsZero zeros fails f h on same = refl
-same_below P IsError zeros fails f h on same = refl
+same_below P b zeros fails f h on same = refl
 
 pub same_read : (stack : Description) (state : State) (n j k : ℕ) (lower : Lower) (sector : ℕ) → OnLower (IsShallow (links stack) n j k) lower → read_unit stack state j lower sector ≡ read_unit stack state k lower sector
 unfolding OnLower read_unit
@@ -184,17 +181,6 @@ same_write stack (suc n) (suc j) (suc k) (Device device) state sector h =
     cc (same_line (IsShallow (links stack) n j k) stack state device (found_at stack device sector) sector (λ to after s. write_step stack j to after s) (λ to after s. write_step stack k to after s) (on_below (read_over (taken_at state device)) stack (IsShallow (links stack) n j k) device sector (over_read (IsShallow (links stack) n j k) (taken_at state device)) (named_shallow (links stack) n j k device h)) (λ after to s on. same_write stack n j k to after s on))
 
 -- A sound stack is nowhere too deep
-
-cond_none : (fault : LoadFault) (later : List LoadFault) (b : Bool) → cond b (fault ∷ later) later ≡ [] → (b ≡ false) × (later ≡ [])
-cond_none fault later true e = absurd cc
-cond_none fault later false e = (refl, e)
-
-none_at : (kind : LoadKind) (bad : ℕ → Bool) (id i : ℕ) (devices : List DeviceSpec) → faults_by_id kind bad id devices ≡ [] → i < length devices → bad (id + i) ≡ false
-none_at kind bad id i [] e below = absurd (omega arith)
-none_at kind bad id zero (device ∷ devices) e below =
-    let same : id + 0 ≡ id = omega arith in rw same (cond_none _ _ (bad id) e).0
-none_at kind bad id (suc i) (device ∷ devices) e below =
-    let same : id + suc i ≡ suc id + i = omega arith in rw same (none_at kind bad (suc id) i devices (cond_none _ _ (bad id) e).1 (omega arith))
 
 pub shallow : (stack : Description) (device : ℕ) → IsSound stack → device < length stack.devices → depth_of stack device ≤ MOST_DEPTH
 shallow stack device sound there =

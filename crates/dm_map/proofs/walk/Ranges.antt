@@ -73,8 +73,7 @@ range_line stack op levels fewer device sector n state line more passes from eac
 
 read_step : (stack : Description) (levels : ℕ) (b : Below) (state : State) → keep (by_below b Zeros Fails (λ to sector. read_unit stack state levels to sector) ∷ []) state ≡ below_step stack ops.Read levels b state
 read_step stack levels (Lies to sector) state = refl
-read_step stack levels IsZero state = refl
-read_step stack levels IsError state = refl
+read_step stack levels b state = refl
 
 -- one sector of a target without a state
 pub plain_step : (stack : Description) (op : Op) (levels device : ℕ) (target : ResolvedTarget) (distance : ℕ) (state : State) → has_state target ≡ false → target_step stack op levels device target state distance ≡ below_step stack op levels (below_plain target distance) state

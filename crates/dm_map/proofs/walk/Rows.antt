@@ -2,8 +2,10 @@
 use Rattle.std.proofs.Common.{◌≡◌, ℕ, zero, suc, ◌+◌, ◌<◌, List, [], ◌∷◌, ◌++◌, append_assoc, refl, sym, ap, ◌∙◌, arith}
 use Rattle.std.proofs.lemmas.List.{append-nil}
 use Rattle.std.specs.Result.{IsErr}
-use Rattle.std.specs.Prelude.{nat_lt, true, ◌≤◌, replicate, Result, Ok, Err, OnOk, OnErr}
+use Rattle.std.specs.Prelude.{nat_lt, true, ◌≤◌, replicate, Result, Ok, Err}
+use Rattle.std.proofs.lemmas.Result.{on_err_weaker, on_ok_weaker}
 use Rattle.dm_table.specs.declared.requests.request.Op.{Op}
+use Rattle.dm_table.proofs.Lists.{on_ok}
 use Rattle.dm_stack.specs.Description.{Description, device_len}
 use Rattle.dm_map.specs.state.Counts.{AreAdded, Counts}
 use Rattle.dm_map.specs.pieces.Units.{BlockUnit, Fails, next_unit, units_in}
@@ -26,22 +28,6 @@ added_then first second third one two = record {
   few = omega (arith, one.searches, two.searches, one.few, two.few);
 }
 
--- What a sink took and left
-
--- what follows from what holds where there is a fault
-on_err_then : {T E : Type 0} (r : Result T E) (P Q : Type 0) → (P → Q) → OnErr r P → OnErr r Q
-on_err_then (Ok x) P Q f p = tt
-on_err_then (Err e) P Q f p = f p
-
--- what holds, holds where there is none, and so does what follows from it
-pub on_ok : {T E : Type 0} (r : Result T E) (P : Type 0) → P → OnOk r P
-on_ok (Ok x) P p = p
-on_ok (Err e) P p = tt
-
-pub on_ok_then : {T E : Type 0} (r : Result T E) (P Q : Type 0) → (P → Q) → OnOk r P → OnOk r Q
-on_ok_then (Ok x) P Q f p = f p
-on_ok_then (Err e) P Q f p = tt
-
 -- a walk whose step is said in another way
 pub walked_as : {S R F : Type 0} {past : SinkPast S} {result : Result R F} {old new : S} {before after : WalkerView} {step other : Step} {len : ℕ} → step ≡ other
     → IsWalked past result old new before after step len → IsWalked past result old new before after other len
@@ -54,7 +40,7 @@ walked_within {past} {result} {old} {new} {few} {len} within walked = record {
   took = walked.took;
   state = walked.state;
   kept = walked.kept;
-  room = on_ok_then result ((past.view old).room ≤ (past.view new).room + few) ((past.view old).room ≤ (past.view new).room + len) (λ low. omega (arith, low, within)) walked.room;
+  room = on_ok_weaker result (λ low. omega (arith, low, within)) walked.room;
   left = walked.left;
   faults = walked.faults;
   stack = walked.stack;
@@ -69,8 +55,8 @@ walked_piece {past} {result} {old} {new} {walk} {units} {diskless} {len} same fe
       took = piece.took;
       state = on_ok result (walk.state ≡ walk.state) refl;
       kept = piece.stack;
-      room = on_ok_then result ((past.view old).room ≤ (past.view new).room + diskless) ((past.view old).room ≤ (past.view new).room + len) (λ low. omega (arith, low, few)) piece.room;
-      left = on_err_then result (past.left old units new) (OfBeginning past.left old units new) (λ failed. record { front = units; rest = []; whole = append-nil units; holds = failed }) piece.left;
+      room = on_ok_weaker result (λ low. omega (arith, low, few)) piece.room;
+      left = on_err_weaker result (λ failed. record { front = units; rest = []; whole = append-nil units; holds = failed }) piece.left;
       faults = piece.faults;
       stack = refl;
       looked = none_added walk.looked;

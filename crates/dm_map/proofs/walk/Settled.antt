@@ -10,7 +10,7 @@ use Rattle.dm_stack.specs.declared.lines.resolved_line.ResolvedOver.{ResolvedOve
 use Rattle.dm_stack.specs.declared.lines.resolved_line.ResolvedSnapshot.{ResolvedSnapshot}
 use Rattle.dm_stack.specs.declared.lines.resolved_line.ResolvedTarget.{ResolvedTarget}
 use Rattle.dm_stack.specs.declared.lines.resolved_line.ResolvedTarget.TheVariants as founds
-use Rattle.dm_stack.specs.lines.Below.{Below, Lies, IsZero, IsError, below_plain, found_at}
+use Rattle.dm_stack.specs.lines.Below.{Below, Lies, below_plain, found_at}
 use Rattle.dm_stack.specs.Description.{Description, is_ro_at}
 use Rattle.dm_map.specs.walk.Mapping.{write_line, write_step, write_target}
 use Rattle.dm_map.specs.walk.Reads.{by_below}
@@ -81,8 +81,7 @@ Appends next = (to : Lower) (state : State) (sector : ℕ) → KeepsSettled stat
 below_keeps : (b : Below) (state : State) (next : Lower → State → ℕ → Step) → Appends next → KeepsSettled state (by_below b (keep (Drops ∷ []) state) (keep (Fails ∷ []) state) (λ to sector. next to state sector)).state
 unfolding Appends
 below_keeps (Lies to sector) state next keeps = keeps to state sector
-below_keeps IsZero state next keeps = keeps_same state
-below_keeps IsError state next keeps = keeps_same state
+below_keeps b state next keeps = keeps_same state
 
 -- a step that may fail before it begins
 fails_or_keeps : (failing : Bool) (state : State) (step : Step) → KeepsSettled state step.state → KeepsSettled state (cond failing (keep (Fails ∷ []) state) step).state

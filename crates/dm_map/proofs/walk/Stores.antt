@@ -19,13 +19,13 @@ use Rattle.dm_stack.specs.checks.Store.{is_plain, is_store_to, IsStore}
 use Rattle.dm_stack.proofs.SoundLines.{HoldsSoundly, found, sector_found, there}
 use Rattle.dm_map.specs.declared.walk.stretch.Ground.{Ground}
 use Rattle.dm_map.specs.declared.walk.stretch.Ground.TheVariants as grounds
-use Rattle.dm_map.specs.walk.Homes.{Home, home, home_to}
+use Rattle.dm_map.specs.walk.Homes.{home, home_to}
 use Rattle.dm_map.specs.walk.Reads.{read_unit}
 use Rattle.dm_map.specs.walk.SnapshotWrites.{read, row}
 use Rattle.dm_map.specs.state.Snapshots.{read_over}
 use Rattle.dm_map.specs.state.State.{State, taken_at}
 use Rattle.dm_map.specs.walk.Stretch.{ground_unit}
-use Rattle.dm_map.specs.pieces.Units.{BlockUnit, ReadOf, units_in}
+use Rattle.dm_map.specs.pieces.Units.{ReadOf, units_in}
 use Rattle.dm_stack.proofs.LegLemmas.{plain_inside}
 use Rattle.dm_stack.proofs.InStack.{device_there}
 use Rattle.dm_map.proofs.walk.Spans.{below_is, plain_span, span_index}
@@ -134,9 +134,6 @@ store_line stack levels device sector held store is =
     state_held stack levels device sector (line_of (lines_at stack device) sector) held (each_true (λ l. is_plain l.target && list_all (λ span. is_store_to stack levels (lower_of stack span.to)) (spans l)) (lines_at stack device) parts.1) refl is
 
 -- The reads of a store
-
-abbrev read_home : Home → BlockUnit
-read_home home = ReadOf home.disk home.sector
 
 pub store_read : (stack : Description) (state : State) (levels : ℕ) (lower : Lower) (sector : ℕ) → IsSound stack → is_store_to stack levels lower ≡ true → sector < lower_len stack lower
     → read_unit stack state levels lower sector ≡ ReadOf (home_to stack levels lower sector).disk (home_to stack levels lower sector).sector

@@ -10,7 +10,7 @@ ghost use Rattle.dm_stack.specs.Description.{device_len, is_ro_at, lower_len};
 ghost use Rattle.dm_stack.specs.checks.Soundness.{IsSound};
 ghost use Rattle.dm_stack.specs.declared.checks.limits.TheConstants.{MOST_LENGTH};
 ghost use Rattle.dm_map.specs.state.Counts.{counts_of, AreAdded};
-ghost use Rattle.dm_map.specs.state.Fitting.{IsWithinPlaces};
+ghost use Rattle.dm_map.specs.state.Fitting.{IsFitting, IsWithinPlaces};
 ghost use Rattle.dm_map.specs.state.State.{lost, put, with_chunk, taken_at};
 ghost use Rattle.dm_map.specs.state.Snapshots.{number_in};
 ghost use Rattle.dm_map.specs.state.Tables.{AreTables, has_room, state_of};
@@ -148,7 +148,8 @@ impl<'s, T: Taken> Walker<'s, T> {
     /// what is asked of it.
     #[inline(always)]
     pub(crate) fn recall_places(&self)
-        ensures { IsWithinPlaces self.now.stack self.now.state }
+        ensures within { IsWithinPlaces self.now.stack self.now.state }
+        ensures fits { IsFitting self.now.stack self.now.state }
     {
         self.looker.depth();
     }

@@ -4,6 +4,7 @@
 //! worked out sector by sector, by a plain program over the rules.
 
 ghost use Rattle.std.specs.Prelude.{◌≡◌};
+ghost use Rattle.dm_map.specs.state.State.{start_state};
 
 use super::*;
 use crate::run_text::write_runs;
@@ -257,8 +258,10 @@ fn replay_after<'s>(
     stop: Option<u64>,
     output: &mut ShortOut,
 ) -> Replay<'s, PlainTaken>
-    requires { replay.stack ≡ stack.now }
-    ensures { result.stack ≡ stack.now }
+    requires stack { replay.stack ≡ stack.now }
+    requires fresh { replay.start ≡ start_state stack.now }
+    ensures stack { result.stack ≡ stack.now }
+    ensures fresh { result.start ≡ start_state stack.now }
 {
     let request = parse_request(line.as_bytes(), number).expect(rt, "a request");
     let Some(units) = stop else {
@@ -335,7 +338,7 @@ fn what_is_not_halted(rt: HostRuntime) {
     let alloc = rt.alloc();
     for &(table, disks, line, want) in &NOT_HALTED {
         let stack = stack_of(&rt, alloc, table, disks);
-        let mut replay: Replay<'_, PlainTaken> = Replay::new(alloc, &stack).expect(&rt, "a replay");
+        let replay: Replay<'_, PlainTaken> = Replay::new(alloc, &stack).expect(&rt, "a replay");
         let request = parse_request(line.as_bytes(), 1).expect(&rt, "a request");
         assert_eq!(&rt;
             replay.halt(alloc, &request, 2).err(),
@@ -343,9 +346,9 @@ fn what_is_not_halted(rt: HostRuntime) {
             "{table}"
         );
         // That the replay has failed goes before that no top device has the name.
-        replay = Replay::new(alloc, &stack).expect(&rt, "a replay");
-        replay.failed = true;
-        let fault = replay.halt(alloc, &request, 2).err();
+        let mut spent: Replay<'_, PlainTaken> = Replay::new(alloc, &stack).expect(&rt, "a replay");
+        spent.failed = true;
+        let fault = spent.halt(alloc, &request, 2).err();
         assert_eq!(&rt; fault, Some(ReplayFault::Stopped), "{table}");
     }
 }

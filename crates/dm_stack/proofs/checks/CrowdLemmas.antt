@@ -15,8 +15,7 @@ use Rattle.dm_stack.specs.Description.{Description}
 use Rattle.dm_stack.specs.checks.StoreLimit.{all_places, places_of}
 use Rattle.dm_stack.specs.lines.Below.{resolved_target}
 use Rattle.dm_stack.specs.checks.Soundness.{HasGoodChunk, IsSound, WithBefore, all_lines, checks_after, target_places, with_before}
-use Rattle.dm_table.proofs.FaultLemmas.{first_fault-none}
-use Rattle.dm_stack.proofs.checks.Passes.{cond_none}
+use Rattle.dm_table.proofs.FaultLemmas.{first_fault-none, cond_none}
 use Rattle.dm_stack.proofs.checks.PlacedLemmas.{next_before}
 use Rattle.dm_stack.proofs.checks.WithBefore.{further_on}
 

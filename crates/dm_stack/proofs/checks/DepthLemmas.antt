@@ -39,10 +39,9 @@ depth_to-named g n d e named = omega (arith, greatest-above (λ x. depth_to g n 
 -- where a depth is below its bound, the bound plays no part
 pub depth_to-settled : (g : List (List ℕ)) (n m d : ℕ) → depth_to g n d < n → n ≤ m → depth_to g m d ≡ depth_to g n d
 unfolding depth_to
-depth_to-settled g zero m d below le = absurd (omega arith)
-depth_to-settled g (suc n) zero d below le = absurd (omega arith)
 depth_to-settled g (suc n) (suc m) d below le =
     ap suc (greatest-agree (λ e. depth_to g n e) (λ e. depth_to g m e) (links_of g d) n (omega arith) (λ e shallow. depth_to-settled g n m e shallow (omega arith)))
+depth_to-settled g n m d below le = absurd (omega arith)
 
 -- a device that reaches itself is as deep as it is followed
 pub depth_to-cycle : (g : List (List ℕ)) (n d : ℕ) → Reaches g d d → n ≤ depth_to g n d

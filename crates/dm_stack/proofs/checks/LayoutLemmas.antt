@@ -17,9 +17,8 @@ use Rattle.dm_table.proofs.Lists.{all_changed}
 -- The end of lines, with one more
 
 pub end_of-more : (lines : List Line) (line : Line) → end_of (lines ++ line ∷ []) ≡ line.start + line.len
-end_of-more [] line = refl
-end_of-more (first ∷ []) line = refl
 end_of-more (first ∷ next ∷ lines) line = end_of-more (next ∷ lines) line
+end_of-more lines line = refl
 
 pub end_of-next : (lines : List Line) (i : ℕ) (line : Line) → i < length lines → line ≡ get_or lines i line → end_of (take (i + 1) lines) ≡ line.start + line.len
 end_of-next lines i line within is =

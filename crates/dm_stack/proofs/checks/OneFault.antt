@@ -23,16 +23,11 @@ one_ring stack a b p q =
     let right : get_or stack.devices (length q.before) p.device ≡ q.device = rw q.split (get_or-append_seam q.before q.device q.after p.device) in
     cc (p.is, (left ∙ ap (λ (i : ℕ). get_or stack.devices i p.device) place ∙ right), sym q.is)
 
-same_fault : (found : Option LoadFault) (a b : LoadFault) → found ≡ Some a → found ≡ Some b → a ≡ b
-same_fault None a b e f = absurd cc
-same_fault (Some x) a b e f = cc
-
 some_none : (found : Option LoadFault) (a : LoadFault) → found ≡ Some a → found ≡ None → ⊥
-some_none None a e f = cc
-some_none (Some x) a e f = cc
+some_none found a e f = cc
 
 pub one_fault : (stack : Description) (a b : LoadFault) → IsRefusedBy stack a → IsRefusedBy stack b → a ≡ b
-one_fault stack a b (Early e) (Early f) = same_fault _ a b e f
+one_fault stack a b (Early e) (Early f) = cc (e, f)
 one_fault stack a b (Early e) (OnCycle f ring) = absurd (some_none _ a e f)
 one_fault stack a b (Early e) (Late f none after) = absurd (some_none _ a e f)
 one_fault stack a b (OnCycle e ring) (Early f) = absurd (some_none _ b f e)
@@ -40,7 +35,7 @@ one_fault stack a b (OnCycle e ring) (OnCycle f other) = one_ring stack a b ring
 one_fault stack a b (OnCycle e ring) (Late f none after) = absurd (no_cycle stack a none ring)
 one_fault stack a b (Late e none after) (Early f) = absurd (some_none _ b f e)
 one_fault stack a b (Late e none after) (OnCycle f ring) = absurd (no_cycle stack b none ring)
-one_fault stack a b (Late e none after) (Late f never last) = same_fault _ a b after last
+one_fault stack a b (Late e none after) (Late f never last) = cc (after, last)
 
 pub never_both : (stack : Description) (found : LoadFault) → IsSound stack → IsRefusedBy stack found → ⊥
 never_both stack found sound (Early e) = some_none _ found e sound.before

@@ -1,17 +1,13 @@
 -- What it says that a check finds nothing.
-use Rattle.std.proofs.Common.{◌≡◌, Bool, true, false, cond, List, [], ◌∷◌, ◌++◌, map, refl}
+use Rattle.std.proofs.Common.{◌≡◌, Bool, false, List, [], ◌∷◌, ◌++◌, map, refl}
 use Rattle.std.specs.Prelude.{filter}
 use Rattle.std.specs.List.{AllByRecursion}
 use Rattle.dm_table.specs.declared.load.place.Place.{Place}
 use Rattle.dm_table.specs.declared.load.load_fault.LoadKind.{LoadKind}
 use Rattle.dm_table.specs.load.LoadFault.{faults_by}
-use Rattle.dm_table.proofs.FaultLemmas.{first_fault-none}
+use Rattle.dm_table.proofs.FaultLemmas.{first_fault-none, cond_none}
 use Rattle.dm_stack.specs.Description.{Description}
 use Rattle.dm_stack.specs.checks.Soundness.{too_many, too_large, empty, misplaced, unknown, deep, stripe, range, snapshot, store, checks_before, checks_after, IsSound}
-
-pub cond_none : {X : Type 0} (x : X) (later : List X) (b : Bool) → cond b (x ∷ later) later ≡ [] → (b ≡ false) × (later ≡ [])
-cond_none x later true e = absurd cc
-cond_none x later false e = (refl, e)
 
 -- a check of each element passes them all
 pub faults_by_none : {X : Type 0} (kind : LoadKind) (place : X → Place) (bad : X → Bool) (xs : List X) → faults_by kind place bad xs ≡ [] → AllByRecursion (λ x. bad x ≡ false) xs

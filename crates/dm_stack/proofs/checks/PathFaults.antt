@@ -28,6 +28,5 @@ known_memory place bad xs (Err fault) found = λ memory. absurd (first_not_memor
 -- whether a name was found
 pub unknown_told : (found named : Option ℕ) (none : Bool) → is_some found ≡ not none → found ≡ named → none ≡ is_none named
 unknown_told None named true told same = ap is_none same
-unknown_told None named false told same = absurd cc
-unknown_told (Some id) named true told same = absurd cc
 unknown_told (Some id) named false told same = ap is_none same
+unknown_told found named none told same = absurd cc

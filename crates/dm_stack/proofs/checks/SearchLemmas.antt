@@ -17,9 +17,8 @@ IsVisited-below (v ∷ vs) zero is = omega arith
 IsVisited-below (v ∷ vs) (suc d) is = omega (arith, IsVisited-below vs d is)
 
 IsVisited-none : (n d : ℕ) → IsVisited (replicate n false) d → ⊥
-IsVisited-none zero d is = absurd cc
-IsVisited-none (suc n) zero is = absurd cc
 IsVisited-none (suc n) (suc d) is = IsVisited-none n d is
+IsVisited-none n d is = absurd cc
 
 marked_same : (visited : List Bool) (d : ℕ) → d < length visited → IsVisited (set visited d true) d
 marked_same visited d below = get_or-set_same visited d true false below

@@ -1,21 +1,18 @@
 -- The ids of snapshots, device by device.
-use Rattle.std.proofs.Common.{◌≡◌, ℕ, ◌+◌, ◌<◌, Bool, cond, List, [], ◌∷◌, ◌++◌, Some, arith, refl, sym, ap, ◌∙◌, get_or, length, map}
+use Rattle.std.proofs.Common.{◌≡◌, ℕ, ◌+◌, ◌<◌, Bool, cond, List, [], ◌∷◌, ◌++◌, Some, arith, refl, sym, ap, ◌∙◌, get_or, length}
 use Rattle.std.specs.Prelude.{filter, slice_get}
 use Rattle.std.specs.List.{range_with_len}
 use Rattle.std.proofs.lemmas.List.Elements.{filter-append}
 use Rattle.std.proofs.lemmas.List.FromFn.{map-range_with_len_more}
 use Rattle.std.proofs.lemmas.Option.{slice_get_read}
+use Rattle.std.proofs.lemmas.List.{map-id}
 use Rattle.dm_table.specs.declared.tables.table.DeviceSpec.{DeviceSpec}
 use Rattle.dm_stack.specs.Description.{lines_at, lines_or_none}
 use Rattle.dm_stack.specs.checks.Snapshots.{has_snapshot}
 
-map_same : (xs : List ℕ) → map (λ x. x) xs ≡ xs
-map_same [] = refl
-map_same (x ∷ xs) = rw (map_same xs)
-
 pub range_more : (n : ℕ) → range_with_len 0 (n + 1) ≡ range_with_len 0 n ++ n ∷ []
 range_more n =
-    rw (← map_same (range_with_len 0 n)) (sym (map_same (range_with_len 0 (n + 1))) ∙ map-range_with_len_more (λ (x : ℕ). x) 0 n n (omega arith))
+    rw (← map-id (range_with_len 0 n)) (sym (map-id (range_with_len 0 (n + 1))) ∙ map-range_with_len_more (λ (x : ℕ). x) 0 n n (omega arith))
 
 -- whether a device of a list has a snapshot's line
 abbrev pub is_over : List DeviceSpec → ℕ → Bool

@@ -58,9 +58,8 @@ line_store stack levels line =
     ∙ all_same (λ (span : Span). list_all (is_store_device stack levels) (ref_link stack span.to)) (λ span. is_store_to stack levels (lower_of stack span.to)) (spans line) (λ span. ref_store stack levels span.to)
 
 named_lines : (stack : Description) (devices : List DeviceSpec) (device : ℕ) → get_or (map (device_links stack) devices) device [] ≡ flat_map (line_links stack) (lines_or_none (slice_get devices device))
-named_lines stack [] device = refl
-named_lines stack (first ∷ devices) zero = refl
 named_lines stack (first ∷ devices) (suc device) = named_lines stack devices device
+named_lines stack devices device = refl
 
 store_step : (stack : Description) (levels device : ℕ) → is_store_device stack (suc levels) device ≡ (may_store (is_ro_at stack device) (lines_at stack device) && list_all (is_store_device stack levels) (links_of (links stack) device))
 unfolding is_store_to

@@ -38,9 +38,6 @@ claim_at stack device place column line lower at kind via = slice_get-map (span_
 
 -- Two of one device, line by line and column by column
 
-line_is : (a b : Line) → Some a ≡ Some b → a ≡ b
-line_is a b e = cc
-
 pub record AreOne (d e i j : ℕ) (l m : Line) : Type 0 where
   pub devices : d ≡ e
   pub lines : l ≡ m
@@ -51,7 +48,7 @@ by_device : (stack : Description) (d e p q i j : ℕ) (l m : Line) (x y : Claim)
 by_device stack d e p q i j l m x y same pairs on_p on_q at_i at_j never neither =
     let on_q = rw (← same) at on_q in let at_j = rw (← same) at at_j in
     let places : p ≡ q = same_part NeverMeet (line_claims stack d) (lines_at stack d) p q i j l m x y pairs on_p on_q at_i at_j never neither in
-    let lines : l ≡ m = line_is l m (sym on_p ∙ ap (slice_get (lines_at stack d)) places ∙ on_q) in
+    let lines : l ≡ m = cc (sym on_p ∙ ap (slice_get (lines_at stack d)) places ∙ on_q) in
     record { devices = same; lines = lines; columns = same_place NeverMeet (line_claims stack d l) i j x y (pairs_part NeverMeet (line_claims stack d) (lines_at stack d) p l pairs on_p) at_i (rw lines at_j) never neither }
 
 -- two columns that name one sector are one, where they may not share it

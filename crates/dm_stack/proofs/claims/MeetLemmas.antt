@@ -15,9 +15,8 @@ use Rattle.dm_stack.specs.claims.Sweep.{meets, rivals}
 
 pub same_is : (one other : Lower) → is_same_lower one other ≡ true → one ≡ other
 same_is (Device one) (Device other) e = rw (eqb-true one other e)
-same_is (Device one) (Disk other) e = absurd (true≢false (sym e))
-same_is (Disk one) (Device other) e = absurd (true≢false (sym e))
 same_is (Disk one) (Disk other) e = rw (eqb-true one other e)
+same_is one other e = absurd (true≢false (sym e))
 
 pub self_same : (lower : Lower) → is_same_lower lower lower ≡ true
 self_same (Device id) = eq-eqb id id refl
@@ -27,20 +26,14 @@ self_same (Disk id) = eq-eqb id id refl
 
 same_turn : (one other : Lower) → is_same_lower one other ≡ is_same_lower other one
 same_turn (Device one) (Device other) = grind arith
-same_turn (Device one) (Disk other) = refl
-same_turn (Disk one) (Device other) = refl
 same_turn (Disk one) (Disk other) = grind arith
+same_turn one other = refl
 
 pub share_turn : (one other : Use) → may_share one other ≡ may_share other one
 share_turn Own Own = refl
-share_turn Own Reading = refl
-share_turn Own Serving = refl
 share_turn Reading Own = refl
-share_turn Reading Reading = refl
-share_turn Reading Serving = refl
 share_turn Serving Own = refl
-share_turn Serving Reading = refl
-share_turn Serving Serving = refl
+share_turn one other = refl
 
 meets_turn : (one other : Claim) → meets one other ≡ meets other one
 meets_turn one other =

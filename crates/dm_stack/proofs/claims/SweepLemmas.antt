@@ -28,29 +28,22 @@ one_meets false start first end last reach le = grind (arith, le)
 rival_more : (kind other : Use) (last : ℕ) (reach : Reach)
     → rival_end other (record { own = max reach.own (own_end kind last); held = max reach.held (held_end kind last); all = max reach.all last }) ≡ max (rival_end other reach) (cond (may_share kind other) 0 last)
 rival_more Own Own last reach = refl
-rival_more Own Reading last reach = refl
-rival_more Own Serving last reach = refl
 rival_more Reading Own last reach = refl
-rival_more Reading Reading last reach = refl
-rival_more Reading Serving last reach = refl
 rival_more Serving Own last reach = refl
-rival_more Serving Reading last reach = refl
-rival_more Serving Serving last reach = refl
+rival_more kind other last reach = refl
 
 -- one claim more: whether it counts, and whether it is on the same device or disk
 one_more : (counts same : Bool) (kind other : Use) (start first end last : ℕ) (reach : Reach) → first ≤ start
     → (((counts && true) && (same && (nat_lt (max first start) (min last end) && not (may_share kind other)))) || (nat_lt start end && nat_lt start (rival_end other reach)))
     ≡ (nat_lt start end && nat_lt start (rival_end other (cond (counts && same) (record { own = max reach.own (own_end kind last); held = max reach.held (held_end kind last); all = max reach.all last }) reach)))
-one_more false same kind other start first end last reach le = refl
-one_more true false kind other start first end last reach le = refl
 one_more true true kind other start first end last reach le =
     rw (rival_more kind other last reach) (one_meets (may_share kind other) start first end last (rival_end other reach) le)
+one_more counts same kind other start first end last reach le = refl
 
 or_swap : (a b c : Bool) → ((a || b) || c) ≡ (b || (a || c))
 or_swap true true c = refl
-or_swap true false c = refl
 or_swap false true c = refl
-or_swap false false c = refl
+or_swap a b c = refl
 
 step : (count : ℕ) (one next : Numbered) (reach : Reach) → one.claim.start ≤ next.claim.start → nat_lt next.number count ≡ true
     → (rivals count one next || reach_meets reach next.claim) ≡ reach_meets (reach_next count next.claim.to reach one) next.claim
@@ -65,8 +58,7 @@ met_from count next below reach (one ∷ before) starts =
 
 none_reached : (start end : ℕ) (kind : Use) → (nat_lt start end && nat_lt start (rival_end kind no_reach)) ≡ false
 none_reached start end Own = grind arith
-none_reached start end Reading = grind arith
-none_reached start end Serving = grind arith
+none_reached start end kind = grind arith
 
 -- In the order of the starts, at the claim of a place
 

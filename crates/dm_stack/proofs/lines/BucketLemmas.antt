@@ -33,12 +33,10 @@ pub next_bucket : (bucket shift : ℕ) → bucket * 2 ^ shift ≤ (bucket + 1) *
 next_bucket bucket shift = mul-le-mul_right (2 ^ shift) (omega arith)
 
 earlier_or_last : (firsts : List ℕ) (index bucket : ℕ) → bucket < length (firsts ++ index ∷ []) → (bucket < length firsts) ⊎ (bucket ≡ length firsts)
-earlier_or_last firsts index bucket within =
-    let more = length-append firsts (index ∷ []) in
-    elim (cases_lt bucket (length firsts)) [
-      | inl earlier ↦ inl earlier
-      | inr later ↦ inr (omega (arith, within, more, later))
-    ]
+earlier_or_last firsts index bucket within = elim (cases_lt bucket (length firsts)) [
+  | inl earlier ↦ inl earlier
+  | inr later ↦ inr (omega (arith, within, length-append firsts (index ∷ []), later))
+]
 
 -- one more bucket, whose line is none of the earlier ones
 pub firsts_pushed : (lines : List ResolvedLine) (firsts : List ℕ) (index shift : ℕ) → AreFirsts lines firsts shift → ((bucket : ℕ) → bucket < length firsts → get_or firsts bucket 0 ≤ index)

@@ -147,8 +147,7 @@ rows_on_disk target distance n (beneath.Lies (Disk disk) sector) some is each fi
 rows_on_disk target distance n (beneath.Lies (Device device) sector) some is each first = let here = row_first target distance n (λ i. Lies (Device device) (sector + i)) some is in absurd cc
 rows_on_disk target distance n beneath.Zeros some is each first = let here = row_first target distance n (λ i. IsZero) some is in absurd cc
 rows_on_disk target distance n beneath.Errors some is each first = let here = row_first target distance n (λ i. IsError) some is in absurd cc
-rows_on_disk target distance n (beneath.Snapshot snapshot) some is each first = let other = ap has_disk_columns is in absurd cc
-rows_on_disk target distance n (beneath.Origin origin) some is each first = let other = ap has_disk_columns is in absurd cc
+rows_on_disk target distance n below some is each first = let other = ap has_disk_columns is in absurd cc
 
 -- so the next leg of a row on disks lies on one
 pub leg_on_disk : (stack : Description) (legs : LegsView) (leg : Leg) → AreOnDisks stack legs → IsLeg legs.target legs.distance legs.left leg → LiesOnDisk leg.below

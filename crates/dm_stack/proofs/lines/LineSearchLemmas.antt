@@ -83,26 +83,24 @@ past_end stack end (line ∷ lines) (suc index) sector row from = omega (arith, 
 in_row_held : (stack : Description) (end : ℕ) (lines : List Line) (index sector : ℕ) → AreInRow end lines → sector < end_of lines
     → StartsBy (map (resolved_line stack) lines) index sector → StartsAfter (map (resolved_line stack) lines) (suc index) sector
     → slice_get (map (resolved_line stack) lines) index ≡ option_map (resolved_line stack) (line_of lines sector)
-in_row_held stack end [] index sector row inside from next = absurd from
 in_row_held stack end (line ∷ []) zero sector row inside from next = rw (holds_from line sector from inside)
-in_row_held stack end (line ∷ []) (suc index) sector row inside from next = absurd from
 in_row_held stack end (line ∷ other ∷ lines) zero sector row inside from next = rw (holds_from line sector from (omega (arith, row.1.0, next)))
 in_row_held stack end (line ∷ other ∷ lines) (suc index) sector row inside from next =
     rw (holds_none line sector (past_end stack (line.start + line.len) (other ∷ lines) index sector row.1 from)) (in_row_held stack (line.start + line.len) (other ∷ lines) index sector row.1 inside from next)
+in_row_held stack end lines index sector row inside from next = absurd from
 
 -- what comes right after a line is in the next one
 in_row_next : (stack : Description) (end : ℕ) (lines : List Line) (index sector : ℕ) → AreInRow end lines → AllByRecursion (λ line. (line.len == 0) ≡ false) lines → sector < end_of lines
     → EndsAt (map (resolved_line stack) lines) index sector
     → StartsBy (map (resolved_line stack) lines) (suc index) sector × StartsAfter (map (resolved_line stack) lines) (suc (suc index)) sector
-in_row_next stack end [] index sector row filled inside ends = absurd ends
 in_row_next stack end (line ∷ []) zero sector row filled inside ends = absurd (omega (arith, inside, ends))
-in_row_next stack end (line ∷ []) (suc index) sector row filled inside ends = absurd ends
 in_row_next stack end (line ∷ other ∷ []) zero sector row filled inside ends = (omega (arith, row.1.0, ends), tt)
 in_row_next stack end (line ∷ other ∷ third ∷ lines) zero sector row filled inside ends =
     let some = positive other.len filled.1.0 in
     (omega (arith, row.1.0, ends), omega (arith, row.1.0, row.1.1.0, ends, some))
 in_row_next stack end (line ∷ other ∷ lines) (suc index) sector row filled inside ends =
     in_row_next stack (line.start + line.len) (other ∷ lines) index sector row.1 filled.1 inside ends
+in_row_next stack end lines index sector row filled inside ends = absurd ends
 
 -- The lines of a device
 

@@ -1,15 +1,16 @@
 -- Keys of names: what is kept of sixteen bytes, and that a key is of one name.
-use Rattle.std.proofs.Common.{◌≡◌, ℕ, zero, suc, ◌+◌, ◌-◌, ◌<◌, not, cond, Bool, true, List, [], ◌∷◌, ◌++◌, Some, get_or, length, map, take, drop, replicate, refl, sym, ap, ◌∙◌, arith, bit_and}
-use Rattle.std.specs.List.{All, list_any, prefix_len, slice_get, slice_range}
+use Rattle.std.proofs.Common.{◌≡◌, ℕ, zero, suc, ◌+◌, ◌-◌, ◌<◌, not, cond, Bool, true, List, [], ◌∷◌, ◌++◌, Some, get_or, length, take, drop, replicate, refl, sym, ap, ◌∙◌, arith, bit_and}
+use Rattle.std.specs.List.{All, list_any, slice_get, slice_range}
 use Rattle.std.proofs.Math.Seq.{take-append_seam}
 use Rattle.std.proofs.lemmas.Bool.{not-true}
 use Rattle.std.proofs.lemmas.List.{drop_more, take-append-drop}
 use Rattle.std.proofs.lemmas.List.Elements.{All-drop, All-same, All-take, All-weaker}
 use Rattle.std.proofs.lemmas.Nat.{and_le_r, and_mask}
-use lib.Lanes.{mask_l, zip2}
+use lib.Lanes.{zip2}
 use Rattle.dm_stack.specs.names.NameIndex.{ArePlaces, IsKeyOf, IsPlaceOf}
 use Rattle.dm_stack.specs.declared.names.name_index.Place.{Place}
 use Rattle.dm_stack.specs.declared.names.name_key.NameKey.{NameKey}
+use Rattle.dm_stack.proofs.claims.Parts.{get_left}
 
 -- What is kept
 
@@ -24,12 +25,6 @@ and_kept (byte ∷ bytes) zero (suc none) long within =
     let no : bit_and byte 0 ≡ 0 = omega (arith, and_le_r byte 0) in
     rw (no, rest)
 and_kept (byte ∷ bytes) zero zero long within = absurd (omega (arith, long))
-
--- The first lane of some
-
-pub some_lane : {X : Type 0} (p : X → Bool) (xs : List X) → 0 < mask_l (map p xs) → prefix_len (λ x. not (p x)) xs < length xs
-some_lane p [] some = absurd (omega (arith, some))
-some_lane p (x ∷ xs) some = grind (arith, some, some_lane p xs)
 
 -- One name
 
@@ -58,16 +53,11 @@ space_cut text len within is =
 
 -- Places of names
 
-slice_get_more : {X : Type 0} (xs ys : List X) (i : ℕ) (x : X) → slice_get xs i ≡ Some x → slice_get (xs ++ ys) i ≡ Some x
-slice_get_more [] ys i x e = absurd cc
-slice_get_more (first ∷ xs) ys zero x e = e
-slice_get_more (first ∷ xs) ys (suc i) x e = slice_get_more xs ys i x e
-
 -- a place stays one as names are added
 pub places_more : (names more : List (List ℕ)) (places : List Place) → ArePlaces names places → ArePlaces (names ++ more) places
 places_more names more places all =
     All-weaker (λ (place : Place). place.key.len < 16 → IsPlaceOf names place) (λ (place : Place). place.key.len < 16 → IsPlaceOf (names ++ more) place)
-    (λ place of short. let is = of short in record { name = is.name; key = is.key; found = slice_get_more names more place.number is.name is.found }) places all
+    (λ place of short. let is = of short in record { name = is.name; key = is.key; found = get_left names more place.number is.name is.found }) places all
 
 pub last_of : (names : List (List ℕ)) (name : List ℕ) → slice_get (names ++ name ∷ []) (length names) ≡ Some name
 last_of [] name = refl

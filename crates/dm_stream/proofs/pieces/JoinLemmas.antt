@@ -1,6 +1,5 @@
 -- What a join took and left at one piece.
 use Rattle.std.proofs.Common.{◌≡◌, ℕ, zero, suc, ◌+◌, ◌≤◌, Bool, true, false, List, [], ◌∷◌, ◌++◌, Option, Some, None, refl, sym, ap, subst, ◌∙◌, append_assoc, arith}
-use Rattle.std.specs.Prelude.{Result, Ok, Err, OnErr}
 use Rattle.std.proofs.lemmas.List.{append-nil}
 use Rattle.std.proofs.lemmas.Grind.{flat_map-append}
 use Rattle.dm_table.specs.io.DeviceIo.{since}
@@ -21,10 +20,9 @@ use Rattle.dm_stream.proofs.pieces.PieceLemmas.{fewest-apart, fewest-run, units_
 
 -- where a piece does not go on from another, that one is whole
 pub fewest-whole : (first after : BlockUnit) (len more : ℕ) (rest : List BlockUnit) → 1 ≤ len → 1 ≤ more → is_after first len after ≡ false → fewest (units_in first len ++ units_in after more ++ rest) ≡ fewest (units_in first len) ++ fewest (units_in after more ++ rest)
-fewest-whole first after zero more rest some one apart = absurd (omega arith)
-fewest-whole first after (suc len) zero rest some one apart = absurd (omega arith)
 fewest-whole first after (suc len) (suc more) rest some one apart =
     cc (append_assoc (units_in first (suc len)) (units_in after (suc more)) rest, fewest-apart first len after (units_in (next_unit after) more ++ rest) apart, fewest-run first len)
+fewest-whole first after len more rest some one apart = absurd (omega arith)
 
 -- what is held and a piece that does not go on from it
 pub held_apart : (stack : Description) (old : Option coded.Piece) (piece : coded.Piece) → IsHeld stack old → 1 ≤ piece_len piece → goes_on old piece ≡ false
@@ -91,10 +89,6 @@ left_apart old mid new piece w0 w1 some same emptied apart cut = record {
 
 -- Ranges of a row
 
-pub on_err : {T E : Type 0} (r : Result T E) (P : Type 0) → P → OnErr r P
-on_err (Ok x) P p = tt
-on_err (Err e) P p = p
-
 -- whether a range goes on from another one
 pub goes_on-range : (range next : DiskRange) (result : Bool) → result ≡ is_after (first_unit (piece_of range)) range.len (first_unit (piece_of next)) → goes_on (Some (piece_of range)) (piece_of next) ≡ result
 goes_on-range range next result is = rw (piece_len-range range.letter range.disk range.start range.len) (sym is)
@@ -110,11 +104,10 @@ pub apart_from : (held : Option coded.Piece) (range : DiskRange) → HoldsNoRang
 apart_from held range none = other_apart held range.letter range.disk range.start range.len none
   where
     other_apart : (held : Option coded.Piece) (is_write : Bool) (disk start len : ℕ) → HoldsNoRange held → goes_on held (range_piece is_write disk start len) ≡ false
-    other_apart None is_write disk start len none = refl
     other_apart (Some (kinds.Read from first n)) is_write disk start len none = absurd none
     other_apart (Some (kinds.Write from first n)) is_write disk start len none = absurd none
     other_apart (Some other) true disk start len none = refl
-    other_apart (Some other) false disk start len none = refl
+    other_apart held is_write disk start len none = refl
 
 -- a range and one that goes on from it, held as one
 pub took_joined : (old new : Pending) (piece : coded.Piece) (w : List ℕ) → new.stack ≡ old.stack → new.number ≡ old.number → held_units new.piece ≡ held_units old.piece ++ units_of piece → HasTaken old new (units_of piece) w w

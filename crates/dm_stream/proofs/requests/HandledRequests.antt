@@ -3,7 +3,7 @@ use Rattle.std.proofs.Common.{◌≡◌, ◌≤◌, ◌==◌, cond, true, false,
 use Rattle.std.specs.List.{onto_first}
 use Rattle.std.proofs.lemmas.Bool.{ltb-false}
 use Rattle.std.proofs.lemmas.List.{append-nil}
-use Rattle.dm_table.specs.io.DeviceIo.{Clean, Failed, InputPast, Open, Stand, delivery, since, stand_of}
+use Rattle.dm_table.specs.io.DeviceIo.{Clean, InputPast, Stand, delivery, since, stand_of}
 use Rattle.dm_stream.specs.requests.Lines.{Answer, ALine, ALong, line_parts, next_answer, rest_answer}
 use Rattle.dm_table.specs.io.Progress.{HasGrown, MetNothing}
 use Rattle.dm_table.specs.laws.Progress.{since-same}
@@ -43,11 +43,8 @@ by_test true found line e = cc
 by_test false found line e = (refl, cc)
 
 by_rest : (b : Bool) (stand : Stand) (rest line : List ℕ) → cond b ALong (rest_answer stand rest) ≡ ALine line → ⊥
-by_rest true stand rest line e = cc
 by_rest false Clean [] line e = cc
-by_rest false Clean (x ∷ xs) line e = cc
-by_rest false Failed rest line e = cc
-by_rest false Open rest line e = cc
+by_rest b stand rest line e = cc
 
 pub next_is : (stand : Stand) (parts : List (List ℕ)) (line : List ℕ) → next_answer stand parts ≡ ALine line → IsNextLine parts line
 next_is stand [] line e = absurd cc

@@ -2,7 +2,7 @@
 use Rattle.std.proofs.Common.{◌≡◌, ℕ, zero, suc, ◌+◌, ◌<◌, ◌≤◌, ◌++◌, ◌==◌, cond, Bool, true, false, List, [], ◌∷◌, length, get_or, take, drop, refl, sym, ap, ◌∙◌, arith, length-take, take-append-drop}
 use Rattle.std.specs.List.{onto_first}
 use Rattle.std.proofs.lemmas.List.Splits.{slice_split-cons_yes, slice_split-cons_no}
-use Rattle.std.proofs.lemmas.Bool.{le-ltb}
+use Rattle.std.proofs.lemmas.Bool.{le-ltb, false_from_ne_true}
 use Rattle.std.proofs.lemmas.List.{drop-drop}
 use Rattle.std.proofs.Math.Seq.{take-add}
 use Rattle.dm_table.specs.io.DeviceIo.{Stand}
@@ -12,15 +12,11 @@ use Rattle.dm_stream.specs.requests.Lines.{line_parts, next_answer, ALine}
 abbrev pub is_newline : ℕ → Bool
 is_newline b = b == 10
 
-not_true : (b : Bool) → (b ≡ true → ⊥) → b ≡ false
-not_true true h = absurd (h refl)
-not_true false h = refl
-
 -- without a newline there is one part
 pub parts_without : (xs : List ℕ) → ((k : ℕ) → k < length xs → is_newline (get_or xs k 0) ≡ true → ⊥) → line_parts xs ≡ xs ∷ []
 parts_without [] h = refl
 parts_without (x ∷ xs) h =
-    slice_split-cons_no is_newline x xs (not_true _ (h 0 (omega arith)))
+    slice_split-cons_no is_newline x xs (false_from_ne_true _ (h 0 (omega arith)))
     ∙ ap (onto_first x) (parts_without xs (λ k l e. h (suc k) (omega arith) e))
 
 -- the first part ends at the first newline
@@ -28,7 +24,7 @@ pub parts_first : (xs : List ℕ) (n : ℕ) → n < length xs → ((k : ℕ) →
 parts_first [] n l h e = absurd (omega arith)
 parts_first (x ∷ xs) zero l h e = slice_split-cons_yes is_newline x xs e
 parts_first (x ∷ xs) (suc n) l h e =
-    slice_split-cons_no is_newline x xs (not_true _ (h 0 (omega arith)))
+    slice_split-cons_no is_newline x xs (false_from_ne_true _ (h 0 (omega arith)))
     ∙ ap (onto_first x) (parts_first xs n (omega arith) (λ k l e. h (suc k) (omega arith) e) e)
 
 -- there is always a part

@@ -39,10 +39,6 @@ pub at_home : {S F : Type 0} {stack : Description} {op : Op} {len : ℕ} {old ne
     → OnOk r (HasTakenOrIsHome takes stack op len r old units new) → IsHome stack op len home units × (new ≡ old)
 at_home {F} {stack} {op} {len} {old} {new} {units} takes r home is took = rw is at took
 
-pub on_ok : {R F : Type 0} (r : Result R F) (P : Type 0) → P → OnOk r P
-on_ok (Ok done) P holds = holds
-on_ok (Err fault) P holds = tt
-
 pub state_at : {F : Type 0} (r : Result (Option Home) (MapFault F)) (answer : Option Home) (P : Type 0) → r ≡ Ok answer → OnOk r P → P
 state_at {F} r answer P is h = rw is at h
 
@@ -106,10 +102,6 @@ at_start stack number = record { stack = stack; number = number; piece = None }
 same_text : (stack : Description) (number : ℕ) (old : Pending) (pieces : List UnitRun) → old ≡ at_start stack number → pieces_text old.stack old.number pieces ≡ pieces_text stack number pieces
 same_text stack number old pieces e = cc
 
-text_kept : (old new : Pending) (pieces : List UnitRun) → new.stack ≡ old.stack → new.number ≡ old.number → pieces_text new.stack new.number pieces ≡ pieces_text old.stack old.number pieces
-text_kept old new pieces stack number =
-    cc
-
 -- all units were taken, and what was held was written, or cut short
 pub taken_wrote : {E : Type 0} {a b c : OutputPast} {result : Result (Unit {0}) E} (stack : Description) (number : ℕ) (old new : Pending) (units : List BlockUnit) → old ≡ at_start stack number → HasTaken old new units a.written b.written
     → HasWritten a b 0 → Wrote b c result (pieces_text new.stack new.number (fewest (held_units new.piece))) → Wrote a c result (pieces_text stack number (fewest units))
@@ -117,7 +109,7 @@ taken_wrote {a = a} {b = b} stack number old new units start taken moved wrote =
     let first = written_since a b in
     let last = pieces_text new.stack new.number (fewest (held_units new.piece)) in
     let whole : pieces_text stack number (fewest units) ≡ first ++ last =
-    cc (same_text stack number old (fewest units) start, taken_text old new units a.written b.written (cc) taken, text_kept old new (fewest (held_units new.piece)) taken.stack taken.number) in
+    cc (same_text stack number old (fewest units) start, taken_text old new units a.written b.written (cc) taken, taken.stack, taken.number) in
     and_then first last whole (record { moved = moved; ok = refl; left = tt }) wrote
 
 -- the line of a row of sectors is the text of all units

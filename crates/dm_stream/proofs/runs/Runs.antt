@@ -50,10 +50,6 @@ part_mapped stack fault e old new delivered w0 w1 Stopped ends stopped among =
     let requests = requests_of delivered in
     rw (ends, among.is) (stopped_at stack fault old new among.first among.later requests.ending w0 w1 (stopped among.first among.holds))
 
--- what is said of a writer from the start to the end is said of the output that it was borrowed from
-pub of_output : {X : Type 0} (P : X → X → Type 0) (first last old new : X) → first ≡ old → last ≡ new → P first last → P old new
-of_output P first last old new from to fact = rw (← from, ← to) fact
-
 -- nothing more is read then
 pub stopped_met : (old new : InputPast) (fault : NotMapped) (e : ending.Ending) → e ≡ ending_for fault → MetNothing old new → HasMet e old new
 stopped_met old new (causes.Unknown number) e is met = rw is met

@@ -189,10 +189,8 @@ pub(crate) fn put_other<W: Output>(
     }
 }
 
-/// Puts what a copy or a fill is, and a newline, at an offset in a block, and returns where they end. It is
-/// never inlined, since these are rare.
-#[cold]
-#[inline(never)]
+/// Puts what a copy or a fill is, and a newline, at an offset in a block, and returns where they end.
+#[inline(always)]
 fn put_copy_or_fill(
     block: &mut [u8],
     at: usize,
@@ -270,6 +268,7 @@ fn put_fill(
 }
 
 /// Puts a sector of a disk of the stack at an offset in a block: the name of the disk and the sector.
+#[inline(always)]
 fn put_sector(
     block: &mut [u8],
     at: usize,

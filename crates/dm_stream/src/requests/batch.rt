@@ -1,7 +1,7 @@
 //! Requests that are answered in batches, so that their waits for memory overlap.
 //!
 //! Over long tables an answer spends most of its time waiting for memory. So the requests at the front of the
-//! held bytes are all read, the handler is told of each, and only then is the first one answered. No input is
+//! held bytes are all read, the handler is told of them, and only then is the first one answered. No input is
 //! read in between, so no answer goes out later than it would one by one.
 //!
 //! This is here for speed alone: RESULTS.md has its gain as *batches and reading ahead*. It rests on `front`, and on
@@ -21,7 +21,7 @@ use arrayvec::ArrayVec;
 use dm_stack::Stack;
 
 /// The most requests of a batch.
-const MOST_FRONTS: usize = 16;
+pub(crate) const MOST_FRONTS: usize = 16;
 
 /// How many requests were answered, and how many bytes their lines have.
 #[derive(Drop)]
@@ -69,7 +69,7 @@ fn answer_batch<H: Handler>(
 {
     let mut fronts = ArrayVec::new();
     let len = read_fronts(stack, held, done, &mut fronts);
-    prefetch_fronts(stack, handler, &*source, &fronts);
+    handler.prefetch(stack, &*source, &fronts);
     if let Err(fault) = answer_all(stack, handler, source, &fronts) {
         return Err(fault);
     }
@@ -105,21 +105,6 @@ fn read_fronts<'a>(
         fronts.push(front);
     }
     len
-}
-
-/// Tells the handler of requests that come soon.
-fn prefetch_fronts<H: Handler>(
-    stack: &Stack,
-    handler: &mut H,
-    source: &H::Source,
-    fronts: &[Front<'_>],
-)
-    ensures answered { H.answered stack.now handler.old source.now [] handler.new source.now }
-    ensures ready { H.ready stack.now handler.old source.now → H.ready stack.now handler.new source.now }
-{
-    'fronts: for front in fronts {
-        handler.prefetch(stack, source, front.device, front.request.start);
-    }
 }
 
 /// Answers requests whose devices were found, one after the other.

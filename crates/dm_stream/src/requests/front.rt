@@ -20,9 +20,9 @@ const FRONT_ROOM: usize = 64;
 
 /// A request at the front of a text, its device, and the bytes of its line without the newline.
 #[derive(Drop)]
-pub(crate) struct Front<'a> {
-    pub(crate) request: Request<'a>,
-    pub(crate) device: DeviceId,
+pub struct Front<'a> {
+    pub request: Request<'a>,
+    pub device: DeviceId,
     pub(crate) len: usize,
 }
 

@@ -10,6 +10,7 @@ ghost use Rattle.dm_stack.specs.Description.{Description};
 ghost use Rattle.dm_stream.specs.runs.Outcome.{device_of};
 ghost use Rattle.dm_stream.specs.requests.Requests.{NumberedRequest, numbered};
 
+use crate::requests::front::Front;
 use dm_stack::{DeviceId, Stack};
 use dm_table::{InFault, Input, Request};
 
@@ -46,15 +47,15 @@ pub trait Handler {
         ensures stopped { IfErr result
             (λ fault. stopped stack.now self.old source.old (numbered request.now ∷ []) fault self.new source.new) };
 
-    /// Whether requests are read in batches: then `prefetch` is called for each of a batch before the first of them
-    /// is answered, which is worth its time where answers wait for memory. Asked once a run.
+    /// Whether requests are read in batches: then `prefetch` is called for a batch before the first of it is
+    /// answered, which is worth its time where answers wait for memory. Asked once a run.
     fn batches(&self, _stack: &Stack) -> bool {
         false
     }
 
-    /// A request of this device from this sector on was read, and will be answered soon: what its answer reads
-    /// first can be read now, so that the waits for memory of several requests overlap. Nothing is answered.
-    fn prefetch(&mut self, stack: &Stack, source: &Self::Source, device: DeviceId, start: u64)
+    /// These requests were read, and will be answered soon: what their answers read first can be read now, so that
+    /// the waits for memory overlap. Nothing is answered.
+    fn prefetch(&mut self, stack: &Stack, source: &Self::Source, fronts: &[Front<'_>])
         ensures answered { answered stack.now self.old source.now [] self.new source.now }
         ensures ready { ready stack.now self.old source.now → ready stack.now self.new source.now }
     {}

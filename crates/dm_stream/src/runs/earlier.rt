@@ -10,6 +10,7 @@ ghost use Rattle.dm_stream.specs.runs.Outcome.{requests_outcome};
 ghost use Rattle.dm_stream.specs.runs.Run.{CanMap, IsLeft};
 ghost use Rattle.dm_table.specs.io.DeviceIo.{delivery};
 
+use crate::requests::front::Front;
 use crate::requests::handler::{Handler, HandlesFrom, ReadsFrom};
 use crate::requests::handling::handle_requests;
 use crate::runs::ending::{Ending, RequestWord};
@@ -86,8 +87,8 @@ impl<'s, T: Taken> Handler for EarlierPlayer<'s, T> {
     }
 
     #[inline(always)]
-    fn prefetch(&mut self, stack: &Stack, mapper: &Mapper<'s, T>, device: DeviceId, start: u64) {
-        let read = read_ahead(stack, mapper, device, start);
+    fn prefetch(&mut self, stack: &Stack, mapper: &Mapper<'s, T>, fronts: &[Front<'_>]) {
+        let read = read_ahead(stack, mapper, fronts);
         self.prefetched = self.prefetched.wrapping_add(read);
     }
 }

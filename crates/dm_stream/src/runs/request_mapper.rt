@@ -14,9 +14,12 @@ ghost use Rattle.std.proofs.Common.{refl, ◌∙◌};
 
 use crate::pieces::disk_range::DiskRange;
 use crate::pieces::join::Join;
+use crate::requests::batch::MOST_FRONTS;
 use crate::requests::exchange::Exchange;
+use crate::requests::front::Front;
 use crate::requests::handler::{Handler, HandlesFrom, ReadsFrom};
 use crate::runs::ending::NotMapped;
+use arrayvec::ArrayVec;
 use dm_map::{MapFault, Mapper, Taken};
 use dm_stack::{DeviceId, Stack};
 use dm_table::{InFault, OutFault, Output, Request};
@@ -63,22 +66,30 @@ pub(crate) fn gains_by_reading_ahead(stack: &Stack) -> bool {
     !stack.snapshots().is_empty() || stack.has_buckets()
 }
 
-/// Reads what the answer to a request of this device from this sector on reads first, so that it is in the cache by
-/// then. What it read is returned, since a read of which nothing comes is left out.
+/// Reads what the answers to these requests read first, so that it is in the cache by then. What it read is returned,
+/// since a read of which nothing comes is left out.
+///
+/// Chunks are gathered first and then looked up in a row: with little between them, more of their waits overlap.
 #[inline(always)]
 pub(crate) fn read_ahead<T: Taken>(
     stack: &Stack,
     mapper: &Mapper<'_, T>,
-    device: DeviceId,
-    start: u64,
+    fronts: &[Front<'_>],
 ) -> u64 {
-    if let Some(starts) = stack.starts_ahead(device, start) {
-        return starts;
+    let mut read = 0;
+    let mut chunks = ArrayVec::<(DeviceId, u64), MOST_FRONTS>::new();
+    for front in fronts {
+        let start = front.request.start;
+        if let Some(starts) = stack.starts_ahead(front.device, start) {
+            read ^= starts;
+        } else if let Some(chunk) = stack.chunk_ahead(front.device, start) {
+            let _pushed = chunks.try_push((front.device, chunk));
+        }
     }
-    match stack.chunk_ahead(device, start) {
-        Some(chunk) => mapper.prefetch(device, chunk),
-        None => 0,
+    for (device, chunk) in &chunks {
+        read ^= mapper.prefetch(*device, *chunk);
     }
+    read
 }
 
 /// Writes the pieces that a mapper makes of requests.
@@ -154,8 +165,8 @@ impl<'s, T: Taken, W: Output> Handler for RequestMapper<'_, 's, T, W> {
     }
 
     #[inline(always)]
-    fn prefetch(&mut self, stack: &Stack, mapper: &Mapper<'s, T>, device: DeviceId, start: u64) {
-        let read = read_ahead(stack, mapper, device, start);
+    fn prefetch(&mut self, stack: &Stack, mapper: &Mapper<'s, T>, fronts: &[Front<'_>]) {
+        let read = read_ahead(stack, mapper, fronts);
         self.prefetched = self.prefetched.wrapping_add(read);
     }
 }

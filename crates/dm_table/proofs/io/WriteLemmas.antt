@@ -17,26 +17,26 @@ use Rattle.dm_table.specs.tables.LineHead.{target_head, body_head, columns_of}
 use Rattle.dm_table.specs.laws.Progress.{since_more}
 use Rattle.dm_table.proofs.tables.BodyRows.{columns_text}
 
--- a fault in the first part
-pub wrote_stop : {E : Type 0} (old new : OutputPast) (fault : E) (first rest text : List ℕ) → text ≡ first ++ rest
+-- a part with a fault, before the rest of the text
+pub stopped : {E : Type 0} {old new : OutputPast} {fault : E} {text : List ℕ} (first rest : List ℕ) → text ≡ first ++ rest
     → Wrote old new (Err fault) first → Wrote old new (Err fault) text
-wrote_stop old new fault first rest text is h = record {
+stopped first rest is h = record {
   moved = h.moved;
   ok = tt;
   left = (h.left.0, h.left.1 ++ rest, rw (is, h.left.2, append_assoc));
 }
 
--- one part written, and the next
-pub wrote_then : {E : Type 0} (old mid new : OutputPast) (result : Result (Unit {0}) E) (first next text : List ℕ) → text ≡ first ++ next
+-- a part that is written, before what comes of the next
+pub and_then : {E : Type 0} {old mid new : OutputPast} {result : Result (Unit {0}) E} {text : List ℕ} (first next : List ℕ) → text ≡ first ++ next
     → Wrote {E = E} old mid (Ok tt) first → Wrote mid new result next → Wrote old new result text
-wrote_then old mid new (Ok done) first next text is a b =
+and_then {old = old} {mid = mid} {new = new} {result = Ok done} first next is a b =
     let more = since_more old.written mid.written new.written a.moved.appends b.moved.appends in
     record {
       moved = written_more old mid new 0 a.moved b.moved;
       ok = cc;
       left = tt;
     }
-wrote_then old mid new (Err fault) first next text is a b =
+and_then {old = old} {mid = mid} {new = new} {result = Err fault} first next is a b =
     let more = since_more old.written mid.written new.written a.moved.appends b.moved.appends in
     record {
       moved = written_more old mid new 1 a.moved b.moved;
@@ -92,20 +92,6 @@ closed_flushed {E = E} old mid new result text wrote is =
       whole = λ well. absurd (well refl);
       failed = λ err. inr (cc, sym wrote.ok);
     }
-
--- The same, as answers cite them
-
--- a part with a fault, before the rest of the text
-pub stopped : {E : Type 0} {old new : OutputPast} {fault : E} {text : List ℕ} (first rest : List ℕ) → text ≡ first ++ rest
-    → Wrote old new (Err fault) first → Wrote old new (Err fault) text
-stopped {old = old} {new = new} {fault = fault} {text = text} first rest is h =
-    wrote_stop old new fault first rest text is h
-
--- a part that is written, before what comes of the next
-pub and_then : {E : Type 0} {old mid new : OutputPast} {result : Result (Unit {0}) E} {text : List ℕ} (first next : List ℕ) → text ≡ first ++ next
-    → Wrote {E = E} old mid (Ok tt) first → Wrote mid new result next → Wrote old new result text
-and_then {old = old} {mid = mid} {new = new} {result = result} {text = text} first next is a b =
-    wrote_then old mid new result first next text is a b
 
 -- the fault of a part as a function returns it
 pub fault_in : {E : Type 0} {old new : OutputPast} {fault : E} {text : List ℕ} (result : Result (Unit {0}) E) → IsErrAnd result (λ given. given ≡ fault)

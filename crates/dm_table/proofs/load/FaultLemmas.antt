@@ -3,7 +3,7 @@ use Rattle.std.proofs.Common.{◌≡◌, ◌≢◌, ◌≤◌, length, arith, in
 use Rattle.std.specs.List.{AllByRecursion}
 use Rattle.std.proofs.lemmas.Bool.{cases_Bool}
 use Rattle.dm_table.specs.declared.load.place.Part.{Part}
-use Rattle.dm_table.specs.declared.load.place.Part.TheVariants.{Source, Disks, Paths}
+use Rattle.dm_table.specs.declared.load.place.Part.TheVariants.{Source}
 use Rattle.dm_table.specs.declared.load.load_fault.LoadKind.{LoadKind}
 use Rattle.dm_table.specs.declared.load.load_fault.LoadKind.TheVariants.{Memory}
 use Rattle.dm_table.specs.declared.load.load_fault.LoadFault.{LoadFault}
@@ -38,15 +38,15 @@ first_fault-all (check ∷ checks) h = rw h.0 (first_fault-all checks h.1)
 
 -- What one check finds
 
-cond-nil : (b : Bool) (fault : LoadFault) (faults : List LoadFault) → cond b (fault ∷ faults) faults ≡ [] → (b ≡ false) × (faults ≡ [])
-cond-nil true fault faults e = absurd cc
-cond-nil false fault faults e = (refl, e)
+pub cond_none : {X : Type 0} (x : X) (later : List X) (b : Bool) → cond b (x ∷ later) later ≡ [] → (b ≡ false) × (later ≡ [])
+cond_none x later true e = absurd cc
+cond_none x later false e = (refl, e)
 
 -- nothing found: no element is bad
 pub faults_from-nil : {X : Type 0} (part : Part) (kind : LoadKind) (bad : X → Bool) (n : ℕ) (xs : List X) → faults_from part kind bad n xs ≡ [] → AllByRecursion (λ x. bad x ≡ false) xs
 faults_from-nil part kind bad n [] e = tt
 faults_from-nil part kind bad n (x ∷ xs) e =
-    let a = cond-nil (bad x) (fault_at part kind n) (faults_from part kind bad (suc n) xs) e in
+    let a = cond_none (fault_at part kind n) (faults_from part kind bad (suc n) xs) (bad x) e in
     (a.0, faults_from-nil part kind bad (suc n) xs a.1)
 
 -- no element is bad: nothing is found
@@ -104,10 +104,6 @@ faults_from-text part kind bad n (x ∷ xs) h = elim (cases_Bool (bad x)) [
   | inr e ↦ rw e (faults_from-text part kind bad (suc n) xs h)
 ]
 
-pub text-append : (a b : List LoadFault) → AllByRecursion IsOfText a → AllByRecursion IsOfText b → AllByRecursion IsOfText (a ++ b)
-text-append [] b h k = k
-text-append (fault ∷ a) b h k = (h.0, text-append a b h.1 k)
-
 pub unended-text : (part : Part) (n : ℕ) (rest : List ℕ) → AllByRecursion IsOfText (unended part n rest)
 unended-text part n [] = tt
 unended-text part n (byte ∷ bytes) = (λ e. cc, tt)
@@ -122,5 +118,4 @@ first_fault-text ((other ∷ faults) ∷ checks) fault h e = let same : other �
 
 pub part_short : (part : Part) → length (part_word part) ≤ 6
 part_short Source = omega arith
-part_short Disks = omega arith
-part_short Paths = omega arith
+part_short part = omega arith

@@ -65,8 +65,6 @@ record AreRead {R X : Type 0} (form : Form R X) (n : ℕ) (texts : List (List �
 
 are_read : {R X : Type 0} (form : Form R X) → IsLawful form → (n : ℕ) (texts : List (List ℕ)) (values : List X) → SayEach form.says n texts values → AreRead form n texts values
 are_read form law n [] [] say = record { text = tt; row = tt; values = tt; names = tt; read = refl }
-are_read form law n [] (value ∷ values) say = absurd say
-are_read form law n (text ∷ texts) [] say = absurd say
 are_read form law n (text ∷ texts) (value ∷ values) say =
     let first = law.again n text value say.0 in
     let more = are_read form law (suc n) texts values say.1 in
@@ -77,14 +75,14 @@ are_read form law n (text ∷ texts) (value ∷ values) say =
       names = (not_from_true _ first.names, more.names);
       read = rw (first.read, more.read) refl;
     }
+are_read form law n texts values say = absurd say
 
 -- what holds of each text that says a value holds of all
 pub each_said : {X : Type 0} (says : ℕ → List ℕ → X → Type 0) (P : List ℕ → Type 0) → ((n : ℕ) (text : List ℕ) (value : X) → says n text value → P text)
     → (n : ℕ) (texts : List (List ℕ)) (values : List X) → SayEach says n texts values → AllByRecursion P texts
 each_said says P so n [] [] say = tt
-each_said says P so n [] (value ∷ values) say = absurd say
-each_said says P so n (text ∷ texts) [] say = absurd say
 each_said says P so n (text ∷ texts) (value ∷ values) say = (so n text value say.0, each_said says P so (suc n) texts values say.1)
+each_said says P so n texts values say = absurd say
 
 -- Checks
 

@@ -1,5 +1,5 @@
 -- Rows read once, and the checks that run over all of them one after another: the first fault is the same.
-use Rattle.std.proofs.Common.{◌≡◌, ◌≢◌, OnOk, inl, inr, ℕ, suc, ◌+◌, Bool, true, false, not, List, [], ◌∷◌, ◌++◌, length, Option, Some, None, Result, Ok, Err, refl, sym, ap, ◌∙◌, arith}
+use Rattle.std.proofs.Common.{◌≡◌, ◌≢◌, OnOk, inl, inr, ℕ, suc, ◌+◌, Bool, true, not, List, [], ◌∷◌, ◌++◌, length, Option, Some, None, Result, Ok, Err, refl, sym, ap, ◌∙◌, arith}
 use Rattle.std.specs.Global.{Vec}
 use Rattle.std.proofs.lemmas.Bool.{cases_Bool}
 use Rattle.dm_table.specs.declared.load.place.Part.{Part}
@@ -10,7 +10,8 @@ use Rattle.dm_table.specs.declared.load.row_faults.RowFault.TheVariants as rows
 use Rattle.dm_table.specs.declared.load.row_faults.FirstFaults.{FirstFaults}
 use Rattle.dm_table.specs.load.LoadFault.{Answers, fault_at, first_or, first_fault, faults_from, row_checks, unended, unless}
 use Rattle.dm_table.specs.load.RowFaults.{Reads, first_failed, row_fault, fault_in, no_faults, either, noted, noted_at, noted_rows, noted_rest, first_noted, said_unless}
-use Rattle.dm_table.proofs.load.FaultLemmas.{Answers-unless, faults_from-text, first_fault-text, text-append, unended-text, unless-ok, unless-err}
+use Rattle.dm_table.proofs.load.FaultLemmas.{Answers-unless, faults_from-text, first_fault-text, unended-text, unless-ok, unless-err, IsOfText}
+use Rattle.dm_table.proofs.Lists.{all_append}
 
 -- one more fault of a kind, before what comes later
 either_more : (first : Option LoadFault) (fault : LoadFault) (later : Option LoadFault) → either (either first (Some fault)) later ≡ either first (Some fault)
@@ -63,7 +64,7 @@ pub noted_refused : {X : Type 0} (part : Part) (is_row has_values has_names : X 
     → (fault.kind ≢ Memory) × (first_fault (row_checks part is_row has_values has_names rows rest) ≡ Some fault)
 noted_refused part is_row has_values has_names rows rest fault h =
     let found : first_fault (row_checks part is_row has_values has_names rows rest) ≡ Some fault = sym (noted_checks part is_row has_values has_names rows rest) ∙ h in
-    let syntax = text-append (faults_from part Syntax (λ x. not (is_row x)) 1 rows) (unended part (length rows + 1) rest) (faults_from-text part Syntax (λ x. not (is_row x)) 1 rows (λ e. cc)) (unended-text part (length rows + 1) rest) in
+    let syntax = all_append IsOfText (faults_from part Syntax (λ x. not (is_row x)) 1 rows) (unended part (length rows + 1) rest) (faults_from-text part Syntax (λ x. not (is_row x)) 1 rows (λ e. cc)) (unended-text part (length rows + 1) rest) in
     let field = faults_from-text part Field (λ x. not (has_values x)) 1 rows (λ e. cc) in
     let name = faults_from-text part Name (λ x. not (has_names x)) 1 rows (λ e. cc) in
     (first_fault-text (row_checks part is_row has_values has_names rows rest) fault (syntax, (field, (name, tt))) found, found)
@@ -83,16 +84,13 @@ rows_answer {Y = Y} part is_row has_values has_names rows rest seen values all a
 -- a row without a fault passes all tests
 pub first_failed-none : (is_row has_values has_names : Bool) → first_failed is_row has_values has_names ≡ None → (is_row ≡ true) × (has_values ≡ true) × (has_names ≡ true)
 first_failed-none true true true h = (refl, refl, refl)
-first_failed-none true true false h = absurd cc
-first_failed-none true false has_names h = absurd cc
-first_failed-none false has_values has_names h = absurd cc
+first_failed-none is_row has_values has_names h = absurd cc
 
 -- a row that was read has no fault and says what was read; one that was refused has that fault, where each row without one says something
 
 pub said_read : {X : Type 0} (fault : Option RowFault) (said : Option X) (value : X) → said_unless fault said ≡ Ok value → (unless fault (tt {0}) ≡ Ok (tt {0})) × (said ≡ Some value)
-said_read None None value h = absurd cc
 said_read None (Some other) value h = let is : other ≡ value = cc in (refl, ap Some is)
-said_read (Some fault) said value h = absurd cc
+said_read fault said value h = absurd cc
 
 pub said_refused : {X : Type 0} (fault : Option RowFault) (said : Option X) (found : RowFault) → (fault ≡ None → (value : X) × (said ≡ Some value)) → said_unless fault said ≡ Err found → unless fault (tt {0}) ≡ Err found
 said_refused {X} None said found there h = let it = there refl in absurd (let no : ◌≡◌ {A = Result X RowFault} (Ok it.0) (Err found) = rw it.1 at h in cc)

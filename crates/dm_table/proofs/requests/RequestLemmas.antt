@@ -152,11 +152,9 @@ fault_of_two false values none = refl
 
 row_reading-numbers : (op : Op) (device : List ℕ) (more : List (List ℕ)) → is_device_name device ≡ true → ((m n : ℕ) → AreNumbers more m n → ⊥)
     → row_reading ((op_text op ∷ []) ∷ device ∷ more) ≡ Err (cond (are_two more) Number Form)
-row_reading-numbers op device [] named none = refl
-row_reading-numbers op device (start ∷ []) named none = refl
 row_reading-numbers op device (start ∷ len ∷ []) named none =
     rw (form_is op device start len named) (fault_of_two (are_two (start ∷ len ∷ [])) _ (unread (op_text op ∷ []) device start len none))
-row_reading-numbers op device (start ∷ len ∷ next ∷ more) named none = refl
+row_reading-numbers op device more named none = refl
 
 -- with an operation and a device, but without two numbers
 pub fault-numbers : (line : List ℕ) (op : Op) (device : List ℕ) (more : List (List ℕ)) → fields line ≡ (op_text op ∷ []) ∷ device ∷ more → is_device_name device ≡ true
@@ -195,13 +193,8 @@ row_op ((b ∷ []) ∷ device ∷ start ∷ len ∷ []) form =
     let letter = letter_of b (and_parts (is_op (b ∷ [])) _ form).0 in
     let rest = join_with_byte 32 (device ∷ start ∷ len ∷ []) in
     (letter.0, (rest, cc))
-row_op [] form = absurd cc
-row_op (op ∷ []) form = absurd cc
-row_op (op ∷ device ∷ []) form = absurd cc
-row_op (op ∷ device ∷ start ∷ []) form = absurd cc
-row_op ([] ∷ device ∷ start ∷ len ∷ []) form = absurd cc
-row_op ((b ∷ c ∷ op) ∷ device ∷ start ∷ len ∷ []) form = absurd cc
 row_op (op ∷ device ∷ start ∷ len ∷ next ∷ more) form = absurd cc
+row_op row form = absurd cc
 
 -- so a line that does not has not that form
 pub no_op : (line : List ℕ) → ((op : Op) (rest : List ℕ) → line ≢ op_text op ∷ 32 ∷ rest) → has_form (fields line) ≡ false

@@ -28,6 +28,7 @@ use Rattle.dm_table.specs.laws.NameLaws.{All-list_all}
 use Rattle.dm_table.proofs.words.ByteLemmas.{list_all-weaker, device_name_parts, disk_name_parts}
 use Rattle.dm_table.proofs.words.FieldLemmas.{IsClearOf}
 use Rattle.dm_table.proofs.tables.TableGroups.{same_name}
+use Rattle.dm_table.proofs.Lists.{mapped}
 
 -- The fields that a body is written with
 
@@ -53,9 +54,6 @@ dev_spelled text = elim (cases_Bool (names_device text)) [
 ]
 
 -- an option that is there after a map was there before it
-pub mapped : {X Y : Type 0} (f : X → Y) (o : Option X) (y : Y) → option_map f o ≡ Some y → (x : X) × (o ≡ Some x) × (f x ≡ y)
-mapped f None y h = absurd cc
-mapped f (Some x) y h = (x, refl, cc)
 
 -- two that are there together
 both_there : {X Y Z : Type 0} (make : X → Y → Z) (o : Option X) (p : Option Y) (z : Z) → if_both make o p ≡ Some z → (x : X) × (y : Y) × (o ≡ Some x) × (p ≡ Some y) × (make x y ≡ z)
@@ -278,8 +276,7 @@ dev_inked (Disk name) h = let a = disk_name_parts name h in (a.some, a.bytes)
 
 kind_inked : (kind : StoreKind) → IsInked (kind_text kind)
 kind_inked Persistent = (refl, refl)
-kind_inked Transient = (refl, refl)
-kind_inked Keeping = (refl, refl)
+kind_inked kind = (refl, refl)
 
 arguments_inked : (arguments : List Argument) → AllByRecursion IsArgument arguments → AllByRecursion IsInked (map argument_text arguments)
 arguments_inked [] h = tt
@@ -325,8 +322,7 @@ columns_again (column ∷ columns) h = rw (number_of-decimal column.offset h.1.0
 
 kind_again : (kind : StoreKind) → kind_in (kind_text kind) ≡ Some kind
 kind_again Persistent = refl
-kind_again Transient = refl
-kind_again Keeping = refl
+kind_again kind = refl
 
 target_again : (target : Target) → IsTarget target → target_in (target_fields target) ≡ Some target
 target_again (Striped chunk columns) h = rw (count_passes (decimal chunk) columns h.0, number_of-decimal chunk h.1.0, columns_again columns h.1.1)
@@ -344,8 +340,7 @@ body_row_passes line h =
 arguments_named : (arguments : List Argument) → AllByRecursion IsArgument arguments → list_all has_name arguments ≡ true
 arguments_named [] h = refl
 arguments_named (Lower to ∷ arguments) h = and_from _ _ h.0 (arguments_named arguments h.1)
-arguments_named (Amount n ∷ arguments) h = arguments_named arguments h.1
-arguments_named (Flag kind ∷ arguments) h = arguments_named arguments h.1
+arguments_named (argument ∷ arguments) h = arguments_named arguments h.1
 
 -- and say that body
 abbrev body_of : Line → Body

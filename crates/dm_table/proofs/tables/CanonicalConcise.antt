@@ -53,9 +53,8 @@ lines_some n (text ∷ texts) (line ∷ lines) at s some = omega arith
 
 lines_again : (n : ℕ) (texts : List (List ℕ)) (lines : List Line) → SaysLines n texts lines → SaysLines n (map body_text (lines_at (place_of n) lines)) (lines_at (place_of n) lines)
 lines_again n [] [] s = tt
-lines_again n [] (line ∷ lines) s = absurd s
-lines_again n (text ∷ texts) [] s = absurd s
 lines_again n (text ∷ texts) (line ∷ lines) s = (inl (inl refl), record { start = s.1.start; len = s.1.len; target = s.1.target }, refl, lines_again n texts lines s.3)
+lines_again n texts lines s = absurd s
 
 device_again : (n : ℕ) (text : List ℕ) (device : DeviceSpec) → SaysDevice n text device
     → SaysDevice n (device.name ++ flag_text device.ro ++ join_with_byte 44 (map body_text (lines_at (place_of n) device.lines))) (record { name = device.name; ro = device.ro; lines = lines_at (place_of n) device.lines; at = place_of n })
@@ -79,9 +78,8 @@ device_again n text device s =
 
 devices_again : (n : ℕ) (texts : List (List ℕ)) (devices : List DeviceSpec) → SayEach SaysDevice n texts devices → SayEach SaysDevice n (map concise_device (as_concise n devices)) (as_concise n devices)
 devices_again n [] [] s = tt
-devices_again n [] (device ∷ devices) s = absurd s
-devices_again n (text ∷ texts) [] s = absurd s
 devices_again n (text ∷ texts) (device ∷ devices) s = (device_again n text device s.0, devices_again (suc n) texts devices s.1)
+devices_again n texts devices s = absurd s
 
 -- what a text says, the text that is written says
 written_says : (text : List ℕ) (said : List DeviceSpec) → DescribesConcise text said → DescribesConcise (concise_text said) (as_concise 1 said)

@@ -67,9 +67,8 @@ IsSayable named = (is_device_name named.name ≡ true) × IsBody named.line
 
 sayable : (n : ℕ) (texts : List (List ℕ)) (ns : List NamedLine) → SayEach SaysLine n texts ns → AllByRecursion IsSayable ns
 sayable n [] [] s = tt
-sayable n [] (named ∷ ns) s = absurd s
-sayable n (text ∷ texts) [] s = absurd s
 sayable n (text ∷ texts) (named ∷ ns) s = ((s.0.1.name, s.0.1.body), sayable (suc n) texts ns s.1)
+sayable n texts ns s = absurd s
 
 said_again : (n : ℕ) (ns : List NamedLine) → AllByRecursion IsSayable ns → SayEach SaysLine n (map line_text (numbered n ns)) (numbered n ns)
 unfolding numbered
@@ -90,9 +89,8 @@ described_as n [] h = tt
 described_as n (device ∷ devices) h = (record { writable = refl; at = described_lines n device.lines device.at h.0.at }, described_as (n + length device.lines) devices h.1)
 
 apart_as : (n : ℕ) (devices : List DeviceSpec) → DifferInName devices → DifferInName (as_table n devices)
-apart_as n [] h = tt
-apart_as n (device ∷ []) h = tt
 apart_as n (device ∷ next ∷ devices) h = (h.0, apart_as (n + length device.lines) (next ∷ devices) h.1)
+apart_as n devices h = tt
 
 -- what a text says, the text that is written says
 written_says : (text : List ℕ) (said : List DeviceSpec) → DescribesTable text said → DescribesTable (table_text said) (as_table 1 said)

@@ -5,6 +5,7 @@ use Rattle.std.specs.List.{list_all}
 use Rattle.std.specs.Option.{option_to_list}
 use Rattle.std.proofs.lemmas.Bool.{and_parts}
 use Rattle.std.proofs.lemmas.List.{take_rest, drop_more}
+use Rattle.std.proofs.Math.Bool.{and-false}
 use denote.Ref.{Bor}
 use Rattle.dm_table.specs.declared.tables.table.Line.{Line}
 use Rattle.dm_table.specs.declared.tables.table.DeviceSpec.{DeviceSpec}
@@ -24,72 +25,45 @@ use Rattle.dm_table.specs.tables.ConciseReading.{earlier_of, fault_of_body, faul
 use Rattle.dm_table.proofs.load.FaultLemmas.{unless-ok, unless-err}
 use Rattle.dm_table.proofs.load.RowFaultLemmas.{first_failed-none, read_clear, said_refused}
 use Rattle.dm_table.proofs.load.Forms.{said_after}
-use Rattle.dm_table.proofs.tables.TargetRows.{and_false}
 
 -- The earlier of two
 
 pub earlier_of-none : (fault : Option RowFault) → earlier_of fault None ≡ fault
-earlier_of-none None = refl
 earlier_of-none (Some Syntax) = refl
-earlier_of-none (Some Field) = refl
-earlier_of-none (Some Name) = refl
-earlier_of-none (Some Memory) = refl
+earlier_of-none fault = refl
 
 -- one more fault of a field or of a name changes nothing before one of a field
 field_again : (c : Option RowFault) → (earlier_of (Some Field) (earlier_of (Some Field) c) ≡ earlier_of (Some Field) c) × (earlier_of (Some Name) (earlier_of (Some Field) c) ≡ earlier_of (Some Field) c)
-field_again None = (refl, refl)
 field_again (Some Syntax) = (refl, refl)
-field_again (Some Field) = (refl, refl)
-field_again (Some Name) = (refl, refl)
-field_again (Some Memory) = (refl, refl)
+field_again c = (refl, refl)
 
 pub earlier_of-more : (a b c : Option RowFault) → b ≢ Some Memory → earlier_of (earlier_of a b) c ≡ earlier_of a (earlier_of b c)
-earlier_of-more None b c h = refl
 earlier_of-more (Some a) None c h = rw (earlier_of-none (Some a))
 earlier_of-more (Some a) (Some Memory) c h = absurd (h refl)
-earlier_of-more (Some Syntax) (Some b) c h = refl
-earlier_of-more (Some Memory) (Some b) c h = refl
 earlier_of-more (Some Field) (Some Syntax) c h = refl
 earlier_of-more (Some Field) (Some Field) c h = sym (field_again c).0
 earlier_of-more (Some Field) (Some Name) None h = refl
-earlier_of-more (Some Field) (Some Name) (Some other) h = refl
-earlier_of-more (Some Name) (Some Syntax) c h = refl
 earlier_of-more (Some Name) (Some Field) c h = sym (field_again c).1
 earlier_of-more (Some Name) (Some Name) None h = refl
-earlier_of-more (Some Name) (Some Name) (Some other) h = refl
+earlier_of-more a b c h = refl
 
 never_memory : (row known named : Bool) → first_failed row known named ≢ Some Memory
 never_memory true true true e = absurd cc
-never_memory true true false e = absurd cc
-never_memory true false named e = absurd cc
-never_memory false known named e = absurd cc
+never_memory row known named e = absurd cc
 
 -- where there is no earlier of two, there is neither
 pub earlier_of-clear : (a b : Option RowFault) → earlier_of a b ≡ None → (a ≡ None) × (b ≡ None)
 earlier_of-clear None b h = (refl, h)
-earlier_of-clear (Some Syntax) b h = absurd cc
-earlier_of-clear (Some Memory) b h = absurd cc
-earlier_of-clear (Some Field) None h = absurd cc
 earlier_of-clear (Some Field) (Some Syntax) h = absurd cc
-earlier_of-clear (Some Field) (Some Field) h = absurd cc
-earlier_of-clear (Some Field) (Some Name) h = absurd cc
-earlier_of-clear (Some Field) (Some Memory) h = absurd cc
 earlier_of-clear (Some Name) None h = absurd cc
-earlier_of-clear (Some Name) (Some other) h = absurd cc
+earlier_of-clear a b h = absurd cc
 
 -- the tests of two parts are those of both together
 earlier_of_rows : (r1 l1 h1 r2 l2 h2 : Bool) → earlier_of (first_failed r1 l1 h1) (first_failed r2 l2 h2) ≡ first_failed (r1 && r2) (l1 && l2) (h1 && h2)
 earlier_of_rows false l1 h1 r2 l2 h2 = refl
-earlier_of_rows true false h1 false l2 h2 = refl
-earlier_of_rows true true true false l2 h2 = refl
-earlier_of_rows true true false false l2 h2 = refl
-earlier_of_rows true false h1 true false h2 = refl
 earlier_of_rows true false h1 true true true = refl
-earlier_of_rows true false h1 true true false = refl
-earlier_of_rows true true true true l2 h2 = refl
-earlier_of_rows true true false true false h2 = refl
 earlier_of_rows true true false true true true = refl
-earlier_of_rows true true false true true false = refl
+earlier_of_rows r1 l1 h1 r2 l2 h2 = refl
 
 bodies_fault : (bodies : List (List ℕ)) → fault_of_bodies bodies
     ≡ first_failed (list_all (λ body. is_body_row (body_fields body)) bodies) (list_all (λ body. is_body (body_fields body)) bodies) (list_all (λ body. has_body_names (body_fields body)) bodies)
@@ -112,43 +86,33 @@ device_read r n text es on_a_line line cut h =
 -- Entries in hand
 
 pub few_entries : (n : ℕ) (on_a_line : Bool) (es : List (Bor (List ℕ))) → length es < 4 → entries_reading n on_a_line (texts es) ≡ Err Syntax
-few_entries n on_a_line [] h = rw (and_false on_a_line)
-few_entries n on_a_line (a ∷ []) h = rw (and_false on_a_line)
-few_entries n on_a_line (a ∷ b ∷ []) h = rw (and_false on_a_line)
-few_entries n on_a_line (a ∷ b ∷ c ∷ []) h = rw (and_false on_a_line)
 few_entries n on_a_line (a ∷ b ∷ c ∷ d ∷ es) h = absurd (omega arith)
+few_entries n on_a_line es h = rw (and-false on_a_line)
 
 pub entries_fault : (n : ℕ) (on_a_line : Bool) (es : List (Bor (List ℕ))) (fault : RowFault) (label : Option RowFault) → 4 ≤ length es → label ≡ fault_of_label on_a_line (texts es)
     → bodies_reading (place_of n) label (texts (take (length es - 4) (drop 4 es))) ≡ Err fault → entries_reading n on_a_line (texts es) ≡ Err fault
-entries_fault n on_a_line [] fault label h is r = absurd (omega arith)
-entries_fault n on_a_line (a ∷ []) fault label h is r = absurd (omega arith)
-entries_fault n on_a_line (a ∷ b ∷ []) fault label h is r = absurd (omega arith)
-entries_fault n on_a_line (a ∷ b ∷ c ∷ []) fault label h is r = absurd (omega arith)
 entries_fault n on_a_line (a ∷ b ∷ c ∷ d ∷ es) fault label h is r =
     let found = unless-err (earlier_of (fault_of_label on_a_line (texts (a ∷ b ∷ c ∷ d ∷ es))) (fault_of_bodies (texts es))) (lines_in (place_of n) (texts es)) fault (rw (take_rest (a ∷ b ∷ c ∷ d ∷ es) 4, is) at r) in
     rw found
+entries_fault n on_a_line es fault label h is r = absurd (omega arith)
 
 pub entries_read : (n : ℕ) (on_a_line : Bool) (es : List (Bor (List ℕ))) (k e : Bor (List ℕ)) (lines : List Line) (label : Option RowFault) → 4 ≤ length es → label ≡ fault_of_label on_a_line (texts es)
     → bodies_reading (place_of n) label (texts (take (length es - 4) (drop 4 es))) ≡ Ok lines
     → entries_reading n on_a_line (texts es) ≡ Ok (record { name = (slice_index_or es 0 k).now; ro = is_ro (slice_index_or es 3 e).now; lines = lines; at = place_of n })
-entries_read n on_a_line [] k e lines label h is r = absurd (omega arith)
-entries_read n on_a_line (a ∷ []) k e lines label h is r = absurd (omega arith)
-entries_read n on_a_line (a ∷ b ∷ []) k e lines label h is r = absurd (omega arith)
-entries_read n on_a_line (a ∷ b ∷ c ∷ []) k e lines label h is r = absurd (omega arith)
 entries_read n on_a_line (a ∷ b ∷ c ∷ d ∷ es) k e lines label h is r =
     let v = unless-ok (earlier_of (fault_of_label on_a_line (texts (a ∷ b ∷ c ∷ d ∷ es))) (fault_of_bodies (texts es))) (lines_in (place_of n) (texts es)) lines (rw (take_rest (a ∷ b ∷ c ∷ d ∷ es) 4, is) at r) in
     rw (v.0, v.1)
+entries_read n on_a_line es k e lines label h is r = absurd (omega arith)
 
 -- the first entry is a name where lines are read
 pub entries_named : (n : ℕ) (on_a_line : Bool) (es : List (Bor (List ℕ))) (k : Bor (List ℕ)) (bodies : List (List ℕ)) (lines : List Line) (label : Option RowFault) → 4 ≤ length es → label ≡ fault_of_label on_a_line (texts es)
     → bodies_reading (place_of n) label bodies ≡ Ok lines → is_device_name (slice_index_or es 0 k).now ≡ true
-entries_named n on_a_line [] k bodies lines label h is r = absurd (omega arith)
-entries_named n on_a_line (a ∷ []) k bodies lines label h is r = absurd (omega arith)
 entries_named n on_a_line (a ∷ b ∷ es) k bodies lines label h is r =
     let v = unless-ok (earlier_of label (fault_of_bodies bodies)) (lines_in (place_of n) bodies) lines r in
     let clear = (earlier_of-clear label (fault_of_bodies bodies) v.0).0 in
     let named = (first_failed-none (on_a_line && is_label (texts (a ∷ b ∷ es))) (has_label_values (texts (a ∷ b ∷ es))) (has_label_names (texts (a ∷ b ∷ es))) (sym is ∙ clear)).2 in
     (and_parts (is_device_name a.now) (is_uuid b.now) named).0
+entries_named n on_a_line es k bodies lines label h is r = absurd (omega arith)
 
 -- Devices one after the other
 
@@ -188,11 +152,8 @@ body_further bodies i d at label fault found old new below is added known made =
 -- A device that was refused has that fault
 
 label_says : (n : ℕ) (es : List (List ℕ)) → is_label es ≡ true → (device : DeviceSpec) × (device_in n es ≡ Some device)
-label_says n [] h = absurd cc
-label_says n (a ∷ []) h = absurd cc
-label_says n (a ∷ b ∷ []) h = absurd cc
-label_says n (a ∷ b ∷ c ∷ []) h = absurd cc
 label_says n (name ∷ uuid ∷ minor ∷ flags ∷ bodies) h = (_, refl)
+label_says n es h = absurd cc
 
 pub device_refused : (n : ℕ) (text : List ℕ) (fault : RowFault) → device_reading n text ≡ Err fault → unless (fault_of_device text) (tt {0}) ≡ Err fault
 device_refused n text fault h =

@@ -26,9 +26,8 @@ use Rattle.dm_table.proofs.tables.TableRows.{space_cases, space_dropped, space_j
 -- Bodies: from their fields
 
 first_cases : (fs : List (List ℕ)) → (without_first_space fs ≡ fs) ⊎ ([] ∷ without_first_space fs ≡ fs)
-first_cases [] = inl refl
 first_cases ([] ∷ fs) = inr refl
-first_cases ((b ∷ bs) ∷ fs) = inl refl
+first_cases fs = inl refl
 
 spaced_before : (fs : List (List ℕ)) → is_body_row fs ≡ true → join_with_byte 32 ([] ∷ fs) ≡ 32 ∷ join_with_byte 32 fs
 spaced_before [] r = absurd cc
@@ -154,9 +153,8 @@ written_bytes text line w h =
 
 lines_bytes : (n : ℕ) (texts : List (List ℕ)) (lines : List Line) → SaysLines n texts lines → AreLines texts
 lines_bytes n [] [] s = tt
-lines_bytes n [] (line ∷ lines) s = absurd s
-lines_bytes n (text ∷ texts) [] s = absurd s
 lines_bytes n (text ∷ texts) (line ∷ lines) s = (written_bytes text line s.0 s.1, lines_bytes n texts lines s.3)
+lines_bytes n texts lines s = absurd s
 
 -- Labels
 
@@ -216,11 +214,6 @@ pub record IsDeviceSaid (n : ℕ) (text : List ℕ) (es : List (List ℕ)) : Typ
 entries_said : (n : ℕ) (text : List ℕ) (es : List (List ℕ)) → text ≡ join_with_byte 44 es → is_label es ≡ true → has_label_values es ≡ true → has_label_names es ≡ true
     → list_all (λ text. is_body_row (body_fields text)) (drop 4 es) ≡ true → list_all (λ text. is_body (body_fields text)) (drop 4 es) ≡ true
     → list_all (λ text. has_body_names (body_fields text)) (drop 4 es) ≡ true → IsDeviceSaid n text es
-entries_said n text [] is a k m r l h = absurd cc
-entries_said n text (name ∷ []) is a k m r l h = absurd cc
-entries_said n text (name ∷ uuid ∷ []) is a k m r l h = absurd cc
-entries_said n text (name ∷ uuid ∷ minor ∷ []) is a k m r l h = absurd cc
-entries_said n text (name ∷ uuid ∷ minor ∷ flags ∷ []) is a k m r l h = absurd cc
 entries_said n text (name ∷ uuid ∷ minor ∷ flags ∷ first ∷ bodies) is a k m r l h =
     let known = and_parts (is_minor minor) (is_flags flags) k in
     let named = and_parts (is_device_name name) (is_uuid uuid) m in
@@ -243,6 +236,7 @@ entries_said n text (name ∷ uuid ∷ minor ∷ flags ∷ first ∷ bodies) is 
         at = refl;
       };
     }
+entries_said n text es is a k m r l h = absurd cc
 
 -- a device in which no check finds anything is said by its text
 pub device_said : (n : ℕ) (text : List ℕ) → is_device text ≡ true → has_values text ≡ true → has_names text ≡ true → IsDeviceSaid n text (entries text)
@@ -263,8 +257,6 @@ record Passes (n : ℕ) (texts : List (List ℕ)) (lines : List Line) : Type 0 w
 
 lines_pass : (n : ℕ) (texts : List (List ℕ)) (lines : List Line) → SaysLines n texts lines → Passes n texts lines
 lines_pass n [] [] s = record { rows = refl; values = refl; names = refl; again = refl }
-lines_pass n [] (line ∷ lines) s = absurd s
-lines_pass n (text ∷ texts) [] s = absurd s
 lines_pass n (text ∷ texts) (line ∷ lines) s =
     let more = lines_pass n texts lines s.3 in
     let read = body_read text line s.0 s.1 in
@@ -274,6 +266,7 @@ lines_pass n (text ∷ texts) (line ∷ lines) s =
       names = and_from _ _ (ap has_body_names read ∙ body_names_pass line s.1) more.names;
       again = rw more.again (cc (line_again (place_of n) line s.1 s.2));
     }
+lines_pass n texts lines s = absurd s
 
 said_lines : (n : ℕ) (text : List ℕ) (device : DeviceSpec) (s : SaysDevice n text device) → AreLines (device.name ∷ s.uuid ∷ s.minor ∷ s.flags ∷ s.bodies)
 said_lines n text device s = (

@@ -21,10 +21,8 @@ mapped_some f (Some value) some = (value, refl)
 -- a row that says a value is a name and what says it
 pub pair_split : {V X : Type 0} (value_of : List ℕ → Option V) (made : ℕ → List ℕ → V → X) (row : List (List ℕ)) → is_some (pair_in value_of made 0 row) ≡ true
     → (name : List ℕ) × (second : List ℕ) × (value : V) × (row ≡ name ∷ second ∷ []) × (value_of second ≡ Some value)
-pair_split value_of made [] some = absurd cc
-pair_split value_of made (name ∷ []) some = absurd cc
 pair_split value_of made (name ∷ second ∷ []) some = let value = mapped_some (made 0 name) (value_of second) some in (name, second, value.0, refl, value.1)
-pair_split value_of made (name ∷ second ∷ third ∷ more) some = absurd cc
+pair_split value_of made row some = absurd cc
 
 pub said_by : {X : Type 0} (named : X → Bool) (is_row : Bool) (said : Option X) (value : X) → (if is_row then reading_of named said else Err Syntax) ≡ Ok value → said ≡ Some value
 said_by named false said value h = absurd cc
@@ -33,8 +31,6 @@ said_by named true said value h = (read_parts named said value h).0
 -- what is wrong with a row is why it was not read
 pair_found : {V X : Type 0} (value_of : List ℕ → Option V) (made : ℕ → List ℕ → V → X) (named : X → Bool) → ((n : ℕ) (name : List ℕ) (value : V) → named (made n name value) ≡ is_disk_name name) → (n : ℕ) (row : List (List ℕ))
     → fault_in (if is_pair row then reading_of named (pair_in value_of made n row) else Err Syntax) ≡ row_fault is_pair (λ row. is_some (pair_in value_of made 0 row)) has_name row
-pair_found value_of made named is n [] = refl
-pair_found value_of made named is n (name ∷ []) = refl
 pair_found {V} value_of made named is n (name ∷ second ∷ []) = by (is_pair (name ∷ second ∷ [])) (value_of second) where
   by : (pair : Bool) (said : Option V) → fault_in (if pair then reading_of named (option_map (made n name) said) else Err Syntax) ≡ first_failed pair (is_some (option_map (made 0 name) said)) (is_disk_name name)
   by false said = refl
@@ -43,7 +39,7 @@ pair_found {V} value_of made named is n (name ∷ second ∷ []) = by (is_pair (
     | inl e ↦ rw e refl
     | inr e ↦ rw e refl
   ])
-pair_found value_of made named is n (name ∷ second ∷ third ∷ more) = refl
+pair_found value_of made named is n row = refl
 
 -- a row that was read has no fault and says what was read; one that was refused has that fault
 
@@ -60,7 +56,5 @@ pair_refused value_of made named is n row fault h = let found = sym (pair_found 
 
 -- a row of another number of fields is none
 pub not_pair : (row : List (Bor (List ℕ))) → length row ≢ 2 → is_pair (texts row) ≡ false
-not_pair [] other = refl
-not_pair (a ∷ []) other = refl
 not_pair (a ∷ b ∷ []) other = absurd (other refl)
-not_pair (a ∷ b ∷ c ∷ more) other = refl
+not_pair row other = refl

@@ -1,22 +1,18 @@
 -- How a line of paths is cut, and what its path says.
-use Rattle.std.proofs.Common.{◌≡◌, ℕ, ◌+◌, ◌-◌, ◌/◌, ◌%◌, ◌<◌, ◌≤◌, inl, inr, Bool, true, false, cond, eqb, ◌&&◌, List, [], ◌∷◌, ◌++◌, length, nat_le, take, drop, get_or, Some, None, Result, Ok, Err, refl, sym, ap, ◌∙◌, arith}
+use Rattle.std.proofs.Common.{◌≡◌, ℕ, ◌+◌, ◌-◌, ◌/◌, ◌%◌, ◌<◌, ◌≤◌, inl, inr, false, eqb, ◌&&◌, List, [], ◌∷◌, ◌++◌, length, take, drop, get_or, Some, None, Result, Ok, Err, refl, sym, ap, ◌∙◌, arith}
 use Rattle.std.specs.Prelude.{MatchResult, is_ok}
-use Rattle.std.specs.Char.{is_ascii_digit}
-use Rattle.std.specs.List.{join_with_byte, list_all, onto_first}
+use Rattle.std.specs.List.{join_with_byte, onto_first}
 use Rattle.std.specs.Str.{IsUtf8, is_utf8}
-use Rattle.std.specs.Str.Parse.{digits_value}
 use Rattle.std.proofs.lemmas.Bool.Decides.{nat_tests}
-use Rattle.std.proofs.lemmas.Bool.{cases_Bool, eq-eqb, ne_eqb, false_from_ne_true, le-leb}
+use Rattle.std.proofs.lemmas.Bool.{cases_Bool, eq-eqb, ne_eqb, false_from_ne_true}
 use Rattle.std.proofs.lemmas.Grind.{elements, common_steps}
-use Rattle.std.proofs.lemmas.List.{drop-drop, drop_all, drop_more, take-append-drop, take_all, take_rest}
-use Rattle.std.proofs.lemmas.List.Folds.{list_all_at}
+use Rattle.std.proofs.lemmas.List.{drop-drop, drop_all, drop_more, take-append-drop, take_rest}
 use Rattle.std.proofs.lemmas.List.Splits.{slice_split-cons_yes, slice_split-cons_no}
 use Rattle.std.proofs.lemmas.Str.{IsUtf8-from_is_utf8, is_utf8-from_IsUtf8}
 use Rattle.std.proofs.Math.Seq.{drop-append_seam}
 use Rattle.memchr.specs.Find.{is_byte, IsFirstByte, IsLastByte}
-use Rattle.dm_table.specs.tables.PathList.{after_equals, name_and_path, offset_in, place_in, place_of}
+use Rattle.dm_table.specs.tables.PathList.{after_equals, name_and_path, place_in, place_of}
 use Rattle.dm_table.specs.words.Fields.{fields, last_or, parts_at}
-use Rattle.dm_table.specs.words.Number.{IsReadTo}
 use Rattle.dm_table.proofs.words.FieldLemmas.{IsClearOf, join-parts_at, last_or-push, parts_at-clear, parts_at-first, parts_at-found, parts_at-nowhere}
 
 -- ---- UTF-8
@@ -96,27 +92,6 @@ pub last_nowhere : (text : List ℕ) → IsLastByte (is_byte 61) text None → t
 last_nowhere text none = sym (ap (last_or []) (parts_at-clear 61 text (λ k d below.
     let same : get_or text k d ≡ get_or text k 0 = grind (arith, elements) in
     rw same (false_from_ne_true _ (none k (omega arith) below)))))
-
--- ---- an offset
-
--- digits that are all read
-pub offset_read : (digits : List ℕ) (len value : ℕ) → 1 ≤ length digits → length digits ≤ 18 → length digits ≤ len → IsReadTo digits len value → Some value ≡ offset_in digits
-offset_read digits len value some few all read =
-    let whole : take len digits ≡ digits = take_all len digits all in
-    let each : list_all is_ascii_digit digits ≡ true = ap (list_all is_ascii_digit) (sym whole) ∙ read.digits in
-    let is : value ≡ digits_value 10 digits = read.value ∙ ap (digits_value 10) whole in
-    rw (le-leb 1 (length digits) some, le-leb (length digits) 18 few, each) (ap Some is)
-
--- a byte that is none
-pub offset_other : (digits : List ℕ) (len : ℕ) → len < length digits → is_ascii_digit (get_or digits len 0) ≡ false → None ≡ offset_in digits
-offset_other digits len below other =
-    let none : list_all is_ascii_digit digits ≡ false = list_all_at is_ascii_digit digits len 0 below other in
-    rw none (no_more (nat_le 1 (length digits)) (nat_le (length digits) 18))
-  where
-    no_more : (a b : Bool) → None ≡ cond (a && (b && false)) (Some (digits_value 10 digits)) None
-    no_more true true = refl
-    no_more true false = refl
-    no_more false b = refl
 
 -- ---- a place
 

@@ -11,7 +11,6 @@ use Rattle.dm_table.specs.declared.tables.table.Line.{Line}
 use Rattle.dm_table.specs.declared.load.place.Place.{Place}
 use Rattle.dm_table.specs.declared.load.place.Part.TheVariants.{Source}
 use Rattle.dm_table.specs.declared.load.row_faults.RowFault.{RowFault}
-use Rattle.dm_table.specs.declared.load.row_faults.RowFault.TheVariants.{Name}
 use Rattle.dm_table.specs.words.Name.{is_device_name}
 use Rattle.dm_table.specs.load.RowFaults.{first_failed, fault_in}
 use Rattle.dm_table.specs.tables.LineBody.{is_body_row, Body, body_in, has_target_names}
@@ -19,8 +18,9 @@ use Rattle.dm_table.specs.tables.LineReading.{line_at, line_in, reading_of, body
 use Rattle.dm_table.specs.tables.TableText.{NamedLine, name_in, is_row}
 use Rattle.dm_table.specs.tables.TableReading.{named_in, named_reading, has_line_names, table_row_fault, row_reading}
 use Rattle.dm_table.proofs.tables.PairRows.{said_by}
-use Rattle.dm_table.proofs.tables.TargetRows.{made_fault, and_false, read_parts}
+use Rattle.dm_table.proofs.tables.TargetRows.{made_fault, read_parts}
 use Rattle.std.proofs.lemmas.Bool.{cases_Bool}
+use Rattle.std.proofs.Math.Bool.{and-false}
 use denote.Ref.{Bor}
 
 last_place : {X : Type 0} (x y : X) (xs : List X) → length (x ∷ y ∷ xs) - 1 ≡ suc (length (y ∷ xs) - 1)
@@ -28,9 +28,8 @@ last_place x y xs = omega arith
 
 -- all but the last, by places
 pub take-all_but_last : {X : Type 0} (xs : List X) → take (length xs - 1) xs ≡ all_but_last xs
-take-all_but_last [] = refl
-take-all_but_last (x ∷ []) = refl
 take-all_but_last (x ∷ y ∷ xs) = rw (last_place x y xs, take-all_but_last (y ∷ xs))
+take-all_but_last xs = refl
 
 -- the last, by its place
 pub get_or-last_or : {X : Type 0} (d e : X) (xs : List X) → 1 ≤ length xs → get_or xs (length xs - 1) d ≡ last_or e xs
@@ -52,16 +51,14 @@ ends_empty_by_place (f ∷ g ∷ fs) d h = rw (last_place f g fs) (ends_empty_by
 
 -- the last field goes where it is empty, and stays where it is not
 pub spaced : (fs : List (List ℕ)) → ends_empty fs ≡ true → without_last_space fs ≡ all_but_last fs
-spaced [] e = refl
-spaced ([] ∷ []) e = refl
 spaced ((b ∷ bs) ∷ []) e = absurd cc
 spaced (f ∷ g ∷ fs) e = rw (spaced (g ∷ fs) e)
+spaced fs e = refl
 
 pub not_spaced : (fs : List (List ℕ)) → ends_empty fs ≡ false → without_last_space fs ≡ fs
-not_spaced [] e = refl
 not_spaced ([] ∷ []) e = absurd cc
-not_spaced ((b ∷ bs) ∷ []) e = refl
 not_spaced (f ∷ g ∷ fs) e = rw (not_spaced (g ∷ fs) e)
+not_spaced fs e = refl
 
 -- Rows
 
@@ -106,18 +103,13 @@ row_made n (f ∷ fs) d h l b =
 -- a fault of the body is that of the line
 pub named_fault : (name : List ℕ) (at : Place) (body : List (List ℕ)) (fault : RowFault) → body_reading at body ≡ Err fault → named_reading name at body ≡ Err fault
 named_fault name at body fault h =
-    made_fault (λ (line : Line). has_target_names line.target) has_line_names (λ line. record { name = name; line = line }) (λ line unnamed. rw unnamed (and_false (is_device_name name))) (line_in at body) fault h
+    made_fault (λ (line : Line). has_target_names line.target) has_line_names (λ line. record { name = name; line = line }) (λ line unnamed. rw unnamed (and-false (is_device_name name))) (line_in at body) fault h
 
 -- a line is read where its body is and its name is valid
 pub named_line : (name : List ℕ) (at : Place) (body : List (List ℕ)) (line : Line) → is_device_name name ≡ true → body_reading at body ≡ Ok line → named_reading name at body ≡ Ok (record { name = name; line = line })
 named_line name at body line valid h =
     let a = read_parts (λ (line : Line). has_target_names line.target) (line_in at body) line h in
     rw (a.0, valid, a.1)
-
-pub named_unnamed : (name : List ℕ) (at : Place) (body : List (List ℕ)) (line : Line) → is_device_name name ≡ false → body_reading at body ≡ Ok line → named_reading name at body ≡ Err Name
-named_unnamed name at body line other h =
-    let a = read_parts (λ (line : Line). has_target_names line.target) (line_in at body) line h in
-    rw (a.0, other)
 
 -- a line that was read has the name under which it stands, and its place
 placed : (at : Place) (o : Option Body) (line : Line) → reading_of (λ (line : Line). has_target_names line.target) (option_map (line_at at) o) ≡ Ok line → line.at ≡ at

@@ -10,7 +10,6 @@ use Rattle.dm_table.specs.declared.tables.table.DeviceSpec.{DeviceSpec}
 use Rattle.dm_table.specs.declared.load.place.Place.{Place}
 use Rattle.dm_table.specs.words.Name.{is_device_name}
 use Rattle.dm_table.specs.declared.load.row_faults.RowFault.{RowFault}
-use Rattle.dm_table.specs.declared.load.row_faults.RowFault.TheVariants.{Name}
 use Rattle.dm_table.specs.load.RowFaults.{Reads, fault_in}
 use Rattle.dm_table.specs.load.LoadFault.{unless}
 use Rattle.dm_table.specs.load.Reading.{values_from, with_rows}
@@ -18,7 +17,7 @@ use Rattle.dm_table.specs.tables.LineReading.{body_reading, made_of, with_line}
 use Rattle.dm_table.specs.tables.TableText.{NamedLine}
 use Rattle.dm_table.specs.tables.TableReading.{named_in, named_reading, alone, join_line, joined, add_line, add_said, table_row_fault, row_reading}
 use Rattle.dm_table.proofs.tables.TableGroups.{same_name, is_same_name, other_name, is_other_name}
-use Rattle.dm_table.proofs.tables.TableFields.{row_found, row_taken, line_name, line_place, named_fault, named_line, named_unnamed}
+use Rattle.dm_table.proofs.tables.TableFields.{row_found, row_taken, line_name, line_place, named_fault, named_line}
 use Rattle.dm_table.proofs.tables.TargetRows.{read_ok}
 
 -- What is made of a reading is made of what was read, or is its fault
@@ -36,11 +35,9 @@ made_refused make (Err other) fault h = let is : other ≡ fault = cc in ap Err 
 -- a line that the last device takes, by its place
 set_last : (ds : List DeviceSpec) (n : ℕ) (d : DeviceSpec) (named : NamedLine) → n + 1 ≡ length ds → slice_index_or ds n d ≡ d → pointwise nat_eq named.name d.name ≡ true
     → slice_set ds n (record d { lines = d.lines ++ named.line ∷ [] }) ≡ add_line ds named
-set_last [] n d named len last same = absurd (omega arith)
 set_last (e ∷ []) zero d named len last same = rw (last, same)
-set_last (e ∷ []) (suc n) d named len last same = absurd (omega arith)
-set_last (e ∷ f ∷ ds) zero d named len last same = absurd (omega arith)
 set_last (e ∷ f ∷ ds) (suc n) d named len last same = rw (set_last (f ∷ ds) n d named (omega arith) last same)
+set_last ds n d named len last same = absurd (omega arith)
 
 -- a body that is read into a line of the last device
 pub add_same : (r : Result (Unit {0}) RowFault) (ds : List DeviceSpec) (n : ℕ) (d : DeviceSpec) (lines : List Line) (name : List ℕ) (at : Place) (body : List (List ℕ)) → n + 1 ≡ length ds → d ≡ slice_index_or ds n d
@@ -57,20 +54,13 @@ add_same (Err e) ds n d lines name at body len last valid same read = λ other.
 -- and a line that comes after it
 add_after : (ds : List DeviceSpec) (n : ℕ) (d : DeviceSpec) (named : NamedLine) → n + 1 ≡ length ds → d ≡ slice_index_or ds n d → pointwise nat_eq named.name d.name ≡ false
     → slice_set ds n (record d { lines = d.lines }) ++ alone named ∷ [] ≡ add_line ds named
-add_after [] n d named len last other = absurd (omega arith)
 add_after (e ∷ []) zero d named len last other = rw (sym last, other)
-add_after (e ∷ []) (suc n) d named len last other = absurd (omega arith)
-add_after (e ∷ f ∷ ds) zero d named len last other = absurd (omega arith)
 add_after (e ∷ f ∷ ds) (suc n) d named len last other = rw (add_after (f ∷ ds) n d named (omega arith) last other)
+add_after ds n d named len last other = absurd (omega arith)
 
 -- the device of a body with no device's name before it
 pub device_fault : (name : List ℕ) (at : Place) (body : List (List ℕ)) (lines : List Line) (fault : RowFault) → with_line lines (body_reading at body) ≡ Err fault → made_of alone (named_reading name at body) ≡ Err fault
 device_fault name at body lines fault h = rw (named_fault name at body fault (made_refused _ (body_reading at body) fault h))
-
-pub device_unnamed : (name : List ℕ) (at : Place) (body : List (List ℕ)) (lines made : List Line) → with_line lines (body_reading at body) ≡ Ok made → is_device_name name ≡ false → made_of alone (named_reading name at body) ≡ Err Name
-device_unnamed name at body lines made h other =
-    let a = made_parts (λ line. lines ++ line ∷ []) (body_reading at body) made h in
-    rw (named_unnamed name at body a.0 other a.1)
 
 alone_is : (name : List ℕ) (at : Place) (line : Line) (made : List Line) → line ∷ [] ≡ made → line.at ≡ at → alone (record { name = name; line = line }) ≡ record { name = name; ro = false; lines = made; at = at }
 alone_is name at line made one place = rw (← one, ← place)

@@ -13,8 +13,9 @@ use Rattle.dm_table.specs.tables.TableReading.{named_in}
 use Rattle.dm_table.proofs.words.ByteLemmas.{is_shown, list_all-weaker, list_all-both}
 use Rattle.dm_table.proofs.tables.TableFields.{place, with_label}
 use Rattle.dm_table.proofs.words.FieldLemmas.{parts_at-first, parts_at-clear, join-parts_at, all_but_last-push, last_or-push, last_split}
-use Rattle.dm_table.proofs.tables.BodyRows.{body_fields, mapped, body_there, body_again, body_said, body_placed, is_ink, IsInked, ink_clear, ink_text, name_inked, body_inked, body_row_passes, body_passes, body_names_pass}
+use Rattle.dm_table.proofs.tables.BodyRows.{body_fields, body_there, body_again, body_said, body_placed, is_ink, IsInked, ink_clear, ink_text, name_inked, body_inked, body_row_passes, body_passes, body_names_pass}
 use Rattle.dm_table.proofs.tables.BodyRows as body
+use Rattle.dm_table.proofs.Lists.{mapped}
 
 -- The fields that a line is written with
 
@@ -30,18 +31,16 @@ line_joined named = simp append_assoc
 -- The last field, where a space ends the line
 
 pub space_cases : (fs : List (List ℕ)) → (without_last_space fs ≡ fs) ⊎ (without_last_space fs ++ [] ∷ [] ≡ fs)
-space_cases [] = inl refl
 space_cases ([] ∷ []) = inr refl
-space_cases ((b ∷ bs) ∷ []) = inl refl
 space_cases (f ∷ g ∷ fs) = elim (space_cases (g ∷ fs)) [
   | inl e ↦ inl (cc)
   | inr e ↦ inr (cc)
 ]
+space_cases fs = inl refl
 
 pub space_dropped : (fs : List (List ℕ)) → without_last_space (fs ++ [] ∷ []) ≡ fs
-space_dropped [] = refl
-space_dropped (f ∷ []) = refl
 space_dropped (f ∷ g ∷ fs) = rw (space_dropped (g ∷ fs))
+space_dropped fs = refl
 
 pub space_joined : (f : List ℕ) (fs : List (List ℕ)) → join_with_byte 32 (f ∷ fs ++ [] ∷ []) ≡ join_with_byte 32 (f ∷ fs) ++ 32 ∷ []
 space_joined f [] = refl
@@ -118,10 +117,9 @@ inks_and_space [] h = (refl, tt)
 inks_and_space (f ∷ fs) h = (h.0.1, inks_and_space fs h.1)
 
 pub no_space : (fs : List (List ℕ)) → AllByRecursion IsInked fs → without_last_space fs ≡ fs
-no_space [] h = refl
 no_space ([] ∷ []) h = absurd (let e : false ≡ true = h.0.0 in cc)
-no_space ((b ∷ bs) ∷ []) h = refl
 no_space (f ∷ g ∷ fs) h = rw (no_space (g ∷ fs) h.1)
+no_space fs h = refl
 
 pub row_kept : (f : List ℕ) (fs : List (List ℕ)) → AllByRecursion IsInked (f ∷ fs) → row_fields (join_with_byte 32 (f ∷ fs)) ≡ f ∷ fs
 row_kept f fs h = ap without_last_space (fields_joined f fs (inks (f ∷ fs) h)) ∙ no_space (f ∷ fs) h

@@ -47,9 +47,8 @@ after_columns columns (Ok more) = Ok (columns ++ more)
 after_columns columns (Err fault) = Err fault
 
 pub columns_end : (fs : List (Bor (List ℕ))) → length fs < 2 → eqb (length fs) 0 ≡ is_some (columns_in (texts fs))
-columns_end [] h = refl
-columns_end (f ∷ []) h = refl
 columns_end (f ∷ g ∷ fs) h = absurd (omega arith)
+columns_end fs h = refl
 
 both_known : {X Y Z : Type 0} (make : X → Y → Z) (o : Option X) (p : Option Y) → is_some o ≡ true → is_some (if_both make o p) ≡ is_some p
 both_known make None p h = absurd cc
@@ -59,9 +58,8 @@ both_known make (Some x) (Some y) h = refl
 -- a column whose offset is a number
 pub columns_known : (fs : List (Bor (List ℕ))) (e : Bor (List ℕ)) → 2 ≤ length fs → is_some (number_of (slice_index_or fs 1 e).now) ≡ true
     → is_some (columns_in (texts (take (length fs - 2) (drop 2 fs)))) ≡ is_some (columns_in (texts fs))
-columns_known [] e h n = absurd (omega arith)
-columns_known (f ∷ []) e h n = absurd (omega arith)
 columns_known (f ∷ g ∷ fs) e h n = rw (take_rest (f ∷ g ∷ fs) 2) (sym (both_known _ (number_of g.now) (columns_in (texts fs)) n))
+columns_known fs e h n = absurd (omega arith)
 
 -- before the first column
 pub columns_first : (reading : Result (List Column) RowFault) → after_columns [] reading ≡ reading
@@ -101,12 +99,11 @@ after_one columns column (Err fault) = refl
 pub column_further : (columns : List Column) (fs : List (Bor (List ℕ))) (d e : Bor (List ℕ)) (to : DevRef) (offset : ℕ) → 2 ≤ length fs → number_of (slice_index_or fs 1 e).now ≡ Some offset
     → dev_reading (slice_index_or fs 0 d).now ≡ Ok to
     → after_columns (columns ++ record { to = to; offset = offset } ∷ []) (columns_reading (texts (take (length fs - 2) (drop 2 fs)))) ≡ after_columns columns (columns_reading (texts fs))
-column_further columns [] d e to offset h n r = absurd (omega arith)
-column_further columns (f ∷ []) d e to offset h n r = absurd (omega arith)
 column_further columns (f ∷ g ∷ fs) d e to offset h n r =
     let a = dev_parts f.now to r in
     let column : Column = record { to = to; offset = offset } in
     rw (take_rest (f ∷ g ∷ fs) 2, n, a.1) (after_one columns column (columns_reading (texts fs)) ∙ ap (after_columns columns) (sym (one_before column (columns_in (texts fs)) a.0)))
+column_further columns fs d e to offset h n r = absurd (omega arith)
 
 -- a column whose text is no name
 one_unnamed : (column : Column) (more : Option (List Column)) → is_dev_ref column.to ≡ false
@@ -116,11 +113,10 @@ one_unnamed column (Some columns) h = rw h
 
 pub column_unnamed : (fs : List (Bor (List ℕ))) (d e : Bor (List ℕ)) (offset : ℕ) (fault : RowFault) → 2 ≤ length fs → number_of (slice_index_or fs 1 e).now ≡ Some offset → dev_reading (slice_index_or fs 0 d).now ≡ Err fault
     → columns_reading (texts fs) ≡ Err (fault_before fault (texts (take (length fs - 2) (drop 2 fs))))
-column_unnamed [] d e offset fault h n r = absurd (omega arith)
-column_unnamed (f ∷ []) d e offset fault h n r = absurd (omega arith)
 column_unnamed (f ∷ g ∷ fs) d e offset fault h n r =
     let a = dev_unnamed f.now fault r in
     rw (take_rest (f ∷ g ∷ fs) 2, a.1, n) (one_unnamed (record { to = dev_in f.now; offset = offset }) (columns_in (texts fs)) a.0)
+column_unnamed fs d e offset fault h n r = absurd (omega arith)
 
 -- memory that ran out stays so
 pub memory_before : (fault : RowFault) (fields : List (List ℕ)) → fault ≡ Memory → fault_before fault fields ≡ Memory
@@ -128,9 +124,8 @@ memory_before fault fields e = rw e
 
 -- a column whose offset is no number
 pub column_unknown : (fs : List (Bor (List ℕ))) (e : Bor (List ℕ)) → 2 ≤ length fs → number_of (slice_index_or fs 1 e).now ≡ None → columns_reading (texts fs) ≡ Err Field
-column_unknown [] e h n = absurd (omega arith)
-column_unknown (f ∷ []) e h n = absurd (omega arith)
 column_unknown (f ∷ g ∷ fs) e h n = rw n
+column_unknown fs e h n = absurd (omega arith)
 
 -- what is made of a value, whose names are those of the value
 pub made_reading : {X Y : Type 0} (has_x : X → Bool) (has_y : Y → Bool) (make : X → Y) → ((x : X) → has_y (make x) ≡ has_x x) → (o : Option X) → reading_of has_y (option_map make o) ≡ made_of make (reading_of has_x o)
@@ -142,23 +137,20 @@ made_reading has_x has_y make same (Some x) = rw (same x) (elim (cases_Bool (has
 
 -- the arguments of a linear line
 pub linear_none : (fs : List (Bor (List ℕ))) → length fs ≢ 2 → reading_of has_target_names (linear_in (texts fs)) ≡ Err Field
-linear_none [] h = refl
-linear_none (f ∷ []) h = refl
 linear_none (f ∷ g ∷ []) h = absurd (h refl)
 linear_none (f ∷ g ∷ k ∷ fs) h = long (number_of g.now) where
   long : (o : Option ℕ) → reading_of has_target_names (option_map (λ (said : DevRef × (ℕ × Unit {0})). Linear said.0 said.1.0) (if_both (λ x y. (x, y)) (Some (dev_in f.now)) (if_both (λ x y. (x, y)) o None))) ≡ Err Field
   long None = refl
   long (Some n) = refl
+linear_none fs h = refl
 
 pub linear_made : (fs : List (Bor (List ℕ))) (d : Bor (List ℕ)) (offset : ℕ) → length fs ≡ 2 → number_of (slice_index_or fs 1 d).now ≡ Some offset
     → reading_of has_target_names (linear_in (texts fs)) ≡ made_of (λ to. Linear to offset) (dev_reading (slice_index_or fs 0 d).now)
-linear_made [] d offset h n = absurd (omega arith)
-linear_made (f ∷ []) d offset h n = absurd (omega arith)
 linear_made (f ∷ g ∷ []) d offset h n = rw n (elim (cases_Bool (is_dev_ref (dev_in f.now))) [
   | inl k ↦ rw k
   | inr k ↦ rw k
 ])
-linear_made (f ∷ g ∷ k ∷ fs) d offset h n = absurd (omega arith)
+linear_made fs d offset h n = absurd (omega arith)
 
 -- the columns and their chunk, after their number
 pub striped_said : (fs : List (Bor (List ℕ))) (d : Bor (List ℕ)) → 1 ≤ length fs → is_count (slice_index_or fs 0 d).now (length (take (length fs - 1) (drop 1 fs))) ≡ true
@@ -167,10 +159,6 @@ striped_said [] d h c = absurd (omega arith)
 striped_said (f ∷ fs) d h c =
     let counted : is_count f.now (length (texts fs)) ≡ true = rw length-map (rw (take_rest (f ∷ fs) 1) at c) in
     rw (counted, take_rest (f ∷ fs) 1)
-
-pub and_false : (b : Bool) → (b && false) ≡ false
-and_false true = refl
-and_false false = refl
 
 -- The fields of a body
 
@@ -207,16 +195,13 @@ headed at start len (Some target) = refl
 
 pub body_made : (lines : List Line) (at : Place) (fs : List (Bor (List ℕ))) (d : Bor (List ℕ)) (start len : ℕ) → 3 ≤ length fs → number_of (slice_index_or fs 0 d).now ≡ Some start → number_of (slice_index_or fs 1 d).now ≡ Some len
     → with_line lines (body_reading at (texts fs)) ≡ with_target lines (record { start = start; len = len; at = at }) (target_reading (slice_index_or fs 2 d).now (texts (take (length fs - 3) (drop 3 fs))))
-body_made lines at [] d start len h n m = absurd (omega arith)
-body_made lines at (f ∷ []) d start len h n m = absurd (omega arith)
-body_made lines at (f ∷ g ∷ []) d start len h n m = absurd (omega arith)
 body_made lines at (f ∷ g ∷ i ∷ fs) d start len h n m =
     rw (n, m, take_rest) (ap (λ said. with_line lines (reading_of (λ (line : Line). has_target_names line.target) said)) (headed at start len (arguments_in i.now (texts fs))) ∙ line_made lines (record { start = start; len = len; at = at }) (arguments_in i.now (texts fs)))
+body_made lines at fs d start len h n m = absurd (omega arith)
 
 no_line : (at : Place) (o p : Option ℕ) → reading_of (λ (line : Line). has_target_names line.target) (option_map (line_at at) (option_map (λ (said : ℕ × (ℕ × Target)). let body : Body = record { start = said.0; len = said.1.0; target = said.1.1 } in body) (if_both (λ x y. (x, y)) o (if_both (λ x y. (x, y)) p None)))) ≡ Err Field
-no_line at None p = refl
 no_line at (Some start) None = refl
-no_line at (Some start) (Some len) = refl
+no_line at o p = refl
 
 pub body_none : (at : Place) (fs : List (Bor (List ℕ))) → length fs < 3 → body_reading at (texts fs) ≡ Err Field
 body_none at [] h = refl

@@ -1,8 +1,8 @@
 -- Marks of a text: those of its parts, and the first of them.
-use Rattle.std.proofs.Common.{◌≡◌, ◌≢◌, inl, inr, ℕ, suc, ◌+◌, ◌-◌, ◌*◌, ◌%◌, ◌^◌, ◌<◌, ◌≤◌, Bool, true, false, not, List, [], ◌∷◌, ◌++◌, length, map, take, drop, Some, None, sym, ap, ◌∙◌, arith, mul_assoc, pow_pos, pow_mono, pos_of_ne-zero}
+use Rattle.std.proofs.Common.{◌≡◌, ◌≢◌, ℕ, suc, ◌+◌, ◌-◌, ◌*◌, ◌%◌, ◌^◌, ◌<◌, ◌≤◌, Bool, true, false, not, List, [], ◌∷◌, ◌++◌, length, map, take, drop, Some, None, sym, ap, ◌∙◌, arith, mul_assoc, pow_pos, pow_mono, pos_of_ne-zero}
 use Rattle.std.specs.Prelude.{◌/◌, ◌==◌, bit_or}
 use Rattle.std.specs.List.{prefix_len}
-use Rattle.std.proofs.lemmas.Bool.{cases_Bool, not-false, not-true}
+use Rattle.std.proofs.lemmas.Bool.{not-false, not-true}
 use Rattle.std.proofs.lemmas.Grind.{common_steps}
 use Rattle.std.proofs.lemmas.List.{drop-map, drop-drop, take-append-drop, take-map, take_rest, length-map}
 use Rattle.std.proofs.lemmas.List.Sums.{prefix_len_passes, prefix_len_stops}
@@ -57,13 +57,8 @@ back_marks c text n = ap (marks_of c) (take_rest text n) ∙ ap mask_l (sym (dro
 
 -- a mark stands within the text
 pub mark_within : {X : Type 0} (p : X → Bool) (xs : List X) → 0 < mask_l (map p xs) → prefix_len (λ x. not (p x)) xs < length xs
-mark_within p [] some = absurd (omega arith)
-mark_within p (x ∷ xs) some = elim (cases_Bool (p x)) [
-  | inl e ↦ rw e (omega arith)
-  | inr e ↦
-      let rest : 0 < mask_l (map p xs) = omega (arith, rw e at some) in
-      rw e (omega (arith, mark_within p xs rest))
-]
+mark_within p [] some = absurd (omega (arith, some))
+mark_within p (x ∷ xs) some = grind (arith, some, mark_within p xs)
 
 -- the first byte c, by how many others come before it
 first_by_prefix : (c : ℕ) (text : List ℕ) → prefix_len (λ byte. not (byte == c)) text < length text → IsFirstByte (is_byte c) text (Some (prefix_len (λ byte. not (byte == c)) text))

@@ -1,11 +1,11 @@
 -- A text spells a number exactly where the number is read off it.
-use Rattle.std.proofs.Common.{◌≡◌, ◌≢◌, ℕ, ◌+◌, ◌-◌, ◌*◌, ◌^◌, ◌<◌, ◌≤◌, inl, inr, Bool, true, false, cond, eqb, nat_le, not, ◌||◌, List, Option, Some, None, length, get_or, take, take_all, refl, sym, ap, ◌∙◌, arith, rules}
+use Rattle.std.proofs.Common.{◌≡◌, ◌≢◌, ℕ, ◌+◌, ◌-◌, ◌*◌, ◌^◌, ◌<◌, ◌≤◌, inl, inr, true, false, eqb, nat_le, not, ◌||◌, List, Option, Some, None, length, get_or, take, take_all, refl, sym, ap, ◌∙◌, arith, rules}
 use Rattle.std.specs.Prelude.{decimal, is_some, unwrap_or}
 use Rattle.std.specs.Char.{digit_value, is_ascii_digit}
 use Rattle.std.specs.Int.{IsInRange}
 use Rattle.std.specs.List.{list_all, prefix_len}
 use Rattle.std.specs.Str.Parse.{digits_value}
-use Rattle.std.proofs.lemmas.Bool.{and_parts, and_from, or_cases, or_left, or_right, not-true, not_from_false, eqb-true, eqb-false, eq-eqb, ne_eqb, leb-true, le-leb, cases_eq}
+use Rattle.std.proofs.lemmas.Bool.{and_parts, and_from, or_cases, or_left, or_right, not-true, not_from_false, eqb-true, eqb-false, eq-eqb, ne_eqb, leb-true, le-leb, cases_eq, cond-false}
 use Rattle.std.proofs.lemmas.Fmt.{decimal-digits_value, digits_decimal, digits_value-decimal, decimal_nonempty, decimal_digit, length-decimal-le, first_decimal}
 use Rattle.std.proofs.lemmas.Int.Digits.{digits_value_more}
 use Rattle.std.proofs.lemmas.Bool.Decides.{nat_tests}
@@ -14,6 +14,7 @@ use Rattle.std.proofs.lemmas.List.Folds.{list_all_more, list_all_at}
 use Rattle.std.proofs.lemmas.List.Sums.{prefix_len-le-length, prefix_len_stops}
 use Rattle.std.proofs.lemmas.Str.{digit_value_digit}
 use Rattle.std.proofs.lemmas.Str.Parse.{IsNumeralModel, numerals_by_value, digits_value_short}
+use Rattle.std.proofs.lemmas.Option.{cond_some}
 use Rattle.dm_table.specs.words.Number.{IsReadTo, Spells, is_number, number_of}
 
 -- std's laws on numerals, for texts of which each byte is a digit
@@ -76,15 +77,11 @@ numeral_of text h =
     let c = and_parts (not (eqb (get_or text 0 0) 48) || eqb (length text) 1) (list_all is_ascii_digit text) b.1 in
     record { low = leb-true 1 (length text) a.0; high = leb-true (length text) 19 b.0; lead = lead_alone text c.0; digits = c.1 }
 
-some_if : (b : Bool) (x n : ℕ) → cond b (Some x) None ≡ Some n → (b ≡ true) × (x ≡ n)
-some_if true x n e = (refl, cc)
-some_if false x n e = absurd cc
-
 -- a number that is read off a text is spelled by it
 pub Spells-number_of : (text : List ℕ) (n : ℕ) → number_of text ≡ Some n → Spells text n
 unfolding number_of
 Spells-number_of text n e =
-    let a = some_if (is_number text) (digits_value 10 text) n e in
+    let a = cond_some (is_number text) (digits_value 10 text) n e in
     let numeral = numeral_of text a.0 in
     let below : digits_value 10 text < 10 ^ 19 = digits_value_short numerals text 19 numeral.digits numeral.high in
     let back : decimal (digits_value 10 text) ≡ text = decimal-digits_value numerals text numeral.digits numeral.low numeral.lead (omega arith) in
@@ -123,24 +120,21 @@ Some-is_some (Some n) e = refl
 
 -- What a text of other bytes, or of a false form, spells
 
-if_false : (b : Bool) (x : ℕ) → b ≡ false → cond b (Some x) None ≡ None
-if_false b x e = rw e
-
 pub number_of-empty : (text : List ℕ) → length text ≡ 0 → number_of text ≡ None
 unfolding number_of
-number_of-empty text none = if_false _ _ (grind (arith, nat_tests))
+number_of-empty text none = cond-false (is_number text) _ _ (grind (arith, nat_tests))
 
 pub number_of-long : (text : List ℕ) → 19 < length text → number_of text ≡ None
 unfolding number_of
-number_of-long text long = if_false _ _ (grind (arith, nat_tests))
+number_of-long text long = cond-false (is_number text) _ _ (grind (arith, nat_tests))
 
 pub number_of-zero : (text : List ℕ) → get_or text 0 0 ≡ 48 → 1 < length text → number_of text ≡ None
 unfolding number_of
-number_of-zero text zero more = if_false _ _ (grind (arith, nat_tests))
+number_of-zero text zero more = cond-false (is_number text) _ _ (grind (arith, nat_tests))
 
 pub number_of-other : (text : List ℕ) (i : ℕ) → i < length text → is_ascii_digit (get_or text i 0) ≡ false → number_of text ≡ None
 unfolding number_of
-number_of-other text i below other = let bad = list_all_at is_ascii_digit text i 0 below other in if_false _ _ (grind (arith, nat_tests))
+number_of-other text i below other = let bad = list_all_at is_ascii_digit text i 0 below other in cond-false (is_number text) _ _ (grind (arith, nat_tests))
 
 led : (text : List ℕ) → 1 ≤ length text → (1 < length text → get_or text 0 0 ≢ 48) → (not (eqb (get_or text 0 0) 48) || eqb (length text) 1) ≡ true
 led text low lead =

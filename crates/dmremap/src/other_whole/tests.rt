@@ -1,5 +1,4 @@
-//! The commands that print, over inputs and outputs in memory that go short or fail; `replays` has those of
-//! `replay`.
+//! The commands that print, over inputs and outputs in memory that go short or fail.
 //!
 //! What is printed of which texts is tested on the built program (`tests/outside`). Here each command is
 //! called with ample memory, and its output and its messages fail after each of their bytes in turn.
@@ -9,11 +8,9 @@ ghost use Rattle.dmremap.specs.Job.{job_words};
 ghost use Rattle.dmremap.specs.OtherWhole.{is_other};
 
 use super::*;
-use crate::job::{Source, TableForm};
+use crate::job::{Format, Source, TableForm};
 use dm_table::{ShortIn, ShortOut};
 use std::process::Abort;
-
-mod replays;
 
 /// More than any stream of a case has.
 const PLENTY: usize = 4096;
@@ -171,8 +168,7 @@ fn job_of(asked: Asked) -> Job<'static>
     }
 }
 
-/// Runs a job over a source and disks, and asserts what is printed and told, and the status. Requests
-/// would fail.
+/// Runs a job over a source and disks, and asserts what is printed and told, and the status.
 fn check(
     rt: &impl Abort,
     alloc: Global,
@@ -194,7 +190,6 @@ fn check(
         &job_of(asked),
         &mut Some(ShortIn::new(source.as_bytes(), PLENTY)),
         &mut Some(ShortIn::new(disks.as_bytes(), 1)),
-        &mut ShortIn::failing("R a 0 1\n".as_bytes(), 1, 0),
         &mut output,
         &mut messages,
     );

@@ -17,7 +17,7 @@ fn words_of<'a>(rt: &impl Abort, alloc: Global, line: &'a str) -> Vec<&'a str> {
 }
 
 /// Words, and the job that they ask for, in the words of `shown`.
-static JOBS: [(&str, &str); 27] = [
+static JOBS: [(&str, &str); 29] = [
     ("map table a.table a.disks", "map a.table a.disks"),
     ("map table -- a.table a.disks", "map a.table a.disks"),
     ("map lvm vg0.backup", "map lvm vg0.backup"),
@@ -26,6 +26,10 @@ static JOBS: [(&str, &str); 27] = [
     ("map concise f d", "map concise f d"),
     ("check table a.table a.disks", "check a.table a.disks"),
     ("replay table a.table a.disks", "replay a.table a.disks"),
+    (
+        "replay lvm vg0.backup --paths a.paths",
+        "stored replay lvm vg0.backup",
+    ),
     ("map table -- - d", "map - d"),
     ("name vg0 lv-1", "name vg0 lv-1"),
     ("name vg0 -- -x real", "name vg0 -x real"),
@@ -65,6 +69,7 @@ static JOBS: [(&str, &str); 27] = [
     ("concise images a.paths", "concise images a.paths"),
     ("check images a.paths", "check images a.paths"),
     ("replay images a.paths", "replay images a.paths"),
+    ("metadata images a.paths", "metadata images a.paths"),
     (
         "map table --paths a.paths a.table a.disks --status",
         "stored status of a.table a.disks",
@@ -149,12 +154,19 @@ fn shown(rt: &impl Abort, alloc: Global, job: Job<'_>) -> String {
             };
             return shown_images(rt, alloc, command, paths, None);
         }
+        Job::Metadata(paths) => return shown_images(rt, alloc, "metadata", paths, None),
         Job::Print { form, source } => match form {
             TableForm::Table => ("table", source, None),
             TableForm::Concise => ("concise", source, None),
         },
         Job::Check(source) => ("check", source, None),
-        Job::Replay(source) => ("replay", source, None),
+        Job::Replay { source, paths } => {
+            let command = match paths {
+                Some("a.paths") => "stored replay",
+                _ => "replay",
+            };
+            (command, source, None)
+        }
         Job::Name { vg, lv, layer } => {
             let text = match layer {
                 Some(layer) => format!(in alloc; "name {vg} {lv} {layer}"),

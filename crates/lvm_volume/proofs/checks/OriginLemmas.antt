@@ -8,7 +8,7 @@ use Rattle.lvm_volume.specs.declared.group.roles.Role.{Role}
 use Rattle.lvm_volume.specs.declared.group.roles.Role.TheVariants as roles
 use Rattle.lvm_volume.specs.declared.group.segment.Segment.{Segment}
 use Rattle.lvm_volume.specs.declared.group.segment.SegmentType.{SegmentType}
-use Rattle.lvm_volume.specs.declared.group.segment.SegmentType.TheVariants.{Zero, Error, Striped, Snapshot}
+use Rattle.lvm_volume.specs.declared.group.segment.SegmentType.TheVariants.{Snapshot}
 use Rattle.lvm_volume.specs.declared.group.volume.Volume.{Volume}
 use Rattle.lvm_volume.specs.checks.Extents.{is_unknown, stripes_of, volumes_named}
 use Rattle.lvm_volume.specs.group.Roles.{is_bad_snapshot, is_bad_target, is_record, is_store, recorded, records_of, role_at, role_by, role_of, roles_of, snapshot_of, unless_recorded}
@@ -51,16 +51,13 @@ allowed_target count volumes all extents line (Snapshot chunk_size origin store)
     let a = or_parts (is_record (role_at all origin)) _ good in
     let b = or_parts (not (is_store (role_at all store))) _ a.1 in
     (record { there = ltb-true origin count (not-false (nat_lt origin count) (or_parts (not (nat_lt origin count)) _ known).0); no_record = a.0; store = not-false (is_store (role_at all store)) b.0 }, tt)
-allowed_target count volumes all extents line (Striped stripe_size stripes) known good = tt
-allowed_target count volumes all extents line Zero known good = tt
-allowed_target count volumes all extents line Error known good = tt
+allowed_target count volumes all extents line target known good = tt
 
 allowed_in : (physicals count : ℕ) (volumes : List Volume) (all : List Role) (segments : List Segment) → AllByRecursion (λ segment. is_unknown physicals count segment ≡ false) segments
     → AllByRecursion (λ segment. is_bad_snapshot volumes all (length segments == 1) segment ≡ false) segments → AllByRecursion (IsAllowed count all) (recorded segments)
-allowed_in physicals count volumes all [] known good = tt
 allowed_in physicals count volumes all (segment ∷ []) known good =
     allowed_target count volumes all segment.count segment.line segment.target (or_parts (list_any (λ stripe. not (nat_lt stripe.physical physicals)) (stripes_of segment.target)) _ known.0).1 good.0
-allowed_in physicals count volumes all (segment ∷ second ∷ more) known good = tt
+allowed_in physicals count volumes all segments known good = tt
 
 all_allowed : (physicals count : ℕ) (volumes : List Volume) (all : List Role) (left : List Volume) → AllByRecursion (λ volume. AllByRecursion (λ segment. is_unknown physicals count segment ≡ false) volume.segments) left
     → AllByRecursion (λ volume. AllByRecursion (λ segment. is_bad_snapshot volumes all (length volume.segments == 1) segment ≡ false) volume.segments) left → AllByRecursion (IsAllowed count all) (records_of left)

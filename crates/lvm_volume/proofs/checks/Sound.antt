@@ -2,8 +2,8 @@
 use Rattle.std.proofs.Common.{◌≡◌, ℕ, suc, zero, ◌+◌, ◌*◌, ◌/◌, ◌%◌, ◌^◌, ◌<◌, ◌≤◌, ◌==◌, Bool, true, false, not, List, [], ◌∷◌, ◌++◌, length, map, Option, Some, None, refl, sym, ap, ◌∙◌, arith, mul-le-mul_right, if◌then◌else◌}
 use Rattle.std.specs.Prelude.{nat_lt, codes}
 use Rattle.std.specs.List.{AllByRecursion, flat_map, list_any, range_with_len}
-use Rattle.std.proofs.lemmas.Bool.{ltb-false, ltb-true, or_parts}
-use Rattle.lvm_text.specs.Tree.{Tree, Shown, Content, Inner, Whole, Items, Int, Text, node_of, sections_of}
+use Rattle.std.proofs.lemmas.Bool.{ltb-false, ltb-true, or_parts, not-false}
+use Rattle.lvm_text.specs.Tree.{Tree, Shown, Content, Whole, Int, Text, node_of, sections_of}
 use Rattle.dm_table.specs.declared.load.load_fault.LoadKind.{LoadKind}
 use Rattle.dm_table.specs.declared.load.load_fault.LoadKind.TheVariants.{Extents, Unknown}
 use Rattle.dm_table.specs.declared.load.load_fault.LoadKind.TheVariants as loads
@@ -47,15 +47,11 @@ if-nil false x e = refl
 
 content-limit : (size : ℕ) (content : Content) → is_far size kinds.Extents content ≡ false → number_in content * size ≤ most
 content-limit size (Whole (Int n)) e = ltb-false most (n * size) (or_parts (nat_lt most n) _ e).1
-content-limit size (Whole (Text text)) e = omega arith
-content-limit size (Items items) e = omega arith
-content-limit size (Inner tree) e = omega arith
+content-limit size content e = omega arith
 
 content-most : (size : ℕ) (kind : Kind) (content : Content) → is_far size kind content ≡ false → number_in content ≤ most
 content-most size kind (Whole (Int n)) e = ltb-false most n (or_parts (nat_lt most n) _ e).0
-content-most size kind (Whole (Text text)) e = omega arith
-content-most size kind (Items items) e = omega arith
-content-most size kind (Inner tree) e = omega arith
+content-most size kind content e = omega arith
 
 pub extents-limit : (size : ℕ) (tree : Tree) (key : List ℕ) → field_faults (Limits size) tree (field key kinds.Extents Always) ≡ [] → number_at key tree * size ≤ most
 unfolding field_faults
@@ -139,9 +135,8 @@ pub one_section : (top : Tree) → first_or (faults_of_fields Fields top) None �
 unfolding one_group_faults
 one_section top e = by_list (sections_of top.values) (append-nil_both (fields_faults Fields top top_fields) _ (first_or-none (faults_of_fields Fields top) None e).0).1 where
   by_list : (sections : List Keyed) → one_group_faults Fields top.line sections ≡ [] → sections ≡ first_section sections ∷ []
-  by_list [] h = absurd cc
   by_list (group ∷ []) h = refl
-  by_list (group ∷ second ∷ more) h = absurd cc
+  by_list sections h = absurd cc
 
 -- Stripes
 
@@ -184,10 +179,7 @@ known_stripes : (physicals : ℕ) (stripes : List Stripe) → list_any (λ strip
 known_stripes physicals [] e = tt
 known_stripes physicals (stripe ∷ stripes) e =
     let a = or_parts (not (nat_lt stripe.physical physicals)) _ e in
-    (ltb-true stripe.physical physicals (not-false_true (nat_lt stripe.physical physicals) a.0), known_stripes physicals stripes a.1) where
-      not-false_true : (b : Bool) → not b ≡ false → b ≡ true
-      not-false_true true h = refl
-      not-false_true false h = absurd cc
+    (ltb-true stripe.physical physicals (not-false (nat_lt stripe.physical physicals) a.0), known_stripes physicals stripes a.1)
 
 -- what a test of segments does not find
 

@@ -72,8 +72,7 @@ apart_from old ranges first end a b keeps free is over under =
     absurd cc
 
 same_end : (o : Option ℕ) (a b : ℕ) → o ≡ Some a → o ≡ Some b → a ≡ b
-same_end None a b e f = absurd cc
-same_end (Some x) a b e f = cc
+same_end o a b e f = cc
 
 new_all : (old new : BTreeMap ℕ ℕ) (first end : ℕ) → Adds old new first end → ((b : ℕ) → get nat_cmp old first ≡ Some b → ⊥) → (ranges : List (ℕ × ℕ)) → AllByRecursion (λ range. get nat_cmp old range.0 ≡ Some range.1) ranges → AllByRecursion (λ range. get nat_cmp new range.0 ≡ Some range.1) ranges
 new_all old new first end added fresh [] all = tt
@@ -83,16 +82,7 @@ new_all old new first end added fresh ((a, b) ∷ ranges) all = (by_position (ad
   by_position (inr other) = other ∙ all.0
 
 not_below : (a b : ℕ) → (a < b → ⊥) → b ≤ a
-not_below a b h = by_test (nat_lt a b) refl where
-  by_test : (t : Bool) → nat_lt a b ≡ t → b ≤ a
-  by_test true e = absurd (h (ltb-true a b e))
-  by_test false e = ltb-false a b e
-
-end_first : (c end b : ℕ) → b ≡ end → (c < end → ⊥) → b ≤ c
-end_first c end b ends h = omega (arith, ends, not_below c end h)
-
-first_end : (first b c : ℕ) → first ≡ c → (first < b → ⊥) → b ≤ c
-first_end first b c same h = omega (arith, same, not_below first b h)
+not_below a b h = grind (arith, h)
 
 pub keeps_more : (old new : BTreeMap ℕ ℕ) (ranges : List (ℕ × ℕ)) (first end : ℕ) → HasRanges old ranges → first < end → list_any (reaches first end) ranges ≡ false → Adds old new first end → HasRanges new ((first, end) ∷ ranges)
 keeps_more old new ranges first end keeps some free added = record {
@@ -116,8 +106,8 @@ keeps_more old new ranges first end keeps some free added = record {
   apart_at a b c d is_b is_d before (inl one) (inr two) =
       let ends : b ≡ end = same_end (get nat_cmp new a) b end is_b (ap (get nat_cmp new) (sym one) ∙ added.here) in
       let old_d : get nat_cmp old c ≡ Some d = sym two ∙ is_d in
-      end_first c end b ends (λ under. apart_from old ranges first end c d keeps free old_d (omega (arith, one, before, keeps.some c d old_d)) under)
+      omega (arith, ends, not_below c end (λ under. apart_from old ranges first end c d keeps free old_d (omega (arith, one, before, keeps.some c d old_d)) under))
   apart_at a b c d is_b is_d before (inr one) (inl two) =
       let old_b : get nat_cmp old a ≡ Some b = sym one ∙ is_b in
-      first_end first b c two (λ over. apart_from old ranges first end a b keeps free old_b over (omega (arith, two, before, some)))
+      omega (arith, two, not_below first b (λ over. apart_from old ranges first end a b keeps free old_b over (omega (arith, two, before, some))))
   apart_at a b c d is_b is_d before (inr one) (inr two) = keeps.apart a b c d (sym one ∙ is_b) (sym two ∙ is_d) before

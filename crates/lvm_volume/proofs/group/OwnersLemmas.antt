@@ -1,9 +1,9 @@
 -- Ids as they are compared, and groups with other names of disks.
-use Rattle.std.proofs.Common.{◌≡◌, ◌⊎◌, inl, inr, ℕ, zero, suc, ◌+◌, ◌*◌, ◌^◌, ◌<◌, ◌≤◌, ◌==◌, Bool, true, false, not, List, [], ◌∷◌, length, cond, get_or, drop, map, Option, Some, None, refl, sym, ap, subst, ◌∙◌, arith}
+use Rattle.std.proofs.Common.{◌≡◌, ◌⊎◌, inl, inr, ℕ, zero, suc, ◌+◌, ◌*◌, ◌^◌, ◌<◌, ◌≤◌, ◌==◌, List, [], ◌∷◌, length, get_or, drop, refl, sym, ap, subst, ◌∙◌, arith}
 use Rattle.std.specs.Prelude.{bytes_eq}
-use Rattle.std.specs.List.{AllByRecursion, list_any, position_from, zip}
+use Rattle.std.specs.List.{AllByRecursion, zip}
 use Rattle.std.proofs.lemmas.Bool.{ne_eqb}
-use Rattle.std.proofs.lemmas.List.{drop_more}
+use Rattle.std.proofs.lemmas.List.{drop_more, drop_all}
 use Rattle.lvm_volume.specs.declared.group.physical.Physical.{Physical}
 use Rattle.lvm_volume.specs.declared.group.segment.Segment.{Segment}
 use Rattle.lvm_volume.specs.declared.group.segment.Stripe.{Stripe}
@@ -21,19 +21,13 @@ use Rattle.dm_table.proofs.Lists.{all_changed}
 pub letter_next : (id text : List ℕ) (i : ℕ) → i < length text → bytes_eq id (letters_of (drop i text)) ≡ bytes_eq id (letters_of (get_or text i 0 ∷ drop (i + 1) text))
 letter_next id text i within = ap (λ (xs : List ℕ). bytes_eq id (letters_of xs)) (drop_more text i 0 within)
 
-past_end : (text : List ℕ) (i : ℕ) → length text ≤ i → drop i text ≡ []
-past_end [] zero past = refl
-past_end [] (suc i) past = refl
-past_end (x ∷ text) zero past = absurd (omega (arith, past))
-past_end (x ∷ text) (suc i) past = past_end text i (omega (arith, past))
-
 is_none_left : (id : List ℕ) → (length id == 0) ≡ bytes_eq id (letters_of [])
 unfolding letters_of
 is_none_left [] = refl
 is_none_left (x ∷ id) = ne_eqb (length (x ∷ id)) 0 (λ none. omega (arith, none))
 
 pub letters_end : (id text : List ℕ) (i : ℕ) → length text ≤ i → (length id == 0) ≡ bytes_eq id (letters_of (drop i text))
-letters_end id text i past = is_none_left id ∙ ap (λ (xs : List ℕ). bytes_eq id (letters_of xs)) (sym (past_end text i past))
+letters_end id text i past = is_none_left id ∙ ap (λ (xs : List ℕ). bytes_eq id (letters_of xs)) (sym (drop_all i text past))
 
 pub ids_length : (ids : List (Bor (List ℕ))) → length (ids_view ids) ≡ length ids
 ids_length [] = refl
@@ -44,34 +38,18 @@ none_left ids physicals (inl none) = rw none refl
 none_left [] physicals (inr none) = refl
 none_left (id ∷ ids) physicals (inr none) = rw none refl
 
--- ---- positions
-
-pub from_here : {X : Type 0} (test : X → Bool) (xs : List X) (i : ℕ) (d : X) → i < length xs → test (get_or xs i d) ≡ true → position_from test i (drop i xs) ≡ Some i
-from_here test xs i d within is = rw (drop_more xs i d within, is) refl
-
-pub from_next : {X : Type 0} (test : X → Bool) (xs : List X) (i : ℕ) (d : X) → i < length xs → test (get_or xs i d) ≡ false → position_from test i (drop i xs) ≡ position_from test (i + 1) (drop (i + 1) xs)
-from_next test xs i d within other = rw (drop_more xs i d within, other) refl
-
-pub from_end : {X : Type 0} (test : X → Bool) (xs : List X) (n i : ℕ) → length xs ≤ i → position_from test n (drop i xs) ≡ None
-from_end test [] n zero past = refl
-from_end test [] n (suc i) past = refl
-from_end test (x ∷ xs) n zero past = absurd (omega (arith, past))
-from_end test (x ∷ xs) n (suc i) past = from_end test xs n i (omega (arith, past))
-
 -- ---- soundness doesn't depend on the names of disks
 
 same_start : (owners : Owners) (ids : List (List ℕ)) (physicals : List Physical) (i : ℕ) → length ids ≡ length physicals → (physical_at (all_owned owners ids physicals) i).start ≡ (physical_at physicals i).start
 same_start owners [] [] i e = refl
-same_start owners [] (p ∷ physicals) i e = absurd (omega (arith, e))
-same_start owners (id ∷ ids) [] i e = absurd (omega (arith, e))
 same_start owners (id ∷ ids) (p ∷ physicals) zero e = refl
 same_start owners (id ∷ ids) (p ∷ physicals) (suc i) e = same_start owners ids physicals i (omega (arith, e))
+same_start owners ids physicals i e = absurd (omega (arith, e))
 
 same_length : (owners : Owners) (ids : List (List ℕ)) (physicals : List Physical) → length ids ≡ length physicals → length (all_owned owners ids physicals) ≡ length physicals
 same_length owners [] [] e = refl
-same_length owners [] (p ∷ physicals) e = absurd (omega (arith, e))
-same_length owners (id ∷ ids) [] e = absurd (omega (arith, e))
 same_length owners (id ∷ ids) (p ∷ physicals) e = ap (λ (n : ℕ). suc n) (same_length owners ids physicals (omega (arith, e)))
+same_length owners ids physicals e = absurd (omega (arith, e))
 
 stripe_owned : (owners : Owners) (ids : List (List ℕ)) (size : ℕ) (physicals : List Physical) → length ids ≡ length physicals → (stripe : Stripe) → IsStripeIn size physicals stripe → IsStripeIn size (all_owned owners ids physicals) stripe
 stripe_owned owners ids size physicals e stripe is = record {

@@ -15,10 +15,9 @@ use denote.Ref.{Bor}
 -- A key that is none of those before it
 
 same_test : (a b : List ℕ) (p q : Bool) → bytes_eq a b ≡ p → bytes_eq b a ≡ q → p ≡ q
-same_test a b true true s t = refl
-same_test a b false false s t = refl
 same_test a b true false s t = let back : bytes_eq b a ≡ true = (bytes_eq-Decides b a).1 (sym ((bytes_eq-Decides a b).0 s)) in absurd cc
 same_test a b false true s t = let back : bytes_eq a b ≡ true = (bytes_eq-Decides a b).1 (sym ((bytes_eq-Decides b a).0 t)) in absurd cc
+same_test a b p q s t = refl
 
 bytes_eq-sym : (a b : List ℕ) → bytes_eq a b ≡ bytes_eq b a
 bytes_eq-sym a b = same_test a b (bytes_eq a b) (bytes_eq b a) refl refl

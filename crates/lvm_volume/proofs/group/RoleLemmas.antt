@@ -13,22 +13,14 @@ use Rattle.lvm_volume.specs.group.Roles.{recorded, records_of, role_by, role_of,
 -- One snapshot more
 
 more_origin : (own : List Record) (is_origin : Bool) (stored : List Record) → with_origin (unless_recorded own (role_by is_origin stored)) ≡ unless_recorded own (role_by true stored)
-more_origin (snapshot ∷ own) is_origin stored = refl
-more_origin [] true [] = refl
-more_origin [] false [] = refl
-more_origin [] true (s ∷ []) = refl
-more_origin [] false (s ∷ []) = refl
 more_origin [] true (s ∷ t ∷ stored) = refl
 more_origin [] false (s ∷ t ∷ stored) = refl
+more_origin own is_origin stored = refl
 
 more_store : (own : List Record) (is_origin : Bool) (stored : List Record) (snapshot : Record) → with_store snapshot (unless_recorded own (role_by is_origin stored)) ≡ unless_recorded own (role_by is_origin (snapshot ∷ stored))
-more_store (s ∷ own) is_origin stored snapshot = refl
-more_store [] true [] snapshot = refl
-more_store [] false [] snapshot = refl
-more_store [] true (s ∷ []) snapshot = refl
-more_store [] false (s ∷ []) snapshot = refl
 more_store [] true (s ∷ t ∷ stored) snapshot = refl
 more_store [] false (s ∷ t ∷ stored) snapshot = refl
+more_store own is_origin stored snapshot = refl
 
 -- by whether the volume is the origin, and whether it is the store
 by_tests : (own : List Record) (origin store is_origin : Bool) (stored : List Record) (snapshot : Record) (role : Role) → role ≡ unless_recorded own (role_by is_origin stored)
@@ -84,7 +76,6 @@ one_more volumes at volume snapshot some within is one =
 -- Volumes with their roles, once one of the two lists has no more
 
 pub none_left : (all : List Role) (volumes : List Volume) → (all ≡ []) ⊎ (volumes ≡ []) → zip all volumes ≡ []
-none_left [] volumes none = refl
-none_left (role ∷ all) [] none = refl
 none_left (role ∷ all) (volume ∷ volumes) (inl wrong) = absurd cc
 none_left (role ∷ all) (volume ∷ volumes) (inr wrong) = absurd cc
+none_left all volumes none = refl

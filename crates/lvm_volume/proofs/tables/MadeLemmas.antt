@@ -58,13 +58,9 @@ abbrev FitsIn : Group → Record → Type 0
 FitsIn group snapshot = (length_of group (segments_at group.volumes snapshot.origin) < 2 ^ 64) × (fault_of (device_parts group.name (name_at group.volumes snapshot.origin) (Some Real)) ≡ None)
 
 snapshot_by : (group : Group) (own : List Record) (is_origin : Bool) (stored : List Record) → AllByRecursion (FitsIn group) stored → IsSnapshotIn group (unless_recorded own (role_by is_origin stored))
-snapshot_by group (snapshot ∷ own) is_origin stored fit = tt
-snapshot_by group [] true [] fit = tt
-snapshot_by group [] false [] fit = tt
-snapshot_by group [] true (s ∷ []) fit = tt
 snapshot_by group [] false (s ∷ []) fit = fit.0
 snapshot_by group [] true (s ∷ t ∷ stored) fit = tt
-snapshot_by group [] false (s ∷ t ∷ stored) fit = tt
+snapshot_by group own is_origin stored fit = tt
 
 snapshot_fits : (group : Group) (snapshots : List Record) (at : ℕ × Volume) → AllByRecursion (FitsIn group) snapshots → IsSnapshotIn group (role_of snapshots at)
 snapshot_fits group snapshots at fit =

@@ -7,19 +7,22 @@ import time
 import traceback
 import zlib
 
+import cuts
 import groups
 import names
 import stacks
 from kernel import load_module, run, wait_for
 
 # The first one is asked for by others, which don't say that they depend on it.
-MODULES = ("crc32c_generic", "virtio_pci", "virtio_blk", "virtio_scsi", "sd_mod", "nvme", "loop", "dm_mod", "dm_snapshot", "dm_bufio",
-           "dm_zero")
+MODULES = ("crc32c_generic", "virtio_pci", "virtio_blk", "virtio_scsi", "sd_mod", "nvme", "loop", "nbd", "dm_mod", "dm_snapshot",
+           "dm_bufio", "dm_zero")
 SCSI_DISKS = ("sda", "sdb", "sdc", "sdd")
 # How many seconds the other disks may take to come.
 SETTLE = 1
 PARTS = {"map": stacks.run_mapping, "snap": stacks.run_requests, "stores": stacks.run_store, "accept": stacks.run_table,
-         "groups": groups.run_group}
+         "cuts": cuts.run_cuts, "groups": groups.run_group}
+# The parts whose results are saved after each experiment.
+SLOW = ("cuts", "groups")
 
 results = {}
 
@@ -64,7 +67,7 @@ def run_part(part, experiments):
         except Exception:
             out[it["name"]] = {"fault": traceback.format_exc()}
             print("guest: %s %s: %s" % (part, it["name"], traceback.format_exc()))
-        if part == "groups":
+        if part in SLOW:
             save()
 
 

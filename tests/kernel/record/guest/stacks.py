@@ -12,11 +12,14 @@ SETTLE = 0.002
 
 
 class Stack:
-    """The disks and the devices of an experiment. Nothing is made after the first device that the kernel refuses."""
+    """The devices of an experiment, and its disks, if there are none yet. Nothing is made after the first device that the
+    kernel refuses."""
 
-    def __init__(self, experiment):
+    def __init__(self, experiment, disks=None):
         new_messages()
-        self.disks = {it["name"]: Disk(it["name"], it["len"], it.get("fresh", ()), it.get("labels")) for it in experiment["disks"]}
+        self.own = [] if disks else [Disk(it["name"], it["len"], it.get("fresh", ()), it.get("labels"))
+                                     for it in experiment["disks"]]
+        self.disks = disks or {it.name: it for it in self.own}
         self.made, self.refused = [], None
         for device in experiment["devices"]:
             lines = [self.with_paths(it) for it in device["lines"]]
@@ -34,7 +37,7 @@ class Stack:
     def __exit__(self, *_):
         for it in reversed(self.made):
             remove(it)
-        for it in self.disks.values():
+        for it in self.own:
             it.close()
 
     def with_paths(self, line):

@@ -1,14 +1,15 @@
 use Rattle.std.proofs.Common.{refl, ap, ◌∙◌}
+use Rattle.std.proofs.lemmas.Option.{slice_get_read}
 use Rattle.dm_map.specs.state.State.{start_state}
 use Rattle.dm_replay.specs.Replay.{IsKept}
-use Rattle.dm_replay.proofs.RunTextLemmas.{each_at}
 use Rattle.dm_replay.proofs.RerunLemmas.{rerun_first, rerun_next}
 use Rattle.dm_replay.proofs.rerun.rerun.Goals as goal
+use Rattle.dm_table.proofs.Lists.{at_index}
 
 pub map_again-requires-clause-kept : goal.map_again-requires-clause-kept
 map_again-requires-clause-kept g c =
     let stack = c.args.stack.now in
-    rw c.loop-kept.invariant.of (each_at (IsKept stack) c.args.writes.now c.loop-kept.kept-index c.kept-item.result c.loop-kept-test.true c.kept-item.is c.requires)
+    rw c.loop-kept.invariant.of (at_index (IsKept stack) c.args.writes.now c.loop-kept.kept-index c.kept-item.result c.requires (slice_get_read c.args.writes.now _ c.loop-kept.kept-index c.kept-item.result refl c.loop-kept-test.true c.kept-item.is))
 
 pub loop-kept-init : goal.loop-kept-init
 loop-kept-init g c =

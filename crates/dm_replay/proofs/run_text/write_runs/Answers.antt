@@ -1,15 +1,16 @@
 use Rattle.std.proofs.Common.{ℕ, ◌+◌, length, List, ◌++◌, drop, take, refl}
 use Rattle.std.specs.List.{flat_map}
 use Rattle.std.proofs.lemmas.Result.{err_from_is_err_and}
+use Rattle.std.proofs.lemmas.Option.{slice_get_read}
 use Rattle.dm_table.proofs.WriteLemmas.{stopped, and_then, flat_map_at, flat_map_next}
+use Rattle.dm_table.proofs.Lists.{at_index}
 use Rattle.dm_replay.specs.declared.value_run.ValueRun.{ValueRun}
 use Rattle.dm_replay.specs.RunText.{run_line}
 use Rattle.dm_replay.specs.OfDisks.{IsRunOf}
-use Rattle.dm_replay.proofs.RunTextLemmas.{each_at}
 use Rattle.dm_replay.proofs.run_text.write_runs.Goals as goal
 
 pub write_run-requires : goal.write_run-requires
-write_run-requires g c = each_at (IsRunOf (length c.args.stack.now.disks)) c.args.runs.now c.loop-run.run-index c.run-item.result c.loop-run-test.true c.run-item.is c.requires
+write_run-requires g c = at_index (IsRunOf (length c.args.stack.now.disks)) c.args.runs.now c.loop-run.run-index c.run-item.result c.requires (slice_get_read c.args.runs.now _ c.loop-run.run-index c.run-item.result refl c.loop-run-test.true c.run-item.is)
 
 pub returns-in_err-write_run : goal.returns-in_err-write_run
 returns-in_err-write_run g c =

@@ -1,6 +1,7 @@
 use Rattle.std.proofs.Common.{◌≡◌, Option, Some, None, Result, Ok, sym, ap, ◌∙◌}
 use Rattle.dm_map.specs.Mapper.{MapperView}
 use Rattle.dm_map.specs.state.State.{State, Taken, lost, none_taken, put, taken_at}
+use Rattle.dm_map.proofs.ChunkTaking.{taken_same}
 use Rattle.dm_store.specs.declared.fault.ListFault.{ListFault}
 use Rattle.dm_store.specs.declared.fault.SectorFault.{SectorFault}
 use Rattle.dm_store.specs.declared.fault.StoreFault.{StoreFault}
@@ -9,7 +10,7 @@ use Rattle.dm_store.specs.Images.{disk_contents}
 use Rattle.dm_store.specs.Reading.{told_list}
 use Rattle.dm_store.specs.Start.{store_sectors, taken_in}
 use Rattle.dm_store.specs.Stored.{Holds, Lost, Refused, listed, stored}
-use Rattle.dm_store.proofs.StoreLemmas.{put_same, taken_valid}
+use Rattle.dm_store.proofs.StoreLemmas.{taken_valid}
 use Rattle.dm_store.proofs.stores.read_store.Goals as goal
 
 pub returns-in-Lost-clause-stored : goal.returns-in-Lost-clause-stored
@@ -21,7 +22,7 @@ returns-in-Lost-clause-stored g c = λ held seen.
     let after : c.lose.new.self.state ≡ put before c.args.device (lost none_taken) =
     ap (λ (m : MapperView). m.state) c.lose.ensures ∙ ap (λ (m : MapperView). put m.state c.args.device (lost (taken_at m.state c.args.device))) c.header_of.ensures.same
     ∙ ap (λ (t : Taken). put before c.args.device (lost t)) c.requires.none in
-    let taken : taken_at c.lose.new.self.state c.args.device ≡ lost none_taken = ap (λ (s : State). taken_at s c.args.device) after ∙ put_same before c.args.device (lost none_taken) c.requires.there in
+    let taken : taken_at c.lose.new.self.state c.args.device ≡ lost none_taken = ap (λ (s : State). taken_at s c.args.device) after ∙ taken_same before c.args.device (lost none_taken) c.requires.there in
     ap (λ (t : Taken). let r : Result Taken StoreFault = Ok t in r) taken ∙ ap taken_in says
 
 pub returns-in-Ok-None-clause-stored : goal.returns-in-Ok-None-clause-stored

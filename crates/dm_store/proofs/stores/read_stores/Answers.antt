@@ -1,18 +1,19 @@
 use Rattle.std.proofs.Common.{◌≡◌, ℕ, Result, Ok, get_or, length, refl, sym, ap, ◌∙◌, arith}
 use Rattle.std.proofs.lemmas.List.{get_or_default, get_or_past, get_or_read, length-replicate, length-set, take_all}
 use Rattle.dm_map.specs.state.State.{State, Taken, none_taken, put, taken_at}
+use Rattle.dm_map.proofs.ChunkTaking.{none_at}
 use Rattle.dm_store.specs.declared.fault.StoreFault.{StoreFault}
 use Rattle.dm_store.specs.declared.fault.StoreRefusal.{StoreRefusal}
 use Rattle.dm_store.specs.Images.{disk_contents}
 use Rattle.dm_store.specs.Start.{start_of}
-use Rattle.dm_store.proofs.StartLemmas.{InOrder, all_started, first_refused, in_order, next_later, next_started, none_before, snapshot_there, start_none}
+use Rattle.dm_store.proofs.StartLemmas.{InOrder, all_started, first_refused, in_order, next_later, next_started, none_before, snapshot_there}
 use Rattle.dm_store.proofs.stores.read_stores.Goals as goal
 
 pub loop-next-init : goal.loop-next-init
 loop-next-init g c =
     let stack = c.args.stack.now in let devices = c.snapshots-snapshots.result.now in
     let order : InOrder stack devices = in_order stack devices c.snapshots-snapshots.ensures.ids c.snapshots-snapshots.ensures.all in
-    let none : (device : ℕ) → taken_at c.args.mapper.now.state device ≡ none_taken = λ device. ap (λ (s : State). taken_at s device) c.requires.fresh ∙ start_none (length stack.devices) device in
+    let none : (device : ℕ) → taken_at c.args.mapper.now.state device ≡ none_taken = λ device. ap (λ (s : State). taken_at s device) c.requires.fresh ∙ none_at (length stack.devices) device in
     record {
       stack = refl;
       failed = refl;

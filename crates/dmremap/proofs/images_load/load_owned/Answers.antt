@@ -1,4 +1,4 @@
-use Rattle.std.proofs.Common.{◌∙◌, Err, Ok, ap}
+use Rattle.std.proofs.Common.{◌∙◌, Ok, ap}
 use Rattle.lvm_head.specs.Heads.{AllSaid}
 use Rattle.dmremap.specs.Load.{RefusedBy, SoundAs}
 use Rattle.dmremap.specs.Whole.{Loaded}

@@ -2,7 +2,8 @@ use Rattle.std.proofs.Common.{◌≡◌, refl}
 use Rattle.dm_table.specs.io.DeviceIo.{delivery, written_since}
 use Rattle.dmremap.specs.Load.{SoundAs}
 use Rattle.dmremap.specs.Printing.{ReportSays}
-use Rattle.dmremap.proofs.ImagesLemmas.{load_replayed}
+use Rattle.dmremap.specs.Whole.{fresh_start}
+use Rattle.dmremap.proofs.ReplayWholeLemmas.{load_replayed}
 use Rattle.dmremap.proofs.PrintLemmas.{asked_none, load_printed, load_reported}
 use Rattle.dmremap.proofs.images_whole.do_task.Goals as goal
 
@@ -20,4 +21,4 @@ returns-in-Check-clause-asked g c =
 
 pub returns-in-Replay-clause-did : goal.returns-in-Replay-clause-did
 returns-in-Replay-clause-did g c = rw c.in-Replay.is
-    (record { did = load_replayed (λ load. load ≡ SoundAs c.args.stack) c.args.stack (delivery (g.Q.Exchange.past c.args.requests.now) (g.Q.Exchange.past c.replay_stack-exit.new.requests)) (written_since (g.W.Output.past c.args.output.now) (g.W.Output.past c.replay_stack-exit.new.output)) c.replay_stack-exit.result refl c.replay_stack-exit.ensures.did.did; writes = c.replay_stack-exit.ensures.did.writes })
+    (record { did = load_replayed fresh_start (λ load. load ≡ SoundAs c.args.stack) c.args.stack (delivery (g.Q.Exchange.past c.args.requests.now) (g.Q.Exchange.past c.replay_fresh-exit.new.requests)) (written_since (g.W.Output.past c.args.output.now) (g.W.Output.past c.replay_fresh-exit.new.output)) c.replay_fresh-exit.result refl c.replay_fresh-exit.ensures.did.did; writes = c.replay_fresh-exit.ensures.did.writes })

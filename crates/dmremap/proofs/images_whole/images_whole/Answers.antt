@@ -11,7 +11,7 @@ use Rattle.dmremap.proofs.images_whole.images_whole.Goals as goal
 
 pub returns-in-Err-clause-exits : goal.returns-in-Err-clause-exits
 returns-in-Err-clause-exits g c = λ held seen.
-    unopened_exits _ _ _ _ _ _ _ _ (unopened.Load c.in-Err.fault) (list_refused (delivery (g.P.Input.past c.args.paths.now) (g.P.Input.past c.read_list.new.paths)) held c.in-Err.fault c.in-Err.ensures.refused) c.tell.ensures.status c.tell.ensures.told
+    unopened_exits (ImagesOpen (delivery (g.P.Input.past c.args.paths.now) (g.P.Input.past c.read_list.new.paths)) held) c.args.task (delivery (g.Q.Exchange.past c.args.requests.now) (g.Q.Exchange.past c.args.requests.now)) _ _ _ _ _ (unopened.Load c.in-Err.fault) (list_refused (delivery (g.P.Input.past c.args.paths.now) (g.P.Input.past c.read_list.new.paths)) held c.in-Err.fault c.in-Err.ensures.refused) c.tell.ensures.status c.tell.ensures.told
 
 pub returns-in-Err-clause-images_read : goal.returns-in-Err-clause-images_read
 returns-in-Err-clause-images_read g c = inl refl

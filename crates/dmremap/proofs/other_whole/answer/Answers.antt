@@ -1,15 +1,13 @@
 use Rattle.std.proofs.Common.{◌≡◌, ap, sym}
-use Rattle.dm_table.specs.io.DeviceIo.{written_since}
 use Rattle.dmremap.specs.Job.{format_of, source_words}
-use Rattle.dmremap.specs.Load.{SoundAs}
-use Rattle.dmremap.specs.Printing.{Prints, ReportSays}
-use Rattle.dmremap.proofs.PrintLemmas.{asked_none, check_printed, says_done, stack_printed}
+use Rattle.dmremap.specs.Printing.{Prints}
+use Rattle.dmremap.proofs.PrintLemmas.{check_printed, says_done, stack_printed}
 use Rattle.dmremap.proofs.other_whole.answer.Goals as goal
 
 pub returns-in-Ok-clause-did : goal.returns-in-Ok-clause-did
 returns-in-Ok-clause-did g c =
     record {
-      did = rw c.in-Print.is (stack_printed c.in-Print.form (format_of (source_words c.in-Print.from)) _ _ _ c.in-Ok.stack _ c.print_stack.result c.format-in-Print.ensures c.in-Ok.ensures.gives.sound c.print_stack.ensures.did);
+      did = rw c.in-Print.is (stack_printed c.in-Print.form (format_of (source_words c.in-Print.from)) _ _ _ c.in-Ok.stack _ c.print_stack.result c.format.ensures c.in-Ok.ensures.gives.sound c.print_stack.ensures.did);
       writes = c.print_stack.ensures.writes;
     }
 
@@ -19,10 +17,6 @@ returns-in-Ok-load_if-clause-did g c =
       did = rw c.in-Check.is (check_printed (format_of (source_words c.in-Check.from)) _ _ _ c.in-Ok-load_if.stack _ c.print_report-exit.result c.format-in-Check.ensures c.in-Ok-load_if.ensures.gives.sound c.print_report-exit.ensures.did);
       writes = c.print_report-exit.ensures.writes;
     }
-
-pub returns-in-Ok-load_if-clause-asked : goal.returns-in-Ok-load_if-clause-asked
-returns-in-Ok-load_if-clause-asked g c =
-    asked_none (ReportSays (SoundAs c.in-Ok-load_if.stack)) (written_since (g.W.Output.past c.args.output.now) (g.W.Output.past c.print_report-exit.new.output)) c.print_report-exit.result (g.Q.Exchange.past c.args.requests.now) c.print_report-exit.ensures.did
 
 pub returns-in-Name-clause-did : goal.returns-in-Name-clause-did
 returns-in-Name-clause-did g c = record { did = rw c.in-Name.is c.print_name.ensures.did; writes = c.print_name.ensures.writes }

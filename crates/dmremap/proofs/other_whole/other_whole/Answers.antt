@@ -1,4 +1,4 @@
-use Rattle.dmremap.proofs.ExitLemmas.{closed_requests, closed_unasked, exited}
+use Rattle.dmremap.proofs.ExitLemmas.{exited}
 use Rattle.dmremap.proofs.OneOther.{one_other}
 use Rattle.dmremap.proofs.other_whole.other_whole.Goals as goal
 
@@ -9,14 +9,10 @@ returns-clause-exits g c =
       end.0,
       exited _ _ _ _ c.answer-exit.result end.0 done.did.writes done.did.did end.1,
       end.2,
-      closed_unasked _ _ c.answer-exit.result end.0 _ _ end.1.ends done.asked,
     )
 
 pub returns-clause-one : goal.returns-clause-one
 returns-clause-one g c = one_other
-
-pub returns-clause-requests : goal.returns-clause-requests
-returns-clause-requests g c = let end = c.finish.ensures in closed_requests _ _ c.answer-exit.result end.0 _ _ _ end.1.ends c.answer-exit.ensures.asked end.2.is
 
 pub returns-clause-output : goal.returns-clause-output
 returns-clause-output g c =

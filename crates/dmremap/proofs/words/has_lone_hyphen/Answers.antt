@@ -14,10 +14,6 @@ lone-cons : (word : Text) (words : List Text) → lone_hyphen_in (word ∷ words
     ≡ list_any (λ w. bytes_eq w (codes "-")) (cond (not (bytes_eq word (codes "--"))) (word ∷ before_first (λ w. bytes_eq w (codes "--")) words) [])
 lone-cons word words = ap (list_any (λ w. bytes_eq w (codes "-"))) (take_while-cons (λ w. not (bytes_eq w (codes "--"))) word words)
 
--- no hyphen is looked for from the first `--` on
-lone-dashes : (word : Text) (words : List Text) → bytes_eq word (codes "--") ≡ true → lone_hyphen_in (word ∷ words) ≡ false
-lone-dashes word words dashes = rw dashes refl
-
 -- the first word is a hyphen
 lone-hyphen : (word : Text) (words : List Text) → bytes_eq word (codes "--") ≡ false → bytes_eq word (codes "-") ≡ true
     → lone_hyphen_in (word ∷ words) ≡ true

@@ -3,7 +3,7 @@
 
 use super::*;
 use dm_stack::{DeviceId, Stack};
-use dm_stream::{Ending, Handler, HandlesFrom, ReadsFrom, handle_requests};
+use dm_stream::{Ending, Front, Handler, HandlesFrom, ReadsFrom, handle_requests};
 use dm_table::{InFault, Input, Request, parse_disks, parse_table};
 
 /// Devices with names of 1, 15 and 16 bytes.
@@ -66,8 +66,8 @@ impl Handler for Counts {
         true
     }
 
-    fn prefetch(&mut self, _stack: &Stack, _source: &(), _device: DeviceId, _start: u64) {
-        self.told = self.told.saturating_add(1);
+    fn prefetch(&mut self, _stack: &Stack, _source: &(), fronts: &[Front<'_>]) {
+        self.told = self.told.saturating_add(fronts.len() as u64);
     }
 }
 

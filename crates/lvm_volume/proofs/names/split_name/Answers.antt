@@ -6,10 +6,9 @@ use Rattle.lvm_volume.proofs.names.split_name.Goals as goal
 use Rattle.lvm_volume.proofs.names.split_name.Goals.{else-name-le127-via-then-name-le127+else-is_none, else-name-le127-via-else-name-le127}
 
 none_is : {X : Type 0} (o : Option X) (b : Bool) → is_some o ≡ not b → is_none o ≡ b
-none_is None true e = refl
 none_is None false e = absurd cc
 none_is (Some x) true e = absurd cc
-none_is (Some x) false e = refl
+none_is o b e = refl
 
 pub returns-in_err-parts-clause-none : goal.returns-in_err-parts-clause-none
 returns-in_err-parts-clause-none c = rw c.from_residual.ensures (none_sliced c.args.name.now c.in_err-parts.ensures)

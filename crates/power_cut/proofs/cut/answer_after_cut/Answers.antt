@@ -1,10 +1,7 @@
-use Rattle.std.proofs.Common.{length, ap, refl, subst, ◌∙◌}
-use Rattle.std.specs.List.{AllByRecursion}
+use Rattle.std.proofs.Common.{refl}
 use Rattle.std.proofs.lemmas.Result.{err_from_is_err_and}
 use Rattle.dm_table.specs.laws.Progress.{closed_as}
-use Rattle.dm_stack.specs.Description.{Description}
-use Rattle.dm_replay.specs.Replay.{Replaying}
-use Rattle.power_cut.specs.ReadBack.{IsOnDisks, backs_text}
+use Rattle.power_cut.specs.ReadBack.{backs_text}
 use Rattle.power_cut.proofs.CutLemmas.{is_answer}
 use Rattle.power_cut.proofs.FaultLemmas.{refused_unwritten}
 use Rattle.power_cut.proofs.ReadBackLemmas.{all_on_disks}
@@ -14,7 +11,7 @@ pub write_backs-written-requires : goal.write_backs-written-requires
 write_backs-written-requires g c =
     let backs = c.in_ok-backs.backs.items in
     rw c.deref-3.ensures.value
-    (rw (c.in_ok-replay-2.ensures.stack, c.in_ok-replay.ensures.new) at (all_on_disks _ _ _ backs c.in_ok-backs.ensures.backs))
+    (rw (c.in_ok-replay-2.ensures.stack, c.in_ok-replay.ensures.new) at (all_on_disks _ _ _ _ backs c.in_ok-backs.ensures.backs))
 
 pub returns-in_err-replay-clause-ended : goal.returns-in_err-replay-clause-ended
 returns-in_err-replay-clause-ended g c =
@@ -31,7 +28,7 @@ returns-in-Ok-clause-ended g c =
     let stack = c.args.stack.now in let requests = c.in_ok-requests in let backs = c.in_ok-backs.backs.items in (
       backs_text stack backs,
       is_answer stack c.args.units _ requests.requests.items _ c.in_ok-replay-2.replay backs c.in_ok-replay.ensures.tidy requests.ensures.ends c.in_ok-replay.ensures.new requests.ensures.all
-          (rw c.deref.ensures.value at c.in_ok-replay-2.ensures.tops) c.in_ok-replay-2.ensures.stack (rw c.deref.ensures.value at c.in_ok-replay-2.ensures.asked) (rw c.deref-2.ensures.value at c.in_ok-backs.ensures.backs),
+          (rw c.deref.ensures.value at c.in_ok-replay-2.ensures.tops) c.in_ok-replay-2.ensures.stack c.in_ok-replay-2.ensures.start (rw c.deref.ensures.value at c.in_ok-replay-2.ensures.asked) (rw c.deref-2.ensures.value at c.in_ok-backs.ensures.backs),
       closed_as _ ⊥ (λ failed. cc) (λ failed. absurd failed) (c.in-Ok.ensures.closed _ _ (rw c.deref-3.ensures.value at c.write_backs-written.ensures)),
     )
 
@@ -40,6 +37,6 @@ returns-clause-ended g c =
     let stack = c.args.stack.now in let requests = c.in_ok-requests in let backs = c.in_ok-backs.backs.items in (
       backs_text stack backs,
       is_answer stack c.args.units _ requests.requests.items _ c.in_ok-replay-2.replay backs c.in_ok-replay.ensures.tidy requests.ensures.ends c.in_ok-replay.ensures.new requests.ensures.all
-          (rw c.deref.ensures.value at c.in_ok-replay-2.ensures.tops) c.in_ok-replay-2.ensures.stack (rw c.deref.ensures.value at c.in_ok-replay-2.ensures.asked) (rw c.deref-2.ensures.value at c.in_ok-backs.ensures.backs),
+          (rw c.deref.ensures.value at c.in_ok-replay-2.ensures.tops) c.in_ok-replay-2.ensures.stack c.in_ok-replay-2.ensures.start (rw c.deref.ensures.value at c.in_ok-replay-2.ensures.asked) (rw c.deref-2.ensures.value at c.in_ok-backs.ensures.backs),
       closed_as _ (Unit {0}) (λ failed. tt) (λ failed. refl) (c.in-Err.ensures.closed _ _ (rw c.deref-3.ensures.value at c.write_backs-written.ensures)),
     )

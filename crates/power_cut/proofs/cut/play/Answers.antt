@@ -1,12 +1,9 @@
-use Rattle.std.proofs.Common.{[], ◌∷◌, ◌++◌, List, map, ap, subst, ◌∙◌}
+use Rattle.std.proofs.Common.{[], ◌∷◌, ◌++◌, subst, ◌∙◌}
 use Rattle.std.proofs.lemmas.List.{take_all}
 use Rattle.std.proofs.lemmas.List.Elements.{All-more, All-push, All-same}
 use Rattle.std.proofs.lemmas.Result.{err_from_is_err_and}
-use Rattle.dm_stack.specs.Description.{Description}
-use Rattle.dm_stream.specs.requests.Requests.{NumberedRequest, numbered}
-use Rattle.dm_replay.specs.Histories.{Asked}
-use Rattle.power_cut.specs.Fault.{IsUnplayed, unplayed}
-use Rattle.power_cut.specs.OwnedRequest.{AreOfTops, IsOfTop, asked_of, cut_of}
+use Rattle.dm_stream.specs.requests.Requests.{numbered}
+use Rattle.power_cut.specs.OwnedRequest.{AreOfTops, IsOfTop}
 use Rattle.power_cut.proofs.CutLemmas.{played_more, until_last}
 use Rattle.power_cut.proofs.FaultLemmas.{not_halted, stops_at_next}
 use Rattle.power_cut.proofs.cut.play.Goals as goal
@@ -17,6 +14,7 @@ loop-request-preserved c =
     let stack = c.args.replay.stack in
     let did = c.in_ok-play_whole.ensures in record {
       stack = did.stack ∙ l.invariant.stack;
+      start = did.start ∙ l.invariant.start;
       asked = played_more stack first l.request-index request l.replay.asked c.play_whole.new.replay.asked c.loop-request-test.true c.request-item.is l.invariant.asked
           (did.asked ∙ rw l.invariant.stack);
       tops = All-more (IsOfTop stack) first l.request-index request c.loop-request-test.true l.invariant.tops

@@ -6,6 +6,7 @@ use Rattle.power_cut.proofs.cut.play.Given as goal
 abbrev pub invariant-loop-request : goal.invariant-loop-request
 invariant-loop-request l = record {
   stack : l.replay.stack ≡ l.initial.replay.stack;
+  start : l.replay.start ≡ l.initial.replay.start;
   asked : l.replay.asked ≡ map (asked_of l.initial.replay.stack) (take l.request-index l.first);
   tops : AreOfTops l.initial.replay.stack (take l.request-index l.first);
 }

@@ -1,10 +1,10 @@
-use Rattle.std.proofs.Common.{◌≡◌, ℕ, false, List, Some, ap, ◌∙◌}
+use Rattle.std.proofs.Common.{◌≡◌, ℕ, false, List, Some, ap, sym, ◌∙◌}
 use Rattle.std.specs.Prelude.{position}
 use Rattle.dm_stack.specs.claims.Claims.{IsTop}
 use Rattle.dm_stack.specs.Description.{is_same}
-use Rattle.dm_map.specs.state.State.{start_state}
+use Rattle.dm_map.specs.state.State.{State, start_state}
 use Rattle.dm_replay.specs.Replay.{HasTop, Replaying}
-use Rattle.dm_replay.specs.Reruns.{rerun_from}
+use Rattle.dm_replay.specs.Reruns.{rerun_from, with_request}
 use Rattle.dm_replay.proofs.NamedLemmas.{named_id, named_there}
 use Rattle.dm_replay.proofs.WorldLemmas.{are_whole, few_whole, going_halted, is_kept, kept_more, next_start, write_of}
 use Rattle.dm_replay.proofs.replay.Replay.halt.Goals as goal
@@ -36,8 +36,8 @@ pub rerun-requires : goal.rerun-requires
 rerun-requires g c =
     let inside = c.self.inside in let request = c.args.request.now in let device = c.in-Some.device in let going = c.self.invariant.going c.if-failed.false in
     let size = c.whole_sectors-whole.result in
-    let few = few_whole inside.stack.now inside.mapper inside.asked request device c.args.units c.requests_are_alone.ensures
-    c.self.invariant.tidy going.asked_are c.in-Some.ensures.some.1 going.mapper_stack going.state_is in
+    let few = few_whole inside.stack.now inside.start inside.mapper inside.asked request device c.args.units c.requests_are_alone.ensures
+    c.self.invariant.tidy c.self.invariant.fits going.asked_are c.in-Some.ensures.some.1 going.mapper_stack going.state_is in
     let whole = are_whole inside.stack.now inside.mapper request device c.args.units c.in-Ok.player.playing.next size going.mapper_stack c.in-Ok.ensures.next few c.whole_sectors-whole.ensures in
     let one = is_kept inside.stack.now request device size (named_there inside.stack.now request.device.now device c.in-Some.ensures.some.0) c.in-Some.ensures.some.1 whole.few in
     rw (c.deref.ensures.value ∙ c.in-Ok-keep.ensures) (kept_more inside.stack.now request.op (write_of request device size) inside.writes.items one going.kept_are)
@@ -46,16 +46,18 @@ pub invariant_of-result : goal.invariant_of-result
 invariant_of-result g c =
     let inside = c.self.inside in let request = c.args.request.now in let device = c.in-Some.device in let did = c.in-Ok.ensures in let going = c.self.invariant.going c.if-failed.false in
     let size = c.whole_sectors-whole.result in let player = c.in-Ok.player in let again = c.in-Ok-rerun.ensures in
-    let few = few_whole inside.stack.now inside.mapper inside.asked request device c.args.units c.requests_are_alone.ensures
-    c.self.invariant.tidy going.asked_are c.in-Some.ensures.some.1 going.mapper_stack going.state_is in
+    let few = few_whole inside.stack.now inside.start inside.mapper inside.asked request device c.args.units c.requests_are_alone.ensures
+    c.self.invariant.tidy c.self.invariant.fits going.asked_are c.in-Some.ensures.some.1 going.mapper_stack going.state_is in
     let whole = are_whole inside.stack.now inside.mapper request device c.args.units player.playing.next size going.mapper_stack did.next few c.whole_sectors-whole.ensures in
     let one = is_kept inside.stack.now request device size (named_there inside.stack.now request.device.now device c.in-Some.ensures.some.0) c.in-Some.ensures.some.1 whole.few in
+    let fresh = rw (← c.self.view_is) at c.requires in
     record {
       tidy = c.self.invariant.tidy;
       tops_are = c.self.invariant.tops_are;
-      going = λ _. rw (c.add.ensures, c.in-Ok-keep.ensures) (going_halted inside.stack.now inside.player.stack.now player.stack.now inside.mapper c.in-Ok-rerun.mapper inside.player.playing.values.disks.items player.playing.values.disks.items inside.asked inside.writes.items request device c.args.units size
+      fits = c.self.invariant.fits;
+      going = λ _. rw (c.add.ensures, c.in-Ok-keep.ensures) (going_halted inside.stack.now inside.player.stack.now player.stack.now inside.start inside.mapper c.in-Ok-rerun.mapper inside.player.playing.values.disks.items player.playing.values.disks.items inside.asked inside.writes.items request device c.args.units size
           one going again.going again.stack did.played.stack
-          (again.state ∙ ap (rerun_from inside.stack.now (start_state inside.stack.now)) (c.deref.ensures.value ∙ c.in-Ok-keep.ensures)) did.played.values did.played.disks whole);
+          (again.state ∙ ap (rerun_from inside.stack.now (start_state inside.stack.now)) (c.deref.ensures.value ∙ c.in-Ok-keep.ensures) ∙ ap (λ (start : State). rerun_from inside.stack.now start (with_request request.op (write_of request device size) inside.writes.items)) (sym fresh)) did.played.values did.played.disks whole);
     }
 
 pub returns-clause-asked : goal.returns-clause-asked

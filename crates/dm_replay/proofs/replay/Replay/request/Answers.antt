@@ -1,9 +1,10 @@
 use Rattle.std.proofs.Common.{◌≡◌, Some, sym, ◌∙◌, subst}
 use Rattle.std.specs.Prelude.{position}
+use Rattle.std.proofs.lemmas.Result.{on_ok_weaker}
 use Rattle.dm_stack.specs.claims.Claims.{IsTop}
 use Rattle.dm_stack.specs.Description.{is_same}
 use Rattle.dm_replay.specs.Replay.{HasTop, Replaying}
-use Rattle.dm_replay.proofs.NamedLemmas.{answered_top, named_id, named_top, top_named, unanswered_result}
+use Rattle.dm_replay.proofs.NamedLemmas.{named_id, named_top, top_named, unanswered_result}
 use Rattle.dm_replay.proofs.replay.Replay.request.Goals as goal
 
 pub returns-in-Some-clause-answered : goal.returns-in-Some-clause-answered
@@ -16,7 +17,7 @@ pub returns-in-Some-clause-top : goal.returns-in-Some-clause-top
 returns-in-Some-clause-top g c =
     let old = c.args.self.now in let request = c.args.request.now in
     let named = subst (λ (r : Replaying). position (λ device. is_same device.name request.device.now) r.stack.devices ≡ Some c.in-Some.device) c.self.view_is (sym c.device.ensures ∙ c.in-Some.is) in
-    answered_top c.request_of.result (IsTop old.stack c.in-Some.device) (HasTop old.stack request.device.now) (named_top old.stack request.device.now c.in-Some.device named) c.request_of.ensures.top
+    on_ok_weaker c.request_of.result (named_top old.stack request.device.now c.in-Some.device named) c.request_of.ensures.top
 
 pub returns-in-Some-clause-fault : goal.returns-in-Some-clause-fault
 returns-in-Some-clause-fault g c =

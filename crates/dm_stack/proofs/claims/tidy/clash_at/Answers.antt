@@ -4,14 +4,14 @@ use Rattle.std.proofs.lemmas.Option.{slice_get_read}
 use Rattle.dm_stack.specs.claims.Sweep.{clash_with}
 use Rattle.dm_stack.proofs.claims.TidyLemmas.{clash_here, clash_none}
 use Rattle.dm_stack.proofs.claims.tidy.clash_at.Goals as goal
-use Rattle.dm_table.proofs.Lists.{some_is}
+use Rattle.std.proofs.lemmas.Option.{same_Some}
 
 pub returns-then-meets : goal.returns-then-meets
 returns-then-meets c later there =
     let claims = c.args.claims.now in
     let before = take c.args.index claims in
     let read = slice_get_read claims (length claims) c.args.index c.index-claims-index.result refl c.requires c.index-claims-index.is in
-    let same = some_is c.index-claims-index.result later (sym read ∙ there) in
+    let same = same_Some c.index-claims-index.result later (sym read ∙ there) in
     cc (clash_here before c.loop-earlier.earlier-index c.earlier-item.result c.index-claims-index.result c.loop-earlier-test.true c.earlier-item.is (sym c.meets.ensures ∙ c.if-meets.true))
 
 pub returns : goal.returns
@@ -19,6 +19,6 @@ returns c later there =
     let claims = c.args.claims.now in
     let before = take c.args.index claims in
     let read = slice_get_read claims (length claims) c.args.index c.index-claims-index.result refl c.requires c.index-claims-index.is in
-    let same = some_is c.index-claims-index.result later (sym read ∙ there) in
+    let same = same_Some c.index-claims-index.result later (sym read ∙ there) in
     sym (clash_none before c.loop-earlier.earlier-index c.index-claims-index.result c.loop-earlier-test.false)
     ∙ c.loop-earlier.invariant ∙ ap (clash_with before) same

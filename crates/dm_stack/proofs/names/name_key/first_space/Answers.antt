@@ -7,7 +7,7 @@ use Rattle.std.proofs.lemmas.List.Sums.{passes_at_first}
 use Rattle.std.proofs.lemmas.Simd.{mask_l-mod, tops_compared, trailing_mask_l, zip2_splat}
 use lib.Count.{count_trailing_zeros}
 use lib.Lanes.{mask_l, top, zip2}
-use Rattle.dm_stack.proofs.names.KeyLemmas.{some_lane}
+use Rattle.dm_table.proofs.MarkLemmas.{mark_within}
 use Rattle.dm_stack.proofs.names.name_key.first_space.Goals as goal
 
 -- the lanes that are spaces, as bits
@@ -24,7 +24,7 @@ first_is array at long others is =
     let bits = spaces_are array long in
     let some : 0 < mask_l (map (λ x. nat_eq x 32) array) = pos_of_ne-zero (λ none. others (bits ∙ none)) in
     let place : at ≡ prefix_len (λ x. not (nat_eq x 32)) array = is ∙ ap (count_trailing_zeros 64) bits ∙ trailing_mask_l (λ x. nat_eq x 32) 64 array (omega (arith, long)) some in
-    let within = some_lane (λ x. nat_eq x 32) array some in (
+    let within = mark_within (λ x. nat_eq x 32) array some in (
       omega (arith, place, within, long),
       eqb-true (get_or array at 0) 32 (rw place (passes_at_first (λ x. nat_eq x 32) array 0 within)),
     )

@@ -13,7 +13,7 @@ returns-in-Err g c =
       drop len c.args.held.now,
       c.read_fronts-len.ensures.first,
       among_those _ _ _ _ (ap front_requests c.deref-2.ensures.0)
-          (λ first stopped. g.met.H.Handler.answered_then_stopped c.args.stack.now c.args.handler.now c.prefetch_fronts.new.handler c.answer_all.new.handler source source c.answer_all.new.source [] first _ c.prefetch_fronts.ensures.answered stopped)
+          (λ first stopped. g.met.H.Handler.answered_then_stopped c.args.stack.now c.args.handler.now c.prefetch.new.self c.answer_all.new.handler source source c.answer_all.new.source [] first _ c.prefetch.ensures.answered stopped)
           c.in-Err.ensures.stopped,
     )
 
@@ -27,7 +27,7 @@ returns g c =
       answered = (
         requests,
         rw c.len.ensures.value c.read_fronts-len.ensures.first,
-        g.met.H.Handler.answered_then_answered c.args.stack.now c.args.handler.now c.prefetch_fronts.new.handler c.answer_all.new.handler source source c.answer_all.new.source [] requests c.prefetch_fronts.ensures.answered
+        g.met.H.Handler.answered_then_answered c.args.stack.now c.args.handler.now c.prefetch.new.self c.answer_all.new.handler source source c.answer_all.new.source [] requests c.prefetch.ensures.answered
             (rw c.deref-2.ensures.0 at c.in_default.ensures.answered),
       );
       within = c.read_fronts-len.ensures.within;

@@ -1,7 +1,8 @@
 use Rattle.std.proofs.Common.{rules}
+use Rattle.std.proofs.Math.Path.{subst₂}
 use Rattle.dm_table.specs.io.DeviceIo.{delivery}
 use Rattle.dm_stream.specs.runs.Run.{HasMappedAll}
-use Rattle.dm_stream.proofs.runs.Runs.{all_mapped, of_output, part_mapped, stopped_met}
+use Rattle.dm_stream.proofs.runs.Runs.{all_mapped, part_mapped, stopped_met}
 use Rattle.dm_stream.proofs.runs.map_run.map_requests.Goals as goal
 
 pub returns-in-Ok : goal.returns-in-Ok
@@ -10,7 +11,7 @@ returns-in-Ok g c =
     let new = c.handle_requests-handled.new in
     let before = g.R.Exchange.past c.args.requests.now in
     let after = g.R.Exchange.past new.requests in
-    of_output (λ x y. HasMappedAll c.args.stack.now c.args.mapper.now new.source before after (past x) (past y) c.in-Ok.ending) c.new.result.writer.now new.handler.join.writer.now _ _ c.new.ensures.writer (search rules)
+    subst₂ (λ x y. HasMappedAll c.args.stack.now c.args.mapper.now new.source before after (past x) (past y) c.in-Ok.ending) {x = c.new.result.writer.now} {u = new.handler.join.writer.now} c.new.ensures.writer (search rules)
     (record {
       left = search rules;
       writes = search rules;
@@ -24,7 +25,7 @@ returns-in-Err g c =
     let new = c.handle_requests-handled.new in
     let before = g.R.Exchange.past c.args.requests.now in
     let after = g.R.Exchange.past new.requests in
-    of_output (λ x y. HasMappedAll c.args.stack.now c.args.mapper.now new.source before after (past x) (past y) c.ending_of.result) c.new.result.writer.now new.handler.join.writer.now _ _ c.new.ensures.writer (search rules)
+    subst₂ (λ x y. HasMappedAll c.args.stack.now c.args.mapper.now new.source before after (past x) (past y) c.ending_of.result) {x = c.new.result.writer.now} {u = new.handler.join.writer.now} c.new.ensures.writer (search rules)
     (record {
       left = record {
         stack = search rules;

@@ -1,5 +1,5 @@
 use Rattle.std.proofs.Common.{◌≡◌, ◌∙◌, sym, ap, None, Some, Ok, Err}
-use Rattle.dm_stack.specs.Description.{Description}
+use Rattle.std.proofs.Math.Path.{subst₂}
 use Rattle.dm_map.specs.pieces.Units.{units_of}
 use Rattle.dm_stream.specs.pieces.Pending.{piece_of}
 use Rattle.dm_stream.specs.runs.Outcome.{step_of}
@@ -8,18 +8,15 @@ use Rattle.dm_stream.specs.pieces.Pieces.{fewest}
 use Rattle.dm_stream.specs.pieces.PieceText.{pieces_text}
 use Rattle.dm_table.specs.io.Progress.{Wrote}
 use Rattle.dm_table.specs.declared.io.device_io.OutFault.{OutFault}
-use Rattle.dm_stream.proofs.runs.RequestMapped.{at_home, cut_short, home_wrote, on_ok, on_sink, state_at, taken_wrote, took_all}
+use Rattle.dm_table.proofs.Lists.{on_ok}
+use Rattle.dm_stream.proofs.runs.RequestMapped.{at_home, cut_short, home_wrote, on_sink, state_at, taken_wrote, took_all}
 use Rattle.dm_stream.proofs.runs.request_mapper.write_joined.Goals as goal
-
--- what is said of a mapper's stack and of the writer that a join began with, is said of the join's stack and of its writer before
-before_begin : {W : Type 0} (P : Description → W → Type 0) (stack other : Description) (writer begun : W) → other ≡ stack → begun ≡ writer → P other begun → P stack writer
-before_begin P stack other writer begun same kept fact = rw (← same, ← kept) fact
 
 pub returns-in-Ok-None-clause-wrote : goal.returns-in-Ok-None-clause-wrote
 returns-in-Ok-None-clause-wrote g c =
     let request = c.args.request.now in let begun = c.begin.new.self in let new = c.request_or_home.new.sink in
     let took = took_all _ _ _ _ c.request_or_home.result (c.in-Ok-None.is ∙ ap Ok c.in-Ok-None.field-0-is) c.request_or_home.ensures.took in
-    before_begin (λ s w. Wrote (g.W.Output.past w) (g.W.Output.past c.finish.new.self.writer.now) c.finish.result (pieces_text c.args.join.now.held.stack request.number (fewest (step_of s c.args.device (numbered request) c.args.mapper.now.state).units))) _ _ _ _ c.requires.stack c.begin.ensures.writer
+    subst₂ (λ s w. Wrote (g.W.Output.past w) (g.W.Output.past c.finish.new.self.writer.now) c.finish.result (pieces_text c.args.join.now.held.stack request.number (fewest (step_of s c.args.device (numbered request) c.args.mapper.now.state).units))) c.requires.stack c.begin.ensures.writer
     (taken_wrote _ request.number begun.held new.held _ c.begin.ensures.number took.0 took.1.moved c.finish.ensures.wrote)
 
 pub write_range-requires : goal.write_range-requires
@@ -45,14 +42,14 @@ pub returns-in-Ok-Some-clause-wrote : goal.returns-in-Ok-Some-clause-wrote
 returns-in-Ok-Some-clause-wrote g c =
     let request = c.args.request.now in let begun = c.begin.new.self in let new = c.request_or_home.new.sink in
     let home = at_home _ c.request_or_home.result c.in-Ok-Some.home (c.in-Ok-Some.is ∙ ap Ok c.in-Ok-Some.field-0-is) c.request_or_home.ensures.took in
-    before_begin (λ s w. Wrote (g.W.Output.past w) (g.W.Output.past c.write_range.new.self.writer.now) c.write_range.result (pieces_text c.args.join.now.held.stack request.number (fewest (step_of s c.args.device (numbered request) c.args.mapper.now.state).units))) _ _ _ _ c.requires.stack c.begin.ensures.writer
+    subst₂ (λ s w. Wrote (g.W.Output.past w) (g.W.Output.past c.write_range.new.self.writer.now) c.write_range.result (pieces_text c.args.join.now.held.stack request.number (fewest (step_of s c.args.device (numbered request) c.args.mapper.now.state).units))) c.requires.stack c.begin.ensures.writer
     (home_wrote begun new (λ j. g.W.Output.past j.writer.now) (λ j. j.held) _ request.number _ (units_of (piece_of c.at.result)) home.1 c.begin.ensures.number (home.0.units ∙ sym c.at.ensures.units) c.write_range.ensures.wrote)
 
 pub returns-in-Err-Sink-clause-wrote : goal.returns-in-Err-Sink-clause-wrote
 returns-in-Err-Sink-clause-wrote g c =
     let request = c.args.request.now in let begun = c.begin.new.self in let new = c.request_or_home.new.sink in
     let failed = on_sink c.request_or_home.result c.in-Err-Sink.fault _ (c.in-Err-Sink.is ∙ ap Err c.in-Err-Sink.field-0-is) c.request_or_home.ensures.failed in
-    before_begin (λ s w. Wrote {E = OutFault} (g.W.Output.past w) (g.W.Output.past new.writer.now) (Err c.in-Err-Sink.fault) (pieces_text c.args.join.now.held.stack request.number (fewest (step_of s c.args.device (numbered request) c.args.mapper.now.state).units))) _ _ _ _ c.requires.stack c.begin.ensures.writer
+    subst₂ (λ s w. Wrote {E = OutFault} (g.W.Output.past w) (g.W.Output.past new.writer.now) (Err c.in-Err-Sink.fault) (pieces_text c.args.join.now.held.stack request.number (fewest (step_of s c.args.device (numbered request) c.args.mapper.now.state).units))) c.requires.stack c.begin.ensures.writer
     (record {
       moved = failed.left.holds.1.moved;
       ok = tt;

@@ -1,0 +1,68 @@
+"""The package of dmremap-tools: each folder imports those alone that its docstring draws for it, all of them above it there, so
+that there is no ring; and an option that several commands have takes the same in each."""
+
+import ast
+import glob
+import importlib
+import os
+import re
+
+import dmremap_tools
+from dmremap_tools import commands, main
+from harness import Case, run
+
+PACKAGE = "dmremap_tools"
+# A folder, what it is for, and which folders it imports.
+DRAWN = re.compile(r"^    (\w+) {2,}[^:\n]+?(?:: ([\w ]+))?$", re.M)
+
+
+def check_folders(tally, top):
+    package = os.path.join(top, "tools", PACKAGE)
+    drawing = dmremap_tools.__doc__.partition("How to add a command")[0]
+    drawn = [(name, set(imports.split())) for name, imports in DRAWN.findall(drawing)]
+    folders = [os.path.basename(os.path.dirname(it)) for it in glob.glob(os.path.join(package, "*", "__init__.py"))]
+    tally.holds("the folders that are drawn", {name for name, _ in drawn} == set(folders), "there are %s" % ", ".join(sorted(folders)))
+    for place, (name, imports) in enumerate(drawn):
+        imported = imported_by(os.path.join(package, name), folders)
+        tally.holds("what %s imports" % name, imported == imports, "it is %s" % ", ".join(sorted(imported)))
+        below = imports - {above for above, _ in drawn[:place]}
+        tally.holds("the order of %s" % name, not below, "it imports what isn't drawn above it: %s" % ", ".join(sorted(below)))
+
+
+def imported_by(folder, folders):
+    """The other folders of the package from which the modules of one import something, wherever in a module they do."""
+    found = set()
+    for path in glob.glob(os.path.join(folder, "*.py")):
+        with open(path, encoding="utf-8") as file:
+            tree = ast.parse(file.read())
+        for node in ast.walk(tree):
+            if isinstance(node, ast.Import):
+                modules = [it.name for it in node.names]
+            elif isinstance(node, ast.ImportFrom):
+                modules = ["%s.%s" % (node.module, it.name) for it in node.names]
+            else:
+                continue
+            found |= {it.split(".")[1] for it in modules if it.startswith(PACKAGE + ".")}
+    return found & set(folders) - {os.path.basename(folder)}
+
+
+def check_options(tally):
+    taken = {}
+    for command in commands.COMMANDS:
+        module = importlib.import_module("%s.%s" % (PACKAGE, command.module))
+        for action in main.parser_of(command, module, command.name)._actions:
+            value = action.metavar if action.nargs != 0 else None
+            for option in action.option_strings:
+                # Of MEMBER=SECTORS it is the latter that is taken.
+                taken.setdefault(option, set()).add(value.rpartition("=")[2] if isinstance(value, str) else value)
+    for option, values in taken.items():
+        tally.holds("what %s takes" % option, len(values) == 1, "it takes %s" % values)
+
+
+def check_columns(tally, top):
+    got = [run([os.path.join(top, "dmremap-tools"), "owner", "--help"], env=dict(os.environ, COLUMNS=str(columns))) for columns in (80, 200)]
+    tally.same("the help on a wide terminal", got[1], 0, got[0].out)
+
+
+class Package(Case, checks=[check_folders, check_options, check_columns]):
+    """Folders and options."""

@@ -1,0 +1,63 @@
+"""How long the chunks of snapshots are, how many their stores have places for, and what dmremap says of the stores that
+it reads: how many chunks each has, or why one is refused."""
+
+import re
+from typing import Dict, Iterable, Optional, Sequence
+
+from dmremap_tools.base import program, quoting, tables
+from dmremap_tools.base.refusal import Refusal
+
+# How many dmremap counts in all stores together.
+MOST = 4194304
+# How many sectors a chunk has at most.
+MOST_IN_CHUNK = 1 << 10
+STATUS = re.compile(r"([^ ]+): 0 [0-9]+ snapshot (?:([0-9]+)/[0-9]+ ([0-9]+)|Invalid)")
+REFUSED = re.compile(r"dmremap: store ([^ ]+): ([a-z]+)")
+DAMAGED = "which no kernel writes: it is damaged, was changed while it was read, or is another snapshot's"
+WHYS = {
+    "missing": "a disk that its header or its list lies on isn't here",
+    "read": "its header or its list can't be read to its end: give whole images of the disks that it lies on",
+    "magic": "it begins neither as a store nor with zeros, and a kernel refuses it: look whether the disks, their places and the tables "
+             "belong together",
+    "version": "it isn't of version 1, and a kernel refuses it: look whether the disks, their places and the tables belong together",
+    "chunk": "its chunks have another length than the tables say, and a kernel goes by the store: `od -An -tu4 -j12 -N4` of its first "
+             "sector prints how many sectors they have, so write that there",
+    "order": "its list has chunks in another order than that of their places, or more than there is room for, " + DAMAGED,
+    "range": "its list has a chunk past the end of the snapshot, " + DAMAGED,
+    "again": "its list has a chunk twice, " + DAMAGED,
+}
+
+
+def is_chunk(chunk: int) -> bool:
+    """Whether chunks may have so many sectors."""
+    return 0 < chunk <= MOST_IN_CHUNK and chunk & (chunk - 1) == 0
+
+
+def places(chunk: Optional[int], length: int) -> int:
+    """How many chunks a store of these sectors has a place for, as docs/FORMATS.md counts them."""
+    if not chunk or chunk < 0:
+        return 0
+    count = max(0, length // chunk - 2)
+    return count - count // (32 * chunk + 1)
+
+
+class RefusedStore(Refusal):
+    """A store that dmremap refuses, for this word."""
+
+    def __init__(self, snapshot: str, word: str) -> None:
+        super().__init__("the store of " + snapshot, WHYS[word])
+        self.word = word
+
+
+def chunks_in(words: Sequence[str], devices: Iterable[tables.TableDevice]) -> Dict[str, Optional[int]]:
+    """How many chunks are in the store of each snapshot of these devices before any request, or None where it is invalid; `words`
+    are those by which dmremap maps."""
+    chunks = {it.name: int(it.lines[0].words[3]) for it in devices if it.lines[0].target == "snapshot"}
+    printed, said = program.ask_quietly([*words, "--status"])
+    refused = REFUSED.fullmatch(said.strip())
+    if refused:
+        raise RefusedStore(refused[1], refused[2])
+    if said:
+        raise Refusal(quoting.shown(words[0]), quoting.shown(said.strip()))
+    return {match[1]: (int(match[2]) - int(match[3])) // chunks[match[1]] if match[2] else None
+            for match in map(STATUS.fullmatch, printed.splitlines()) if match}

@@ -1,1 +1,0 @@
-"""Commands that make FILE and DISKS."""
