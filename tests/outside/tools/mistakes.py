@@ -33,6 +33,7 @@ ROWS = [
     ("dmremap map lvm vg0-snapshot.backup --paths wrong.paths < snap.requests", "near are: sda1.img", OF_SNAPSHOT),
     ("dmremap map table tables list --verbose < requests", "map has the options --status, --before REQUESTS, --paths PATHS\n", READ),
     ("dmremap map lvm vg0-snapshot.backup --path snap.paths < snap.requests", "map has the options", OF_SNAPSHOT),
+    ("dmremap replay table tables list --status < requests", "replay has the options --paths PATHS", "1 old /dev/sda1 0 8\n"),
     ("dmremap check table tables list --status", "check has no options of its own", "devices 1\ndisks 1\ndepth 1\ntidy\n"),
     ("dmremap --status map table tables list < requests", "unexpected argument '--status'", READ),
     ("dmremap map table tables list 'R a 0 8'", "dmremap reads requests from its standard input", READ),

@@ -128,9 +128,10 @@ def fitting_command(words: List[str], requests: str = "") -> str:
         made, loaded = table_lines.paths_command([], images), [IMAGES, remedies.PATHS]
     elif form != IMAGES or not texts or texts[0].fault:
         return ""
-    if command in TAKEN:
-        kept = [(before, it) for before, it in zip(["", *options], options) if loaded[0] != IMAGES or PATHS not in (before, it)]
-        loaded += [found_path(it) if before in VALUED else it for before, it in kept]
+    # What the command takes: beside images PATHS are FILE.
+    taken = [it for it in TAKEN.get(command, ()) if loaded[0] != IMAGES or it != PATHS]
+    kept = [(before, it) for before, it in zip(["", *options], options) if (before if before in VALUED else it) in taken]
+    loaded += [found_path(it) if before in VALUED else it for before, it in kept]
     fed = paths.get(remedies.REQUESTS, requests) if command in FED else ""
     return "\n".join(filter(None, (made, remedies.dmremap_command([command, *loaded], fed, asked))))
 
