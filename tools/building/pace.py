@@ -1,8 +1,7 @@
 """How far a build is, and how long it still takes, by what each crate is known to take.
 
 The file `pace` beside this one has a line for each crate: its name, its number of functions, and at how many seconds of a
-build it was begun, was checked by a tenth, two tenths and so on up to all of its functions, and was built. Lines of crates
-that came in or grew since a build was timed are estimates.
+build it was begun, was checked by a tenth, two tenths and so on up to all of its functions, and was built.
 Each build writes the lines of its own into `out/pace`, for when that one no longer fits."""
 
 import os

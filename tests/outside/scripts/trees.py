@@ -19,7 +19,8 @@ CRATES = ["low", "middle", "dmremap"]
 LINES = "# a comment: low\nlow: memchr\ndmremap: clap low middle\nbeside: low\nmiddle: low itoa\n"
 BUILD, TOOLCHAIN = "tools/building/build", "tools/building/toolchain"
 SCRIPTS = ["dmremap", "try", "tools/building"]
-BUILDING = "dmremap: building the proved program; the first time this takes 25 minutes on four processors\n"
+BUILDING = ("dmremap: building the proved program; the first time this takes 25 to 40 minutes on four processors, "
+            "and 7 GB, of which 1 GB stays\n")
 ANEW = "dmremap: building the proved program; the sources were changed meanwhile\n"
 WAITING = "dmremap: another call builds the program; waiting for it\n"
 # How long crates took, which no two runs have in common.
