@@ -1,6 +1,7 @@
 pub mod FittingLemmas
 mod ImageLemmas
 pub mod ListLemmas
+pub mod ListedLemmas
 pub mod LogLemmas
 pub mod RestartLemmas
 pub mod RowLemmas
@@ -10,4 +11,5 @@ pub mod StartLemmas
 pub mod StateLemmas
 pub mod StoreLemmas
 pub mod WalkLemmas
+pub mod WorkedRestart
 pub mod WorkedStore

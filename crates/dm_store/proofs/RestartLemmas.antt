@@ -48,10 +48,10 @@ use Rattle.dm_store.proofs.StoreLemmas.{taken_valid}
 
 -- ---- what lists say is read
 
-valid_kept : (store : Store) (taken : Taken) → taken.valid ≡ true → kept_in (Some store) taken ≡ taken
+pub valid_kept : (store : Store) (taken : Taken) → taken.valid ≡ true → kept_in (Some store) taken ≡ taken
 valid_kept store taken valid = rw valid refl
 
-gone_kept : (store : Store) (taken : Taken) → taken.valid ≡ false → kept_in (Some store) taken ≡ lost none_taken
+pub gone_kept : (store : Store) (taken : Taken) → taken.valid ≡ false → kept_in (Some store) taken ≡ lost none_taken
 gone_kept store taken gone = rw gone refl
 
 list_back : (sectors : Sectors) (store : Store) (taken : Taken) → Lists sectors store taken → taken_in (stored sectors store) ≡ Ok (kept_in (Some store) taken)

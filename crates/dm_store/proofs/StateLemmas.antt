@@ -47,11 +47,11 @@ is_longer (Ok earlier) device (Ok taken) state e = record { earlier = earlier; t
 is_longer before device next state e = absurd cc
 
 -- each of them took what its start says
-record AreFirst (starts : ℕ → Result Taken StoreFault) (count : ℕ) (state : State) : Type 0 where
-  all : length state ≡ count
-  each : (device : ℕ) → device < count → starts device ≡ Ok (taken_at state device)
+pub record AreFirst (starts : ℕ → Result Taken StoreFault) (count : ℕ) (state : State) : Type 0 where
+  pub all : length state ≡ count
+  pub each : (device : ℕ) → device < count → starts device ≡ Ok (taken_at state device)
 
-are_first : (starts : ℕ → Result Taken StoreFault) (count : ℕ) (state : State) → state_of_first starts count ≡ Ok state → AreFirst starts count state
+pub are_first : (starts : ℕ → Result Taken StoreFault) (count : ℕ) (state : State) → state_of_first starts count ≡ Ok state → AreFirst starts count state
 unfolding state_of_first
 are_first starts zero state e = let none : state ≡ [] = cc in record { all = ap (λ (s : State). length s) none; each = λ device less. absurd (omega (arith, less)) }
 are_first starts (suc last) state e =
@@ -74,10 +74,10 @@ are_first starts (suc last) state e =
 
 -- ---- what a store says
 
-both_ways : true ≡ false → ⊥
+pub both_ways : true ≡ false → ⊥
 both_ways e = cc
 
-ok_is : (a b : Taken) → (let r : Result Taken StoreFault = Ok a in r) ≡ Ok b → a ≡ b
+pub ok_is : (a b : Taken) → (let r : Result Taken StoreFault = Ok a in r) ≡ Ok b → a ≡ b
 ok_is a b e = cc
 
 -- chunks of the snapshot that a store is of, which fit it
@@ -113,7 +113,7 @@ record IsTakenBy (stack : Description) (disks : DiskContents) (device : ℕ) (ta
   some : (store : Store) → store_at stack device ≡ Some store → AreHeld store taken.chunks
   lost : (taken.valid ≡ false) ↔ IsLostInStore stack disks device
 
-none_some : (store : Store) → (let o : Option Store = None in o) ≡ Some store → ⊥
+pub none_some : (store : Store) → (let o : Option Store = None in o) ≡ Some store → ⊥
 none_some store e = cc
 
 taken_by : (stack : Description) (disks : DiskContents) (device : ℕ) (kept : Option Store) (taken : Taken) → store_at stack device ≡ kept → taken_if stack disks kept ≡ Ok taken → IsTakenBy stack disks device taken

@@ -21,11 +21,11 @@ second_area : row_sector 1 1 ≡ 34
 second_area = refl
 
 -- its header: SnAp, valid, version 1, chunks of 1 sector
-abbrev header : (valid : ℕ) → List ℕ
+abbrev pub header : (valid : ℕ) → List ℕ
 header valid = 83 ∷ 110 ∷ 65 ∷ 112 ∷ valid ∷ 0 ∷ 0 ∷ 0 ∷ 1 ∷ 0 ∷ 0 ∷ 0 ∷ 1 ∷ 0 ∷ 0 ∷ 0 ∷ []
 
 -- an entry of numbers below 256
-abbrev entry : (old new : ℕ) → List ℕ
+abbrev pub entry : (old new : ℕ) → List ℕ
 entry old new = old ∷ 0 ∷ 0 ∷ 0 ∷ 0 ∷ 0 ∷ 0 ∷ 0 ∷ new ∷ 0 ∷ 0 ∷ 0 ∷ 0 ∷ 0 ∷ 0 ∷ 0 ∷ []
 
 -- three entries, and a free one

@@ -62,6 +62,10 @@ kept stack state = kept_first stack state (length stack.devices)
 abbrev pub AllKeepLists : Description → Type 0
 AllKeepLists stack = (device : ℕ) (snapshot : ResolvedSnapshot) → snapshot_at stack device ≡ Some snapshot → snapshot.kind ≢ Transient
 
+-- what is read of each store is what is kept of what its snapshot took
+abbrev pub AreKept : Description → (left found : State) → Type 0
+AreKept stack left found = (device : ℕ) (store : Store) → store_at stack device ≡ Some store → taken_at found device ≡ kept_in (Some store) (taken_at left device)
+
 -- ---- what a power cut leaves
 
 -- what a sector of a disk holds, or why it can't be read
@@ -145,6 +149,18 @@ pub record IsFound (zeros : Held) (stack : Description) (moment : Moment) : Type
 -- lists that say a state are read as what they keep of it
 abbrev pub AreListsRead : Description → Type 0
 AreListsRead stack = (disks : DiskContents) (state : State) → AreListed stack disks state → stored_state stack disks ≡ Ok (kept stack state)
+
+-- stores list a state where what they hold is what lists keep of it
+abbrev pub AreListsSaid : Description → Type 0
+AreListsSaid stack = (disks : DiskContents) (left found : State) → stored_state stack disks ≡ Ok found → AreKept stack left found → AreListed stack disks left
+
+-- disks hold what others do, and more
+abbrev pub HoldMore : (disks others : DiskContents) → Type 0
+HoldMore disks others = (disk sector : ℕ) (bytes : List ℕ) → disks disk sector ≡ Ok bytes → others disk sector ≡ Ok bytes
+
+-- and then they still list it
+abbrev pub AreListsEnough : Description → Type 0
+AreListsEnough stack = (disks others : DiskContents) (state : State) → HoldMore disks others → AreListed stack disks state → AreListed stack others state
 
 -- where no claims meet, a restart finds its state, and in it each top device has its row, or errors
 abbrev pub IsAlwaysFound : Description → Type 0

@@ -2,7 +2,7 @@
 //! which fits the stack, and of restarts from it. They do nothing: their contracts are the laws.
 
 ghost use Rattle.dm_store.specs.Fitting.{AlwaysFit, AlwaysHaveRows, AlwaysStart};
-ghost use Rattle.dm_store.specs.Restart.{AreAllFound, AreListsRead, IsAlwaysExact, IsAlwaysFound};
+ghost use Rattle.dm_store.specs.Restart.{AreAllFound, AreListsEnough, AreListsRead, AreListsSaid, IsAlwaysExact, IsAlwaysFound};
 ghost use Rattle.dm_store.specs.Spelled.{IsSpelled, ReadsBack};
 
 use crate::store::Store;
@@ -43,8 +43,13 @@ pub fn stored_states_fit<V>(stack: &Stack)
 /// reason. Then the stores, read again, give what lists keep of that state, and each top device has its row there, or
 /// errors: what it had at the start, or what was last written through it. It has exactly its row where the stack can lose
 /// nothing and no store says that its snapshot is lost.
+///
+/// Whether stores list a state shows when they are read: they do if what is read is what lists keep of it, and still
+/// do whatever the sectors hold that were not read.
 pub fn restarts(stack: &Stack)
     ensures back { AreListsRead stack.now }
+    ensures said { AreListsSaid stack.now }
+    ensures enough { AreListsEnough stack.now }
     ensures found { IsAlwaysFound stack.now }
     ensures exact { IsAlwaysExact stack.now }
 {
