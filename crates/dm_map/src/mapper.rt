@@ -218,6 +218,15 @@ impl<'s, T: Taken> Mapper<'s, T> {
         self.walker.invalidate(device);
     }
 
+    /// What a snapshot took. No memory is taken.
+    pub fn taken(&self, device: DeviceId) -> &T
+        requires { device < length self.now.stack.devices }
+        ensures chunks { T.chunks result.now ≡ (taken_at self.now.state device).chunks }
+        ensures valid { T.valid result.now ≡ (taken_at self.now.state device).valid }
+    {
+        self.walker.taken(device)
+    }
+
     /// Where the first sectors of a range of a store lie: in a row on a disk. The look-ups belong to no
     /// request. No memory is taken.
     pub fn first_homes(&mut self, store: Lower, sector: u64, len: u64) -> HomeStretch

@@ -6,7 +6,8 @@
 ghost use Rattle.std.specs.Prelude.{◌≡◌, ◌∷◌, ◌+◌, ◌++◌, ◌-◌, ◌<◌, ◌≤◌, [], IfErr, IfOk, IfSome, None, OnOk, Option, Some, false, if◌then◌else◌, length, nat_lt, position};
 ghost use Rattle.dm_stack.specs.claims.Claims.{AreTops, IsTidy, IsTop};
 ghost use Rattle.dm_stack.specs.Description.{device_len, is_same};
-ghost use Rattle.dm_replay.specs.Replay.{HasTop, IsAnswered, IsNotAnswered, IsNotBegun, IsNotHalted, IsUnanswered};
+ghost use Rattle.dm_replay.specs.Histories.{world_after};
+ghost use Rattle.dm_replay.specs.Replay.{AreOfTops, HasTop, IsAnswered, IsNotAnswered, IsNotBegun, IsNotHalted, IsUnanswered};
 ghost use Rattle.dm_map.specs.own.Ample.{IsIntact};
 ghost use Rattle.dm_map.specs.state.Fitting.{IsFitting};
 ghost use Rattle.dm_map.specs.state.State.{start_state};
@@ -111,6 +112,17 @@ impl<'s, T: Taken> Replay<'s, T> {
             writes: Vec::new(alloc),
             failed: false,
         })
+    }
+
+    /// The mapper of a replay that has not failed, in the state that its requests left.
+    pub fn mapper(&self) -> &Mapper<'s, T>
+        requires { self.now.failed ≡ false }
+        ensures stack { result.now.stack ≡ self.now.stack }
+        ensures state { result.now.state
+            ≡ (world_after self.now.stack self.now.start self.now.asked).state }
+        ensures tops { AreOfTops self.now.stack self.now.asked }
+    {
+        &self.mapper
     }
 
     /// Plays a request of a top device, and returns what each of its sectors answered, in maximal

@@ -20,7 +20,7 @@ pub struct ReadFault;
 /// Images, each named by its path.
 pub trait Images {
     /// Contents of all images that agree with all that was read so far. All contents do before the first read, and
-    /// whoever makes images promises that.
+    /// whoever makes images promises that, unless it is known what they hold: then only this agrees.
     ghost IsSeen: { Self → Contents → Type 0 };
 
     /// Reads whole sectors of the image at this path, from a sector of it on. The line of the path in its list

@@ -14,8 +14,8 @@ pub(crate) fn pair_count(chunk: u64, store_len: u64) -> u64
     (store_len / chunk + 32 * chunk - 1) / (32 * chunk + 1) * (32 * chunk)
 }
 
-/// The sector of a store that has a row of its list.
-pub(crate) fn row_sector(chunk: u64, row: u64) -> u64
+/// The sector of a store that has a row of its list: 32 pairs, from that of number 32 * row on.
+pub fn row_sector(chunk: u64, row: u64) -> u64
     requires some { 1 ≤ chunk }
     requires small { chunk ≤ 1024 }
     requires row { row < 2 ^ 46 }

@@ -17,8 +17,8 @@ use crate::fault::{StoreFault, StoreRefusal};
 use crate::header::{Header, read_header};
 use crate::images::{Images, SECTOR};
 use crate::list::read_list;
+use crate::snapshot_store::store_at;
 use crate::store::Store;
-use crate::store_at::store_at;
 use dm_map::{Mapper, Taken};
 use dm_stack::{DeviceId, Stack};
 

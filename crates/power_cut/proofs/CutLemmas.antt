@@ -7,11 +7,13 @@ use Rattle.dm_map.specs.state.State.{start_state}
 use Rattle.dm_stream.specs.declared.runs.ending.Ending.TheVariants.{Done}
 use Rattle.dm_stream.specs.requests.Requests.{NumberedRequest, Requests}
 use Rattle.dm_replay.specs.Histories.{Asked}
-use Rattle.dm_replay.specs.Replay.{Replaying, new_replay}
+use Rattle.dm_replay.specs.Replay.{Replaying, new_replay, replay_from}
+use Rattle.dm_store.specs.Restart.{kept}
 use Rattle.power_cut.specs.declared.read_back.ReadBack.{ReadBack}
 use Rattle.power_cut.specs.Cut.{IsAnswer, asked_until}
 use Rattle.power_cut.specs.OwnedRequest.{AreOfTops, asked_of, cut_of, writes_of}
 use Rattle.power_cut.specs.ReadBack.{AreReadBack, backs_text}
+use Rattle.power_cut.specs.Restart.{IsRestarted, state_left}
 
 -- the last request stands after the others
 pub until_last : (stack : Description) (units : ℕ) (requests first : List NumberedRequest) (last : NumberedRequest) → requests ≡ first ++ last ∷ []
@@ -27,9 +29,10 @@ played_more stack requests i request now later within at were more =
     cc (map_more (asked_of stack) requests i request within)
 
 -- what was read back after that is to be written
-pub is_answer : (stack : Description) (units : ℕ) (requests : Requests) (all : List NumberedRequest) (replay later : Replaying) (backs : List ReadBack) → IsTidy stack → requests.ending ≡ Some Done → replay ≡ new_replay stack → all ≡ requests.all
-    → AreOfTops replay.stack all → later.stack ≡ replay.stack → later.start ≡ replay.start → later.asked ≡ asked_until replay.stack units all → AreReadBack later.stack later.start later.asked (writes_of all) backs → IsAnswer stack units requests (backs_text stack backs)
-is_answer stack units requests all replay later backs tidy whole new are tops same begun asked read =
+pub is_answer : (stack : Description) (units : ℕ) (requests : Requests) (all : List NumberedRequest) (replay later after : Replaying) (backs found : List ReadBack) → IsTidy stack → requests.ending ≡ Some Done → replay ≡ new_replay stack → all ≡ requests.all
+    → AreOfTops replay.stack all → later.stack ≡ replay.stack → later.start ≡ replay.start → later.asked ≡ asked_until replay.stack units all → AreReadBack later.stack later.start later.asked (writes_of all) backs
+    → IsRestarted stack later.asked → after ≡ replay_from stack (kept stack (state_left stack later.asked)) → AreReadBack after.stack after.start after.asked (writes_of all) found → IsAnswer stack units requests (backs_text stack backs ++ backs_text stack found)
+is_answer stack units requests all replay later after backs found tidy whole new are tops same begun asked read restarted begun_after read_after =
     let of_stack : later.stack ≡ stack = cc in
     let begins : later.start ≡ start_state stack = cc in
     let until : later.asked ≡ asked_until stack units requests.all =
@@ -40,5 +43,8 @@ is_answer stack units requests all replay later backs tidy whole new are tops sa
       tops = subst (AreOfTops stack) are (rw new at tops);
       backs = backs;
       read = rw (are, until, begins, of_stack) at read;
+      restarted = rw until at restarted;
+      later = found;
+      read_later = rw (are, begun_after, until) at read_after;
       is = refl;
     }

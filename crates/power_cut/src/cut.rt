@@ -1,6 +1,6 @@
 //! Requests that are played up to a cut, and what is written then.
 
-ghost use Rattle.std.specs.Prelude.{◌≡◌, ◌++◌, ◌∷◌, [], IfErr, IfOk, OnOk};
+ghost use Rattle.std.specs.Prelude.{◌≡◌, ◌++◌, ◌∷◌, [], IfErr, IfOk, OnOk, false};
 ghost use Rattle.dm_table.specs.io.DeviceIo.{delivery};
 ghost use Rattle.dm_table.specs.io.Progress.{IsReadOn};
 ghost use Rattle.dm_stack.specs.claims.Claims.{IsTidy};
@@ -13,8 +13,9 @@ ghost use Rattle.power_cut.specs.OwnedRequest.{AreOfTops, IsOfTop, asked_of};
 
 use crate::fault::{Fault, unplayed};
 use crate::owned_request::OwnedRequest;
-use crate::read_back::{read_back, write_backs};
+use crate::read_back::{read_back, write_both};
 use crate::request_list::read_requests;
+use crate::restart::restart;
 use dm_map::TrieTaken;
 use dm_replay::{Replay, ReplayFault};
 use dm_stack::Stack;
@@ -23,7 +24,7 @@ use dm_table::{Input, OutFault, Output, close};
 use std::alloc::Global;
 
 /// Plays the requests of an input on the disks of a stack, the last of them up to a cut after `units` units, and
-/// writes what a read of the sectors of each write gives then.
+/// writes what a read of the sectors of each write gives then, and what it gives after a restart.
 ///
 /// # Errors
 ///
@@ -43,8 +44,10 @@ pub(crate) fn answer_after_cut<Q: Input, W: Output>(
     let replay = begin(alloc, stack)?;
     let requests = read_requests(alloc, stack, requests)?;
     let mut replay = play(alloc, replay, &requests, units)?;
+    let mut later = restart(alloc, stack, &replay)?;
     let backs = read_back(alloc, &mut replay, &requests)?;
-    let written = write_backs(stack, &backs, &mut *output);
+    let later = read_back(alloc, &mut later, &requests)?;
+    let written = write_both(stack, &backs, &later, &mut *output);
     match close(written, output) {
         Ok(()) => Ok(()),
         Err(OutFault) => Err(Fault::Ended(Ending::WriteFault)),
@@ -73,10 +76,12 @@ fn play<'s>(
 ) -> Result<Replay<'s, TrieTaken>, Fault>
     requires new { replay.asked ≡ [] }
     requires fresh { replay.start ≡ start_state replay.stack }
+    requires going { replay.failed ≡ false }
     ensures stack { IfOk result (λ later. later.stack ≡ replay.entry.stack) }
     ensures start { IfOk result (λ later. later.start ≡ replay.entry.start) }
     ensures asked { IfOk result
         (λ later. later.asked ≡ asked_until replay.entry.stack units requests.now) }
+    ensures going { IfOk result (λ later. later.failed ≡ false) }
     ensures tops { OnOk result (AreOfTops replay.entry.stack requests.now) }
     ensures stops { IfErr result (λ fault. StopsAt fault replay.entry.stack requests.now) }
 {

@@ -1,13 +1,15 @@
-//! power_cut tells what reads give after the power was cut in the midst of a request.
+//! power_cut tells what reads give after the power was cut in the midst of a request, and after a restart.
 //!
 //! Its words are FILE, DISKS and UNITS: the tables of devices, a line each; the list of their disks; and after how
 //! many of its units the last request is cut. All requests are read from the standard input, and have to be good,
 //! before the first is played. All but the last are played to their end. Then, for each write of them in order, it
-//! prints the line of a read of its sectors, and a line for each run of what that gives. Each message and each exit
-//! status is one that `dmremap replay` has, but for the line of usage.
+//! prints the line of a read of its sectors, and a line for each run of what that gives. It does so once more after a
+//! restart from the lists of the stores, where the contents of the disks are the old ones. Each message and each exit
+//! status is one that `dmremap replay` has, but for the line of usage, and that of lists that aren't read as they were
+//! written.
 //!
 //! It is short, to show how the libraries are used. `run` opens files and streams, `stack_of` loads what the files
-//! say, and `answer_after_cut` reads the requests, plays them and writes what is read back.
+//! say, and `answer_after_cut` reads the requests, plays them, restarts, and writes what is read back.
 #![tactic(auto)]
 
 ghost use Rattle.std.specs.Prelude.{IfOk};
@@ -16,9 +18,12 @@ ghost use Rattle.dm_table.specs.tables.TableText.{DescribesTable};
 
 mod cut;
 mod fault;
+mod list_images;
+mod lists;
 mod owned_request;
 mod read_back;
 mod request_list;
+mod restart;
 
 use cut::answer_after_cut;
 use dm_map::has_stack_room;

@@ -72,12 +72,24 @@ pub(crate) fn read_back(
     Ok(backs)
 }
 
-/// Writes the lines of what was read back.
-pub(crate) fn write_backs<W: Output>(
+/// Writes the lines of what was read back after a cut, and then those of what was after a restart.
+pub(crate) fn write_both<W: Output>(
     stack: &Stack,
     backs: &[ReadBack],
+    later: &[ReadBack],
     output: &mut W,
 ) -> Result<(), OutFault>
+    requires backs { AllByRecursion (IsOnDisks (length stack.now.disks)) backs.now }
+    requires later { AllByRecursion (IsOnDisks (length stack.now.disks)) later.now }
+    ensures { Wrote (W.past output.old) (W.past output.new) result
+        (backs_text stack.now backs.now ++ backs_text stack.now later.now) }
+{
+    write_backs(stack, backs, &mut *output)?;
+    write_backs(stack, later, output)
+}
+
+/// Writes the lines of what was read back.
+fn write_backs<W: Output>(stack: &Stack, backs: &[ReadBack], output: &mut W) -> Result<(), OutFault>
     requires { AllByRecursion (IsOnDisks (length stack.now.disks)) backs.now }
     ensures { Wrote (W.past output.old) (W.past output.new) result (backs_text stack.now backs.now) }
 {

@@ -1,5 +1,6 @@
-"""The program power_cut, which shows how the libraries are used: its answers against the plain rules (`replays`), and
-each way in which it stops. Nothing is written where it stops before its end."""
+"""The program power_cut, which shows how the libraries are used: its answers after a cut, and after a restart from the
+lists, against the plain rules (`replays`), and each way in which it stops. Nothing is written where it stops before its
+end."""
 
 import os
 import shutil
@@ -16,25 +17,29 @@ from transcripts import POWER_CUT
 
 SNAPSHOT = ("s: 0 20 snapshot base cow P 8\n", "base 20\ncow 64\n")
 FIRST = "R s 0 2\n1 wrote 1 0 2\n"
+FIRST_LATER = "R s 0 2\n1 old cow 16 2\n"
 USAGE = "usage: power_cut FILE DISKS UNITS\n"
 
-# Requests, how many units are played of the last one, and what is written. They are worked out by hand, as in MAPPING,
-# section 14: the last write copies four sectors and then writes two.
+# Requests, how many units are played of the last one, and what is written, after the cut and after the restart. They are
+# worked out by hand, as in MAPPING, section 14: the last write copies four sectors and then writes two.
 ROWS = [
-    ("", 0, ""),
-    ("", 7, ""),
-    ("R s 0 8\n", 3, ""),
-    ("W s 0 2\n", 0, "R s 0 2\n1 old base 0 2\n"),
-    ("W s 0 2\nW s 18 2\n", 0, FIRST + "R s 18 2\n2 old base 18 2\n"),
-    ("W s 0 2\nW s 18 2\n", 3, FIRST + "R s 18 2\n2 old base 18 2\n"),
-    ("W s 0 2\nW s 18 2\n", 4, FIRST + "R s 18 2\n2 old base 18 2\n"),
-    ("W s 0 2\nW s 18 2\n", 5, FIRST + "R s 18 2\n2 wrote 2 18 1\n2 old base 19 1\n"),
-    ("W s 0 2\nW s 18 2\n", 6, FIRST + "R s 18 2\n2 wrote 2 18 2\n"),
-    ("W s 0 2\nW s 18 2\n", 18446744073709551615, FIRST + "R s 18 2\n2 wrote 2 18 2\n"),
-    ("W s 0 2\nW s 18 2\nR s 0 20\n", 1, FIRST + "R s 18 2\n2 wrote 2 18 2\n"),
+    ("", 0, "", ""),
+    ("", 7, "", ""),
+    ("R s 0 8\n", 3, "", ""),
+    ("W s 0 2\n", 0, "R s 0 2\n1 old base 0 2\n", "R s 0 2\n1 old base 0 2\n"),
+    ("W s 0 2\nW s 18 2\n", 0, FIRST + "R s 18 2\n2 old base 18 2\n", FIRST_LATER + "R s 18 2\n2 old base 18 2\n"),
+    ("W s 0 2\nW s 18 2\n", 3, FIRST + "R s 18 2\n2 old base 18 2\n", FIRST_LATER + "R s 18 2\n2 old base 18 2\n"),
+    ("W s 0 2\nW s 18 2\n", 4, FIRST + "R s 18 2\n2 old base 18 2\n", FIRST_LATER + "R s 18 2\n2 old base 18 2\n"),
+    ("W s 0 2\nW s 18 2\n", 5, FIRST + "R s 18 2\n2 wrote 2 18 1\n2 old base 19 1\n",
+     FIRST_LATER + "R s 18 2\n2 old cow 26 2\n"),
+    ("W s 0 2\nW s 18 2\n", 6, FIRST + "R s 18 2\n2 wrote 2 18 2\n", FIRST_LATER + "R s 18 2\n2 old cow 26 2\n"),
+    ("W s 0 2\nW s 18 2\n", 18446744073709551615, FIRST + "R s 18 2\n2 wrote 2 18 2\n",
+     FIRST_LATER + "R s 18 2\n2 old cow 26 2\n"),
+    ("W s 0 2\nW s 18 2\nR s 0 20\n", 1, FIRST + "R s 18 2\n2 wrote 2 18 2\n",
+     FIRST_LATER + "R s 18 2\n2 old cow 26 2\n"),
     ("W s 4 2\nR s 0 8\nW s 0 8\n", 3, "R s 4 2\n1 wrote 1 4 2\nR s 0 8\n3 wrote 3 0 3\n3 old base 3 1\n"
-     "3 wrote 1 4 2\n3 old base 6 2\n"),
-    ("W s 16 5\n", 9, "R s 16 5\n1 error 5\n"),
+     "3 wrote 1 4 2\n3 old base 6 2\n", "R s 4 2\n1 old cow 20 2\nR s 0 8\n3 old cow 16 8\n"),
+    ("W s 16 5\n", 9, "R s 16 5\n1 error 5\n", "R s 16 5\n1 error 5\n"),
 ]
 
 # Words in place of a number of units.
@@ -61,9 +66,9 @@ REFUSED = [
 
 
 def check_answers(tally, program):
-    for given, units, wanted in ROWS:
+    for given, units, wanted, later in ROWS:
         got = program.run(words_of(program, *SNAPSHOT, units), given=given)
-        tally.same("%r, cut after %d units" % (given, units), got, 0, wanted)
+        tally.same("%r, cut after %d units" % (given, units), got, 0, wanted + later)
     # Lines of a table can't say that a device is read-only.
     for source, disks, requests in (it for it in halts.SMALL if ",ro," not in it[0]):
         given = [request for request, _ in halts.asked_in("".join("- %s\n" % it for it in requests.splitlines()))]
@@ -92,10 +97,22 @@ def table_of(source):
 
 def answers(stack, given, units):
     """What is written by the plain rules."""
-    values, wanted = {}, ""
+    values = {}
     for number, request in enumerate(given, 1):
         is_last = number == len(given)
         played(values, number, request[2], first_units(stack, request, units) if is_last else stack.request(*request))
+    wanted = reads(stack, given, values)
+    # A restart forgets what a snapshot without a list took, and that it is lost.
+    for name, [(_, _, words), *_] in stack.tables.items():
+        if words[0] == "snapshot" and words[3] == "N":
+            stack.taken[name] = []
+            stack.lost.discard(name)
+    return wanted + reads(stack, given, {})
+
+
+def reads(stack, given, values):
+    """What reads of the sectors of writes give, on disks with these values."""
+    wanted = ""
     for number, (op, name, start, length) in enumerate(given, 1):
         if op == "W":
             read = stack.request("R", name, start, length)
@@ -140,8 +157,8 @@ def check_streams(tally, program):
 def check_growths(tally, program):
     shim = Shim(program)
     if tally.holds("the shim of power_cut", not shim.fault, shim.fault):
-        given, units, wanted = ROWS[7]
-        growths.check_growths(tally, shim, "power_cut", words_of(program, *SNAPSHOT, units), [given], [wanted])
+        given, units, wanted, later = ROWS[7]
+        growths.check_growths(tally, shim, "power_cut", words_of(program, *SNAPSHOT, units), [given], [wanted + later])
 
 
 def check_small_stack(tally, program):

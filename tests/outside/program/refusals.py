@@ -67,6 +67,8 @@ PLACES = {
     ("power_cut/main", "begin", "!has_stack_room(rt)"): "the limit of the stack is lower than what the program may take",
     ("power_cut/cut", "begin", "Replay::new(alloc, stack), at Err(_)"):
         "claims that meet have an arm of their own, and by its contract it fails for nothing else",
+    ("power_cut/restart", "restart", "Replay::go_on(alloc, stack, found), at Err(_)"):
+        "no claims meet, as is required, and by its contract it fails for nothing else",
     ("power_cut/fault", "unplayed", "fault, at _"):
         "a request of a top device fails for a growth alone, and after that the replay is asked for nothing more",
     ("lvm_volume/checks/extents", "check_extents", "maps_of(alloc, physicals.len())"): OURS,

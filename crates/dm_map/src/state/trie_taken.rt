@@ -64,6 +64,14 @@ pub struct TrieTaken {
 }
 
 impl TrieTaken {
+    /// The chunks, in the order in which they were taken.
+    pub fn as_slice(&self) -> &[u64]
+        ensures chunks { result.now ≡ ⟦<TrieTaken as Taken>⟧.chunks self.now }
+        ensures few { length result.now < 2 ^ 24 }
+    {
+        self.chunks.as_slice()
+    }
+
     /// The number of a chunk that was taken, from 0, as `find` answers it.
     ///
     /// To `comparisons` it adds how often the chunk was compared with a taken one: once at most. To `bits`

@@ -154,6 +154,15 @@ impl<'s, T: Taken> Walker<'s, T> {
         self.looker.depth();
     }
 
+    /// What a snapshot took.
+    pub(crate) fn taken(&self, device: DeviceId) -> &T
+        requires { device < length self.now.stack.devices }
+        ensures chunks { T.chunks result.now ≡ (taken_at self.now.state device).chunks }
+        ensures valid { T.valid result.now ≡ (taken_at self.now.state device).valid }
+    {
+        &self.tables[device.index()]
+    }
+
     /// Whether a snapshot is still valid.
     pub(crate) fn is_valid(&self, device: DeviceId) -> bool
         requires { device < length self.now.stack.devices }

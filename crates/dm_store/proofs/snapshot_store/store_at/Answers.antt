@@ -4,7 +4,7 @@ use Rattle.dm_stack.specs.lines.Below.{IsLineOf, IsSnapshotSound}
 use Rattle.dm_stack.proofs.SameLine.{found_of}
 use Rattle.dm_stack.proofs.SoundLines.{device_some}
 use Rattle.dm_map.proofs.TableLemmas.{snapshot_room, store_some}
-use Rattle.dm_store.proofs.store_at.store_at.Goals as goal
+use Rattle.dm_store.proofs.snapshot_store.store_at.Goals as goal
 
 pub look-requires-clause-sector : goal.look-requires-clause-sector
 look-requires-clause-sector c =

@@ -11,7 +11,7 @@ use dm_stack::{DeviceId, ResolvedTarget, Stack, place_count};
 use dm_table::StoreKind;
 
 /// The store of a snapshot, unless it is transient, which no one reads: such a snapshot is always fresh.
-pub(crate) fn store_at(stack: &Stack, device: DeviceId) -> Option<Store>
+pub fn store_at(stack: &Stack, device: DeviceId) -> Option<Store>
     requires { IsSnapshot stack.now device }
     ensures is { result ≡ store_at stack.now device }
     ensures of { IfSome result (λ store. IsStoreOf stack.now device store) }

@@ -1,0 +1,10 @@
+-- the mapper that finds homes is as it was
+use Rattle.std.proofs.Common.{◌≡◌}
+use Rattle.power_cut.proofs.lists.write_lists.Given as goal
+
+abbrev pub invariant-loop-next : goal.invariant-loop-next
+invariant-loop-next l = record {
+  stack : l.homes.stack ≡ l.fn.homes.stack;
+  state : l.homes.state ≡ l.fn.homes.state;
+  failed : l.homes.failed ≡ l.fn.homes.failed;
+}
