@@ -1,12 +1,10 @@
 """Large inputs up to their limits and one past them, many requests, how much memory they take, and a small stack."""
 
 import os
-import re
 import resource
-import subprocess
 
 from harness import Case, Outcome
-from streams import read_soon
+from streams import figure_of
 
 BYTES = 1048576
 LINES = 65536
@@ -180,14 +178,8 @@ def check_loaded_memory(tally, program):
 
 def memory_of(program, word, table, disks, requests, answers):
     """How many KiB of memory the system counts under a word once these requests were answered, and what came of the call."""
-    words = [program.path, "map", "table", program.file("table", table), program.file("disks", disks)]
-    ran = subprocess.Popen(words, stdin=subprocess.PIPE, stdout=subprocess.PIPE, stderr=subprocess.PIPE, bufsize=0)
-    ran.stdin.write(requests.encode())
-    wrote = read_soon(ran.stdout, len(answers))
-    with open("/proc/%d/status" % ran.pid) as it:
-        size = int(re.search(word + r":\s+(\d+) kB", it.read())[1])
-    rest, message = ran.communicate()
-    return size, Outcome(ran.returncode, wrote + rest, message)
+    words = ["map", "table", program.file("table", table), program.file("disks", disks)]
+    return figure_of(program, words, requests, answers, "status", word)
 
 
 def check_replay_memory(tally, program):

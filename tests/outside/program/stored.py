@@ -3,12 +3,14 @@ of it and of a store at its edges, and that the state is the one from which requ
 played."""
 
 import os
+import shutil
 import signal
 import struct
 import subprocess
 import threading
 
-from harness import Case, Outcome, become_nobody
+from harness import Case, Outcome, become_nobody, run
+from streams import figure_of
 
 SECTOR = 512
 MAGIC = 0x70416E53
@@ -18,6 +20,8 @@ DISKS = "base %d\ncow %d\n"
 # The same with a store that lies on two disks, in stripes, below a snapshot's device.
 STRIPED = "s: 0 64 snapshot base /dev/mapper/cow P 8\ncow: 0 96 striped 2 8 sda 16 sdb 8\n"
 STRIPED_DISKS = "base 64\nsda 64\nsdb 56\n"
+# How many more reads a list of 1,024 rows takes than one of a single row: 8 blocks, and another one with the free pair.
+MORE_READS = 8
 
 # Texts of paths that are refused, and what is told of them. The stack has the disks base and cow.
 REFUSED = [
@@ -230,6 +234,9 @@ def check_places(tally, program):
     others = "".join("d%d 8\n" % it for it in range(1022))
     got = stored(program, TABLE % (800, 8), others + DISKS % (800, 4000), "cow c.img\n", "R s 8 1\n")
     tally.same("the store on the last of 1,024 disks", got, 0, "1 R cow 16 1\n")
+    paths = "".join("d%d none\n" % it for it in range(1022)) + "base none\ncow c.img\n"
+    got = stored(program, TABLE % (800, 8), others + DISKS % (800, 4000), paths, "R s 8 1\n")
+    tally.same("the store at the last of 1,024 paths", got, 0, "1 R cow 16 1\n")
     got = stored(program, TABLE % (800, 8), DISKS % (800, 4000), "cow c.img?offset=999999999999999488\n")
     tally.same("the greatest offset", got, 1, "", told("read"))
     got = stored(program, TABLE % (800, 8), DISKS % (800, 4000), "", "R s 8 1\n")
@@ -321,6 +328,19 @@ def check_images(tally, program):
         tally.same("%s as an image" % name, got, 1, "", told("read"))
 
 
+def check_devices(tally, program):
+    """A block device as an image."""
+    image = put(program, "c.img", 8, [(1, 2)])
+    made = run(["losetup", "-r", "-f", "--show", image]) if shutil.which("losetup") and not os.geteuid() else None
+    if not made or made.status:
+        tally.skip("a block device as an image", "that takes root and a loop device")
+        return
+    device = made.out.decode().strip()
+    got = stored(program, TABLE % (800, 8), DISKS % (800, 4000), "cow %s\n" % device, "R s 8 1\n")
+    run(["losetup", "-d", device])
+    tally.same("a block device as an image", got, 0, "1 R cow 16 1\n")
+
+
 def check_blocks(tally, program):
     """An image that ends inside a block of 128 rows: it is read row by row, as far as the list and the free pair after it go."""
     chunk = 1024
@@ -333,6 +353,22 @@ def check_blocks(tally, program):
                 tally.same("an image of %d pairs that ends inside the last row" % count, got, 1, "", told("read"))
             else:
                 tally.same("an image of %d pairs that ends with the last row" % count, got, 0, "1 R %s 1\n" % where_of(chunk, count, 0))
+
+
+def check_reads(tally, program):
+    """A long list is read in blocks."""
+    chunk, reads = 1024, []
+    for count in (1, 32 * chunk):
+        put(program, "c.img", chunk, taken(chunk, count))
+        words = ["map", "table", program.file("table", TABLE % (count * chunk, chunk)),
+                 program.file("disks", DISKS % (count * chunk, (place(chunk, count) + 1) * chunk)),
+                 "--paths", program.file("paths", "cow c.img\n")]
+        answer = "1 R %s 1\n" % where_of(chunk, count, 0)
+        number, got = figure_of(program, words, "R s 0 1\n", answer, "io", "syscr")
+        tally.same("a list of %d pairs" % count, got, 0, answer)
+        reads.append(number)
+    more = reads[1] - reads[0]
+    tally.holds("the reads of 1,024 rows", more <= MORE_READS, "they are %d more than for one" % more)
 
 
 def check_shrinks(tally, program):
@@ -468,6 +504,6 @@ def check_replays(tally, program):
 
 class Stored(Case, checks=[
     check_words, check_texts, check_files, check_places, check_headers, check_lists, check_ends, check_images,
-    check_blocks, check_shrinks, check_missing, check_kinds, check_runs, check_replays
+    check_devices, check_blocks, check_reads, check_shrinks, check_missing, check_kinds, check_runs, check_replays
 ]):
     """Lists of paths, stores, and runs from them."""

@@ -1,6 +1,7 @@
 """Streams that are full, closed or cut off, and readers that go away."""
 
 import os
+import re
 import resource
 import select
 import signal
@@ -313,6 +314,19 @@ def read_soon(stream, most):
             break
         got += more
     return got
+
+
+def figure_of(program, words, given, answers, file, word):
+    """The number that the system has under a word in a file about the process once these requests were answered, and what came
+    of the call."""
+    ran = subprocess.Popen([program.path, *words], stdin=subprocess.PIPE, stdout=subprocess.PIPE, stderr=subprocess.PIPE, bufsize=0,
+                           cwd=program.folder)
+    ran.stdin.write(given.encode())
+    wrote = read_soon(ran.stdout, len(answers))
+    with open("/proc/%d/%s" % (ran.pid, file)) as it:
+        figure = int(re.search(word + r":\s+(\d+)", it.read())[1])
+    rest, message = ran.communicate()
+    return figure, Outcome(ran.returncode, wrote + rest, message)
 
 
 class Streams(Case, checks=[
