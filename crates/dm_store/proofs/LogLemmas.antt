@@ -18,7 +18,7 @@ given_more (first ∷ later) asked = rw (given_more later asked) (omega arith)
 -- contents agree with one more read exactly if they agree with those before, and with it
 pub agrees_more : (held : Contents) (log : List Asked) (asked : Asked) (paths path given bytes : List ℕ)
     → length paths ≡ path_total log → length given ≡ given_total log → length path ≡ asked.path_len → length bytes ≡ asked.len
-    → Agrees held (log ++ asked ∷ []) (paths ++ path) (given ++ bytes) ↔ (Agrees held log paths given × AreRead (held path) asked.sector asked.answer bytes)
+    → Agrees held (log ++ asked ∷ []) (paths ++ path) (given ++ bytes) ↔ (Agrees held log paths given × AreRead (held asked.line path) asked.sector asked.answer bytes)
 unfolding Agrees path_total given_total
 agrees_more held [] asked [] path [] bytes no_paths no_given path_len len =
     rw (take_all asked.path_len path (omega (arith, path_len)), take_all asked.len bytes (omega (arith, len))) (λ agrees. (tt, agrees.0), λ both. (both.1, tt))

@@ -9,7 +9,7 @@ use Rattle.dm_store.specs.Places.{Place}
 
 -- where a disk of this name lies, if a path is of it
 abbrev pub image_in : List DiskPath → (name : List ℕ) → Option Place
-image_in paths name = option_map (λ path. record { path = path.file; start = path.start }) (find (λ path. is_same path.disk name) paths)
+image_in paths name = option_map (λ path. record { line = path.at.number; path = path.file; start = path.start }) (find (λ path. is_same path.disk name) paths)
 
 -- where each disk of a stack lies if it is all of the image that has its name
 abbrev pub own_images : Description → List (Option Place)

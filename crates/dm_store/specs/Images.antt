@@ -7,9 +7,9 @@ use Rattle.dm_store.specs.declared.fault.SectorFault.{SectorFault}
 use Rattle.dm_store.specs.declared.fault.SectorFault.TheVariants.{Missing, Read}
 use Rattle.dm_store.specs.Pairs.{Sectors}
 
--- what each sector of each image holds, or that it can't be read; an image is named by its path
+-- what each sector of each image holds, or that it can't be read; an image is named by its line in a list, and by its path
 abbrev pub Contents : Type 0
-Contents = (path : List ℕ) → (sector : ℕ) → Result (List ℕ) ReadFault
+Contents = (line : ℕ) → (path : List ℕ) → (sector : ℕ) → Result (List ℕ) ReadFault
 
 -- the bytes of the sector with this index among sectors in a row
 abbrev pub sector_in : (bytes : List ℕ) → (index : ℕ) → List ℕ
@@ -31,7 +31,7 @@ on_disk (Err fault) = Err Read
 
 -- a disk that lies in an image, or in none
 abbrev pub in_image : Contents → Option Place → Sectors
-in_image held (Some place) sector = on_disk (held place.path (place.start + sector))
+in_image held (Some place) sector = on_disk (held place.line place.path (place.start + sector))
 in_image held None sector = Err Missing
 
 -- where a disk lies, by its id

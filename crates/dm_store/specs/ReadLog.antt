@@ -22,7 +22,7 @@ given_total (first ∷ later) = first.len + given_total later
 unfoldable pub Agrees : Contents → List Asked → (paths given : List ℕ) → Type 0
 Agrees held [] paths given = Unit {0}
 Agrees held (first ∷ later) paths given =
-    AreRead (held (take first.path_len paths)) first.sector first.answer (take first.len given)
+    AreRead (held first.line (take first.path_len paths)) first.sector first.answer (take first.len given)
     × Agrees held later (drop first.path_len paths) (drop first.len given)
 
 abbrev pub AgreesWith : Contents → Logged → Type 0

@@ -6,7 +6,7 @@ ghost use Rattle.std.specs.String.{string_bytes};
 use std::marker::Model;
 
 /// An image that has a disk, from a sector of it on, and the line of its list that names it. A clause sees the
-/// bytes of the path, and the sector.
+/// line, the bytes of the path, and the sector.
 #[derive(Debug, Drop)]
 pub struct ImagePlace {
     path: String,
@@ -21,7 +21,7 @@ impl Model for ImagePlace {
 
     ghost Value = { Place };
 
-    ghost view = { λ place. record { path = string_bytes place.path; start = place.start } };
+    ghost view = { λ place. record { line = place.line; path = string_bytes place.path; start = place.start } };
 
     ghost invariant = { λ place. place.start < 2 ^ 51 };
 }
@@ -30,13 +30,15 @@ impl ImagePlace {
     /// The image at a path, from a sector of it on, by this line. No memory is taken.
     pub(crate) fn new(path: String, start: u64, line: u64) -> ImagePlace
         requires { start < 2 ^ 51 }
-        ensures { result ≡ record { path = string_bytes path; start = start } }
+        ensures { result ≡ record { line = line; path = string_bytes path; start = start } }
     {
         ImagePlace { path, start, line }
     }
 
     /// The line that names it.
-    pub(crate) fn line(&self) -> u64 {
+    pub(crate) fn line(&self) -> u64
+        ensures { result ≡ self.now.line }
+    {
         self.line
     }
 

@@ -17,7 +17,7 @@ pub const MOST_BYTES: usize = 65_536;
 #[derive(Clone, Copy, Debug, PartialEq, Eq, Drop)]
 pub struct ReadFault;
 
-/// Images, each named by its path.
+/// Images, each named by its line in a list, and by its path.
 pub trait Images {
     /// Contents of all images that agree with all that was read so far. All contents do before the first read, and
     /// whoever makes images promises that, unless it is known what they hold: then only this agrees.
@@ -32,7 +32,7 @@ pub trait Images {
         requires near { sector < 2 ^ 53 }
         ensures still { (held : Contents) → IsSeen self.new held → IsSeen self.old held }
         ensures is { (held : Contents) → IsSeen self.new held
-            → AreRead (held path.now) sector result into.new }
+            → AreRead (held line path.now) sector result into.new }
         ensures seen { (held : Contents) → IsSeen self.old held
-            → AreRead (held path.now) sector result into.new → IsSeen self.new held };
+            → AreRead (held line path.now) sector result into.new → IsSeen self.new held };
 }

@@ -81,14 +81,14 @@ impl Images for MemoryImages<'_> {
 
     fn read(
         &mut self,
-        _line: u64,
+        line: u64,
         path: &str,
         sector: u64,
         into: &mut [u8],
     ) -> Result<(), ReadFault> {
         let result = answered(self.left, self.files, path, sector, into);
         self.left = self.left.saturating_sub(1);
-        self.log.note(path, sector, result, into);
+        self.log.note(line, path, sector, result, into);
         result
     }
 }

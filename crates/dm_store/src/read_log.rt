@@ -46,12 +46,20 @@ impl ReadLog {
         }
     }
 
-    /// Notes a read of the image at this path.
-    pub fn note(&mut self, path: &str, sector: u64, answer: Result<(), ReadFault>, bytes: &[u8])
+    /// Notes a read of the image of this line, at this path.
+    pub fn note(
+        &mut self,
+        line: u64,
+        path: &str,
+        sector: u64,
+        answer: Result<(), ReadFault>,
+        bytes: &[u8],
+    )
         ensures { (held : Contents) → AgreesWith held self.new
-            ↔ (AgreesWith held self.old × AreRead (held path.now) sector answer bytes.now) }
+            ↔ (AgreesWith held self.old × AreRead (held line path.now) sector answer bytes.now) }
     {
         self.asked.note(&[Asked {
+            line,
             path_len: path.len(),
             sector,
             len: bytes.len(),

@@ -9,19 +9,19 @@ use Rattle.dmremap.specs.ImagesLoad.{listed_disks, on_disk}
 
 -- ---- a disk that the list has
 
-here : (held : Contents) (paths : List DiskPath) (path : DiskPath) (disk sector from : ℕ) → slice_get paths disk ≡ Some path → from ≡ path.start + sector → listed_disks paths held disk sector ≡ on_disk (held path.file from)
+here : (held : Contents) (paths : List DiskPath) (path : DiskPath) (disk sector from : ℕ) → slice_get paths disk ≡ Some path → from ≡ path.start + sector → listed_disks paths held disk sector ≡ on_disk (held path.at.number path.file from)
 here held paths path disk sector from is at = rw (is, at) refl
 
 pub read_there : (held : Contents) (paths : List DiskPath) (path : DiskPath) (disk sector from : ℕ) (bytes : List ℕ) → slice_get paths disk ≡ Some path → from ≡ path.start + sector → length bytes ≡ 512
-    → ((i : ℕ) → 512 * i < length bytes → held path.file (from + i) ≡ Ok (sector_in bytes i)) → listed_disks paths held disk sector ≡ Ok bytes
+    → ((i : ℕ) → 512 * i < length bytes → held path.at.number path.file (from + i) ≡ Ok (sector_in bytes i)) → listed_disks paths held disk sector ≡ Ok bytes
 read_there held paths path disk sector from bytes is at len read =
-    let first : held path.file (from + 0) ≡ Ok (sector_in bytes 0) = read 0 (omega (arith, len)) in
+    let first : held path.at.number path.file (from + 0) ≡ Ok (sector_in bytes 0) = read 0 (omega (arith, len)) in
     let same : from + 0 ≡ from = omega arith in
-    let whole : held path.file from ≡ Ok bytes = ap (held path.file) (sym same) ∙ first ∙ ap Ok (whole_sector bytes len) in
+    let whole : held path.at.number path.file from ≡ Ok bytes = ap (held path.at.number path.file) (sym same) ∙ first ∙ ap Ok (whole_sector bytes len) in
     here held paths path disk sector from is at ∙ ap on_disk whole
 
 pub unread_there : (held : Contents) (paths : List DiskPath) (path : DiskPath) (disk sector from : ℕ) (bytes : List ℕ) (fault : ReadFault) (said : HeadReadFault) → slice_get paths disk ≡ Some path → from ≡ path.start + sector → length bytes ≡ 512
-    → (length bytes ≡ 512 → held path.file from ≡ Err fault) → listed_disks paths held disk sector ≡ Err said
+    → (length bytes ≡ 512 → held path.at.number path.file from ≡ Err fault) → listed_disks paths held disk sector ≡ Err said
 unread_there held paths path disk sector from bytes fault said is at len read = here held paths path disk sector from is at ∙ ap on_disk (read len)
 
 held_ok : (found : Result (List ℕ) ReadFault) (bytes : List ℕ) → on_disk found ≡ Ok bytes → found ≡ Ok bytes
@@ -34,15 +34,15 @@ held_fault (Err found) fault said is = refl
 
 -- what the disks hold says what was read
 pub asked_there : (held : Contents) (paths : List DiskPath) (path : DiskPath) (disk sector from : ℕ) (bytes : List ℕ) → slice_get paths disk ≡ Some path → from ≡ path.start + sector → length bytes ≡ 512
-    → listed_disks paths held disk sector ≡ Ok bytes → (i : ℕ) → 512 * i < length bytes → held path.file (from + i) ≡ Ok (sector_in bytes i)
+    → listed_disks paths held disk sector ≡ Ok bytes → (i : ℕ) → 512 * i < length bytes → held path.at.number path.file (from + i) ≡ Ok (sector_in bytes i)
 asked_there held paths path disk sector from bytes is at len read zero below =
     let same : from + 0 ≡ from = omega arith in
-    ap (held path.file) same ∙ held_ok (held path.file from) bytes (sym (here held paths path disk sector from is at) ∙ read) ∙ ap Ok (sym (whole_sector bytes len))
+    ap (held path.at.number path.file) same ∙ held_ok (held path.at.number path.file from) bytes (sym (here held paths path disk sector from is at) ∙ read) ∙ ap Ok (sym (whole_sector bytes len))
 asked_there held paths path disk sector from bytes is at len read (suc i) below = absurd (omega (arith, below, len))
 
 pub failed_there : (held : Contents) (paths : List DiskPath) (path : DiskPath) (disk sector from : ℕ) (bytes : List ℕ) (fault : ReadFault) (said : HeadReadFault) → slice_get paths disk ≡ Some path → from ≡ path.start + sector
-    → listed_disks paths held disk sector ≡ Err said → length bytes ≡ 512 → held path.file from ≡ Err fault
+    → listed_disks paths held disk sector ≡ Err said → length bytes ≡ 512 → held path.at.number path.file from ≡ Err fault
 failed_there held paths path disk sector from bytes fault said is at read len =
-    held_fault (held path.file from) fault said (sym (here held paths path disk sector from is at) ∙ read)
+    held_fault (held path.at.number path.file from) fault said (sym (here held paths path disk sector from is at) ∙ read)
 
 -- ---- one that it doesn't have

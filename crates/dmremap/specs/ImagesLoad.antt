@@ -39,7 +39,7 @@ on_disk (Err fault) = Err (record {})
 
 -- a disk that lies where a path has it; there is none without a path
 abbrev pub at_path : Contents → Option DiskPath → Sectors
-at_path held (Some path) sector = on_disk (held path.file (path.start + sector))
+at_path held (Some path) sector = on_disk (held path.at.number path.file (path.start + sector))
 at_path held None sector = Err (record {})
 
 abbrev pub listed_disks : List DiskPath → Contents → DiskContents

@@ -4,7 +4,8 @@
 //! block device isn't opened: a pipe would wait for a writer. Each read names its place, and one that the image
 //! doesn't fill, since it ends before, fails.
 
-ghost use Rattle.std.specs.Prelude.{◌≡◌, ◌<◌, ◌^◌, IfOk};
+ghost use Rattle.std.specs.Prelude.{◌≡◌, ◌<◌, ◌^◌, IfOk, None, OnOk, is_some, length, slice_index_or, slice_set, true};
+ghost use Rattle.dm_stack.specs.declared.checks.limits.TheConstants.{MOST_DISKS};
 ghost use Rattle.dm_store.specs.Images.{Contents};
 ghost use Rattle.dm_store.specs.ReadLog.{AgreesWith};
 
@@ -22,48 +23,51 @@ const MOST_LINES: usize = 1024;
 pub(crate) struct FileImages<'r> {
     files: &'r HostRuntime,
     /// The image of each line, once it is open; no line is 0.
-    open: Vec<Option<File>>,
+    slots: Vec<Option<File>>,
     log: ReadLog,
 }
 
 impl<'r> FileImages<'r> {
     /// Images of which none is open. It fails only when out of memory.
     pub(crate) fn new(alloc: Global, files: &'r HostRuntime) -> Result<FileImages<'r>, AllocError>
-        ensures { IfOk result (λ images. (held : Contents) → ⟦<FileImages<'r> as Images>⟧.IsSeen images held) }
+        ensures seen { IfOk result (λ images. (held : Contents) → ⟦<FileImages<'r> as Images>⟧.IsSeen images held) }
+        ensures slots { IfOk result (λ images. MOST_DISKS < length images.slots.items) }
     {
-        let mut open = Vec::new(alloc);
-        for _ in 0..MOST_LINES + 1 {
-            open.push(None)?;
-        }
+        let mut slots = Vec::new(alloc);
+        slots.resize_with(MOST_LINES + 1, || None)?;
         Ok(FileImages {
             files,
-            open,
+            slots,
             log: ReadLog::new(),
         })
     }
 
-    /// Reads the bytes of the image of a line from a byte of it on.
-    fn read_at(
-        &mut self,
-        line: u64,
-        path: &str,
-        byte: u64,
-        into: &mut [u8],
-    ) -> Result<(), ReadFault>
-        ensures { self.new.log ≡ self.old.log }
+    /// Opens the image of a line, unless it is open. It stays closed if it can't be opened.
+    fn open_at(&mut self, line: u64, path: &str)
+        // Only the slot of the line changes, and not once it is open.
+        ensures slot { self.new.slots.items
+            ≡ slice_set self.old.slots.items line (slice_index_or self.new.slots.items line None) }
+        ensures once { is_some (slice_index_or self.old.slots.items line None) ≡ true
+            → self.new.slots.items ≡ self.old.slots.items }
+        ensures log { self.new.log ≡ self.old.log }
     {
-        let Some(image) = self.open.get_mut(line as usize) else {
-            return Err(ReadFault);
-        };
-        if image.is_none() {
-            *image = open_image(self.files, path);
+        if let Some(image) = self.slots.get_mut(line as usize) {
+            if image.is_none() {
+                *image = open_image(self.files, path);
+            }
         }
-        match image {
-            Some(file) => match file.read_exact_at(into, byte) {
+    }
+
+    /// Reads the bytes of the image of a line from a byte of it on.
+    fn read_at(&self, line: u64, byte: u64, into: &mut [u8]) -> Result<(), ReadFault>
+        ensures { OnOk result (is_some (slice_index_or self.now.slots.items line None) ≡ true) }
+    {
+        match self.slots.get(line as usize) {
+            Some(Some(file)) => match file.read_exact_at(into, byte) {
                 Ok(()) => Ok(()),
                 Err(_) => Err(ReadFault),
             },
-            None => Err(ReadFault),
+            _ => Err(ReadFault),
         }
     }
 }
@@ -78,8 +82,9 @@ impl<'r> Images for FileImages<'r> {
         sector: u64,
         into: &mut [u8],
     ) -> Result<(), ReadFault> {
-        let answer = self.read_at(line, path, 512 * sector, into);
-        self.log.note(path, sector, answer, into);
+        self.open_at(line, path);
+        let answer = self.read_at(line, 512 * sector, into);
+        self.log.note(line, path, sector, answer, into);
         answer
     }
 }
