@@ -13,7 +13,7 @@ image_in paths name = option_map (λ path. record { line = path.at.number; path 
 
 -- where each disk of a stack lies if it is all of the image that has its name
 abbrev pub own_images : Description → List (Option Place)
-own_images stack = map (λ disk. Some (record { path = disk.name; start = 0 })) stack.disks
+own_images stack = map (λ disk. Some (record { line = 0; path = disk.name; start = 0 })) stack.disks
 
 -- where the disks of a stack lie, by their ids, or the fault of the paths
 abbrev pub images_of : Description → List DiskPath → Result (List (Option Place)) LoadFault

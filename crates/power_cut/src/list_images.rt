@@ -44,8 +44,8 @@ fn find<'a>(sectors: &'a [ListSector<'_>], path: &str, sector: u64) -> Option<&'
 }
 
 impl Images for ListImages<'_, '_> {
-    ghost IsSeen = { λ images held. (path : List ℕ) (sector : ℕ)
-        → held path sector ≡ held_in images.sectors.now path sector };
+    ghost IsSeen = { λ images held. (line : ℕ) (path : List ℕ) (sector : ℕ)
+        → held line path sector ≡ held_in images.sectors.now path sector };
 
     /// A block of more than one sector fails.
     fn read(
