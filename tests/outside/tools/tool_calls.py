@@ -106,7 +106,9 @@ def _become(main, top, words, descriptors, folder, memory):
             limit = memory + _address_space()
             resource.setrlimit(resource.RLIMIT_AS, (limit, limit))
         # What tests read by the tool's own functions may have gone since, and its number be that of another file.
-        importlib.import_module("dmremap_tools.base.written").forget()
+        written = importlib.import_module("dmremap_tools.base.written")
+        written._inputs.clear()
+        written._places.clear()
         sys.argv[0] = os.path.join(top, TOOL)
         signal.signal(signal.SIGALRM, signal.SIG_DFL)
         signal.alarm(SECONDS)

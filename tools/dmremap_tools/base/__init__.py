@@ -1,1 +1,6 @@
-"""What all commands share."""
+"""What all folders use: words, streams, texts and pictures, and how dmremap is asked."""
+
+from dmremap_tools.base.numbers import SECTOR
+from dmremap_tools.base.refusal import Refusal, WrongWords
+
+__all__ = ["SECTOR", "Refusal", "WrongWords"]

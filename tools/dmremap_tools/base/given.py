@@ -4,8 +4,7 @@ import os
 from argparse import ArgumentParser, Namespace
 from typing import Iterable, List, NamedTuple, Optional
 
-from dmremap_tools.base import streams
-from dmremap_tools.base.refusal import WrongWords
+from dmremap_tools.base import WrongWords, streams
 
 # How many bytes FILE and DISKS have at most.
 MOST_TEXT = 1 << 20

@@ -5,9 +5,7 @@ import re
 from argparse import ArgumentParser
 from typing import Dict, List, NoReturn, Optional, Pattern, Tuple, Union
 
-from dmremap_tools.base import quoting, streams
-from dmremap_tools.base.numbers import SECTOR
-from dmremap_tools.base.refusal import Refusal
+from dmremap_tools.base import SECTOR, Refusal, quoting, streams
 
 FORM = re.compile(r"[-A-Za-z0-9#+.:=@_]{1,127}")
 DISK = re.compile(r"(?!/dev/mapper/)(?!.*[,;\\])[!-~]{1,255}")

@@ -4,9 +4,7 @@ import re
 from argparse import ArgumentParser
 from typing import Dict, NamedTuple, Optional, Pattern
 
-from dmremap_tools.base import quoting, streams
-from dmremap_tools.base.numbers import SECTOR
-from dmremap_tools.base.refusal import Refusal
+from dmremap_tools.base import SECTOR, Refusal, quoting, streams
 
 # With more figures, a system couldn't say where a sector after it is.
 PLACED = re.compile(r"(.*)\?offset=([0-9]{1,18})", re.S)
@@ -38,7 +36,8 @@ def line(name: str, path: str, start: int = 0) -> str:
     said = path if not start and place_of(path) == place else f"{path}?offset={start}"
     place.check_sectors(name)
     if "\n" in path or place_of(said)[:2] != place[:2]:
-        raise Refusal(quoting.shown(path), "no line of PATHS can say this path: give the file another name, or a link to it")
+        raise Refusal(quoting.shown(path), "no line of PATHS can say this path: give the file another name, or a link "
+                      "to it")
     return f"{name} {said}\n"
 
 
@@ -48,11 +47,9 @@ def add_words(parser: ArgumentParser) -> None:
 
 
 def read(path: str, form: Optional[Pattern[str]] = None, are_apart: bool = True) -> Dict[str, str]:
-    """The path of each name. A path may have spaces in it; where `form` is given, it has to be of that form. Two names may
-    have one path unless they `are_apart`."""
+    """The path of each name, which may have spaces, and has a form that is given; if they `are_apart`, none twice."""
     paths: Dict[str, str] = {}
-    taken = set()
-    source = streams.Lines(path)
+    taken, source = set(), streams.Lines(path)
     for line in source:
         name, _, place = line.partition(" ")
         if not name or not place or "\0" in line or (form and not form.fullmatch(place)):

@@ -78,9 +78,7 @@ class Output:
 
     def _fail(self, fault: OSError) -> NoReturn:
         self._parts = []
-        if isinstance(fault, BrokenPipeError):
-            raise ReaderGone
-        raise OutputFailed(f"{self._name}: {why(fault)}")
+        raise ReaderGone() if isinstance(fault, BrokenPipeError) else OutputFailed(f"{self._name}: {why(fault)}")
 
 
 class Lines:
@@ -132,6 +130,7 @@ class Lines:
         self.refuse(f"{reason}: {quoting.shown(self.line)}")
 
     def whole(self, text: str) -> int:
+        """The whole number below 2^64 that a word of the line is."""
         value = numbers.read(text)
         if value is None:
             self.refuse(numbers.NO_NUMBER % quoting.shown(text))
@@ -152,13 +151,15 @@ def whole(option: str, text: str) -> int:
 
 def chunks(path: str, is_written: bool = False) -> Iterator[bytes]:
     """What a file has, as it comes; it is opened at once. `is_written`: it is written, too, once it was read."""
+    global _is_input_taken
     name = name_of(path)
+    if path == "-" and _is_input_taken:
+        raise WrongWords("standard input can't be two files: give the path of one")
+    _is_input_taken = _is_input_taken or path == "-"
     try:
-        descriptor = take_input() if path == "-" else os.open(path, os.O_RDONLY)
+        descriptor = 0 if path == "-" else os.open(path, os.O_RDONLY)
     except OSError as fault:
-        if is_written:
-            raise OutputFailed(f"{name}: {why(fault)}")
-        raise Refusal(name, why(fault))
+        raise OutputFailed(f"{name}: {why(fault)}") if is_written else Refusal(name, why(fault))
     if not is_written:
         written.note_input(descriptor)
     return _chunks_of(descriptor, name)
@@ -195,6 +196,7 @@ def rows(path: str, most: int = MOST_TEXT) -> List[str]:
 
 
 def check_kind(name: str, beginning: bytes) -> None:
+    """Refuses what is compressed, and what is UTF-16."""
     kind = compression(beginning)
     if kind:
         raise Refusal(name, f"it is compressed ({kind}): unpack it")
@@ -248,8 +250,8 @@ def finish() -> None:
     flush()
     for output in _besides:
         output.close()
-    for output in _besides:
-        output.place.put()
+    for place in filter(None, (output.place for output in _besides)):
+        place.put()
     out.close()
 
 
@@ -260,8 +262,8 @@ def flush() -> None:
 
 
 def spoil(is_fed: bool) -> str:
-    """Spoils what stands beside standard output, and that itself if dmremap reads it; each, whatever the others do.
-    Returns how the last one failed that did."""
+    """Spoils what stands beside standard output, and that if dmremap reads it, each whatever the others do. Returns how
+    the last one failed that did."""
     failures = [failure_of(it.spoil if is_fed or it is not out else it.flush) for it in [*_besides, out]]
     return next(filter(None, reversed(failures)), "")
 
@@ -269,11 +271,10 @@ def spoil(is_fed: bool) -> str:
 def failure_of(action: Callable[..., object], *words: str) -> str:
     """How an output failed in what is done here, or nothing."""
     try:
-        action(*words)
+        with contextlib.suppress(ReaderGone):
+            action(*words)
     except OutputFailed as failed:
         return str(failed)
-    except ReaderGone:
-        pass
     return ""
 
 
@@ -288,15 +289,6 @@ def hold_descriptors() -> None:
             os.fstat(descriptor)
         except OSError:
             os.open(os.devnull, os.O_RDONLY if descriptor else os.O_WRONLY)
-
-
-def take_input() -> int:
-    global _is_input_taken
-    if _is_input_taken:
-        raise WrongWords("standard input can't be two files: give the path of one")
-    _is_input_taken = True
-    written.note_input(0)
-    return 0
 
 
 def _decoded(content: bytes) -> str:

@@ -2,6 +2,7 @@
 
 import base64
 import colorsys
+import html
 import struct
 import zlib
 from typing import Sequence
@@ -15,8 +16,8 @@ STYLE = 'font-family="DejaVu Sans Mono, monospace" font-size="12"'
 
 def head(width: int, height: int) -> str:
     """What a picture of so many pixels begins with."""
-    return ('<svg xmlns="http://www.w3.org/2000/svg" xmlns:xlink="http://www.w3.org/1999/xlink" width="%d" height="%d" %s>\n'
-            '<rect width="100%%" height="100%%" fill="white"/>\n' % (width, height, STYLE))
+    return ('<svg xmlns="http://www.w3.org/2000/svg" xmlns:xlink="http://www.w3.org/1999/xlink" width="%d" height="%d" '
+            '%s>\n<rect width="100%%" height="100%%" fill="white"/>\n' % (width, height, STYLE))
 
 
 def text(x: float, y: float, content: str) -> str:
@@ -26,7 +27,7 @@ def text(x: float, y: float, content: str) -> str:
 
 def escaped(content: str) -> str:
     """Text as SVG has it."""
-    return quoting.escaped(content).replace("&", "&amp;").replace("<", "&lt;").replace(">", "&gt;").replace('"', "&quot;")
+    return html.escape(quoting.escaped(content), quote=False).replace('"', "&quot;")
 
 
 def colour(number: int) -> str:
@@ -48,5 +49,5 @@ def image(x: float, y: int, width: float, height: int, rows: Sequence[bytes]) ->
     shape = struct.pack(">IIBBBBB", len(rows[0]) // 4, len(rows), 8, 6, 0, 0, 0)
     content = zlib.compress(b"".join(b"\0" + row for row in rows), 9)
     png = b"\x89PNG\r\n\x1a\n" + part(b"IHDR", shape) + part(b"IDAT", content) + part(b"IEND", b"")
-    return ('<image x="%.6g" y="%d" width="%.6g" height="%d" preserveAspectRatio="none" style="image-rendering:pixelated" '
-            'xlink:href="data:image/png;base64,%s"/>\n' % (x, y, width, height, base64.b64encode(png).decode()))
+    return ('<image x="%.6g" y="%d" width="%.6g" height="%d" preserveAspectRatio="none" style="image-rendering:pixelate'
+            'd" xlink:href="data:image/png;base64,%s"/>\n' % (x, y, width, height, base64.b64encode(png).decode()))

@@ -2,8 +2,7 @@
 
 from typing import Callable, Dict, Iterator, List, Optional, Sequence, Tuple
 
-from dmremap_tools.base import names, numbers, quoting, streams
-from dmremap_tools.base.refusal import Refusal
+from dmremap_tools.base import Refusal, names, numbers, quoting, streams
 
 # How many words follow a target that dmremap reads. Those of `striped` depend on its columns.
 TARGETS = {"linear": 2, "striped": None, "zero": 0, "error": 0, "snapshot": 4, "snapshot-origin": 1}
@@ -47,19 +46,15 @@ class Line:
 
     def fault(self) -> Optional[str]:
         """What is wrong with its words, or None."""
-        words = self.words
-        if self.target == "striped":
-            figures = words[:2] + words[3::2]
-            is_whole = len(words) > 2 and len(words) % 2 == 0 and words[0] == str(len(self.places()))
-        else:
-            figures = words[3:] if self.target == "snapshot" else words[1:]
-            is_whole = len(words) == TARGETS.get(self.target)
+        words, is_striped = self.words, self.target == "striped"
+        figures = words[:2] + words[3::2] if is_striped else words[3 if self.target == "snapshot" else 1:]
+        is_even = len(words) > 2 and len(words) % 2 == 0 and words[0] == str(len(self.places()))
+        is_whole = is_even if is_striped else len(words) == TARGETS.get(self.target)
         if not is_whole or any(numbers.read(it) is None for it in figures):
             return "no line that dmremap reads"
-        if self.target == "striped":
-            columns, chunk = int(words[0]), int(words[1])
-            if columns > MOST_COLUMNS or not 0 < chunk <= LONGEST_CHUNK or self.length % (columns * chunk):
-                return "stripes that don't divide it"
+        columns, chunk = map(int, words[:2]) if is_striped else (1, 1)
+        if columns > MOST_COLUMNS or not 0 < chunk <= LONGEST_CHUNK or self.length % (columns * chunk):
+            return "stripes that don't divide it"
         return "a snapshot of another kind" if self.target == "snapshot" and words[2] not in KINDS else None
 
 
@@ -107,13 +102,12 @@ def read(path: str) -> Tuple[List[TableDevice], bool]:
 def line_of(place: str, text: str) -> Line:
     """A line that dmremap takes, as far as the line alone can tell."""
     words = text.split(" ")
-    start, length = [numbers.read(it) for it in words[:2]] if len(words) > 2 else (None, None)
+    start, length = map(numbers.read, words[:2]) if len(words) > 2 else (None, None)
     if start is None or length is None:
         raise Refusal(place, "not a line of a table, give START LENGTH TARGET ..: " + quoting.shown(text))
     line = Line(start, length, words[2], words[3:])
-    fault = line.fault()
-    if fault:
-        raise Refusal(place, f"{fault}, see `dmremap-tools explain`: {quoting.shown(text)}")
+    if line.fault():
+        raise Refusal(place, f"{line.fault()}, see `dmremap-tools explain`: {quoting.shown(text)}")
     return line
 
 
@@ -126,8 +120,7 @@ def text_of(devices: Sequence[TableDevice], is_concise: bool) -> str:
 
 def read_disks(path: str) -> Dict[str, int]:
     """The length of each disk of DISKS, in sectors, in the order of the lines `NAME SECTORS`."""
-    disks = {}
-    source = streams.Lines(path)
+    disks, source = {}, streams.Lines(path)
     for row in source:
         name, _, length = row.partition(" ")
         sectors = numbers.read(length)

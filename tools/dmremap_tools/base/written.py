@@ -37,17 +37,9 @@ def identity_at(file: Union[int, str]) -> Optional[Identity]:
 def note_input(file: Union[int, str]) -> None:
     """Notes a file that is read, by its descriptor or path, and refuses one that is written, too."""
     known = identity_at(file)
-    if known:
-        _inputs.add(known)
-        for place in _places:
-            if place.known == known:
-                place.refuse()
-
-
-def forget() -> None:
-    """Takes nothing for read or written any more, where another command begins in this process."""
-    _inputs.clear()
-    _places.clear()
+    _inputs.update({known} if known else ())
+    for place in (place for place in _places if known and place.known == known):
+        place.refuse()
 
 
 def discard() -> None:
@@ -94,8 +86,8 @@ class Place:
         """Makes the file beside its place, and returns its descriptor. What is no file is opened as it is."""
         with self.failing():
             if self.is_special:
-                self._descriptor = descriptor = os.open(self.path, os.O_WRONLY)
-                return descriptor
+                self._descriptor = os.open(self.path, os.O_WRONLY)
+                return self._descriptor
             if self._there and not os.access(self.path, os.W_OK):
                 raise PermissionError(errno.EACCES, os.strerror(errno.EACCES))
             folder, name = os.path.split(self.path)
@@ -112,8 +104,8 @@ class Place:
     def go_on(self) -> int:
         """Opens the file that is there already, and returns its descriptor."""
         with self.failing():
-            self._descriptor = descriptor = os.open(self.path, os.O_RDWR | os.O_NOFOLLOW)
-        return descriptor
+            self._descriptor = os.open(self.path, os.O_RDWR | os.O_NOFOLLOW)
+        return self._descriptor
 
     def write(self, content: bytes) -> None:
         """Writes the whole of it, and puts it in its place."""
