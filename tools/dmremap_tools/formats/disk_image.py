@@ -6,8 +6,7 @@ import stat
 import struct
 from typing import BinaryIO, Optional, Protocol
 
-from dmremap_tools.base import streams
-from dmremap_tools.base.refusal import Refusal
+from dmremap_tools.base import Refusal, streams
 
 # What the images of virtual machines begin with that aren't the bytes of a disk in their order.
 FORMS = {b"QFI\xfb": "qcow2", b"KDMV": "VMDK", b"vhdxfile": "VHDX"}
@@ -26,12 +25,11 @@ MAGICS = [
     ("nilfs2", 0x406, b"\x34\x34"), ("lvm2", 0x200, b"LABELONE"), (ZFS, ZFS_AT, ZFS_MAGIC)]
 # A swap area says what it is at the end of its first page.
 PAGES, SWAPS = (4096, 8192, 16384, 32768, 65536), (b"SWAPSPACE2", b"SWAP-SPACE")
-# In place of that stands, while the memory of a machine that sleeps is in it, how it was put there; or that begins the area.
+# While the memory of a sleeping machine is in it, in place of that stands how it was put there; or that begins it.
 ASLEEP, ASLEEP_FIRST = (b"S1SUSPEND", b"S2SUSPEND", b"ULSUSPEND", b"LINHIB0001"), b"\xed\xc3\x02\xe9\x98\x56\xe5\x0c"
 EXT_AT, EXT_MAGIC = 0x400, b"\x53\xef"
-# The descriptors of a disc, one every 2 KiB, whose names follow a byte, and those that UDF alone has, which may come after
-# those of iso9660.
-DISC, DISC_SECTOR, ISO, UDF = 0x8001, 0x800, b"CD001", (b"NSR02", b"NSR03")
+# The descriptors of a disc, one every 2 KiB, whose names follow a byte, and UDF's own, which may come after iso9660's.
+DISC, DISC_SECTOR, ISO, UDF = 0x8001, 0x800, b"CD001", {b"NSR02", b"NSR03"}
 # The superblock of bcache says where it lies, in sectors; bcachefs once began with the same magic.
 BCACHE_AT, BCACHE_SECTOR = 0x1018, b"\x08\0\0\0\0\0\0\0"
 BCACHE = b"\xc6\x85\x73\xf6\x4e\x1a\x45\xca\x82\x65\xf5\x7f\x48\xba\x6d\x81"
@@ -56,8 +54,7 @@ class Readable(Protocol):
     size: int
 
     def read(self, at: int, count: int) -> bytes:
-        """The bytes from `at` on, fewer where they end or can't be read. Whoever asks takes care that they aren't too
-        many."""
+        """The bytes from `at` on, fewer where they end or can't be read. Whoever asks takes care of how many."""
 
 
 def length_of(file: BinaryIO, path: str) -> int:
@@ -69,11 +66,10 @@ def length_of(file: BinaryIO, path: str) -> int:
 
 
 def form_of(descriptor: int) -> str:
-    """What is said of a file that begins as one does that has no bytes of a disk in their order, or nothing. What can't
-    be read there is met later."""
+    """What is said of a file that hasn't a disk's bytes in their order, or nothing, as where it can't be read."""
     with contextlib.suppress(OSError):
-        is_file = stat.S_ISREG(os.fstat(descriptor).st_mode)
-        return other_form(os.pread(descriptor, LONGEST_MAGIC, 0)) if is_file else ""
+        if stat.S_ISREG(os.fstat(descriptor).st_mode):
+            return other_form(os.pread(descriptor, LONGEST_MAGIC, 0))
     return ""
 
 
@@ -103,12 +99,10 @@ def file_system_of(image: Readable) -> Optional[str]:
     if head.startswith(BCACHE, BCACHE_AT):
         return "bcache" if head.startswith(BCACHE_SECTOR, BCACHE_AT - 16) else "bcachefs"
     disc = [head[at:at + len(ISO)] for at in range(DISC, len(head), DISC_SECTOR)]
-    if ISO in disc or any(it in disc for it in UDF):
-        return "udf" if any(it in disc for it in UDF) else "iso9660"
+    if ISO in disc or not UDF.isdisjoint(disc):
+        return "iso9660" if UDF.isdisjoint(disc) else "udf"
     found = next((name for name, at, content in MAGICS if head.startswith(content, at)), None)
-    if found == "squashfs" and head[SQUASHFS_VERSION_AT] < SQUASHFS:
-        return "squashfs3"
-    return found
+    return "squashfs3" if found == "squashfs" and head[SQUASHFS_VERSION_AT] < SQUASHFS else found
 
 
 def mount_command(system: Optional[str], path: str, folder: str) -> Optional[str]:

@@ -1,42 +1,54 @@
-"""The header of a LUKS container: where its data lies. Version 1 and 2, as cryptsetup documents them."""
+"""The header of a LUKS container: where its data lies. Version 1 and 2, as cryptsetup documents them. What the objects
+of the text of version 2 must have, and how they refer to each other, says section 3 of the "LUKS2 On-Disk Format
+Specification"; of a text that breaks these rules cryptsetup takes nothing."""
 
 import hashlib
 import json
+import re
 import struct
 from collections import namedtuple
-from typing import NamedTuple, Optional
+from typing import Any, Dict, NamedTuple, Optional
 
-from dmremap_tools.base import numbers, streams
-from dmremap_tools.base.numbers import SECTOR
-from dmremap_tools.formats import luks_text
+from dmremap_tools.base import SECTOR, numbers, streams
 from dmremap_tools.formats.disk_image import Readable
 
 MAGIC, SECOND_MAGIC = b"LUKS\xba\xbe", b"SKUL\xba\xbe"
 # Where the second header of version 2 may lie: the sizes that the first may have.
 SIZES = [1 << it for it in range(14, 23)]
-BINARY, SUM_AT, SUM_BYTES = 4096, 448, 64
+BINARY, SUM_AT, SUM_BYTES, PAGE, MOST_KEYS = 4096, 448, 64, 4096, 128 << 20
 SUMS = ("sha1", "sha224", "sha256", "sha384", "sha512")
 # Version 1: where the data begins, the bytes of a key, and the id; and eight slots with a key's place and stripes.
 FIRST, SLOT, SLOTS, FIRST_BYTES = struct.Struct(">104xLL56x40s"), struct.Struct(">40xLL"), slice(208, 592), 592
 # Version 2: magic and version, the size, how often it was written, the name of its sum, the id, and where it is.
 SECOND = struct.Struct(">6sHQQ48x32s64x40s48xQ")
-DAMAGED = "its header of LUKS is damaged: restore it in a copy by `cryptsetup luksHeaderRestore`"
+MEND = "restore it in a copy by `cryptsetup luksHeaderRestore`"
+DAMAGED = f"its header of LUKS is damaged: {MEND}"
 SECOND_ALONE = "its first header is damaged, the second one is sound: repair a copy by cryptsetup repair"
-BAD_JSON = ("the text of its header of LUKS goes on behind its end, or has none, which cryptsetup refuses: restore it in a "
-            "copy by `cryptsetup luksHeaderRestore`")
+BAD_JSON = f"the text of its header of LUKS goes on behind its end, or has none, which cryptsetup refuses: {MEND}"
 BAD_AREAS = ("the areas for keys in its header of LUKS overlap or lie outside of their room, which cryptsetup refuses: "
-             "restore it in a copy by `cryptsetup luksHeaderRestore`")
-BAD_TEXT = ("the text of its header of LUKS breaks a rule of the format (in {}), so that cryptsetup refuses it: restore it in "
-            "a copy by `cryptsetup luksHeaderRestore`")
+             + MEND)
+BAD_TEXT = "the text of its header of LUKS breaks a rule of the format (in {}), so that cryptsetup refuses it: " + MEND
 TOO_SHORT = "it ends before the data of its container does: give the whole disk"
 UNSAID = "its header of LUKS doesn't say where the data is: see `cryptsetup luksDump`"
-
-
+# A number in a string, of at most 64 bits, and an array of strings. Any other string has a letter at least.
+NUMBER, STRINGS = re.compile("[0-9]{1,20}"), [str]
+# What an object must have: members of a type, of one of these, or objects.
+WHOLE = {"keyslots": dict, "tokens": dict, "segments": dict, "digests": dict,
+         "config": {"json_size": NUMBER, "keyslots_size": NUMBER}}
+OBJECTS: Dict[str, Dict[str, Any]] = {
+    "keyslots": {"type": str, "key_size": int, "area": {"type": str, "offset": NUMBER, "size": NUMBER}},
+    "tokens": {"type": str, "keyslots": STRINGS},
+    "segments": {"type": str, "offset": NUMBER, "size": str},
+    "digests": {"type": str, "keyslots": STRINGS, "segments": STRINGS}}
+# The same of an object of these types.
+TYPES = {
+    ("keyslots", "luks2"): {"kdf": {"type": str, "salt": str}, "af": {"type": str, "hash": str, "stripes": int},
+                            "area": {"encryption": str, "key_size": int}},
+    ("segments", "crypt"): {"iv_tweak": NUMBER, "encryption": str, "sector_size": int}}
 # A sound header of version 2: where it is, its size, how often it was written, the id, and its text with what follows.
 Header = NamedTuple("Header", [("place", int), ("size", int), ("sequence", int), ("uuid", str), ("text", bytes)])
-# A container: its version and id, in sectors where its data begins, how long that is, if it doesn't go on to the end of
-# the disk, and what headers and keys take; and what is wrong with it. Data that would begin within the header lies on
-# another disk.
+# A container: its version and id, in sectors where its data begins, its length, None up to the disk's end, and what
+# headers and keys take; and what is wrong with it. Data that would begin within the header lies on another disk.
 Container = namedtuple("Container", "version identity start length header fault", defaults=("", None, None, 0, None))
 
 
@@ -104,10 +116,49 @@ def _container_of(header: Header) -> Container:
     is_apart = all(end <= offset for end, (offset, _) in zip(ends, areas))
     if not is_apart or keys and ends[-1] > 2 * header.size + keys:
         return Container(2, header.uuid, None, None, header_sectors, BAD_AREAS)
-    broken = luks_text.broken_part(said, len(header.text))
+    broken = _broken_part(said, len(header.text))
     if broken:
         return Container(2, header.uuid, None, None, header_sectors, BAD_TEXT.format(broken))
     return Container(2, header.uuid, start // SECTOR, length and length // SECTOR, header_sectors)
+
+
+def _broken_part(said: Any, area: int) -> Optional[str]:
+    """The part of a text, whose area has so many bytes, in which something breaks a rule, or None."""
+    if not _fits(said, WHOLE):
+        return "its parts"
+    for part, form in OBJECTS.items():
+        for number, each in said[part].items():
+            if not NUMBER.fullmatch(number) or not _fits(each, form):
+                return part
+            flags = {"flags": STRINGS} if "flags" in each and part == "segments" else {}
+            if not _fits(each, {**TYPES.get((part, each["type"]), {}), **flags}):
+                return part
+    keyslots, segments, digests, config = (said[part] for part in ("keyslots", "segments", "digests", "config"))
+    if any(name not in keyslots for each in said["tokens"].values() for name in each["keyslots"]):
+        return "tokens"
+    told = [(part, name) for each in digests.values() for part in ("keyslots", "segments") for name in each[part]]
+    if any(name not in said[part] for part, name in told):
+        return "digests"
+    if any(told.count(("keyslots", number)) != 1 for number, each in keyslots.items() if each["type"] == "luks2"):
+        return "keyslots"
+    for number, each in segments.items():
+        size = each.get("sector_size")
+        if each["type"] == "crypt" and (("segments", number) not in told or size <= 0 or size % 512):
+            return "segments"
+    keys, start = int(config["keyslots_size"]), min(int(each["offset"]) for each in segments.values())
+    fits = keys % PAGE == 0 and keys <= MOST_KEYS and (not start or start >= 2 * (BINARY + area) + keys)
+    return None if fits and int(config["json_size"]) == area else "config"
+
+
+def _fits(value: Any, form: Any) -> bool:
+    """Whether a value of JSON has a form: a type, NUMBER, STRINGS, or an object with at least these members."""
+    if isinstance(form, dict):
+        return isinstance(value, dict) and all(_fits(value.get(name), inner) for name, inner in form.items())
+    if form is STRINGS:
+        return isinstance(value, list) and all(isinstance(each, str) for each in value)
+    if form is NUMBER:
+        return isinstance(value, str) and bool(NUMBER.fullmatch(value)) and int(value) < 1 << 64
+    return type(value) is form and value != ""
 
 
 def _text(content: bytes) -> str:

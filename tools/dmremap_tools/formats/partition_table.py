@@ -6,8 +6,7 @@ import zlib
 from collections import namedtuple
 from typing import List, NamedTuple, Optional
 
-from dmremap_tools.base.numbers import SECTOR
-from dmremap_tools.base.refusal import Refusal
+from dmremap_tools.base import SECTOR, Refusal
 from dmremap_tools.formats.disk_image import Readable
 
 GPT = b"EFI PART"
@@ -15,8 +14,8 @@ GPT = b"EFI PART"
 GPT_SECTORS = (512, 4096)
 # How many bytes of entries are read.
 MOST_ENTRIES = 1 << 20
-# How long the header is and its sum, where it is and the other copy, the first and the last usable sector, and of the entries: where they
-# begin, how many there are, how long each is, and their sum.
+# How long the header is and its sum, where it is and the other copy, the first and the last usable sector, and of the
+# entries: where they begin, how many there are, how long each is, and their sum.
 HEADER = struct.Struct("<12xLL4xQQQQ16xQLLL")
 # The type of a partition, its first sector and its last.
 ENTRY = struct.Struct("<16s16xQQ")
@@ -70,9 +69,8 @@ def _gpt_at(image: Readable, place: int, sector: int, copy: str) -> Optional[Tab
         raise cut_off
     (size, header_sum, belongs, other, first_usable, last_usable, start, count, length,
      entries_sum) = HEADER.unpack_from(header)
-    if not 92 <= size <= sector or zlib.crc32(header[:16] + bytes(4) + header[20:size]) != header_sum:
-        return None
-    if belongs * sector != place or length < 128 or count * length > MOST_ENTRIES:
+    is_sound = 92 <= size <= sector and zlib.crc32(header[:16] + bytes(4) + header[20:size]) == header_sum
+    if not is_sound or belongs * sector != place or length < 128 or count * length > MOST_ENTRIES:
         return None
     entries = image.read(start * sector, count * length)
     if len(entries) < count * length:
@@ -93,7 +91,7 @@ def _mbr_of(image: Readable, entries: List[PartitionEntry], size: int) -> Table:
     extended partition, as they may be garbage."""
     runs = [(number, it.start, it.size) for number, it in enumerate(entries, 1) if it.size and it.kind not in EXTENDED]
     starts, seen, following = [0], set(), FIRST_LOGICAL
-    for outer in filter(_is_extended, entries):
+    for outer in (it for it in entries if it.size and it.kind in EXTENDED):
         table: Optional[PartitionEntry] = outer
         empty = 0
         while table and table.start not in seen and empty < MOST_EMPTY:
@@ -109,7 +107,8 @@ def _mbr_of(image: Readable, entries: List[PartitionEntry], size: int) -> Table:
                     runs.append((following, start, entry.size))
                     following += 1
             empty = empty + 1 if following == first else 0
-            table = next((it._replace(start=outer.start + it.start) for it in filter(_is_extended, inside)), None)
+            tables = (it for it in inside if it.size and it.kind in EXTENDED)
+            table = next((it._replace(start=outer.start + it.start) for it in tables), None)
     partitions = [Partition(number, start * size, count * size) for number, start, count in runs]
     return Table("MBR", "", size, partitions, [(it * size, it * size + SECTOR) for it in starts])
 
@@ -119,7 +118,3 @@ def _entries_in(sector: bytes) -> List[PartitionEntry]:
     if len(sector) < SECTOR or sector[-2:] != MBR_MAGIC:
         return []
     return list(map(PartitionEntry._make, MBR_ENTRY.iter_unpack(sector[MBR_ENTRIES:-2])))
-
-
-def _is_extended(entry: PartitionEntry) -> bool:
-    return bool(entry.size) and entry.kind in EXTENDED

@@ -1,13 +1,12 @@
-"""The map in which ddrescue says what it could read: areas of a disk, in bytes, each with a status; and the option --map, by
-which commands that search images take one for each. What a map doesn't have as read isn't there."""
+"""The map in which ddrescue says what it could read: areas of a disk, in bytes, each with a status; and the option
+--map, by which commands that search images take one for each. What a map doesn't have as read isn't there."""
 
 import os
 import re
 from argparse import ArgumentParser, Namespace
 from typing import Dict, List, NamedTuple, Sequence, Tuple
 
-from dmremap_tools.base import numbers, quoting, streams, written
-from dmremap_tools.base.refusal import Refusal, WrongWords
+from dmremap_tools.base import SECTOR, Refusal, WrongWords, numbers, quoting, streams, written
 from dmremap_tools.formats import disk_image
 
 FINISHED, BAD, UNTRIED = "+", "-", "?"
@@ -61,39 +60,32 @@ def unread_in(words: Namespace, images: Sequence[str]) -> Dict[str, List[Tuple[i
     """The runs of bytes that the maps of images don't have as finished, in whole sectors, by the images' paths."""
     found: Dict[str, List[Tuple[int, int]]] = {}
     for path, map_path in images_with_maps(words.map, images):
-        runs = unread_by_map(map_path, path, words.map_of_other_length)
         same = (image for image in images if written.identity_at(image) == written.identity_at(path))
-        found.update(dict.fromkeys([path, *same], runs))
+        found.update(dict.fromkeys([path, *same], unread_by_map(map_path, path, words.map_of_other_length)))
     return found
 
 
 def unread_by_map(map_path: str, image: str, is_any_length: bool) -> List[Tuple[int, int]]:
-    """Those of one map, up to the end of its image. One of another length is refused, unless `is_any_length`: what lies
-    before and behind its rows wasn't read."""
-    areas, size = read(map_path), image_size(image)
-    begin, end = (areas[0].begin, areas[-1].end) if areas else (0, 0)
-    if (begin, sectors(end)) != (0, sectors(size)) and not is_any_length:
-        said = f"it is of the bytes {begin} to {end}, and {quoting.shown(image)} has {size}"
-        raise Refusal(streams.name_of(map_path), f"{said}: give the map of this image, or with --map-of-other-length take "
-                      "what it doesn't list as not read")
+    """Those of one map, in an image. One of another length is refused, unless `is_any_length`: then what lies before
+    and behind its rows wasn't read."""
+    areas, name = read(map_path), quoting.shown(image)
+    try:
+        with open(image, "rb", opener=lambda path, flags: os.open(path, flags | os.O_NONBLOCK)) as file:
+            size = disk_image.length_of(file, name)
+    except OSError as fault:
+        raise Refusal(name, streams.why(fault))
+    (begin, end), last = (areas[0].begin, areas[-1].end) if areas else (0, 0), whole_sectors(size)
+    if (begin, whole_sectors(end)) != (0, last) and not is_any_length:
+        raise Refusal(streams.name_of(map_path), f"it is of the bytes {begin} to {end}, and {name} has {size}: give "
+                      "the map of this image, or with --map-of-other-length take what it doesn't list as not read")
     runs: List[Tuple[int, int]] = []
     for area in [Area(0, begin, UNTRIED), *areas, Area(end, max(end, size), UNTRIED)]:
-        first, stop = area.begin // numbers.SECTOR, min(sectors(area.end), sectors(size))
-        first = max(first, runs[-1][1] // numbers.SECTOR) if runs else first
-        if area.status != FINISHED and first < stop:
-            runs.append((first * numbers.SECTOR, stop * numbers.SECTOR))
+        first, stop = area.begin // SECTOR * SECTOR, min(whole_sectors(area.end), last)
+        first = max(first, runs[-1][1]) if runs else first
+        runs += [(first, stop)] if area.status != FINISHED and first < stop else []
     return runs
 
 
-def sectors(size: int) -> int:
-    """How many sectors so many bytes touch."""
-    return -(-size // numbers.SECTOR)
-
-
-def image_size(path: str) -> int:
-    """The bytes of the image at a path."""
-    try:
-        with open(path, "rb", opener=lambda name, flags: os.open(name, flags | os.O_NONBLOCK)) as file:
-            return disk_image.length_of(file, quoting.shown(path))
-    except OSError as fault:
-        raise Refusal(quoting.shown(path), streams.why(fault))
+def whole_sectors(size: int) -> int:
+    """The bytes of the sectors that so many bytes touch."""
+    return -(-size // SECTOR) * SECTOR

@@ -1,21 +1,17 @@
-"""Signatures of layers that nothing here follows, such as those of RAID controllers: who else says that the bytes of a device
-are its own. Those that matter most are looked for here; where `wipefs` and `blkid` are there, they are asked for others."""
+"""Signatures of layers that nothing here follows, such as those of RAID controllers: who else says that the bytes of a
+device are its own. Those that matter most are looked for here; for others `wipefs` and `blkid` are asked, if there."""
 
 import functools
 import json
-import shutil
 import struct
-from typing import Callable, Dict, Iterator, List, NamedTuple, Tuple, Union
+from typing import Callable, Dict, List, NamedTuple, Tuple, Union
 
-from dmremap_tools.base import program
-from dmremap_tools.base.numbers import SECTOR
-from dmremap_tools.base.refusal import Refusal
+from dmremap_tools.base import SECTOR, Refusal, program
 from dmremap_tools.formats.disk_image import BCACHE, BCACHE_AT, BCACHE_SECTOR, ZFS_AT, ZFS_MAGIC, Readable
 
 # What a signature is of, and the byte at which it is.
 Signature = NamedTuple("Signature", [("kind", str), ("at", int)])
-# The kinds by the names that libblkid gives them, the bytes, or some of which one is there, and where they are: from the
-# beginning, or, below 0, from the end.
+# The kinds by libblkid's names, the bytes, or some of which one is there, and where: below 0, from the end.
 KNOWN: List[Tuple[str, Union[bytes, Tuple[bytes, ...]], Tuple[int, ...]]] = [
     ("ddf_raid_member", b"\xde\x11\xde\x11", (-SECTOR, -258 * SECTOR)),
     ("isw_raid_member", b"Intel Raid ISM Cfg Sig. ", (-2 * SECTOR, -16 * SECTOR)),
@@ -39,15 +35,15 @@ KNOWN: List[Tuple[str, Union[bytes, Tuple[bytes, ...]], Tuple[int, ...]]] = [
 # How many bytes tell: none has more.
 TOLD = 32
 # Those of the last sector whose bytes are too short to tell, with the byte at which they are, and the sum that tells.
-Sum = Callable[[bytes], bool]
-SUMMED: List[Tuple[str, bytes, int, Sum]] = [
+SUMMED: List[Tuple[str, bytes, int, Callable[[bytes], bool]]] = [
     ("via_raid_member", b"\x55\xaa", 0, lambda sector: sum(sector[:50]) & 0xFF == sector[50]),
     ("jmicron_raid_member", b"JM", 0, lambda sector: sum(struct.unpack_from("<64H", sector)) & 0xFFFF in (0, 1)),
-    ("silicon_medley_raid_member", b"\0\0\0\x2f", 0x60, lambda sector: not sum(struct.unpack_from("<160H", sector)) & 0xFFFF)]
+    ("silicon_medley_raid_member", b"\0\0\0\x2f", 0x60, lambda it: not sum(struct.unpack_from("<160H", it)) & 0xFFFF)]
 # What others find: all members of what isn't md, and these.
 MEMBER, FOLLOWED = "_raid_member", "linux_raid_member"
 OTHERS = ("DM_integrity", "DM_verity_hash", "DM_snapshot_cow", "LVM1_member", "bcache", "ceph_bluestore", "drbd",
-          "drbdmanage_control_volume", "stratis", "ubi", "vdo", "VMFS_volume_member", "zfs_member", "BitLocker", "cs_fvault2")
+          "drbdmanage_control_volume", "stratis", "ubi", "vdo", "VMFS_volume_member", "zfs_member", "BitLocker",
+          "cs_fvault2")
 
 
 def is_foreign(kind: str) -> bool:
@@ -57,38 +53,32 @@ def is_foreign(kind: str) -> bool:
 
 def signatures_in(image: Readable) -> List[Signature]:
     """The signatures that are looked for here."""
-    places = ((kind, magic, at if at >= 0 else image.size // SECTOR * SECTOR + at) for kind, magic, places in KNOWN
-              for at in places)
-    read = functools.lru_cache(None)(lambda at: image.read(at, TOLD))
+    size, read = image.size // SECTOR * SECTOR, functools.lru_cache(None)(lambda at: image.read(at, TOLD))
+    places = ((kind, magic, at if at >= 0 else size + at) for kind, magic, places in KNOWN for at in places)
     found = [Signature(kind, at) for kind, magic, at in places if at >= 0 and read(at).startswith(magic)]
-    end = image.size // SECTOR * SECTOR - SECTOR
-    last = image.read(end, SECTOR) if end > 0 else b""
-    found += [Signature(kind, end + at) for kind, magic, at, is_summed in SUMMED
+    last = image.read(size - SECTOR, SECTOR) if size > SECTOR else b""
+    found += [Signature(kind, size - SECTOR + at) for kind, magic, at, is_summed in SUMMED
               if last.startswith(magic, at) and len(last) == SECTOR and is_summed(last)]
     is_bcache = image.read(BCACHE_AT - 16, 16 + len(BCACHE)).startswith(BCACHE_SECTOR)
     return found + [Signature("bcache", BCACHE_AT)] * (is_bcache and image.read(BCACHE_AT, len(BCACHE)) == BCACHE)
 
 
-def asked_of(path: str) -> Iterator[Signature]:
+def asked_of(path: str) -> List[Signature]:
     """The signatures that wipefs finds on a disk, if it is there and can say them."""
-    if not shutil.which(program.found("wipefs")):
-        return
     try:
         printed, _, status = program.ask([program.found("wipefs"), "--no-act", "--json", "--", path])
         rows = json.loads(printed, strict=False)["signatures"] if status == 0 and printed.strip() else []
         found = [Signature(str(row["type"]), int(row["offset"], 0)) for row in rows]
     except (Refusal, ValueError, KeyError, TypeError):
-        return
-    yield from (each for each in found if is_foreign(each.kind))
+        return []
+    return [each for each in found if is_foreign(each.kind)]
 
 
 @functools.lru_cache(None)
 def named_by_blkid(path: str, start: int, size: int) -> Dict[str, str]:
     """What blkid says of some bytes of a disk, if it is there: a TYPE, or the PTTYPE of a partition table."""
-    if not shutil.which(program.found("blkid")):
-        return {}
+    words = ["-p", "-o", "export", "-O", str(start), "-S", str(size), "--", path]
     try:
-        words = ["-p", "-o", "export", "-O", str(start), "-S", str(size), "--", path]
         printed, _, _ = program.ask([program.found("blkid"), *words])
     except Refusal:
         return {}

@@ -4,8 +4,7 @@ it reads: how many chunks each has, or why one is refused."""
 import re
 from typing import Dict, Iterable, Optional, Sequence
 
-from dmremap_tools.base import program, quoting, tables
-from dmremap_tools.base.refusal import Refusal
+from dmremap_tools.base import Refusal, program, quoting, tables
 
 # How many dmremap counts in all stores together.
 MOST = 4194304
@@ -14,17 +13,18 @@ MOST_IN_CHUNK = 1 << 10
 STATUS = re.compile(r"([^ ]+): 0 [0-9]+ snapshot (?:([0-9]+)/[0-9]+ ([0-9]+)|Invalid)")
 REFUSED = re.compile(r"dmremap: store ([^ ]+): ([a-z]+)")
 DAMAGED = "which no kernel writes: it is damaged, was changed while it was read, or is another snapshot's"
+TOGETHER = "and a kernel refuses it: look whether the disks, their places and the tables belong together"
 WHYS = {
     "missing": "a disk that its header or its list lies on isn't here",
     "read": "its header or its list can't be read to its end: give whole images of the disks that it lies on",
-    "magic": "it begins neither as a store nor with zeros, and a kernel refuses it: look whether the disks, their places and the tables "
-             "belong together",
-    "version": "it isn't of version 1, and a kernel refuses it: look whether the disks, their places and the tables belong together",
-    "chunk": "its chunks have another length than the tables say, and a kernel goes by the store: `od -An -tu4 -j12 -N4` of its first "
-             "sector prints how many sectors they have, so write that there",
-    "order": "its list has chunks in another order than that of their places, or more than there is room for, " + DAMAGED,
-    "range": "its list has a chunk past the end of the snapshot, " + DAMAGED,
-    "again": "its list has a chunk twice, " + DAMAGED,
+    "magic": f"it begins neither as a store nor with zeros, {TOGETHER}",
+    "version": f"it isn't of version 1, {TOGETHER}",
+    "chunk": "its chunks have another length than the tables say, and a kernel goes by the store: `od -An -tu4 -j12 "
+             "-N4` of its first sector prints how many sectors they have, so write that there",
+    "order": "its list has chunks in another order than that of their places, or more than there is room for, "
+             + DAMAGED,
+    "range": f"its list has a chunk past the end of the snapshot, {DAMAGED}",
+    "again": f"its list has a chunk twice, {DAMAGED}",
 }
 
 
@@ -50,8 +50,7 @@ class RefusedStore(Refusal):
 
 
 def chunks_in(words: Sequence[str], devices: Iterable[tables.TableDevice]) -> Dict[str, Optional[int]]:
-    """How many chunks are in the store of each snapshot of these devices before any request, or None where it is invalid; `words`
-    are those by which dmremap maps."""
+    """The chunks in the store of each snapshot of these devices, None if it is invalid; dmremap gets these words."""
     chunks = {it.name: int(it.lines[0].words[3]) for it in devices if it.lines[0].target == "snapshot"}
     printed, said = program.ask_quietly([*words, "--status"])
     refused = REFUSED.fullmatch(said.strip())
