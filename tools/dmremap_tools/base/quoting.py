@@ -19,11 +19,6 @@ def _escape(letter: str) -> str:
     return (chr(ord(letter) - 0xDC00) if "\udc80" <= letter <= "\udcff" else letter).encode("unicode_escape").decode()
 
 
-def is_odd(text: str) -> bool:
-    """Whether it has bytes that are no UTF-8."""
-    return any("\udc80" <= letter <= "\udcff" for letter in text)
-
-
 def shown(text: str) -> str:
     """At most 100 characters of a text for a message, escaped, with two dots where there are more."""
     return escaped(text[:MOST_SHOWN]) + (".." if len(text) > MOST_SHOWN else "")

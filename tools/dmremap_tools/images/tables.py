@@ -21,7 +21,7 @@ from dmremap_tools.base.program import NoProgram
 from dmremap_tools.base.refusal import Refusal
 from dmremap_tools.formats import rescue_map
 from dmremap_tools.model.device import Copies, Device, Image, Part
-from dmremap_tools.model.heads import path_of, read_by_heads
+from dmremap_tools.model.physical_volume import path_of, read_by_heads
 from dmremap_tools.model.layout import Layout
 from dmremap_tools.model.mapping import FILES, MappedDevice, Tables
 from dmremap_tools.model.pile import Pile

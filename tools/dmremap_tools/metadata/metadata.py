@@ -30,9 +30,8 @@ from dmremap_tools.base.refusal import Refusal, WrongWords
 from dmremap_tools.model import md_superblock
 from dmremap_tools.model.device import Device, Image, Lenient, Part
 from dmremap_tools.model.physical_volume import (EMPTY, MISSING, SEARCHED, MetadataArea, PhysicalVolume, Text,
-                                                 leftover_in, texts_of_ring, volume_in)
+                                                 leftover_in, text_by_heads, texts_of_ring, volume_in)
 from dmremap_tools.model.pile import Pile, place_of
-from dmremap_tools.model.heads import text_by_heads
 from dmremap_tools.model.placed import image_of
 
 EXAMPLE = "dmremap-tools metadata vg0-head.img > vg0.backup && dmremap table lvm vg0.backup"
@@ -63,7 +62,7 @@ def run(words: argparse.Namespace) -> None:
     # What is no image of a disk is refused by its path.
     images = [image_of(place.path) for place in places]
     pile = Pile([place.path for place in dict.fromkeys(places) if not place.is_said], None)
-    volumes = [*pile.volumes, *(leftover.unlabelled() for leftover in pile.leftovers)]
+    volumes = [*pile.volumes, *pile.leftovers]
     if not volumes:
         pile.search()
         volumes += pile.volumes
@@ -96,7 +95,7 @@ def volume_of(device: Device) -> Optional[PhysicalVolume]:
     members = md_superblock.found_in(device)[0]
     datas = [Part(device.name, device, it.start * SECTOR, it.length * SECTOR) for it in members]
     found, left = next(filter(None, map(volume_in, [device, *datas])), None), leftover_in(device, True)
-    return found or (left.unlabelled() if left else None)
+    return found or left
 
 
 def first_if_equal(volumes: List[PhysicalVolume]) -> bytes:

@@ -7,8 +7,7 @@ import itertools
 import re
 from typing import Dict, Iterator, List, NamedTuple, Optional, Tuple, Type, TypeVar, Union
 
-from dmremap_tools.base import quoting
-from dmremap_tools.base.refusal import Refusal
+from dmremap_tools.base import Refusal, quoting
 
 # White space and comments, and then a sign, a string, a word, or nothing at the end. A comment ends with its line, so
 # that there is one way to read them.
@@ -84,10 +83,20 @@ class Node:
         child = self.child(key)
         return [it.value for it in child.items] if child else []
 
+    def pairs(self, key: bytes) -> List[Tuple[Value, Value]]:
+        """The values of a field two by two, as names and extents."""
+        values = self.values(key)
+        return list(zip(values[::2], values[1::2]))
+
     def value(self, key: bytes, kind: Type[Kind]) -> Optional[Kind]:
         """The value of a field that has one, if it is of this kind, or None."""
         values = self.values(key)
         return values[0] if len(values) == 1 and isinstance(values[0], kind) else None
+
+    @property
+    def identity(self) -> str:
+        """The id of what a section is of, or nothing."""
+        return (self.value(b"id", bytes) or b"").decode("ascii", "replace")
 
 
 class Document:

@@ -1,32 +1,36 @@
-"""Volume groups: which texts count, and which volumes each group has, also those that were removed, by the texts of the
-time before."""
+"""Volume groups: which texts count, and which volumes each group has, also removed ones, by the texts before that."""
 
+import bisect
 import functools
+import itertools
 import re
-from typing import Callable, Iterable, Iterator, List, NamedTuple, Optional, Sequence, Set, Tuple
+from typing import Callable, Dict, Iterable, Iterator, List, NamedTuple, Optional, Sequence, Set, Tuple
 
+from dmremap_tools.base import SECTOR, Refusal
 from dmremap_tools.formats.disk_image import file_system_of
-from dmremap_tools.base.numbers import SECTOR
-from dmremap_tools.base.refusal import Refusal
 from dmremap_tools.model.config_text import shown
 from dmremap_tools.model.device import Device, Doubt, Lenient, Missing
-from dmremap_tools.model.heads import text_by_heads
-from dmremap_tools.model.layout import Layout
-from dmremap_tools.model.mapping import INVALID_SNAPSHOT, NoProgram, Tables
-from dmremap_tools.model.physical_volume import Leftover, PhysicalVolume, Text
-from dmremap_tools.model.removed import History, Holder, Later, holders_of
+from dmremap_tools.model.layout import Layout, tried
+from dmremap_tools.model.mapping import INVALID_SNAPSHOT, Tables
+from dmremap_tools.model.physical_volume import PhysicalVolume, Text, text_by_heads
 
 COMPLETE, LACKING, TRUNCATED, FORKED = "complete", "missing", "truncated", "forked"
 TWO_SIDES = ("disks of this group were changed apart from each other, and both sides have a volume of this name: give "
              "the images of one side alone ({})")
 NEWER = ("{} has {} ({}), and what can be read is the one with the seqno {}: restore one of them by vgcfgrestore on "
          "copies of the disks (`metadata` prints it)")
-UNREAD = ("{} is of this group, too, and its current text can't be read ({}): it may have another state of this volume. Leave "
-          "that image out, or restore its metadata on a copy (vgcfgrestore; `metadata --list` shows what is left)")
-MAYBE = ("{} may be the disk of this group that isn't found, and it can't be read as that ({}): restore its label on a copy "
-         "(pvcreate --uuid UUID --restorefile TEXT), or leave that image out")
+UNREAD = ("{} is of this group, too, and its current text can't be read ({}): it may have another state of this "
+          "volume. Leave that image out, or restore its metadata on a copy (vgcfgrestore; `metadata --list` shows what "
+          "is left)")
+MAYBE = ("{} may be the disk of this group that isn't found, and it can't be read as that ({}): restore its label on a "
+         "copy (pvcreate --uuid UUID --restorefile TEXT), or leave that image out")
+SINCE, LEFT = "nothing tells who wrote there since", "nothing tells which of its sectors are left"
 WHOLE, INVALID, INCOMPLETE, UNKNOWN, REMOVED = "whole", "invalid", "incomplete", "not followed", "removed"
-Refused = Callable[[], Optional[str]]
+Refused = Callable[..., Optional[str]]
+# A text, and the physical volumes of which it is the current one.
+Holder = NamedTuple("Holder", [("text", Text), ("volumes", List[PhysicalVolume])])
+# Sectors of a physical volume: the first one and the one after the last, whose they are, and by which text.
+Owned = NamedTuple("Owned", [("first", int), ("end", int), ("owner", str), ("holder", Holder)])
 
 
 class Volume:
@@ -35,28 +39,24 @@ class Volume:
     def __init__(self, side: Layout, key: bytes, refused: Refused, is_removed: bool = False) -> None:
         self.side, self.key, self.name, self.is_removed = side, key, key.decode("utf-8", "surrogateescape"), is_removed
         self.path, self.identity, self._refused = f"{side.name}/{self.name}", side.ids[key], refused
-        segments, origin = side.group.volumes[key].segments, side.origins.get(key)
+        segments, origin = side.group.volumes[key].segments, side.origins.get(key) or None
         self.sectors = side.size_of(origin or key) // SECTOR
         kinds = [segment.kind or b"" for segment in segments]
         kind = kinds[0].decode("ascii", "replace").partition("+")[0] if kinds else "none"
-        self.kind = "linear" if kind == "striped" else re.sub(r"^(raid\d+)_.*", r"\1", kind)
-        if any(segment.kind == b"striped" and len(segment.stripes) > 1 for segment in segments):
-            self.kind = "striped"
-        if origin is not None:
-            self.kind = "snapshot"
-        elif b"thin" in kinds:
+        is_striped = any(segment.kind == b"striped" and len(segment.stripes) > 1 for segment in segments)
+        plain = "linear" if kind == "striped" else re.sub(r"^(raid\d+)_.*", r"\1", kind)
+        self.kind = "snapshot" if origin else "striped" if is_striped else plain
+        if origin is None and b"thin" in kinds:
             origin = segments[kinds.index(b"thin")].node.value(b"origin", bytes)
         self.origin = None if origin is None else origin.decode("utf-8", "surrogateescape")
+        # What begins it, or None where nothing known does.
+        self.file_system = functools.lru_cache(None)(lambda: file_system_in(self._made))
 
     @functools.cached_property
     def _made(self) -> Device:
-        try:
-            why = self._refused()
-            return Missing(why) if why else self.side.volume(self.key)
-        except NoProgram:
-            raise
-        except Refusal as refusal:
-            return Missing(refusal.why)
+        """Its bytes, or what says why they can't be given."""
+        why = tried(self._refused, str)
+        return Missing(why) if why else tried(lambda: self.side.volume(self.key), Missing)
 
     def device(self) -> Device:
         """Its bytes, or a refusal that says why they can't be given."""
@@ -66,12 +66,7 @@ class Volume:
 
     def why(self) -> Optional[str]:
         """Why its bytes can't be given, or aren't all there; None if they can."""
-        try:
-            return self._made.lack(0, self.sectors * SECTOR)
-        except NoProgram:
-            raise
-        except Refusal as refusal:
-            return refusal.why
+        return tried(lambda: self._made.lack(0, self.sectors * SECTOR), str)
 
     def state(self) -> str:
         why = self.why()
@@ -81,25 +76,13 @@ class Volume:
             return INVALID if why else WHOLE
         return UNKNOWN if isinstance(self._made, Missing) else INCOMPLETE
 
-    def file_system(self) -> Optional[str]:
-        return self._file_system
-
-    @functools.cached_property
-    def _file_system(self) -> Optional[str]:
-        return file_system_in(self._made)
-
     def chunks_used(self) -> Optional[int]:
         return getattr(self._made, "chunks_used", None)
 
 
 def file_system_in(device: Device) -> Optional[str]:
     """What begins a device, or None where nothing known does or its first bytes can't be given."""
-    try:
-        return file_system_of(Lenient(device))
-    except NoProgram:
-        raise
-    except Refusal:
-        return None
+    return tried(lambda: file_system_of(Lenient(device)), lambda why: None)
 
 
 class Group:
@@ -121,41 +104,27 @@ class Group:
         return next((it for it in self.volumes if name == it.name or same_id(name, it.identity)), hidden)
 
 
-class UnreadTexts(NamedTuple):
-    """What has texts of groups of which none can be read as current: a physical volume, by its id, or what is left of
-    one, and why."""
+def is_explained(volume: PhysicalVolume, holder: Holder, side: Layout) -> bool:
+    """Whether a physical volume has the text of a side, and none after that. What has no id is one of the side's disks
+    that isn't here otherwise, or else a copy of one."""
+    mine, is_lacking = volume.texts_with(holder.text), any(isinstance(it, Missing) for it in side.physical.values())
+    has_text = any(text.key() == holder.text.key() for text in mine if text.said_time())
+    return has_text and max(text.seqno for text in mine) == holder.text.seqno and bool(volume.identity or is_lacking)
 
-    place: str
-    identity: str
-    fault: str
-    texts: List[Text]
 
-    def is_of(self, side: Layout) -> bool:
-        """Whether it has texts of the group of a side, or is a physical volume of it."""
-        return self.identity in side.physical_ids.values() or any(text.identity == side.text.identity for text in self.texts)
+def is_apart(volume: PhysicalVolume, holder: Holder) -> bool:
+    """Whether it has a text that isn't in the rings of a side: a later one, or another one with such a number."""
+    rings = [text for other in holder.volumes for text in other.older] + [holder.text]
+    keys, first = {text.key() for text in rings}, min(text.seqno for text in rings)
+    mine = (text for text in volume.texts_with(holder.text) if text.said_time())
+    return any(text.seqno >= first and text.key() not in keys for text in mine)
 
-    def is_explained(self, holder: Holder, side: Layout) -> bool:
-        """Whether it has the text of a side, and none after that. What has no id is one of the side's disks that isn't
-        here otherwise, or else a copy of one."""
-        mine = [text for text in self.texts if text.identity == holder.text.identity]
-        last = max((text.seqno for text in mine), default=-1)
-        is_lacking = any(isinstance(device, Missing) for device in side.physical.values())
-        has_text = any(text.key() == holder.text.key() for text in mine if text.said_time())
-        return has_text and last == holder.text.seqno and bool(self.identity or is_lacking)
 
-    def is_apart(self, holder: Holder) -> bool:
-        """Whether it has a text that isn't in the rings of a side: a later one, or another one with a number of these."""
-        rings = {text.key() for volume in holder.volumes for text in volume.older} | {holder.text.key()}
-        first = min(text.seqno for volume in holder.volumes for text in [holder.text, *volume.older])
-        mine = (text for text in self.texts if text.identity == holder.text.identity and text.said_time())
-        return any(text.seqno >= first and text.key() not in rings for text in mine)
-
-    def names(self, holder: Holder) -> Optional[Set[bytes]]:
-        """The names of the volumes that its last text of a group has, or None where it has no text that can be read."""
-        mine = (text for text in self.texts if text.identity == holder.text.identity)
-        last = max(mine, key=lambda text: (text.seqno, text.said_time() or b""), default=None)
-        is_whole = last and last.said_time() and not last.fault()
-        return set(Layout(last, Missing).group.volumes) if is_whole else None
+def may_have(volume: PhysicalVolume, name: bytes, holder: Holder) -> bool:
+    """Whether its last text of a group has a logical volume, or can't be read."""
+    last = max(volume.texts_with(holder.text), key=lambda text: (text.seqno, text.said_time() or b""), default=None)
+    is_whole = last and last.said_time() and not last.fault()
+    return not last or not is_whole or name in Layout(last, Missing).group.volumes
 
 
 def same_id(one: str, other: str) -> bool:
@@ -187,29 +156,28 @@ def is_behind(holder: Holder, side: Holder) -> bool:
 
 
 def state_of(side: Layout) -> Tuple[str, List[str]]:
+    """The state of a side by its physical volumes, and what each of these lacks."""
     state, notes = COMPLETE, []
     for key, device in side.physical.items():
         start, count = (side.group.physicals[key].value(field, int) or 0 for field in (b"pe_start", b"pe_count"))
         why = device.lack(0, start * SECTOR + count * side.extent)
-        if why is not None:
-            notes.append(f"{shown(key)}: {why}")
-            if state != LACKING and not isinstance(why, Doubt):
-                state = LACKING if isinstance(device, Missing) else TRUNCATED
+        notes += [] if why is None else [f"{shown(key)}: {why}"]
+        if why is not None and state != LACKING and not isinstance(why, Doubt):
+            state = LACKING if isinstance(device, Missing) else TRUNCATED
     return state, notes
 
 
 class Texts:
-    """All texts of some physical volumes, of any group: those that are current, with the ones that have them, and older
-    ones, whose volumes may have written where a removed volume was; and those of which nothing tells what is current."""
+    """All texts of some physical volumes, of any group: those that are current, with the ones that have them, older
+    ones, whose volumes may have written where a removed one was, and those of which nothing tells what is current."""
 
-    def __init__(self, volumes: Sequence[PhysicalVolume], leftovers: Sequence[Leftover] = (),
-                 program: Optional[str] = None) -> None:
+    def __init__(self, volumes: Sequence[PhysicalVolume], leftovers: Sequence[PhysicalVolume],
+                 program: Optional[str]) -> None:
         self._volumes, self._known, self._program = volumes, holders_of(volumes), program
-        # Why the current text of a physical volume can't be read, by its id.
+        # Those whose current texts can't be read.
         unread = [volume for volume in volumes if volume.faults and not volume.current]
-        self._later = Later(self._known, {volume.identity: f"{volume.place}: {volume.faults[0]}" for volume in unread})
-        self._unread = [UnreadTexts(volume.place, volume.identity, volume.faults[0], volume.texts) for volume in unread]
-        self._unread = sorted(self._unread + [UnreadTexts(left.device.name, "", left.fault, left.texts) for left in leftovers])
+        self._whys = {volume.identity: f"{volume.place}: {volume.faults[0]}" for volume in unread}
+        self._unread = sorted([*leftovers, *unread], key=lambda each: (each.place, each.identity, each.faults[0]))
         # The removed volumes of all texts are loaded together.
         self._tables = Tables()
 
@@ -238,41 +206,48 @@ class Texts:
         ages = [max((text.seqno for text in volume.current), default=0) for volume in believed]
         newest = next((volume.place for volume, age in zip(believed, ages) if age == max(ages) > min(ages)), None)
         which = f" ({newest} has the newest text, with the seqno {max(ages)})" if newest else ""
-        return Missing(f"{both} both are the physical volume {identity}: give one of them{which}" if both else here[0].doubt)
+        said = f"{both} both are the physical volume {identity}: give one of them{which}" if both else here[0].doubt
+        return Missing(said or "")
 
     def _sides(self, holders: Sequence[Holder], texts: List[Text]) -> Iterator[Group]:
         """The group that has these texts, or each side of it."""
-        current = [holder.text for holder in holders] if len(holders) > 1 else [self._read_by_heads(*holders)] if holders else []
-        sides = [Layout(text, self._find) for text in current]
+        is_forked = len(holders) > 1
+        sides = [Layout(it.text if is_forked else self._read_by_heads(it), self._find) for it in holders]
         living = {identity for side in sides for identity in side.ids.values()}
         places = sorted(", ".join(sorted(volume.place for volume in holder.volumes)) for holder in holders)
-        refused, is_forked = TWO_SIDES.format(" or ".join(places)), len(sides) > 1
         for side, holder in zip(sides, holders):
             (state, notes), newer = state_of(side), self._newer(holder, side)
             named = {name for other in sides if other is not side for name in other.visible()}
-            related = [each for each in self._unread if each.is_of(side)]
-            unread = [each for each in related if not any(map(each.is_explained, holders, sides))]
-            told = [f"{each.place}: {each.fault}" for each in related]
+            ids = side.physical_ids.values()
+            related = [each for each in self._unread if each.texts_with(side.text) or each.identity in ids]
+            unread = [it for it in related if not any(is_explained(it, *each) for each in zip(holders, sides))]
+            told = [f"{each.place}: {each.faults[0]}" for each in related]
             lost = next((each for each in related if each not in unread and not each.identity), None)
-            whys = {name: newer or (refused if name in named else doubt_of(name, unread, holder)) for name in side.visible()}
-            if lost:
-                whys.update({name: why or doubt_by(lost, name, side) for name, why in whys.items()})
-            listed = [Volume(side, name, lambda why=why: why) for name, why in whys.items()]
+            lacking = {side.physical_ids[key] for key, device in side.physical.items() if isinstance(device, Missing)}
+            listed = []
+            for name in side.visible():
+                # An unread text may have it, too, or what is left of a missing disk that it lies on.
+                other = next((each for each in unread if may_have(each, name, holder)), None)
+                is_on_lost = lost and any(identity in lacking for identity, _, _ in side.uses(name))
+                whys = (newer, TWO_SIDES.format(" or ".join(places)) if name in named else None,
+                        UNREAD.format(other.place, other.faults[0]) if other else None,
+                        MAYBE.format(lost.place, lost.faults[0]) if lost and is_on_lost else None)
+                listed.append(Volume(side, name, lambda why=next(filter(None, whys), None): why))
             # Of a side the texts that are in the rings of its disks, and its own.
             rings = (text for volume in holder.volumes for text in [*volume.older, side.text])
             by_key = {text.key(): text for text in rings if text.identity == side.text.identity} if is_forked else {}
             known = list(by_key.values()) or texts
-            doubt = newer or next((UNREAD.format(each.place, each.fault) for each in unread), None)
+            doubt = newer or next((UNREAD.format(each.place, each.faults[0]) for each in unread), None)
             listed += self._removed(known, living, doubt)
             if unread and state == COMPLETE:
                 state = LACKING
-            if is_forked or any(each.is_apart(holder) for each in unread):
+            if is_forked or any(is_apart(each, holder) for each in unread):
                 state = FORKED
             yield Group(side, state, self._volumes, known, listed, doubt, notes + told)
 
     def _read_by_heads(self, holder: Holder) -> Text:
-        """The text of a group as dmremap reads it in the heads of its physical volumes; as it was read here where one of them
-        has a fault, or dmremap takes them not."""
+        """The text of a group as dmremap reads it in the heads of its physical volumes; as it was read here where one
+        of them has a fault, or dmremap takes them not."""
         is_sound = not any(volume.faults for volume in holder.volumes)
         read = text_by_heads(self._program, [volume.device for volume in holder.volumes]) if is_sound else None
         return holder.text._replace(content=read) if read else holder.text
@@ -290,36 +265,89 @@ class Texts:
                 return NEWER.format(volume.place, which, fault, side.text.seqno)
         return None
 
-    def _refused(self, side: Layout, name: bytes, history: History, doubt: Optional[str]) -> Optional[str]:
-        """Why a removed volume of a group with this history can't be given, or None."""
-        why = doubt or self._later.why(side, name, history)
+    def _refused(self, side: Layout, name: bytes, texts: Sequence[Text], doubt: Optional[str]) -> Optional[str]:
+        """Why a removed volume of a group that has these texts can't be given, or None."""
+        why = doubt or self._lost(side, name, texts)
         restored = f"to see what is left, restore the text with the seqno {side.text.seqno} on copies (vgcfgrestore)"
         return why if doubt or not why else f"{why}: {restored}"
 
+    def _lost(self, side: Layout, name: bytes, texts: Sequence[Text]) -> Optional[str]:
+        """Why a volume that a group had, or one side of it, which has these texts, isn't known to be left, or None."""
+        numbers = {text.seqno for text in texts}
+        lost = next((it for it in range(side.text.seqno + 1, max(numbers)) if it not in numbers), None)
+        if lost:
+            return f"it was removed, and the text with the seqno {lost} that came after it is lost: {SINCE}"
+        # The current text of a disk of this side that can't be read may be a later one, too.
+        faults = map(self._whys.get, side.physical_ids.values())
+        later = (fault for fault, holder in self._faults if is_after(holder, side.text))
+        unreadable = next(filter(None, itertools.chain(faults, later)), None)
+        if unreadable:
+            return f"only an older text has it, and a later one can't be read ({unreadable}), so that {SINCE}"
+        for owner in (owner for used in sorted(side.uses(name)) for owner in self._owners(*used, side.text)):
+            return f"it was removed, and some of its extents belong to {owner} since, so that {LEFT}"
+        below = {side.ids[lower] for lower in side.below(name)}
+        if any(text.seqno > side.text.seqno and below & text.volume_ids() for text in texts):
+            return "it was removed, and what it was a part of went on without it, and may have changed"
+        return None
+
+    def _owners(self, identity: str, first: int, end: int, text: Text) -> Iterator[str]:
+        """The volumes that used some of these sectors of a physical volume after a text."""
+        owned, ends = self._owned.get(identity, ([], []))
+        for each in owned[bisect.bisect_right(ends, first):]:
+            if each.first >= end:
+                return
+            if first < each.end and is_after(each.holder, text):
+                yield each.owner
+
+    def _holders(self) -> Iterator[Holder]:
+        """Each text that is known."""
+        return (holder for holders in self._known.values() for holder in holders.values())
+
+    @functools.cached_property
+    def _faults(self) -> List[Tuple[str, Holder]]:
+        """Why texts can't be read."""
+        whys = ((holder.text.fault(), holder) for holder in self._holders())
+        return sorted(((why, holder) for why, holder in whys if why), key=lambda each: each[0])
+
+    @functools.cached_property
+    def _owned(self) -> Dict[str, Tuple[List[Owned], List[int]]]:
+        """What volumes of all texts use of each physical volume, in its order, and the greatest end up to each."""
+        found: Dict[str, List[Owned]] = {}
+        for holder in (holder for holder in self._holders() if not holder.text.fault()):
+            side = Layout(holder.text, Missing)
+            for name, (identity, first, end) in ((name, it) for name in side.group.volumes for it in side.uses(name)):
+                found.setdefault(identity, []).append(Owned(first, end, side.path(name), holder))
+        for owned in found.values():
+            owned.sort(key=lambda each: each[:3])
+        return {key: (owned, list(itertools.accumulate((it.end for it in owned), max))) for key, owned in found.items()}
+
     def _removed(self, texts: Sequence[Text], living: Set[str], doubt: Optional[str] = None) -> Iterator[Volume]:
         """The volumes of texts, by the newest that has them, that aren't there now; `doubt` refuses them all."""
-        seen, history = set(living), History(texts)
+        seen = set(living)
         for text in sorted(texts, key=lambda text: -text.seqno):
             ids = text.volume_ids() - seen
             seen |= ids
-            side = Layout(text, self._find, self._tables) if ids and not text.fault() else None
-            for name in side.visible() if side else ():
+            sides = [Layout(text, self._find, self._tables)] if ids and not text.fault() else []
+            for side, name in ((side, name) for side in sides for name in side.visible()):
                 if side.ids[name] in ids:
                     self._tables.waiting.append(functools.partial(side.key_of, name))
-                    yield Volume(side, name, functools.partial(self._refused, side, name, history, doubt), True)
+                    yield Volume(side, name, functools.partial(self._refused, side, name, texts, doubt), True)
 
 
-def doubt_of(name: bytes, unread: Iterable[UnreadTexts], holder: Holder) -> Optional[str]:
-    """Why a volume isn't given, that one side of a group has and the other may have, whose text can't be read."""
-    for each in unread:
-        names = each.names(holder)
-        if names is None or name in names:
-            return UNREAD.format(each.place, each.fault)
-    return None
+def is_after(holder: Holder, text: Text) -> bool:
+    """Whether a text was written after another one, as far as that is known."""
+    if holder.text.identity == text.identity:
+        return holder.text.seqno > text.seqno
+    return bool(holder.volumes) or holder.text.time() >= text.time()
 
 
-def doubt_by(lost: UnreadTexts, name: bytes, side: Layout) -> Optional[str]:
-    """Why a volume isn't given that lies on a missing disk, if what is left of one may be that; None if it may be."""
-    lacking = {side.physical_ids[key] for key, device in side.physical.items() if isinstance(device, Missing)}
-    is_on_it = any(identity in lacking for identity, _, _ in side.uses(name))
-    return MAYBE.format(lost.place, lost.fault) if is_on_it else None
+def holders_of(volumes: Iterable[PhysicalVolume]) -> Dict[str, Dict[bytes, Holder]]:
+    """The texts of physical volumes, each once, by the ids of their groups and by their keys."""
+    known: Dict[str, Dict[bytes, Holder]] = {}
+    for volume in volumes:
+        for text, is_current in [(text, False) for text in volume.older] + [(text, True) for text in volume.current]:
+            holders, key = known.setdefault(text.identity, {}), text.key()
+            same, others = holders.get(key, Holder(text, []))
+            # They differ in when they were written, and in no more.
+            holders[key] = Holder(max(text, same, key=lambda each: each.content), others + [volume] * is_current)
+    return known

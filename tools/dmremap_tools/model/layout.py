@@ -3,13 +3,11 @@ segments are lines of a table, which dmremap maps; any other is a disk of that t
 
 import functools
 import itertools
-from typing import Callable, Dict, Iterator, List, NoReturn, Optional, Set, Tuple
+from typing import Callable, Dict, Iterator, List, NoReturn, Optional, Set, Tuple, TypeVar
 
-from dmremap_tools.base import names, tables
-from dmremap_tools.base.numbers import SECTOR
-from dmremap_tools.base.refusal import Refusal
+from dmremap_tools.base import SECTOR, Refusal, names, tables
 from dmremap_tools.model import integrity, pools, raid_volume
-from dmremap_tools.model.config_text import Node, Value, shown
+from dmremap_tools.model.config_text import shown
 from dmremap_tools.model.device import Device, Extent, Missing
 from dmremap_tools.model.mapping import MappedDevice, NoProgram, Tables, snapshot_of
 from dmremap_tools.model.physical_volume import Text
@@ -38,6 +36,7 @@ ODD = "restore an older text by vgcfgrestore on copies of the disks (`metadata -
 NUMBERS = itertools.count()
 # Sectors of a physical volume: its id, the first one, and the one after the last.
 UsedSectors = Tuple[str, int, int]
+Made = TypeVar("Made")
 
 
 class Layout:
@@ -48,8 +47,8 @@ class Layout:
     def __init__(self, text: Text, find: Callable[[str], Device], shared: Optional[Tables] = None) -> None:
         self.text, self.name, self._find, self.group = text, text.group, find, GroupText(text.node())
         self.extent = (self.group.extent_size or 0) * SECTOR
-        self.ids = {name: identity_of(volume.node) for name, volume in self.group.volumes.items()}
-        self.physical_ids = {key: identity_of(node) for key, node in self.group.physicals.items()}
+        self.ids = {name: volume.node.identity for name, volume in self.group.volumes.items()}
+        self.physical_ids = {key: node.identity for key, node in self.group.physicals.items()}
         self.records: Dict[bytes, Record] = {record.store: record for record in self.group.records if record.store}
         # The origins of snapshots, by the names of their stores.
         self.origins = {record.store: record.origin for record in reversed(self.group.records) if not record.is_merging}
@@ -57,7 +56,7 @@ class Layout:
         self._keys = {name: f"v{next(NUMBERS)}" for name in self.group.volumes}
         if not shared:
             self.tables.waiting += [functools.partial(self.key_of, name) for name in reversed(list(self.group.volumes))]
-        self._snapshots = 0
+        self._snapshots = itertools.count()
         # The bytes of a volume as its user sees them.
         self.volume = functools.lru_cache(None)(self._volume)
 
@@ -69,7 +68,7 @@ class Layout:
     @functools.cached_property
     def _whys(self) -> Dict[bytes, str]:
         """Why volumes aren't followed, as far as that is known: at first those on others in too many levels."""
-        lower = {name: set(lower_in(volume)) for name, volume in self.group.volumes.items()}
+        lower = {name: lower_in(volume) for name, volume in self.group.volumes.items()}
         deep = list(lower)
         for _ in range(MOST_LEVELS):
             known = set(deep)
@@ -90,23 +89,21 @@ class Layout:
             raise Refusal(self.name, f"its text has no size of extents: {ODD}")
 
     def visible(self) -> List[bytes]:
-        """The volumes that a user sees, without pools, and what a move leaves. A snapshot has the name of its store, which
-        the text hides."""
+        """The volumes that a user sees, no pools and moves. A snapshot has its store's name, which the text hides."""
         records = {record.volume.name for record in self.group.records}
-        return [name for name, volume in self.group.volumes.items() if name not in records and not name.startswith(MOVES)
+        return [name for name, volume in self.group.volumes.items()
+                if name not in records and not name.startswith(MOVES)
                 and not any(segment.kind in POOLS for segment in volume.segments)
                 and (name in self.origins or b"VISIBLE" in volume.node.values(b"status"))]
 
     def _volume(self, name: bytes) -> Device:
-        """The bytes of a volume as its user sees them: of a snapshot, or of an origin that one is merged into, by its
-        store."""
+        """A volume's bytes as its user sees them: by its store of a snapshot, or an origin that one is merged into."""
         record = self.records.get(name)
         if record is None or record.is_merging:
             record = next((other for other in self.group.records if other.is_merging and other.origin == name), None)
         if record is None:
             return self.plain(name)
-        self._snapshots += 1
-        if self._snapshots > MOST_SNAPSHOTS:
+        if next(self._snapshots) >= MOST_SNAPSHOTS:
             raise Refusal(self.path(name), MANY)
         return snapshot_of(self, record)
 
@@ -124,18 +121,17 @@ class Layout:
     def key_of(self, name: bytes) -> str:
         """The name of a volume in the tables, where its lines stand then. One that can't be followed is refused."""
         self.check()
-        key = self._keys.get(name)
         if name in self._whys:
             raise Refusal(self.path(name), self._whys[name])
-        if key is None:
+        if name not in self._keys:
             self.refuse(name, "the text has no such volume")
-        if key not in self.tables.devices:
+        if self._keys[name] not in self.tables.devices:
             try:
-                self.tables.add(key, list(self._lines(self.group.volumes[name])))
+                self.tables.add(self._keys[name], list(self._lines(self.group.volumes[name])))
             except Refusal as refusal:
                 self._whys[name] = refusal.why
                 raise
-        return key
+        return self._keys[name]
 
     def size_of(self, name: bytes) -> int:
         """The bytes of a volume; 0 where the text has none of this name."""
@@ -144,14 +140,14 @@ class Layout:
 
     def _lines(self, volume: VolumeText) -> Iterator[tables.Line]:
         """The lines of a volume. Refuses one whose segments don't follow each other."""
-        start = 0
+        start, sectors = 0, self.extent // SECTOR
         if not volume.segments or volume.extents > MOST_EXTENTS:
             self.refuse(volume.name, "its text says no length")
         for segment in sorted(volume.segments, key=lambda segment: segment.node.value(b"start_extent", int) or 0):
             count = segment.length or 0
             if segment.node.value(b"start_extent", int) != start or count <= 0:
                 self.refuse(volume.name, f"its {shown(segment.node.key)} doesn't begin where the one before ends")
-            yield self._line(volume, segment, start * self.extent // SECTOR, count * self.extent // SECTOR)
+            yield self._line(volume, segment, start * sectors, count * sectors)
             start += count
 
     def _line(self, volume: VolumeText, segment: Segment, first: int, length: int) -> tables.Line:
@@ -162,20 +158,18 @@ class Layout:
         if kind in (b"striped", b"linear"):
             return self._striped(name, segment, first, length)
         if kind == b"mirror" and b"PVMOVE" in volume.node.values(b"status"):
-            legs = areas_of(segment)
-            moved = segment.node.value(b"extents_moved", int) or 0
+            legs, moved = segment.node.pairs(b"mirrors"), segment.node.value(b"extents_moved", int) or 0
             if len(legs) != 2 or not 0 <= moved <= (segment.count or 0):
                 self.refuse(name, f"its {which} says no two legs")
             # The second one if all extents were moved. The first is written all the time, while the second isn't whole.
             return tables.Line(first, length, "linear", self._area(name, *legs[moved == segment.count], length))
         maker = LAYERS.get(kind.partition(b"+RESHAPE")[0])
         if maker is None:
-            names_of_legs = [leg for leg, _ in areas_of(segment) if isinstance(leg, bytes)]
-            sides = [self.path(leg) for leg in names_of_legs if leg in self.group.volumes]
+            legs = segment.node.pairs(b"mirrors")
+            sides = [self.path(leg) for leg, _ in legs if isinstance(leg, bytes) and leg in self.group.volumes]
             what = f"its {which} is of type {shown(kind)}, which isn't followed"
-            if len(sides) > 1:
-                raise Refusal(self.path(name), f"{what}: save {sides[0]}, or if it was in sync {' or '.join(sides[1:])}")
-            raise Refusal(self.path(name), f"{what}: {NEXT}")
+            raise Refusal(self.path(name), f"{what}: save {sides[0]}, or if it was in sync {' or '.join(sides[1:])}"
+                          if len(sides) > 1 else f"{what}: {NEXT}")
         size = length * SECTOR
         device = Deferred(self.path(name), size, functools.partial(maker, self, self.path(name), segment, size))
         return tables.Line(first, length, "linear", [self.tables.disk(device), "0"])
@@ -213,7 +207,7 @@ class Layout:
         found = [name]
         # It grows meanwhile.
         for upper in found:
-            lower = set(lower_in(self.group.volumes[upper]))
+            lower = lower_in(self.group.volumes[upper])
             for record in self.group.records:
                 if upper in (record.store, record.is_merging and record.origin):
                     lower |= {record.origin, record.store}
@@ -226,7 +220,7 @@ class Layout:
         volumes = [self.group.volumes[lower] for lower in (name, *self.below(name))]
         for segment in (segment for volume in volumes for segment in volume.segments):
             length = (segment.count or 0) // (len(segment.stripes) or 1) * sectors
-            for area, start in segment.stripes or areas_of(segment):
+            for area, start in segment.stripes or segment.node.pairs(b"mirrors"):
                 if isinstance(area, bytes) and area in self.group.physicals and isinstance(start, int):
                     first = (self.group.physicals[area].value(b"pe_start", int) or 0) + start * sectors
                     found.add((self.physical_ids[area], first, first + length))
@@ -238,38 +232,26 @@ class Deferred(Device):
 
     def __init__(self, name: str, size: int, make: Callable[[], Device]) -> None:
         super().__init__(name, size)
-        self._make = make
-
-    @functools.cached_property
-    def _made(self) -> Device:
-        """The device, once it is asked for, or one that says why there is none."""
-        try:
-            return self._make()
-        except NoProgram:
-            raise
-        except Refusal as refusal:
-            return Missing(refusal.why)
+        self._made = functools.lru_cache(None)(lambda: tried(make, Missing))
 
     def lack(self, start: int, size: int) -> Optional[str]:
-        return self._made.lack(start, size)
+        return self._made().lack(start, size)
 
     def _extents(self, start: int, size: int) -> Iterator[Extent]:
-        return self._made.extents(start, size)
+        return self._made().extents(start, size)
 
 
-def lower_in(volume: VolumeText) -> Iterator[object]:
-    """What a volume lies on, beside numbers. A thin one has from the pool what it shares with its origin."""
-    for segment in volume.segments:
-        for key in LOWER:
-            if (key, segment.kind) != (b"origin", b"thin"):
-                yield from segment.node.values(key)
+def tried(make: Callable[[], Made], otherwise: Callable[[str], Made]) -> Made:
+    """What a function gives; where it refuses that, what another one makes of the reason. NoProgram is raised."""
+    try:
+        return make()
+    except NoProgram:
+        raise
+    except Refusal as refusal:
+        return otherwise(refusal.why)
 
 
-def areas_of(segment: Segment) -> List[Tuple[Value, Value]]:
-    """The legs of a mirror: pairs of a name and an extent."""
-    values = segment.node.values(b"mirrors")
-    return list(zip(values[::2], values[1::2]))
-
-
-def identity_of(node: Node) -> str:
-    return (node.value(b"id", bytes) or b"").decode("ascii", "replace")
+def lower_in(volume: VolumeText) -> Set[object]:
+    """What a volume lies on, and numbers. A thin one has from the pool what it shares with its origin."""
+    return {value for segment in volume.segments for key in LOWER if (key, segment.kind) != (b"origin", b"thin")
+            for value in segment.node.values(key)}

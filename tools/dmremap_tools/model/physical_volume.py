@@ -6,27 +6,28 @@ header of one sector and a ring of texts; the header says where the valid text b
 of the ring. Label, header and text have a sum each, a CRC-32 of zlib's polynomial that begins with another value and
 isn't inverted at the end. A sum is no bound, as whoever wrote the disk can make it."""
 
+import contextlib
 import functools
 import hashlib
 import itertools
+import os
 import re
 import struct
+import tempfile
 import zlib
-from typing import Dict, Iterator, List, NamedTuple, Optional, Set, Tuple
+from typing import Dict, Iterable, Iterator, List, NamedTuple, Optional, Sequence, Set, Tuple
 
-from dmremap_tools.base import quoting, streams
-from dmremap_tools.base.numbers import SECTOR
-from dmremap_tools.base.refusal import Refusal
+from dmremap_tools.base import SECTOR, Refusal, paths, program, quoting, streams
+from dmremap_tools.base.given import put
 from dmremap_tools.model.config_text import Document, Node, shown
-from dmremap_tools.model.device import ALL, Device, Image, Lenient, Part, Run
+from dmremap_tools.model.device import ALL, Device, Image, Lenient, Part, Run, whole_run
 
 LABEL, TYPE, LABEL_SECTORS = b"LABELONE", b"LVM2 001", 4
 MAGIC, VERSION, INITIAL = b" LVM2 x[5A%r0N*>", 1, 0xF597A6CF
 IGNORED, IN_USE = 1, 1
 # No more areas are read, and no longer ones.
 MOST_AREAS, MOST_AREA = 4, 64 << 20
-# Where areas are looked for without a label: so many bytes at the beginning and at the end; and how many bytes are
-# searched for labels at once.
+# So many bytes at the beginning and at the end are searched for areas without a label, and at once for labels.
 SEARCHED = WINDOW = 4 << 20
 FIRST_AREA = 4096
 MISSING, EMPTY, NO_COPY = "the image ends before it does", "it has no text", "lvm2 keeps no text in it"
@@ -56,7 +57,7 @@ class Text(NamedTuple):
     seqno: int
     content: bytes
 
-    @property
+    @functools.lru_cache(1 << 12)
     def time(self) -> int:
         """When it was written, or 0."""
         time = TIME.search(self.content)
@@ -72,8 +73,7 @@ class Text(NamedTuple):
     @functools.lru_cache(MOST_KEPT)
     def body(self) -> bytes:
         """Its bytes without what says when it was written."""
-        after = AFTER.search(self.content)
-        return self.content[:after.start()] if after else self.content
+        return AFTER.split(self.content, 1)[0]
 
     def key(self) -> bytes:
         """By which the same text is known in other places."""
@@ -111,7 +111,7 @@ class Text(NamedTuple):
         """The ids of the physical volumes that were on md arrays when it was written."""
         for node in self.node().sections_in(b"physical_volumes"):
             if (node.value(b"device", bytes) or b"").startswith(ARRAYS):
-                yield (node.value(b"id", bytes) or b"").decode("ascii", "replace")
+                yield node.identity
 
     def summary(self) -> str:
         """It in a line: the group, the number, the time, and the volumes."""
@@ -127,8 +127,9 @@ IDENTITY_FORM = struct.Struct("<6s4s4s4s4s4s6s")
 # volume belongs to a group; labels of old versions don't say that, so that it is None.
 Label = NamedTuple("Label", [
     ("sector", int), ("identity", bytes), ("size", int), ("areas", List[Run]), ("is_used", Optional[bool])])
-# An area with its text, or with what is wrong with it, and what its header says of a text: how many bytes it has, and
-# their sum.
+# Where a header is, where it says that its area begins, how many bytes that has, and what else is wrong with it.
+AreaHeader = Tuple[int, int, int, Optional[str]]
+# An area with its text or its fault, and what its header says of a text: how many bytes it has, and their sum.
 MetadataArea = NamedTuple("MetadataArea", [
     ("start", int), ("text", Optional[Text]), ("fault", Optional[str]), ("told", bytes)])
 
@@ -150,13 +151,11 @@ def _beginnings(content: bytes) -> Iterator[Text]:
 
 def texts_of_ring(start: int, ring: bytes, is_ring: bool = True) -> List[Text]:
     """The texts in the bytes from `start` on, of which the last may go on at the beginning of a ring."""
-    found, texts = list(_beginnings(ring)), []
-    for text, end in zip(found, [it.at for it in found[1:]] + [len(ring)]):
-        content = ring[text.at:end]
-        if is_ring and end == len(ring):
-            content += ring[:found[0].at]
-        texts.append(text._replace(at=start + text.at, content=content.split(b"\0", 1)[0]))
-    return texts
+    found = list(_beginnings(ring))
+    ends = [*(text.at for text in found[1:]), len(ring)]
+    head = ring[:found[0].at] if found and is_ring else b""
+    contents = (ring[text.at:end] + (head if end == len(ring) else b"") for text, end in zip(found, ends))
+    return [text._replace(at=start + text.at, content=it.split(b"\0", 1)[0]) for text, it in zip(found, contents)]
 
 
 def checksum(content: bytes) -> int:
@@ -179,14 +178,11 @@ def label_of(image: Lenient) -> Tuple[Optional[Label], List[str]]:
 
 def label_fault(sector: bytes, place: int) -> Optional[str]:
     """What is wrong with a sector that begins as a label, or None; `place` is its number."""
-    if len(sector) < SECTOR:
-        return "is cut off"
-    belongs, stored, offset, kind = struct.unpack_from("<QLL8s", sector, 8)
-    if checksum(sector[20:]) != stored:
-        return "has a wrong sum"
-    if belongs != place:
-        return f"says that it belongs in sector {belongs}"
-    return None if kind == TYPE and 32 <= offset <= SECTOR - 40 else "is of another kind"
+    belongs, stored, offset, kind = struct.unpack_from("<QLL8s", sector.ljust(SECTOR, b"\0"), 8)
+    faults = ((len(sector) < SECTOR, "is cut off"), (checksum(sector[20:]) != stored, "has a wrong sum"),
+              (belongs != place, f"says that it belongs in sector {belongs}"),
+              (kind != TYPE or not 32 <= offset <= SECTOR - 40, "is of another kind"))
+    return next((why for is_so, why in faults if is_so), None)
 
 
 def _label_in(sector: bytes, place: int) -> Label:
@@ -203,8 +199,7 @@ def _label_in(sector: bytes, place: int) -> Label:
 
 
 def area_at(image: Lenient, start: int, size: int, end: int) -> MetadataArea:
-    """The area at this place, of at most so many bytes, with its valid text, or with what is wrong with it. The volume
-    ends at `end`."""
+    """The area at this place in a volume that ends at `end`, of at most so many bytes, with its text or its fault."""
     header = image.read(start, SECTOR)
     fault = MISSING if len(header) < SECTOR else header_fault(header, start)
     ring, offset, length, stored, flags = struct.unpack_from("<QQQLL", header.ljust(SECTOR, b"\0"), 32)
@@ -222,26 +217,21 @@ def area_at(image: Lenient, start: int, size: int, end: int) -> MetadataArea:
         return MetadataArea(start, None, fault, told)
     before_end = min(length, ring - offset)
     text = image.read(start + offset, before_end) + image.read(start + SECTOR, length - before_end)
-    if len(text) < length or checksum(text) != stored:
-        return MetadataArea(start, None, MISSING if len(text) < length else "the sum of its text is wrong", told)
-    return MetadataArea(start, text_of(text.rstrip(b"\0")), None, told)
+    fault = MISSING if len(text) < length else None if checksum(text) == stored else "the sum of its text is wrong"
+    return MetadataArea(start, None if fault else text_of(text.rstrip(b"\0")), fault, told)
 
 
 def header_fault(header: bytes, start: int) -> Optional[str]:
     """What is wrong with the header of an area that begins at this byte, or None."""
     stored, magic, version, belongs = struct.unpack_from("<L16sLQ", header)
-    if magic != MAGIC:
-        return "it has no header"
-    if checksum(header[4:]) != stored:
-        return "the sum of its header is wrong"
-    if version != VERSION:
-        return f"its header has the version {version}"
-    return None if belongs == start else f"its header says that it begins at byte {belongs}"
+    faults = ((magic != MAGIC, "it has no header"), (checksum(header[4:]) != stored, "the sum of its header is wrong"),
+              (version != VERSION, f"its header has the version {version}"),
+              (belongs != start, f"its header says that it begins at byte {belongs}"))
+    return next((why for is_so, why in faults if is_so), None)
 
 
-def area_headers_in(image: Lenient) -> List[Tuple[int, int, int, Optional[str]]]:
-    """What looks like the header of an area and is there to its end, in the first and the last bytes: where it is,
-    where it says that its area begins, how many bytes that has, and what else is wrong with the header."""
+def area_headers_in(image: Lenient) -> List[AreaHeader]:
+    """What looks like the header of an area and is there to its end, in the first and the last bytes."""
     headers = set()
     for begin in sorted({0, max(0, image.size - SEARCHED) // SECTOR * SECTOR}):
         window = image.read(begin, SEARCHED + SECTOR)
@@ -253,22 +243,23 @@ def area_headers_in(image: Lenient) -> List[Tuple[int, int, int, Optional[str]]]
     return sorted(headers)
 
 
+def sound_areas(headers: Sequence[AreaHeader]) -> List[Run]:
+    """The places of the areas that begin with these headers, as far as nothing is wrong with them."""
+    return [(at, size) for at, belongs, size, fault in headers if at == belongs and not fault]
+
+
 def older_texts(image: Lenient) -> List[Text]:
-    """The texts in all areas, by the label, or else by their headers: those in force, older ones, and what is left of
-    some."""
-    label, texts = label_of(image)[0], []
-    found = [] if label else area_headers_in(image)
-    places = label.areas if label else [(at, size) for at, belongs, size, fault in found if at == belongs and not fault]
-    for start, size in [it for it in places if SECTOR < it[1] <= MOST_AREA][:MOST_AREAS]:
-        texts += texts_of_ring(start + SECTOR, image.read(start + SECTOR, size - SECTOR))
-    return texts
+    """The texts in all areas, by the label or their headers: those in force, older ones, and what is left of some."""
+    label = label_of(image)[0]
+    places = label.areas if label else sound_areas(area_headers_in(image))
+    return [text for start, size in [it for it in places if SECTOR < it[1] <= MOST_AREA][:MOST_AREAS]
+            for text in texts_of_ring(start + SECTOR, image.read(start + SECTOR, size - SECTOR))]
 
 
 class PhysicalVolume:
     """A device with a label. `faults` says what is wrong with its metadata areas, `doubt` why it isn't believed to be
-    this physical volume at all, and `question` why nobody can be sure of its bytes. `unread` has what these areas say
-    of texts that can't be read, and `told` the same of current texts, by their keys: how many bytes they have, and
-    their sum."""
+    this physical volume at all, and `question` why nobody can be sure of its bytes. `unread` has how many bytes the
+    texts have that can't be read, and their sums, as areas say, and `told` the same of current ones, by their keys."""
 
     def __init__(self, device: Device, label: Label, start: int) -> None:
         self.device, self.place, self.label, self.start = device, device.name, label, start
@@ -310,57 +301,47 @@ class PhysicalVolume:
         """All whole texts in its rings, the current ones among them."""
         return [text for text in self.texts if text.said_time()]
 
-
-class Leftover(NamedTuple):
-    """What is left of a physical volume whose label isn't sound: why it isn't, the areas whose headers are, and texts."""
-
-    device: Device
-    fault: str
-    areas: List[Run]
-    texts: List[Text]
+    def texts_with(self, other: Text) -> List[Text]:
+        """Its texts of the group of another text."""
+        return [text for text in self.texts if text.identity == other.identity]
 
     def note(self) -> str:
-        """What is said of it, with what to do."""
-        last = max((text for text in self.texts if text.said_time()), key=lambda text: text.seqno, default=None)
-        return f"{self.fault}: `metadata` prints a text of {last.group} (seqno {last.seqno})" if last else self.fault
-
-    def unlabelled(self, size: int = ALL) -> PhysicalVolume:
-        """A physical volume of at most so many bytes with these areas and texts, of which nothing says what it is; its
-        first fault is that."""
-        found = PhysicalVolume(self.device, Label(-1, b"", size, self.areas, True), 0)
-        found.texts, found.faults = self.texts, [self.fault, *found.faults]
-        return found
-
-    def volume(self) -> Optional[PhysicalVolume]:
-        """The physical volume that it is, if its current text has one disk, or one with the id that is left in the label,
-        which is as long as this, and nobody wrote anything else where the label was."""
-        found, image = self.unlabelled(self.device.size), Lenient(self.device)
-        if len({text.key() for text in found.current}) != 1:
-            return None
-        nodes = {node.value(b"id", bytes): node for node in found.current[0].node().sections_in(b"physical_volumes")}
-        sectors = [image.read(place * SECTOR, SECTOR) for place in range(LABEL_SECTORS)]
-        told = {b"-".join(IDENTITY_FORM.unpack_from(sector, 32)) for sector in sectors if len(sector) == SECTOR}
-        mine = set(nodes) if len(nodes) == 1 else set(nodes) & told
-        node = nodes[mine.pop()] if len(mine) == 1 else None
-        size, start = (node.value(key, int) or 0 if node else 0 for key in (b"dev_size", b"pe_start"))
-        before = image.read(0, min(start * SECTOR, SEARCHED, *(begin for begin, _ in self.areas)))
-        if not node or size * SECTOR != self.device.size or any(before) and not label_of(image)[1]:
-            return None
-        found.identity, found.faults = (node.value(b"id", bytes) or b"").decode("ascii", "replace"), found.faults[1:]
-        return found
+        """What is said of one of which only something is left, with what to do."""
+        last = max(self.older, key=lambda text: text.seqno, default=None)
+        there = f": `metadata` prints a text of {last.group} (seqno {last.seqno})" if last else ""
+        return self.faults[0] + there
 
 
-def leftover_in(device: Device, is_disk: bool) -> Optional[Leftover]:
-    """What is left of a physical volume in a device without a sound label, or None. Of one that is no whole disk only a
-    damaged label tells, or an area that begins where lvm2 has the first."""
+def leftover_in(device: Device, is_disk: bool) -> Optional[PhysicalVolume]:
+    """What is left of a physical volume in a device without a sound label, as its first fault says, or None. Of what is
+    no whole disk only a damaged label tells, or an area that begins where lvm2 has the first."""
     image, first = Lenient(device), Lenient(Part(device.name, device, 0, FIRST_AREA + SECTOR))
     faults = label_of(image)[1]
     found = area_headers_in(image) if is_disk or faults or area_headers_in(first) else []
     if not faults and not any(at == belongs for at, belongs, _, _ in found):
         return None
-    areas = [(at, size) for at, belongs, size, fault in found if at == belongs and not fault]
-    texts = older_texts(image) or texts_of_ring(0, image.read(0, SEARCHED), False)
-    return Leftover(device, faults[0] if faults else "there is no label in the first four sectors", areas[:MOST_AREAS], texts)
+    left = PhysicalVolume(device, Label(-1, b"", ALL, sound_areas(found)[:MOST_AREAS], True), 0)
+    left.texts = older_texts(image) or texts_of_ring(0, image.read(0, SEARCHED), False)
+    left.faults.insert(0, faults[0] if faults else "there is no label in the first four sectors")
+    return left
+
+
+def restored(left: PhysicalVolume) -> Optional[PhysicalVolume]:
+    """The physical volume of which something is left, if its current text has one disk, or one with the id that is left
+    in the label, which is as long as this, and nobody wrote anything else where the label was."""
+    found, image = PhysicalVolume(left.device, left.label._replace(size=left.device.size), 0), Lenient(left.device)
+    if len({text.key() for text in found.current}) != 1:
+        return None
+    nodes = {node.value(b"id", bytes): node for node in found.current[0].node().sections_in(b"physical_volumes")}
+    sectors = [image.read(place * SECTOR, SECTOR) for place in range(LABEL_SECTORS)]
+    told = {b"-".join(IDENTITY_FORM.unpack_from(sector, 32)) for sector in sectors if len(sector) == SECTOR}
+    mine = [node for identity, node in nodes.items() if len(nodes) == 1 or identity in told]
+    size, start = (mine[0].value(key, int) or 0 if mine else 0 for key in (b"dev_size", b"pe_start"))
+    before = image.read(0, min(start * SECTOR, SEARCHED, *(begin for begin, _ in left.label.areas)))
+    if len(mine) != 1 or size * SECTOR != image.size or any(before) and not label_of(image)[1]:
+        return None
+    found.texts, found.identity = left.texts, mine[0].identity
+    return found
 
 
 def volume_in(device: Device, start: int = 0) -> Optional[PhysicalVolume]:
@@ -369,15 +350,9 @@ def volume_in(device: Device, start: int = 0) -> Optional[PhysicalVolume]:
     return PhysicalVolume(device, label, start) if label else None
 
 
-def volumes_within(image: Image) -> List[PhysicalVolume]:
-    """The physical volumes anywhere in an image."""
-    parts = [Part(f"{image.name}?offset={start}", image, start, image.size - start)
-             for start in dict.fromkeys(volumes_begin(Lenient(image)))]
-    return list(filter(None, (volume_in(part, part.start) for part in parts)))
-
-
-def volumes_begin(image: Lenient) -> Iterator[int]:
-    """The bytes at which physical volumes begin, by all sound labels in an image, each of which says its sector."""
+def volumes_within(device: Image) -> List[PhysicalVolume]:
+    """The physical volumes anywhere in an image, by all sound labels there, each of which says its sector."""
+    image, begins = Lenient(device), []
     at = image.next_data(0)
     while at < image.size:
         at = at // SECTOR * SECTOR
@@ -388,6 +363,37 @@ def volumes_begin(image: Lenient) -> Iterator[int]:
             belongs = int.from_bytes(sector[8:16], "little")
             begin = at + place - belongs * SECTOR
             is_placed = place % SECTOR == 0 and belongs < LABEL_SECTORS and begin >= 0
-            if is_placed and not label_fault(sector, belongs):
-                yield begin
+            begins += [begin] if is_placed and not label_fault(sector, belongs) else []
         at = image.next_data(at + WINDOW)
+    parts = [Part(f"{device.name}?offset={it}", device, it, device.size - it) for it in dict.fromkeys(begins)]
+    return list(filter(None, (volume_in(part, part.start) for part in parts)))
+
+
+def text_by_heads(given: Optional[str], devices: Iterable[Device]) -> Optional[bytes]:
+    """The text that dmremap, at a path that may be given, reads in physical volumes that are images as they are: that
+    is proved. None where it takes them not, or isn't there."""
+    with contextlib.suppress(Refusal):
+        heads = read_by_heads(program.dmremap(given), "metadata", devices)
+        return heads[1].encode("utf-8", "surrogateescape") if heads and heads[1] else None
+    return None
+
+
+def read_by_heads(asked: str, command: str, devices: Iterable[Device]) -> Optional[Tuple[List[str], str]]:
+    """The lines of PATHS of physical volumes, and what a command prints of them; None where dmremap takes them not."""
+    runs = [whole_run(device) for device in devices]
+    lines = [paths.line(f"disk{number}", path_of(run[0]), run[1]) for number, run in enumerate(runs) if run]
+    if not lines or len(lines) < len(runs):
+        return None
+    with tempfile.NamedTemporaryFile(prefix="dmremap-tools-") as listed:
+        put(listed.name, lines)
+        printed, _, status = program.ask([asked, command, "images", listed.name])
+    return (lines, printed) if status == 0 else None
+
+
+def path_of(image: Image) -> str:
+    """The path of an image for PATHS, from anywhere."""
+    path = os.path.abspath(image.path)
+    if any("\udc80" <= letter <= "\udcff" for letter in path):
+        raise Refusal(quoting.shown(path), "it is no UTF-8, as PATHS has to be: give the image another name, or a link "
+                      "to it")
+    return path

@@ -1,22 +1,18 @@
 """A pile of images: what is found in them where labels and superblocks lie, or else anywhere, and what names mean."""
 
-from typing import Dict, List, NamedTuple, Optional, Sequence, Tuple
+import contextlib
+from typing import Any, Dict, List, NamedTuple, Optional, Sequence, Tuple
 
-from dmremap_tools.base import quoting
-from dmremap_tools.base.numbers import SECTOR
-from dmremap_tools.base.program import NoProgram
-from dmremap_tools.base.refusal import Refusal
+from dmremap_tools.base import SECTOR, Refusal, quoting
 from dmremap_tools.formats import disk_image, signatures
-from dmremap_tools.formats.disk_image import file_system_of
 from dmremap_tools.formats.luks_header import SECOND_ALONE, Container, container_in
 from dmremap_tools.formats.partition_table import Table, backup_of, table_of
-from dmremap_tools.formats.signatures import Signature
 from dmremap_tools.model import mapping, md_superblock, physical_volume
 from dmremap_tools.model.device import Device, Doubt, Image, Lenient, Part, Run
 from dmremap_tools.model.groups import REMOVED, Group, Texts, Volume, same_id
 from dmremap_tools.model.md_array import Array, put_together
 from dmremap_tools.model.md_superblock import AT_END, MIRRORED, OLD, Member, Superblock
-from dmremap_tools.model.physical_volume import Leftover, PhysicalVolume
+from dmremap_tools.model.physical_volume import PhysicalVolume
 
 # What blkid calls otherwise than is done here.
 SAME = {"crypto_LUKS": "luks", "LVM2_member": "lvm2", "BitLocker": "bitlocker", "zfs_member": "zfs"}
@@ -24,8 +20,8 @@ SAME = {"crypto_LUKS": "luks", "LVM2_member": "lvm2", "BitLocker": "bitlocker", 
 # Before this byte a physical volume has no data.
 SLACK, MOST_STRIPES, FIRST_DATA = 40, 32, 1 << 13
 NOTHING, SCAN, BIG_SECTOR = "nothing is found in it", "`scan` lists what is there", 4096
-# The most disks, partitions and arrays that are looked at, the most levels of arrays that are members of others, and the
-# number up to which partitions are asked for.
+# The most disks, partitions and arrays that are looked at, levels of arrays that are members of others, and partitions
+# that blkid is asked for.
 MOST_SPOTS, MOST_LEVELS, MOST_ASKED = 1 << 13, 8, 1 << 8
 MANY = f"no more than {MOST_SPOTS} disks, partitions and arrays are looked at: give fewer images"
 NESTED = (f"its members lie on arrays in {MOST_LEVELS} levels, and no more are followed: assemble it with mdadm "
@@ -35,21 +31,22 @@ DAMAGED = ("its md superblock at byte {} is damaged: give the other members alon
            "make the array anew on copies (mdadm --create --assume-clean)")
 MAY_BE_NEWER = ("it lacks members, and {} may be one with newer data, as its md superblock is damaged: leave that out "
                 "to take what is here")
-FOREIGN = ("a signature of {} at byte {} says that something has these bytes that isn't followed: put that together and "
-           "give its device, or, if the signature is only left over, take it out of a copy by wipefs")
-TWO_OWNERS = ("{} has sound md superblocks of several arrays, which nothing tells apart: take the one that is older out of "
-              "a copy (mdadm --zero-superblock --metadata)")
-TABLE_TOO = ("there are both an md superblock and a partition table ({}): name {} to take the partition, or {} to take the "
-             "array")
-TABLE_OVER_LABEL = ("the disk has a partition table ({}) as well, which was made later, so that others may have written "
-                    "there: to take it as it was, take the table out of a copy (dd if=/dev/zero of=COPY count=1 "
-                    "conv=notrunc)")
-OLDER_ARRAY = ("a member of {}, whose member {} has a partition table since: leave that out to take the array without it")
-OTHER_TABLE = ("a partition table ({}) that isn't followed begins it: attach a copy by losetup -P, and give its partitions, or "
-               "cut them out by dd")
+FOREIGN = ("a signature of {} at byte {} says that something has these bytes that isn't followed: put that together "
+           "and give its device, or, if the signature is only left over, take it out of a copy by wipefs")
+TWO_OWNERS = ("{} has sound md superblocks of several arrays, which nothing tells apart: take the one that is older "
+              "out of a copy (mdadm --zero-superblock --metadata)")
+TABLE_TOO = ("there are both an md superblock and a partition table ({}): name {} to take the partition, or {} to take "
+             "the array")
+TABLE_OVER_LABEL = ("the disk has a partition table ({}) as well, which was made later, so that others may have "
+                    "written there: to take it as it was, take the table out of a copy (dd if=/dev/zero of=COPY "
+                    "count=1 conv=notrunc)")
+OLDER_ARRAY = "a member of {}, whose member {} has a partition table since: leave that out to take the array without it"
+OTHER_TABLE = ("a partition table ({}) that isn't followed begins it: attach a copy by losetup -P, and give its "
+               "partitions, or cut them out by dd")
 AS_ANOTHER = "partition {} begins at the same byte and has it all, so that it is told there"
-STRIPES = ("the physical volume in it says that it has {} bytes, where this is a disk of {}, which seems to be one of the "
-           "stripes of a controller: give an image of the controller's volume, or of the whole disk if it was cut off")
+STRIPES = ("the physical volume in it says that it has {} bytes, where this is a disk of {}, which seems to be one of "
+           "the stripes of a controller: give an image of the controller's volume, or of the whole disk if it was cut "
+           "off")
 ONE_MEMBER = ("{} has {} bytes, and the physical volume in it {}: it seems to be one member of an array whose md "
               "superblock is lost, or is cut off: give the whole disk, or all members with their superblocks")
 
@@ -71,6 +68,11 @@ class Spot(NamedTuple):
         """The same, with the partition."""
         return self.path + (f":{self.partition}" if self.partition else "")
 
+    @property
+    def names(self) -> List[str]:
+        """What it may be called."""
+        return [self.place, *([self.place.rpartition("/")[2], f"./{self.place}"] if self.image else [])]
+
 
 # What is meant by a name: what it is called, its bytes, and the ids of what it lies on, if that has some.
 NamedDevice = NamedTuple("NamedDevice", [("name", str), ("device", Device), ("size", int), ("ids", List[str])])
@@ -89,7 +91,7 @@ class Pile:
         self.arrays: List[Array] = []
         self.containers: List[Tuple[Spot, Container]] = []
         self.volumes: List[PhysicalVolume] = []
-        self.leftovers: List[Leftover] = []
+        self.leftovers: List[PhysicalVolume] = []
         self.groups: List[Group] = []
         # All members, also those of which no array is put together; and what seems to be one by a damaged superblock.
         self.members: List[Member] = []
@@ -129,11 +131,9 @@ class Pile:
         waiting, self._unknown, known = self._unknown, [], len(self.volumes)
         for spot in waiting:
             for volume in physical_volume.volumes_within(spot.image) if spot.image else ():
-                inner = self.spot_of[volume.device] = Spot(volume.device, spot.image)
-                volume.question = self._question_of(spot)
-                self.volumes.append(volume)
                 self.found = [found for found in self.found if found.spot is not spot]
-                self._say(inner, "physical volume", f"found at byte {volume.start} by looking through the whole image")
+                self._take(Spot(volume.device, spot.image), volume, self._question_of(spot),
+                           f"found at byte {volume.start} by looking through the whole image")
         if len(self.volumes) > known:
             self._group()
 
@@ -211,9 +211,7 @@ class Pile:
                 table = None
         if not owners and table and volumes_of(table)[1]:
             damaged = []
-        foreign = [each for each in self._foreign(spot) if not covers(device, owners, table, each.at)]
-        if foreign:
-            each = foreign[0]
+        for each in [each for each in self._foreign(spot) if not covers(device, owners, table, each.at)][:1]:
             self._questions[device] = Doubt(FOREIGN.format(each.kind, each.at))
         if not owners and not damaged:
             self._look_into(spot, table)
@@ -227,18 +225,17 @@ class Pile:
                 self._questions[device] = Doubt(TWO_OWNERS.format(device.name))
         if damaged and not owners:
             self.damaged.append(spot)
-            if any(identity for _, identity in damaged):
-                self._damaged.append((spot, damaged[-1][1]))
+            self._damaged += [(spot, damaged[-1][1])] if any(identity for _, identity in damaged) else []
             self._say(spot, "md member", DAMAGED.format(damaged[-1][0]))
 
-    def _foreign(self, spot: Spot) -> List[Signature]:
+    def _foreign(self, spot: Spot) -> List[signatures.Signature]:
         """Who else says that a device is theirs."""
         found = signatures.signatures_in(Lenient(spot.device))
         if spot.device is spot.image:
             found += signatures.asked_of(spot.image.path)
         kind = self._told_by_blkid(spot).get("TYPE", "") if spot.partition else ""
         if signatures.is_foreign(kind) and all(kind != each.kind for each in found):
-            found.append(Signature(kind, 0))
+            found.append(signatures.Signature(kind, 0))
         return sorted(set(found), key=lambda each: each.at)
 
     def _told_by_blkid(self, spot: Spot) -> Dict[str, str]:
@@ -282,32 +279,33 @@ class Pile:
     def _recognise(self, spot: Spot, known: Optional[str], question: Optional[str] = None) -> None:
         """Says what a device is that has no partitions and is no member."""
         container, volume = container_in(Lenient(spot.device)), physical_volume.volume_in(spot.device)
+        question = question or self._question_of(spot)
         if container and (container.fault != SECOND_ALONE or not volume and not known):
-            container = container._replace(fault=container.fault or question or self._question_of(spot))
+            container = container._replace(fault=container.fault or question)
             self.containers.append((spot, container))
             self._say(spot, f"LUKS{container.version}", container.fault or "")
         elif volume:
-            volume.question = question or self._question_of(spot)
-            self.volumes.append(volume)
-            self._say(spot, "physical volume", "; ".join(volume.faults + ([volume.question] if volume.question else [])))
+            self._take(spot, volume, question, "; ".join([*volume.faults, *filter(None, [question])]))
         else:
-            self._recognise_leftover(spot, known, question or self._question_of(spot))
+            self._recognise_leftover(spot, None if known == "lvm2" else known, question)
+
+    def _take(self, spot: Spot, volume: PhysicalVolume, question: Optional[str], note: str) -> None:
+        """Takes what was found for a physical volume, perhaps one in question."""
+        self.spot_of[volume.device], volume.question = spot, question
+        self.volumes.append(volume)
+        self._say(spot, "physical volume", note)
 
     def _recognise_leftover(self, spot: Spot, known: Optional[str], question: Optional[str]) -> None:
-        """Says what a device is without a sound label: what is left of a physical volume, or something else, which blkid
-        names where it can be asked."""
-        known = None if known == "lvm2" else known
+        """Says what a device is without a sound label: what is left of a physical volume, or what blkid says."""
         leftover = None if known else physical_volume.leftover_in(spot.device, spot.device is spot.image)
-        volume = leftover.volume() if leftover else None
+        volume = physical_volume.restored(leftover) if leftover else None
         if leftover and volume:
-            volume.question = question
-            self.volumes.append(volume)
-            self._say(spot, "physical volume", question or leftover.fault)
+            self._take(spot, volume, question, question or leftover.faults[0])
             return
         self.leftovers += [leftover] if leftover else []
         told = self._told_by_blkid(spot)
-        kind, table = told.get("TYPE"), told.get("PTTYPE")
-        other = disk_image.other_table_of(Lenient(spot.device)) or (table if table not in (None, "dos", "gpt") else None)
+        kind, table = told.get("TYPE"), told.get("PTTYPE", "dos")
+        other = disk_image.other_table_of(Lenient(spot.device)) or (None if table in ("dos", "gpt") else table)
         if kind and (known or spot.partition):
             known = SAME.get(kind, kind)
         note = leftover.note() if leftover else OTHER_TABLE.format(other) if other else NOTHING if not known else ""
@@ -339,37 +337,28 @@ class Pile:
                     self._questions.update({array.device: question} if question else {})
                     try:
                         self._look_at(Spot(array.device, None))
-                    except NoProgram as refusal:
+                    except mapping.NoProgram as refusal:
                         array.give_up(refusal.why)
         self.arrays = list(made.values())
-        for identity, spot in self._left.items():
-            if identity in made and self._is_bare(made[identity]):
-                self._let_go(made[identity], spot)
+        for array, spot in ((made[identity], spot) for identity, spot in self._left.items() if identity in made):
+            # One of which a member was taken for something else, and in which nothing is found, is told no more.
+            if not array.device or (array.device, "unknown") in ((it.spot.device, it.what) for it in self.found):
+                self.arrays.remove(array)
+                self._forget(array.device)
+                note = OLDER_ARRAY.format(array.label, spot.device.name)
+                self.found += [Found(self.spot_of[member.device], "md member", note) for member in array.members]
 
     def _forget(self, device: Optional[Device]) -> None:
         """Takes back what was found on the device of an array."""
         def is_elsewhere(other: Device) -> bool:
             return other is not device and (not isinstance(other, Part) or is_elsewhere(other.lower))
-        self.found = [found for found in self.found if is_elsewhere(found.spot.device)]
-        self.volumes = [volume for volume in self.volumes if is_elsewhere(volume.device)]
-        self.leftovers = [each for each in self.leftovers if is_elsewhere(each.device)]
-        self.containers = [each for each in self.containers if is_elsewhere(each[0].device)]
-        self._damaged = [each for each in self._damaged if is_elsewhere(each[0].device)]
+        of_spots: List[List[Any]] = [self.found, self.containers, self._damaged]
+        of_devices: List[List[Any]] = [self.volumes, self.leftovers, self.members, *self._members.values()]
+        for found in of_spots:
+            found[:] = [each for each in found if is_elsewhere(each[0].device)]
+        for found in of_devices:
+            found[:] = [each for each in found if is_elsewhere(each.device)]
         self.spot_of = {other: spot for other, spot in self.spot_of.items() if is_elsewhere(other)}
-        for members in [self.members, *self._members.values()]:
-            members[:] = [member for member in members if is_elsewhere(member.device)]
-
-    def _is_bare(self, array: Array) -> bool:
-        """Whether nothing is found in an array."""
-        return array.device is None or any(found.spot.device is array.device and found.what == "unknown"
-                                           for found in self.found)
-
-    def _let_go(self, array: Array, spot: Spot) -> None:
-        """Tells an array no more in which there is nothing, and of which a member was taken for something else."""
-        self.arrays.remove(array)
-        self._forget(array.device)
-        for member in array.members:
-            self._say(self.spot_of[member.device], "md member", OLDER_ARRAY.format(array.label, spot.device.name))
 
     def target(self, name: str) -> NamedDevice:
         """What a name means. One that means nothing, or several things, is refused, with what to say instead."""
@@ -385,10 +374,9 @@ class Pile:
                 ids = [array.identity for array in self.arrays if array.device is device]
                 return NamedDevice(name, device, device.size, ids)
             raise Refusal(shown, f"both an image and a volume are called so: say ./{shown}, or {path}")
-        try:
+        is_whole = False
+        with contextlib.suppress(Refusal):
             is_whole = self._volume_named(name).why() is None
-        except Refusal:
-            is_whole = False
         if not is_whole:
             self.search()
         volume = self._volume_named(name)
@@ -397,16 +385,11 @@ class Pile:
 
     def device_named(self, name: str) -> Optional[Device]:
         """The image, the partition or the array of this name."""
-        found = []
-        for spot in self.spots():
-            places = [spot.place, spot.place.rpartition("/")[2], f"./{spot.place}"] if spot.image else [spot.place]
-            if name in places:
-                found.append(spot.device)
+        found = [spot.device for spot in self.spots() if name in spot.names]
         for array in (array for array in self.arrays if name in (array.label, f"md:{array.identity}")):
             if array.why:
                 raise Refusal(array.label, array.why)
-            if array.device and array.device not in found:
-                found.append(array.device)
+            found += [array.device] if array.device and array.device not in found else []
         if len(found) > 1:
             raise Refusal(quoting.shown(name), "several are called so: give an image by its path as it is given, or an "
                           "array as md:UUID")
@@ -420,10 +403,9 @@ class Pile:
             raise Refusal(shown, f"no group is called {which}{self.unread_notes()}: {SCAN}")
         found = [(group, volume) for group in groups for volume in [group.volume(volume_name)] if volume]
         found = [each for each in found if each[0].state != REMOVED and not each[1].is_removed] or found
-        if not found and slash:
-            raise Refusal(shown, f"the group {which} has no such volume: {SCAN}")
         if not found:
-            raise Refusal(shown, f"no group has such a volume{self.unread_notes()}: {SCAN}")
+            why = f"the group {which} has no such" if slash else "no group has such a"
+            raise Refusal(shown, f"{why} volume{'' if slash else self.unread_notes()}: {SCAN}")
         if len({group.identity for group, _ in found}) > 1:
             said = [f"{group.identity}/{quoting.shown(volume_name)} (on {', '.join(map(quoting.shown, group.places))})"
                     for group, _ in found]
@@ -452,7 +434,7 @@ class Pile:
 def known_in(device: Device) -> Optional[str]:
     """What begins a device by its magic, or a sound label of LVM; None where nothing does."""
     image = Lenient(device)
-    return "lvm2" if physical_volume.label_of(image)[0] else file_system_of(image)
+    return "lvm2" if physical_volume.label_of(image)[0] else disk_image.file_system_of(image)
 
 
 def volumes_of(table: Table) -> Tuple[List[Part], List[Part]]:
@@ -468,7 +450,7 @@ def place_of(device: Device) -> int:
 
 
 def covers(device: Device, owners: Sequence[Superblock], table: Optional[Table], at: int) -> bool:
-    """Whether a byte lies in the midst of what is found to have it: the data of a member, of a partition or of a physical
+    """Whether a byte lies in the midst of what is found to have it: the data of a member, a partition or a physical
     volume, or a disk of which a GPT says how long it is."""
     runs = [(each.start * SECTOR, (each.start + each.length) * SECTOR) for each in owners]
     if table:
@@ -494,8 +476,8 @@ def table_in(device: Device, known: Optional[str]) -> Optional[Table]:
         number: Part(f"{device.name}:{number}", device, start, size) for number, start, size in table.partitions})
         for table in found if table]
     for table in tables:
-        devices = {each.start: each for each in table.partitions.values()}.values()
-        if table.kind != "MBR" or any(
-                known_in(each) or disk_image.other_table_of(Lenient(each)) or md_superblock.found_in(each)[0] for each in devices):
+        parts = {each.start: each for each in table.partitions.values()}.values()
+        if table.kind != "MBR" or any(known_in(each) or disk_image.other_table_of(Lenient(each))
+                                      or md_superblock.found_in(each)[0] for each in parts):
             return table
     return tables[0] if tables and known in (None, "lvm2") else None

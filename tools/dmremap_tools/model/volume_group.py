@@ -1,11 +1,11 @@
 """The volumes of a group as its metadata says them, and why dmremap can't follow some of them."""
 
 import collections
-from typing import Dict, List, NamedTuple, Optional, Tuple
+from typing import Dict, List, NamedTuple, Optional
 
 from dmremap_tools.base import names
 from dmremap_tools.formats import store_places
-from dmremap_tools.model.config_text import Node, Value, shown
+from dmremap_tools.model.config_text import Node, shown
 
 # The types of segments that dmremap reads, and what lvm2 calls the first of them as well.
 STRIPED, LINEAR, SNAPSHOT, NO_STORE = b"striped", b"linear", b"snapshot", (b"zero", b"error")
@@ -24,10 +24,8 @@ class Segment:
     """A segment, with what it has of numbers and stripes."""
 
     def __init__(self, node: Node) -> None:
-        self.node, stripes = node, node.values(b"stripes")
-        self.kind: Optional[bytes] = node.value(b"type", bytes)
-        self.count, self.stripe_size = (node.value(it, int) for it in (b"extent_count", b"stripe_size"))
-        self.stripes: List[Tuple[Value, Value]] = list(zip(stripes[::2], stripes[1::2]))
+        self.node, self.stripes, self.kind = node, node.pairs(b"stripes"), node.value(b"type", bytes)
+        self.count, self.stripe_size = node.value(b"extent_count", int), node.value(b"stripe_size", int)
 
     @property
     def length(self) -> Optional[int]:
@@ -59,32 +57,31 @@ class VolumeText:
             return None
         node = self.segments[0].node
         is_merging = node.child(b"merging_store") is not None
-        store = node.value(b"merging_store" if is_merging else b"cow_store", bytes)
-        return Record(self, node.value(b"origin", bytes), store, is_merging, node.value(b"chunk_size", int))
+        names = (b"origin", b"merging_store" if is_merging else b"cow_store")
+        origin, store = (node.value(name, bytes) or b"" for name in names)
+        return Record(self, origin, store, is_merging, node.value(b"chunk_size", int))
 
     def leave(self, why: str) -> None:
         self.why = self.why or why
 
 
 # A snapshot: `store` is the volume that has its name; one that `is_merging` is written back to its origin.
-Record = NamedTuple("Record", [("volume", VolumeText), ("origin", Optional[bytes]), ("store", Optional[bytes]),
-                               ("is_merging", bool), ("chunk", Optional[int])])
+Record = NamedTuple("Record", [("volume", VolumeText), ("origin", bytes), ("store", bytes), ("is_merging", bool),
+                               ("chunk", Optional[int])])
 
 
 class GroupText:
     """A volume group: its physical volumes and its volumes, by their keys."""
 
     def __init__(self, node: Node) -> None:
-        self.node, self.name = node, node.key
-        self.extent_size: Optional[int] = node.value(b"extent_size", int)
+        self.node, self.name, self.extent_size = node, node.key, node.value(b"extent_size", int)
         self.physicals = {it.key: it for it in node.sections_in(b"physical_volumes")}
-        self.volumes: Dict[bytes, VolumeText] = {it.key: VolumeText(it) for it in node.sections_in(b"logical_volumes")}
+        self.volumes = {it.key: VolumeText(it) for it in node.sections_in(b"logical_volumes")}
         self.records = [it for it in (volume.record() for volume in self.volumes.values()) if it]
 
     def leave_others(self, wanted: List[bytes]) -> None:
         """Leaves out all but the volumes of these names, and the origins of those that are snapshots."""
-        records = {it.store: it for it in self.records}
-        asked: List[Optional[bytes]] = [*wanted]
+        records, asked = {it.store: it for it in self.records}, list(wanted)
         for name in asked:
             # The list grows by what it stands on.
             record = records.pop(name, None)
@@ -111,6 +108,7 @@ class GroupText:
                 break
 
     def _own_fault(self, volume: VolumeText) -> Optional[str]:
+        """Why a volume can't stay whatever the others are, or None."""
         if not volume.segments:
             return "it has no segments"
         if not volume.record() and self._is_too_long(volume.name):
@@ -119,7 +117,8 @@ class GroupText:
             key = shown(segment.node.key)
             if segment.kind is not None and segment.kind not in TYPES:
                 return f"its {key} has the type {shown(segment.kind)}"
-            lower = next((it for it, _ in segment.stripes if it not in self.physicals and it in self.volumes), None)
+            names = [it for it, _ in segment.stripes if isinstance(it, bytes) and it not in self.physicals]
+            lower = next((it for it in names if it in self.volumes), None)
             if lower is not None:
                 return f"it lies on the volume {shown(lower)}"
             if segment.kind == STRIPED and not segment.is_even(self.extent_size):
@@ -148,14 +147,14 @@ class GroupText:
             record.volume.leave(f"the record of the snapshot {shown(record.store)}")
             self.volumes[record.store].leave(why)
 
-    def _record_fault(self, record: Record, merging: Dict[Optional[bytes], Optional[bytes]]) -> Optional[str]:
+    def _record_fault(self, record: Record, merging: Dict[bytes, bytes]) -> Optional[str]:
         """Why dmremap can't follow a snapshot, as said of its store; `merging` has what is merged into origins."""
         origin, store, count = self.volumes[record.origin], self.volumes[record.store], record.volume.segments[0].count
-        snapshot, merged = f"it is a snapshot of {shown(origin.name)}", merging.get(origin.name)
+        snapshot, merged = f"it is a snapshot of {shown(origin.name)}", merging.get(origin.name, b"")
         are_too_long = self._is_too_long(origin.name, b"real") or self._is_too_long(store.name, b"cow")
         faults = (
             (store.why, store.why or ""),
-            (merged, f"{snapshot}, into which {shown(merged or b'')} is being merged"),
+            (merged, f"{snapshot}, into which {shown(merged)} is being merged"),
             (origin.why, f"{snapshot}, which is left out"),
             (count not in (None, origin.extents), f"{snapshot}, but not as long, as that was resized since"),
             (any(it.kind in NO_STORE for it in store.segments), f"{snapshot}, but some of its segments keep nothing"),
