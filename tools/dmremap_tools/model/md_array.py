@@ -3,14 +3,12 @@
 import functools
 from typing import Dict, Iterable, Iterator, List, NoReturn, Optional, Sequence, Tuple
 
-from dmremap_tools.base import quoting, tables
-from dmremap_tools.base.numbers import SECTOR
-from dmremap_tools.base.refusal import Refusal
+from dmremap_tools.base import SECTOR, Refusal, quoting, tables
 from dmremap_tools.model import md_chunks, md_superblock
 from dmremap_tools.model.device import (Agreed, Copies, Device, Doubt, Extent, Missing, Part, Run, blocks_of, copied,
                                         cut, joint)
 from dmremap_tools.model.mapping import MappedDevice, Tables
-from dmremap_tools.model.md_superblock import Member, level_name
+from dmremap_tools.model.md_superblock import NAMES, Member
 
 # Sectors of a chunk, and members of an array that is followed.
 MOST_CHUNK, MOST_MEMBERS = 1 << 21, 384
@@ -36,8 +34,8 @@ def put_together(members: Sequence[Member]) -> "Array":
     why, devices = Doubt(apart(sides)), [side.device for side in (first, *others) if side.device]
     first.device, first.apart = Agreed(first.label, devices, why) if len(devices) == len(sides) else None, why
     first.why = None if first.device else why
-    for side in others:
-        first.members, first.stale = [*first.members, *side.members], [*first.stale, *side.members]
+    apart_from = [member for side in others for member in side.members]
+    first.members, first.stale = first.members + apart_from, first.stale + apart_from
     return first
 
 
@@ -67,13 +65,11 @@ class Array(md_chunks.Shape):
     says why nobody can say them; `apart` says that they ran apart from others."""
 
     def __init__(self, members: Sequence[Member]) -> None:
-        self.members, self.tables = list(members), Tables()
-        self.best = self.members[0]
-        superblock, level = self.best.superblock, level_name(self.best.superblock)
-        layout, chunk = superblock.layout, superblock.chunk
+        self.members, self.best, self.tables = list(members), members[0], Tables()
+        superblock, layout, chunk = self.best.superblock, self.best.superblock.layout, self.best.superblock.chunk
+        level = NAMES.get(superblock.level, f"level {superblock.level}")
         copies = md_chunks.CopyLayout(layout & 0xFF, layout >> 8 & 0xFF, bool(layout >> 16 & 1))
-        named = md_chunks.LAYOUTS.get(level, {}).get(layout, "")
-        used = superblock.used // chunk if chunk else 0
+        named, used = md_chunks.LAYOUTS.get(level, {}).get(layout, ""), superblock.used // chunk if chunk else 0
         super().__init__(level, superblock.places, named, chunk, used, *[copies] * (level == "raid10"))
         self.identity = superblock.array.hex()
         self.label = f"md:{superblock.name.rpartition(':')[2] or self.identity}"
@@ -140,7 +136,7 @@ class Array(md_chunks.Shape):
     def _check_supported(self) -> None:
         """Refuses what isn't followed."""
         superblock, copies = self.best.superblock, self.copies.near * self.copies.far
-        if superblock.level not in md_superblock.NAMES:
+        if superblock.level not in NAMES:
             self.refuse(f"an md array of {superblock.level}, which nothing here follows: {START}")
         if superblock.features & md_superblock.RESHAPING:
             self.refuse("it is being reshaped, so its chunks lie in two layouts: assemble copies of its members with "
@@ -165,10 +161,12 @@ class Array(md_chunks.Shape):
         self._data = [self._data_of(role) for role in range(self.count)]
         if self.level == "raid1":
             # The freshest first, as one event less is let pass. Where they aren't in step, the first one's bytes count.
-            order = sorted(self.by_role, key=lambda role: (role != self.source(range(self.count)),
-                                                           -self.by_role[role].superblock.events, role))
+            first = self.source(range(self.count))
+            order = sorted(self.by_role, key=lambda role: (role != first, -self.by_role[role].superblock.events, role))
             order += [role for role in sorted(self._filling) if role not in self.by_role]
-            return Copies(self.label, [self._in_step(role) for role in order], size)
+            copies = [(self._data[role], [] if role == first else self._dirty) for role in order]
+            why = self.unsynced(first)
+            return Copies(self.label, [Part(it.name, it, 0, it.size, holes, why) for it, holes in copies], size)
         # Where all members are there, a table that can say it does.
         length = self.chunks * self.chunk * SECTOR
         is_whole = self.is_tabled and not self.missing and not any(
@@ -186,13 +184,6 @@ class Array(md_chunks.Shape):
         """Of the members with these roles the first that is in the array, from which others are filled."""
         return next((role for role in roles if role in self.best.superblock.roles), None)
 
-    def _in_step(self, role: int) -> Device:
-        """A copy of a mirror, without what isn't known to be in step with the member that others are filled from."""
-        data, first = self._data[role], self.source(range(self.count))
-        if role == first or not self._dirty:
-            return data
-        return Part(data.name, data, 0, data.size, self._dirty, self.unsynced(first))
-
     def unsynced(self, role: Optional[int]) -> str:
         """Why bytes that may not have been copied from a member aren't known."""
         return Doubt(UNSYNCED.format(role, self.label))
@@ -207,8 +198,7 @@ class Array(md_chunks.Shape):
         if not member:
             return Missing(f"{name} is missing: give its image", 1 << 62)
         first, length = member.superblock.start * SECTOR, self.length(member) * SECTOR
-        runs = [((start * SECTOR - first), (start + count) * SECTOR - first)
-                for start, count in md_superblock.bad_blocks(member)]
+        runs = [(start - first, end - first) for start, end in md_superblock.bad_blocks(member)]
         why = f"{name} lacks these bytes, as its log of bad blocks says: give the other members"
         if role not in self.by_role:
             runs.append((member.superblock.filled * SECTOR, length))
@@ -237,12 +227,10 @@ class Array(md_chunks.Shape):
             return
         size = {role: self.whole_chunk_sectors(role) for role in range(self.count)}
         row = start = 0
-        if self.level == "linear":
-            for role in size:
-                yield tables.Line(start, size[role], "linear", self.disk_words(role))
-                start += size[role]
-            return
-        for end in sorted(set(size.values()) - {0}):
+        for role in size if self.level == "linear" else ():
+            yield tables.Line(start, size[role], "linear", self.disk_words(role))
+            start += size[role]
+        for end in sorted(set(size.values()) - {0}) if self.level != "linear" else ():
             longer = [role for role in size if size[role] > row]
             if row and self.layout not in ("original", "alternate") and len(longer) > 1:
                 self.refuse("members of several lengths, and no layout that is said: write it by `mdadm --assemble "

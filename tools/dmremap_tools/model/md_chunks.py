@@ -1,16 +1,14 @@
-"""Where an md array keeps its chunks: the role and the row of each, and the data of rows with parity. A member of these
-that is missing is computed from the others: P is the sum of a row's data, Q the sum of g^d D_d in GF(2^8) with the
-polynomial 0x11d and g = 2."""
+"""Where an md array keeps its chunks: the role and the row of each, and the data of rows with parity. What a missing
+one had is computed from the others: P is the sum of a row's data, Q that of g^d D_d in GF(2^8) by 0x11d, with g = 2."""
 
 import bisect
 import functools
 import itertools
+import operator
 from typing import Dict, Iterator, List, NamedTuple, Optional, Sequence, Tuple
 
-from dmremap_tools.base import quoting
-from dmremap_tools.base.numbers import SECTOR
-from dmremap_tools.model import device
-from dmremap_tools.model.device import ALL, Device, Extent, Gap, Run, blocks_of, lacking
+from dmremap_tools.base import SECTOR, quoting
+from dmremap_tools.model.device import ALL, Copies, Device, Extent, Gap, Missing, Run, blocks_of, lacking
 
 # How many chunks of a row are parity.
 PARITY = {"raid4": 1, "raid5": 1, "raid6": 2}
@@ -30,8 +28,7 @@ Row = NamedTuple("Row", [("data", List[int]), ("parity", int), ("syndrome", Opti
 
 
 class Shape:
-    """How an array of so many members lays out its chunks, whose length is in sectors, and of which it uses so many of
-    each member."""
+    """How an array of so many members lays out its chunks, of so many sectors, and so many of them on each member."""
 
     def __init__(self, level: str, count: int, layout: str, chunk: int, chunks: int = 0,
                  copies: CopyLayout = CopyLayout(1, 1, False)) -> None:
@@ -64,7 +61,7 @@ class Shape:
         return (role + at + turn * near) % self.count, row + turn * (1 if is_offset else self.chunks // far)
 
     def row(self, row: int) -> Row:
-        """Q follows P, but in the last layout of DDF; the powers go up from the device after Q, in DDF from the first on."""
+        """Q follows P, but in DDF's last layout; the powers go up from the device after Q, in DDF from the first on."""
         data = [self.place(row * self.data + column)[0] for column in range(self.data)]
         parity, *rest = (role for role in range(self.count) if role not in data)
         if not rest:
@@ -72,8 +69,7 @@ class Shape:
         is_around, is_swapped = (parity, rest[0]) == (0, self.count - 1), self.layout == "ddf-N-continue"
         if is_around != is_swapped and not self.layout.endswith("-6"):
             parity, rest = rest[0], [parity]
-        after = rest[0] + 1
-        order = [role % self.count for role in range(after, after + self.count) if role % self.count in data]
+        order = sorted(data, key=lambda role: (role - rest[0]) % self.count)
         is_of_ddf = self.layout.startswith("ddf")
         return Row(data, parity, rest[0], {role: role if is_of_ddf else power for power, role in enumerate(order)})
 
@@ -85,18 +81,16 @@ class Shape:
 
 def role_of(level: str, layout: str, count: int, row: int, column: int) -> int:
     """The role of a column of data in a row, beside one of parity, or beside two that follow each other."""
-    parities, turn = PARITY[level], row % count
-    if level == "raid4" or layout == "parity-last":
-        return column
     if layout.endswith("-6"):
         # That of raid5, with the second parity on the last device.
-        return role_of("raid5", layout[:-2], count - 1, row, column)
+        level, layout, count = "raid5", layout[:-2], count - 1
+    parities, turn = PARITY[level], (row + 1 if layout == "ddf-N-restart" else row) % count
+    if level == "raid4" or layout == "parity-last":
+        return column
     if layout == "parity-first":
         return column + parities
     if layout == "ddf-N-continue":
         return (count - turn + column) % count
-    if layout == "ddf-N-restart":
-        turn = (row + 1) % count
     parity = count - 1 - turn if layout.startswith(("left", "ddf-N")) else turn
     if layout.endswith("-symmetric"):
         return (parity + parities + column) % count
@@ -111,11 +105,10 @@ class Rows(Device):
     def __init__(self, name: str, shape: Shape, members: Sequence[Device], size: int, doubtful: Sequence[Run],
                  unknown: Optional[str] = None) -> None:
         super().__init__(name, size)
-        self.shape, self.members, self.doubtful, self._chunk = shape, members, doubtful, shape.chunk * SECTOR
-        self.unknown = unknown
+        self.shape, self.members, self.doubtful, self.unknown = shape, members, doubtful, unknown
         # The data of each member, or what is computed in their place.
-        pairs = ([member, Computed(self, role)] for role, member in enumerate(members))
-        self._columns = [device.Copies(name, pair, ALL) for pair in pairs]
+        self._columns = [Copies(name, [member, Computed(self, role)], ALL) for role, member in enumerate(members)]
+        self._chunk = shape.chunk * SECTOR
 
     @functools.cached_property
     def _edges(self) -> List[int]:
@@ -177,7 +170,7 @@ class Computed(Device):
                 self._gone(*part)
                 yield Extent(self, *part[1:])
             except Gap as gap:
-                yield Extent(device.Missing(gap.why), 0, part[2])
+                yield Extent(Missing(gap.why), 0, part[2])
 
     def load(self, start: int, size: int) -> bytes:
         return b"".join(self._solved(*part) for part in self._rows.parts(start, size))
@@ -201,22 +194,20 @@ class Computed(Device):
         lost = [role for role in gone if role in roles.data]
         if len(lost) == 1 and roles.parity in have:
             return sum_in_field([have[role] for role in have if role != roles.syndrome])
-        data = [(roles.powers[role], have[role]) for role in roles.data if role in have]
-        syndrome = sum_in_field([have[roles.syndrome or 0]] + [multiplied(content, power) for power, content in data])
-        mine = roles.powers[self._role]
+        data, mine = [role for role in roles.data if role in have], roles.powers[self._role]
+        products = (multiplied(have[role], roles.powers[role]) for role in data)
+        syndrome = sum_in_field([have[roles.syndrome or 0], *products])
         if len(lost) == 1:
             return multiplied(syndrome, -mine)
         # g^x D_x + g^y D_y = syndrome and D_x + D_y = both, so D_x = (syndrome + g^y both) / (g^x + g^y).
         other = next(roles.powers[role] for role in lost if role != self._role)
-        both = sum_in_field([have[roles.parity]] + [content for _, content in data])
+        both = sum_in_field([have[roles.parity], *(have[role] for role in data)])
         return multiplied(sum_in_field([syndrome, multiplied(both, other)]), -LOGARITHMS[POWERS[mine] ^ POWERS[other]])
 
 
 def sum_in_field(parts: Sequence[bytes]) -> bytes:
     """The sum of bytes in GF(2^8), place by place."""
-    total = 0
-    for part in parts:
-        total ^= int.from_bytes(part, "little")
+    total = functools.reduce(operator.xor, (int.from_bytes(part, "little") for part in parts))
     return total.to_bytes(len(parts[0]), "little")
 
 

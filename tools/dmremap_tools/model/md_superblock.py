@@ -5,16 +5,14 @@ import itertools
 import struct
 from typing import Iterator, List, NamedTuple, Optional, Sequence, Tuple
 
-from dmremap_tools.base.numbers import SECTOR
-from dmremap_tools.base.refusal import Refusal
+from dmremap_tools.base import SECTOR, Refusal
 from dmremap_tools.formats import partition_table
 from dmremap_tools.model.device import Device, Lenient, Run, joint
 
 MAGIC = 0xA92B4EFC
 LINEAR, STRIPED, MIRRORED = -1, 0, 1
 NAMES = {LINEAR: "linear", STRIPED: "raid0", MIRRORED: "raid1", 4: "raid4", 5: "raid5", 6: "raid6", 10: "raid10"}
-# Versions 1.x: the fields up to the table of roles, which follows them, where their sum is, and for how many roles
-# there is room.
+# Versions 1.x: the fields before the table of roles, where their sum is, and for how many roles there is room.
 FIRST, SUM_AT, MOST_BYTES = struct.Struct("<8xL4x16s32s8xlLQLLl28xQQQQL21xBHl8xQQLL32x"), 216, 4096
 MOST_ROLES = (MOST_BYTES - FIRST.size) // 2
 # Roles from here on are none: a spare, a faulty member, a journal.
@@ -41,8 +39,8 @@ MOST_DEVICES = 4096
 # number of places; the first sector of this member's data, how many it has, and how many the array uses of each; how
 # often the array had changed; the number of the member, its place, if it has one, and the place of each number; the
 # bits of its feature map; the array's name; up to which sector it is in sync; the power of two of sectors in which its
-# log of bad blocks counts, how many sectors that has, and where; where its bitmap is, in sectors from here on; and up to
-# which sector of its data a member that is being filled has been.
+# log of bad blocks counts, how many sectors that has, and where; where its bitmap is, in sectors from here on; and up
+# to which sector of its data a member that is being filled has been.
 Superblock = NamedTuple("Superblock", [
     ("version", str), ("at", int), ("array", bytes), ("level", int), ("layout", int), ("chunk", int), ("places", int),
     ("start", int), ("length", int), ("used", int), ("events", int), ("number", int), ("role", Optional[int]),
@@ -52,26 +50,20 @@ Superblock = NamedTuple("Superblock", [
 Member = NamedTuple("Member", [("device", Device), ("superblock", Superblock)])
 
 
-def level_name(superblock: Superblock) -> str:
-    """The level of an array as mdadm calls it."""
-    return NAMES.get(superblock.level, f"level {superblock.level}")
-
-
 def has_all(superblock: Superblock) -> bool:
     """Whether a member has all data of its array, one byte after the other."""
     return superblock.level == MIRRORED or superblock.places == 1 and superblock.level in (LINEAR, STRIPED)
 
 
 def found_in(device: Device) -> Tuple[List[Superblock], List[Tuple[int, bytes]]]:
-    """The sound superblocks of a device; and where something begins as one and isn't sound, with the id of its array."""
+    """A device's sound superblocks; and where something begins as one and isn't sound, with the id of its array."""
     found = list(_found(Lenient(device), device.size))
     return [each for _, _, each in found if each], [(at, content[16:32]) for at, content, each in found if not each]
 
 
 def outermost(found: Sequence[Superblock], size: int) -> List[Superblock]:
-    """Of the sound superblocks of a device of so many bytes the one that owns it, or those of which nothing tells
-    which one does. One whose data is longer than the device, or ends before a superblock at the end of it, belongs to
-    what is made of the device."""
+    """Of a device's sound superblocks the one that owns its bytes, or those of which nothing tells which one does. One
+    whose data is longer, or ends before a superblock at the end of them, belongs to what is made of the device."""
     fitting = [each for each in found if each.start + each.length <= size // SECTOR] or list(found)
     last = max((each for each in fitting if each.version in AT_END), key=lambda each: each.at, default=None)
     return [each for each in fitting
@@ -79,14 +71,11 @@ def outermost(found: Sequence[Superblock], size: int) -> List[Superblock]:
 
 
 def unsynced(member: Member, resync: int) -> List[Run]:
-    """The runs of bytes of an array whose copies or parity may be older than its data, by the sector up to which the
-    last resync came: what the member's bitmap marks, or all from there on. In raid10 they are the array's bytes, in
-    other levels those of each member's data."""
-    superblock, first, marked = member.superblock, resync * SECTOR, None
-    if resync == CLEAN:
-        return []
-    if superblock.features & BITMAP:
-        marked = marked_in(member.device, superblock.at + superblock.bitmap * SECTOR, superblock)
+    """The runs of bytes, in raid10 the array's and else those of a member's data, whose copies or parity may be older
+    than the data: what the member's bitmap marks, or all from the sector on up to which the last resync came."""
+    superblock, first, has_bitmap = member.superblock, resync * SECTOR, member.superblock.features & BITMAP
+    place = superblock.at + superblock.bitmap * SECTOR
+    marked = marked_in(member.device, place, superblock) if has_bitmap and resync != CLEAN else None
     runs = [(0, CLEAN * SECTOR)] if marked is None else marked
     return [(max(begin, first), end) for begin, end in runs if end > first]
 
@@ -104,14 +93,15 @@ def marked_in(device: Device, at: int, superblock: Optional[Superblock] = None) 
     return joint((bit * chunk, (bit + 1) * chunk) for bit in range(count) if bits[bit // 8] >> bit % 8 & 1)
 
 
-def bad_blocks(member: Member) -> List[Tuple[int, int]]:
-    """The sectors of a member that its log says it lacks: the first of each run, and how many."""
+def bad_blocks(member: Member) -> List[Run]:
+    """The runs of bytes of a member that its log says it lacks."""
     superblock, (shift, size, offset) = member.superblock, member.superblock.bad_log
     if not superblock.features & BAD_BLOCKS:
         return []
     content = member.device.read(superblock.at + offset * SECTOR, size * SECTOR)
     used = itertools.takewhile(lambda entry: entry[0] != CLEAN, struct.iter_unpack("<Q", content))
-    return [((entry >> 10) << shift, (entry & 0x3FF) << shift) for entry, in used]
+    pairs = (((entry >> 10) << shift, (entry & 0x3FF) << shift) for entry, in used)
+    return [(start * SECTOR, (start + count) * SECTOR) for start, count in pairs]
 
 
 def _found(image: Lenient, size: int) -> Iterator[Tuple[int, bytes, Optional[Superblock]]]:
@@ -136,7 +126,7 @@ def _sum(content: bytes, order: str) -> int:
 
 
 def _is_of_partition(image: Lenient, content: bytes, sector: int) -> bool:
-    """Whether a superblock of version 1.0 at the end of a disk is that of a partition, by where it says that it lies."""
+    """Whether a superblock of version 1.0 at the end of a disk is a partition's, by where it says that it lies."""
     begin = (sector - (_summed(content) or sector)) * SECTOR
     try:
         tables = [partition_table.table_of(image, each) for each in partition_table.GPT_SECTORS] if begin > 0 else []
@@ -147,13 +137,10 @@ def _is_of_partition(image: Lenient, content: bytes, sector: int) -> bool:
 
 def _summed(content: bytes) -> Optional[int]:
     """The sector at which a superblock of version 1.x says that it lies, or None where its sum is wrong."""
-    if len(content) < FIRST.size:
-        return None
-    fields = FIRST.unpack_from(content)
-    size = FIRST.size + 2 * fields[-1]
+    *_, stored, most = fields = FIRST.unpack_from(content.ljust(FIRST.size, b"\0"))
+    size = FIRST.size + 2 * most
     summed = content[:SUM_AT] + bytes(4) + content[SUM_AT + 4:size]
-    is_sound = fields[-1] <= MOST_ROLES and len(content) >= size and _sum(summed, "<") == fields[-2]
-    return fields[11] if is_sound else None
+    return fields[11] if most <= MOST_ROLES and len(content) >= size and _sum(summed, "<") == stored else None
 
 
 def _first_version(content: bytes, version: str, sector: int) -> Optional[Superblock]:
