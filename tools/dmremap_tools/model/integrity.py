@@ -1,5 +1,5 @@
-"""The data below legs of LVM's raids that have dm-integrity, with its metadata on a volume of its own: the data's sectors,
-but for those that its journal still holds.
+"""The data below legs of LVM's raids that have dm-integrity, with its metadata on a volume of its own: the data's
+sectors, but for those that its journal still holds.
 
 The journal has sections of 8 sectors of entries, and a block for each entry. The last 8 bytes of each sector are a
 commit id, and those that belong there are in the entry, as is the sum of the block. Sections are replayed as the kernel
@@ -8,8 +8,7 @@ does it: from the oldest on, up to one that wasn't written whole."""
 import struct
 from typing import Any, Iterator, NamedTuple, Optional, Set, Tuple
 
-from dmremap_tools.base.numbers import SECTOR
-from dmremap_tools.base.refusal import Refusal
+from dmremap_tools.base import SECTOR, Refusal
 from dmremap_tools.model.device import Device, Gap, Known, Overlaid, sorted_entries
 from dmremap_tools.model.pools import crc32c
 from dmremap_tools.model.volume_group import Segment
@@ -42,8 +41,8 @@ def integrity_of(layout: Any, name: str, segment: Segment, size: int) -> Device:
     if magic != INTEGRITY_MAGIC or not 1 <= version <= 5 or shift > 3 or not sections:
         raise Refusal(name, "its metadata has no superblock of dm-integrity that is followed: activate it with lvm2")
     if flags & ~KNOWN_FLAGS:
-        raise Refusal(name, "its integrity has a bitmap, a journal with a code or other features that aren't followed: "
-                      "activate it with lvm2")
+        features = "a bitmap, a journal with a code or other features"
+        raise Refusal(name, f"its integrity has {features} that aren't followed: activate it with lvm2")
     sectors, entry = 1 << shift, -(-(8 + (8 << shift) + tag) // 8) * 8
     if entry > ID_AT:
         raise Refusal(name, f"its entries don't fit into a sector: {OTHER_LEG}")
@@ -55,8 +54,7 @@ def integrity_of(layout: Any, name: str, segment: Segment, size: int) -> Device:
     has_sums = segment.node.value(b"internal_hash", bytes) == HASH and tag >= HASH_SIZE
     summed = (salt if flags & FIXED_HMAC else b"") if has_sums else None
     journal = Journal(meta, sections, section, entry, sectors * SECTOR, ID_AT // entry, summed)
-    contents = (section_bytes(journal, place) for place in sections_in_order(journal))
-    blocks = (each for content in contents for each in blocks_in(journal, content))
+    blocks = (it for place in sections_in_order(journal) for it in blocks_in(journal, section_bytes(journal, place)))
     held = {block: content for block, content in blocks if (block + 1) * journal.block <= size}
     content = b"".join(held.values())
     known = Known(f"the journal of {name}", len(content), lambda start, size: content[start:start + size])

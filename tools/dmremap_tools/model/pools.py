@@ -8,8 +8,7 @@ import struct
 from collections import namedtuple
 from typing import Any, Iterator, Optional, Tuple
 
-from dmremap_tools.base.numbers import SECTOR
-from dmremap_tools.base.refusal import Refusal
+from dmremap_tools.base import SECTOR, Refusal
 from dmremap_tools.model.config_text import shown
 from dmremap_tools.model.device import ZEROS, Device, Entry, Gap, Overlaid, Part, Run, sorted_entries
 from dmremap_tools.model.volume_group import Segment
@@ -28,11 +27,10 @@ PoolSuperblock = namedtuple("PoolSuperblock", "magic version trans_id held_root 
 # For each kind where it has these fields, what its sum is changed by, its magic, and words for messages.
 THIN = (struct.Struct("<32xQL4xQQQ248xQ8xLL8xL4xL"), 160774, 27022010, "a thin pool", "thin_check", "pool")
 CACHE = (struct.Struct("<32xQL4xQQQ120xQ32xLLL8xL"), 9031977, 0o6142003, "a cache", "cache_check", "volume")
-# A mapping of a pool is a block of it, and in the lower bits a time; one of a cache is a block of the origin, and
-# flags.
+# A mapping of a pool is a block of it, and in the lower bits a time; one of a cache a block of the origin, and flags.
 TIME_BITS, FLAG_BITS, VALID = 24, 16, 1
 MODES = (b"writethrough", b"writeback")
-ONE_TIME = "give images of one time"
+ONE_TIME, LVM2 = "give images of one time", "activate it with lvm2"
 ODD_CACHE = "the cache's metadata maps a block twice, or one that isn't there: run cache_check on a copy of it"
 
 
@@ -85,8 +83,7 @@ def array_values(device: Device, root: int) -> Iterator[int]:
 
 
 def superblock_of(meta: Device, kind: Tuple[Any, ...], block: int = 0) -> PoolSuperblock:
-    """The superblock in the metadata of a pool or a cache, or its copy in another block; a Gap where it isn't
-    followed."""
+    """The superblock in metadata of a pool or a cache, or its copy in a block; a Gap where it isn't followed."""
     form, changed, magic, what, tool, owner = kind
     found = PoolSuperblock(*form.unpack_from(checked_block(meta, block, changed)))
     is_known = found.magic == magic and found.version in VERSIONS and found.metadata_block_size * SECTOR == BLOCK
@@ -95,12 +92,6 @@ def superblock_of(meta: Device, kind: Tuple[Any, ...], block: int = 0) -> PoolSu
     if found.incompat_flags:
         raise Gap(meta.name, f"its superblock has features that aren't followed: activate the {owner} with lvm2")
     return found
-
-
-def check_blocks(name: str, superblock: PoolSuperblock, settings: Segment, short: str) -> None:
-    """Refuses metadata whose blocks aren't as long as a segment says."""
-    if superblock.data_block_size != settings.node.value(b"chunk_size", int):
-        raise Refusal(name, f"the {short}'s metadata has other blocks than the text: {ONE_TIME}")
 
 
 def damaged(device: Device, what: str) -> Gap:
@@ -138,19 +129,20 @@ def thin_of(layout: Any, name: str, segment: Segment, size: int) -> Device:
     node, volumes = segment.node, layout.group.volumes
     device, pool = node.value(b"device_id", int), volumes.get(node.value(b"thin_pool", bytes))
     if not pool or len(pool.segments) != 1 or device is None or device < 0:
-        raise Refusal(name, "its text doesn't say in which pool it is: activate it with lvm2")
+        raise Refusal(name, f"its text doesn't say in which pool it is: {LVM2}")
     if node.child(b"external_origin"):
-        raise Refusal(name, "it has an external origin, which isn't followed: activate it with lvm2")
+        raise Refusal(name, f"it has an external origin, which isn't followed: {LVM2}")
     segments = (other for volume in volumes.values() for other in volume.segments)
     for other in (other for other in segments if other.kind == b"thin" and other.node.child(b"merge")):
         merged = volumes.get(other.node.value(b"merge", bytes))
         if device in (each.node.value(b"device_id", int) for each in [other, *(merged.segments[:1] if merged else ())]):
-            raise Refusal(name, "a thin snapshot is being merged, which isn't followed: activate it with lvm2")
+            raise Refusal(name, f"a thin snapshot is being merged, which isn't followed: {LVM2}")
     meta, data = (layout.lower(pool.segments[0], key) for key in (b"metadata", b"pool"))
     if not meta or not data:
-        raise Refusal(name, f"the text doesn't say where the pool {shown(pool.name)} is: activate it with lvm2")
+        raise Refusal(name, f"the text doesn't say where the pool {shown(pool.name)} is: {LVM2}")
     superblock = superblock_of(meta, THIN)
-    check_blocks(name, superblock, pool.segments[0], "pool")
+    if superblock.data_block_size != pool.segments[0].node.value(b"chunk_size", int):
+        raise Refusal(name, f"the pool's metadata has other blocks than the text: {ONE_TIME}")
     told, here = pool.segments[0].node.value(b"transaction_id", int), superblock.trans_id
     if told is not None and abs(told - here) > 1:
         raise Refusal(name, f"the pool's metadata has the transaction {here}, and the text {told}: {ONE_TIME}")
@@ -162,11 +154,9 @@ def thin_device(name: str, meta: Device, superblock: PoolSuperblock, number: int
                 size: int) -> Device:
     """The device of this number in a pool: blocks of the pool's data over so many bytes of what is read elsewhere."""
     root = next(entries_of(meta, superblock.mapping_root, (number, number + 1)), None)
-    if root is None:
-        raise Refusal(name, f"the pool's metadata has no device {number}: it was deleted from the pool, and `scan` "
-                      "lists what is left")
-    if root.why:
-        raise Refusal(name, root.why)
+    if root is None or root.why:
+        raise Refusal(name, root.why if root and root.why else f"the pool's metadata has no device {number}: it was "
+                      "deleted from the pool, and `scan` lists what is left")
     tree, block = root.value, superblock.data_block_size * SECTOR
     past = f"{name}: a block lies past the end of its pool: {ONE_TIME}"
 
@@ -182,15 +172,16 @@ def cached_of(layout: Any, name: str, segment: Segment, size: int) -> Device:
     blocks are dirty needn't be asked: a mapped block is never older than the origin's."""
     pool, origin = (segment.node.value(key, bytes) for key in (b"cache_pool", b"origin"))
     if pool is None or origin is None:
-        raise Refusal(name, "its text doesn't say what is cached where: activate it with lvm2")
+        raise Refusal(name, f"its text doesn't say what is cached where: {LVM2}")
     meta, data, settings = cache_of(layout, segment, pool)
     if not meta or not data:
-        raise Refusal(name, "its text doesn't say where the cache's metadata is: activate it with lvm2")
+        raise Refusal(name, f"its text doesn't say where the cache's metadata is: {LVM2}")
     mode = segment.node.value(b"cache_mode", bytes) or settings.node.value(b"cache_mode", bytes)
     if mode not in (None, *MODES):
-        raise Refusal(name, f"a cache of the mode {mode!r} isn't followed: activate it with lvm2")
+        raise Refusal(name, f"a cache of the mode {mode!r} isn't followed: {LVM2}")
     superblock = superblock_of(meta, CACHE)
-    check_blocks(name, superblock, settings, "cache")
+    if superblock.data_block_size != settings.node.value(b"chunk_size", int):
+        raise Refusal(name, f"the cache's metadata has other blocks than the text: {ONE_TIME}")
     return cached_device(name, meta, superblock, layout.plain(origin), data, size)
 
 
@@ -211,10 +202,9 @@ def cache_of(layout: Any, segment: Segment, pool: bytes) -> Tuple[Optional[Devic
     """The metadata and the data of a cache, a pool's or runs of one volume, and the segment that says its blocks."""
     volume = layout.group.volumes.get(pool)
     if segment.node.child(b"metadata_start"):
-        keys = (b"metadata_start", b"metadata_len", b"data_start", b"data_len")
-        runs = [segment.node.value(key, int) for key in keys]
-        places = [run * SECTOR for run in runs if run is not None and run >= 0]
-        if len(places) == len(keys):
+        said = [segment.node.value(key + end, int) for key in (b"metadata", b"data") for end in (b"_start", b"_len")]
+        places = [it * SECTOR for it in said if it is not None and it >= 0]
+        if len(places) == len(said):
             whole, (start, size, data_start, data_size) = layout.plain(pool), places
             return Part(whole.name, whole, start, size), Part(whole.name, whole, data_start, data_size), segment
     elif volume and len(volume.segments) == 1:

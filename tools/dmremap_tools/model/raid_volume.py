@@ -1,14 +1,12 @@
-"""LVM's own raid0 to raid10: pairs of a volume with a superblock of dm-raid, which says what is in sync, and of data, which
-is laid out as md lays out its members. The kernel's dm-raid.c has both, and which legs it reads."""
+"""LVM's own raid0 to raid10: pairs of a volume with a superblock of dm-raid, which says what is in sync, and of data,
+which is laid out as md lays out its members. The kernel's dm-raid.c has both, and which legs it reads."""
 
 import itertools
 import struct
 from collections import namedtuple
 from typing import Any, Callable, Dict, List, Optional, Sequence, Tuple
 
-from dmremap_tools.base import tables
-from dmremap_tools.base.numbers import SECTOR
-from dmremap_tools.base.refusal import Refusal
+from dmremap_tools.base import SECTOR, Refusal, tables
 from dmremap_tools.model.config_text import shown
 from dmremap_tools.model.device import ALL, Copies, Device, Gap, Missing, Part
 from dmremap_tools.model.mapping import MappedDevice, Tables
@@ -21,15 +19,15 @@ LegSuperblock = namedtuple("LegSuperblock", "magic compat_features num_devices a
                            "disk_recovery_offset array_resync_offset level layout stripe_sectors flags "
                            "reshape_position delta_disks data_offset incompat_features")
 MOST_LEGS = 64
-# The level and the layout of md that the superblocks of each type of segment have; that of raid10 counts near copies, too.
+# The level and the layout of md that the superblocks of each type of segment have; raid10's counts near copies, too.
 NEAR = 1 << 8
 KINDS: Dict[bytes, Tuple[str, int]] = {
     b"raid0": ("raid0", 0), b"raid0_meta": ("raid0", 0), b"raid1": ("raid1", 0), b"raid10": ("raid10", NEAR),
     b"raid10_near": ("raid10", NEAR), b"raid4": ("raid5", 4), b"raid5": ("raid5", 2), b"raid5_ls": ("raid5", 2),
     b"raid5_rs": ("raid5", 3), b"raid5_la": ("raid5", 0), b"raid5_ra": ("raid5", 1), b"raid5_n": ("raid5", 5),
     b"raid6": ("raid6", 8), b"raid6_zr": ("raid6", 8), b"raid6_nr": ("raid6", 9), b"raid6_nc": ("raid6", 10),
-    b"raid6_n_6": ("raid6", 5), b"raid6_ls_6": ("raid6", 18), b"raid6_rs_6": ("raid6", 19), b"raid6_la_6": ("raid6", 16),
-    b"raid6_ra_6": ("raid6", 17)}
+    b"raid6_n_6": ("raid6", 5), b"raid6_ls_6": ("raid6", 18), b"raid6_rs_6": ("raid6", 19),
+    b"raid6_la_6": ("raid6", 16), b"raid6_ra_6": ("raid6", 17)}
 # Where the bitmap of what is being written lies in the volume of a superblock.
 BITMAP_AT = 4096
 NEXT, OTHERS = "activate it with lvm2", "give the disks of the other legs"
@@ -45,14 +43,14 @@ def raid_of(layout: Any, name: str, segment: Segment, size: int) -> Device:
 
 
 class Legs:
-    """The legs of a segment: the volumes of each, and their superblocks, or why one can't be read: its disk isn't there,
-    or what is there is none of this leg."""
+    """The legs of a segment: the volumes of each, and their superblocks, or why one can't be read: its disk isn't
+    there, or what is there is none of this leg."""
 
     def __init__(self, layout: Any, name: str, segment: Segment) -> None:
-        self._layout, self._name, self._chunk = layout, name, segment.stripe_size or 0
+        self._plain: Callable[[bytes], Device] = layout.plain
+        self._name, self._chunk, self._pairs = name, segment.stripe_size or 0, pairs_of(name, segment)
         # The superblocks say whether a reshape goes on, of which the type has a word.
         self._level, self._form = KINDS[(segment.kind or b"").partition(b"+")[0]]
-        self._pairs = pairs_of(name, segment)
         self._found: Dict[int, LegSuperblock] = {}
         self._missing: Dict[int, str] = {}
         self._faults: Dict[int, str] = {}
@@ -86,10 +84,6 @@ class Legs:
             return self._rows(legs, best, size)
         return self._striped([self._mirror(each, legs, best, size // len(sets)) for each in sets], size)
 
-    def _plain(self, name: bytes) -> Device:
-        device: Device = self._layout.plain(name)
-        return device
-
     def _superblock_of(self, meta: Device, leg: int) -> LegSuperblock:
         """The superblock that a leg of this number has; a Gap where it has none."""
         found = LegSuperblock(*FORM.unpack(meta.read(0, FORM.size)))
@@ -101,8 +95,9 @@ class Legs:
             raise Gap(meta.name, "its superblock is of another array, or of another place in it")
         copies = found.layout - NEAR
         is_near = self._level == "raid10" and 1 < copies <= found.num_devices and found.num_devices % copies == 0
-        is_known = (is_near or found.layout == self._form) and found.compat_features in (0, V190) and not found.incompat_features
-        if not is_known or self._level != "raid1" and not 0 < self._chunk == found.stripe_sectors:
+        has_chunks = self._level == "raid1" or 0 < self._chunk == found.stripe_sectors
+        if not (is_near or found.layout == self._form) or not has_chunks or found.incompat_features \
+                or found.compat_features not in (0, V190):
             raise Refusal(self._name, ODD)
         return found
 
@@ -125,7 +120,8 @@ class Legs:
         """Refuses legs of which each says that the other failed, or one that says it of another that is as new."""
         fresh = {leg for leg in self._found if not self._stale(leg, best)}
         for one, other in itertools.permutations(self._found, 2):
-            if self._failed(one, other) and (self._failed(other, one) or {one, other} <= fresh and not self._is_rebuilt(other)):
+            is_sure = self._failed(other, one) or {one, other} <= fresh and not self._is_rebuilt(other)
+            if self._failed(one, other) and is_sure:
                 raise Refusal(self._name, APART.format(*(shown(self._pairs[leg][1]) for leg in sorted((one, other)))))
         if len({found.data_offset for found in self._found.values() if found.compat_features}) > 1:
             raise Refusal(self._name, f"its superblocks say several places of its data: {NEXT}")
@@ -140,17 +136,17 @@ class Legs:
             return Missing(f"{shown(data)}: {why}: {OTHERS}" if why else f"{shown(data)}: {self._missing[leg]}")
         device, start = self._plain(data), found.data_offset * SECTOR if found.compat_features else 0
         holes = [(found.disk_recovery_offset * SECTOR, ALL)] if self._is_rebuilt(leg) else []
-        return Part(device.name, device, start, device.size - start, holes, f"{shown(data)}: it was being rebuilt: {OTHERS}")
+        why = f"{shown(data)}: it was being rebuilt: {OTHERS}"
+        return Part(device.name, device, start, device.size - start, holes, why)
 
     def _mirror(self, legs: Sequence[int], data: Sequence[Device], best: int, size: int) -> Device:
-        """Some legs that are copies of each other. Where they weren't alike yet, the first one that was there is read."""
-        resync, copies = self._found[best].array_resync_offset, [data[leg] for leg in legs]
-        if resync != CLEAN:
-            sound = (leg for leg in legs if not self._failed(best, leg) and not self._is_rebuilt(leg))
-            first, end = next(sound, legs[0]), resync * SECTOR * (self._level == "raid1")
-            why = f"{shown(self._pairs[first][1])} was being copied to the other legs: give the disk of that one"
-            copies = [data[leg] if leg == first else Part(data[leg].name, data[leg], 0, size, [(end, ALL)], why) for leg in legs]
-        return Copies(self._name, [Part(copy.name, copy, 0, size) for copy in copies], size)
+        """Legs that are copies of each other. Where they weren't alike yet, the first one that was there is read."""
+        resync = self._found[best].array_resync_offset
+        sound = (leg for leg in legs if not self._failed(best, leg) and not self._is_rebuilt(leg))
+        first, end = next(sound, legs[0]), resync * SECTOR * (self._level == "raid1")
+        why = f"{shown(self._pairs[first][1])} was being copied to the other legs: give the disk of that one"
+        holes = {leg: [] if resync == CLEAN or leg == first else [(end, ALL)] for leg in legs}
+        return Copies(self._name, [Part(data[leg].name, data[leg], 0, size, holes[leg], why) for leg in legs], size)
 
     def _rows(self, legs: Sequence[Device], best: int, size: int) -> Device:
         """Chunks with parity. Where that may be old, as of what was being written last, it isn't believed. But what was
@@ -194,7 +190,7 @@ def pairs_of(name: str, segment: Segment) -> List[Tuple[bytes, bytes]]:
 
 
 def numbers_in(segment: Segment, legs: int) -> Optional[Callable[[int, int], Optional[int]]]:
-    """What says which chunk is in a row of a leg, or None where that has parity; None if the text alone doesn't say it."""
+    """What says which chunk is in a row of a leg, or None where it has parity; None if the text doesn't say it."""
     level, form = KINDS.get(segment.kind or b"", ("", 0))
     if level in PARITY and legs > PARITY[level] and not segment.node.child(b"reshape_count"):
         return Shape(level, legs, LAYOUTS[level][form], segment.stripe_size or 0).number
