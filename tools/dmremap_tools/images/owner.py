@@ -25,8 +25,7 @@ from dmremap_tools.base import numbers, program, quoting, streams
 from dmremap_tools.base.numbers import SECTOR
 from dmremap_tools.base.refusal import Refusal
 from dmremap_tools.formats import rescue_map
-from dmremap_tools.model.image_owners import Owners
-from dmremap_tools.model.owners import Step, unknown_owner, ways
+from dmremap_tools.model.owners import Owners, Step, unknown_owner, ways
 from dmremap_tools.model.pile import Pile
 
 EXAMPLE = "echo 'sda.img 12096 8' | dmremap-tools owner sda.img sdb.img"

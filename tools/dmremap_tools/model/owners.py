@@ -1,5 +1,5 @@
-"""Who has sectors: what lies on them, and what lies on that, and so on up to the volumes of a group by its text, active
-or not."""
+"""Who has the sectors of images, of their partitions and of arrays: what is found there, what lies on that, and so on
+up to the volumes of a group by its text, whether they are active or not."""
 
 import functools
 import itertools
@@ -7,16 +7,20 @@ import operator
 from array import array
 from bisect import bisect_right
 from collections import namedtuple
-from typing import Callable, Dict, Iterable, Iterator, List, NamedTuple, Optional, Sequence, Tuple
+from typing import Callable, Dict, Iterable, Iterator, List, NamedTuple, Optional, Set, Tuple
 
-from dmremap_tools.base.numbers import SECTOR
-from dmremap_tools.base.refusal import Refusal
+from dmremap_tools.base import SECTOR, Refusal
+from dmremap_tools.formats.luks_header import Container
+from dmremap_tools.formats.partition_table import Table
 from dmremap_tools.model.config_text import shown
-from dmremap_tools.model.device import ALL, ZEROS, Device, Gap, blocks_of, holder, joined
-from dmremap_tools.model.groups import REMOVED, Group
+from dmremap_tools.model.device import ALL, ZEROS, Device, Gap, Part, blocks_of, cut, holder, joined, joint
+from dmremap_tools.model.groups import REMOVED
 from dmremap_tools.model.layout import LOWER, Layout
-from dmremap_tools.model.mapping import INVALID_SNAPSHOT, NoProgram
+from dmremap_tools.model.mapping import INVALID_SNAPSHOT, MappedDevice, NoProgram, Tables
+from dmremap_tools.model.md_array import Array
+from dmremap_tools.model.md_superblock import Member
 from dmremap_tools.model.physical_volume import PhysicalVolume
+from dmremap_tools.model.pile import Pile
 from dmremap_tools.model.raid_volume import numbers_in
 from dmremap_tools.model.volume_group import Segment
 
@@ -82,15 +86,10 @@ def ways_at_once(ground: Ground, first: int, end: int, depth: int = 0) -> Iterat
             yield Way(run.first + way.first - start, way.count, (*own, *way.steps))
 
 
-def gaps(runs: Iterable[OwnedRun], first: int, end: int) -> Iterator[Tuple[int, int]]:
+def gaps(runs: Iterable[OwnedRun], first: int, end: int) -> List[Tuple[int, int]]:
     """Those of some sectors that no run has."""
-    for begin, stop, *_ in sorted(runs, key=FIRST):
-        if first < begin and first < end:
-            yield first, min(begin, end)
-        if stop > first:
-            first = stop
-    if first < end:
-        yield first, end
+    parts = cut(joint((run.first, run.end) for run in runs), first, end)
+    return [(begin, stop) for begin, stop, run in parts if not run]
 
 
 def unknown_owner(why: str) -> str:
@@ -103,18 +102,20 @@ def owned_by_one(name: str) -> Ground:
     return lambda first, end: [OwnedRun(first, end, name)]
 
 
-def claims_within(claims: Iterable[OwnedRun], first: int, end: int) -> Iterator[OwnedRun]:
-    """What claims have of some sectors."""
-    for run in claims:
-        begin, stop = max(first, run.first), min(end, run.end)
-        if begin < stop:
-            sector = None if run.sector is None else run.sector + begin - run.first
-            yield OwnedRun(begin, stop, run.name, sector, run.above)
+def ground_of(claims: Iterable[OwnedRun]) -> Ground:
+    """The ground of some claims alone."""
+    def ground(first: int, end: int) -> Iterator[OwnedRun]:
+        for run in claims:
+            begin, stop = max(first, run.first), min(end, run.end)
+            if begin < stop:
+                sector = None if run.sector is None else run.sector + begin - run.first
+                yield OwnedRun(begin, stop, run.name, sector, run.above)
+    return ground
 
 
 def claimed(claims: Iterable[OwnedRun], rest: Ground) -> Ground:
     """The ground of some claims, and of what none of them has."""
-    return filled(lambda first, end: claims_within(claims, first, end), rest)
+    return filled(ground_of(claims), rest)
 
 
 def filled(ground: Ground, rest: Ground) -> Ground:
@@ -147,8 +148,7 @@ def owners_of_unclaimed(device: Device, what: str) -> Ground:
 
 def chunks_of(first: int, end: int, chunk: int, numbers: Callable[[int], Iterable[Optional[int]]], name: str,
               above: Ground, parity: str = "", begin: int = 0, to: int = 0, length: int = ALL) -> Iterator[OwnedRun]:
-    """Sectors of a column that begins at one: `numbers` says which chunks of so many sectors of what has them are in a
-    row of the column, or None for parity."""
+    """Sectors of a column that begins at one; `numbers` says which chunks of their owner a row has, None for parity."""
     for row, skipped, count in blocks_of(first - begin, end - first, chunk):
         at = begin + row * chunk + skipped
         for number in numbers(row):
@@ -167,7 +167,8 @@ class TextOwners:
         self._visible, self._named = set(side.visible()), side.group.physicals.keys() | side.group.volumes.keys()
         self._stores = {record.store for record in side.group.records}
         self._reading = functools.lru_cache(None)(lambda name: reading_of(side.volume(name)))
-        self._grounds = functools.lru_cache(None)(lambda name: [self._through(name, it) for it in self._above.get(name, ())])
+        self._grounds = functools.lru_cache(None)(
+            lambda name: [self._through(name, above) for above in self._above.get(name, ())])
         # Who has sectors of a volume, or of a physical volume.
         self.on: Callable[[bytes], Ground] = functools.lru_cache(None)(lambda name: functools.partial(self._runs, name))
         doubts = [doubt, None if self.extent > 0 else "the text says no size of extents"]
@@ -187,8 +188,8 @@ class TextOwners:
             yield f"the text doesn't say where {which} lies"
         is_named = False
         for field in LOWER:
-            values, has_starts = segment.node.values(field), field in (b"stripes", b"mirrors")
-            pairs = zip(values[::2], values[1::2]) if has_starts else zip(values, itertools.repeat(0))
+            has_starts, values = field in (b"stripes", b"mirrors"), segment.node.values(field)
+            pairs = segment.node.pairs(field) if has_starts else [(value, 0) for value in values]
             for place, (lower, start) in enumerate(pairs):
                 if isinstance(lower, bytes) and lower in self._named and isinstance(start, int) and start >= 0:
                     physical = self.group.physicals.get(lower)
@@ -208,17 +209,15 @@ class TextOwners:
             yield from ground(first, end)
         for record in self.group.records:
             if name == record.store or name == record.origin and not record.is_merging:
-                upper = record.origin if record.is_merging else record.store
-                yield from self._read(upper or b"", name, first, end)
+                yield from self._read(record.origin if record.is_merging else record.store, name, first, end)
 
     def _through(self, lower: bytes, above: Above) -> Ground:
         """Who has sectors of a volume by way of one that lies on it. What the text says of that is looked up once."""
         upper, segment, field, place, begin = above
         kind, columns, chunk = segment.kind or b"", len(segment.stripes), segment.stripe_size or 0
-        leg, legs, is_leg = place // 2, len(segment.node.values(b"raids")) // 2, field == b"raids" and place % 2 == 1
-        if field == b"raid0_lvs":
-            leg, legs, is_leg = place, len(segment.node.values(field)), True
-        numbers = numbers_in(segment, legs) if is_leg and chunk else None
+        # Without superblocks, each value is a leg.
+        step, is_leg = (1, True) if field == b"raid0_lvs" else (2, field == b"raids" and place % 2 == 1)
+        numbers = numbers_in(segment, len(segment.node.values(field)) // step) if is_leg and chunk else None
         length, to = (segment.count or 0) * self.extent, (segment.node.value(b"start_extent", int) or 0) * self.extent
         chunks = functools.partial(chunks_of, name=self.path(upper), above=self.on(upper), begin=begin, to=to,
                                    length=length)
@@ -228,16 +227,17 @@ class TextOwners:
             if field != b"stripes" or columns == 1:
                 columns, chunk, place = 1, ALL, 0
             stop = begin - -length // columns
-            return lambda first, end: chunks(max(first, begin), min(end, stop), chunk, lambda row: [row * columns + place])
+            return lambda first, end: chunks(
+                max(first, begin), min(end, stop), chunk, lambda row: [row * columns + place])
         if numbers:
-            parity, of_leg = self._part("parity", upper), functools.partial(numbers, leg)
+            parity, of_leg = self._part("parity", upper), functools.partial(numbers, place // step)
             return lambda first, end: chunks(first, end, chunk, lambda row: [of_leg(row)], parity=parity)
         if field in (b"raids", b"raid0_lvs"):
             return owned_by_one(self._part("part" if is_leg else "superblock", upper))
         if field in SNAPSHOT and not kind.startswith(b"cache"):
             # What a snapshot reads of its origin and of its store is found otherwise; a thin one reads its pool.
             return lambda first, end: ()
-        # Which thin or cached volumes may read this one: those of the pool whose data it is, or that it is the cache of.
+        # Which thin or cached volumes may read this one: those of the pool whose data it is, or whose cache it is.
         pool = upper if field in POOL_DATA else lower if field in CACHE else b""
         users = [other.volume for other in self._above.get(pool, ()) if other.field in (b"thin_pool", *CACHE)]
         readers = dict.fromkeys([upper] if field == b"origin" else users)
@@ -294,18 +294,55 @@ def reading_of(device: Device) -> Tuple[Optional[str], Dict[Device, List["array[
     return lacks, {source: [array("Q", each) for each in zip(*sorted(found))] for source, found in rows.items()}
 
 
-class GroupOwners:
-    """All groups, to be asked for the sectors of physical volumes."""
+def without_group(volume: PhysicalVolume) -> str:
+    """What is said of a physical volume that no current text of a group names."""
+    if volume.faults:
+        return unknown_owner(volume.faults[0])
+    if volume.current:
+        group = volume.current[0].group
+        return unknown_owner(f"the current text of {group} doesn't name this physical volume, whose own is older")
+    if volume.label.is_used is False:
+        return "physical volume of no group"
+    return unknown_owner("nothing says to which group this physical volume belongs: give the images of the others")
 
-    def __init__(self, groups: Sequence[Group]) -> None:
-        doubts = {group.side: group.doubt for group in groups if group.state != REMOVED}
+
+class Owners:
+    """The owners of the sectors of each device that was looked at."""
+
+    def __init__(self, pile: Pile) -> None:
+        pile.search()
+        self._pile = pile
+        doubts = {group.side: group.doubt for group in pile.groups if group.state != REMOVED}
         self._stacks = [TextOwners(side, doubt) for side, doubt in doubts.items()]
         self._removed: Dict[str, List[OwnedRun]] = {}
-        for volume in (volume for group in groups for volume in group.volumes if volume.is_removed):
-            for identity, first, end in volume.side.uses(volume.key):
-                self._removed.setdefault(identity, []).append(OwnedRun(first, end, f"{volume.path}, removed"))
+        for gone in (volume for group in pile.groups for volume in group.volumes if volume.is_removed):
+            for identity, first, end in gone.side.uses(gone.key):
+                self._removed.setdefault(identity, []).append(OwnedRun(first, end, f"{gone.path}, removed"))
+        self._known: Dict[Device, Ground] = {
+            member.device: owners_of_member(array, member, self.on(array.device or member.device))
+            for array in pile.arrays for member in array.members}
+        self._known.update((device, self._of_table(device, table)) for device, table in pile.tables.items())
+        self._known.update((spot.device, owners_of_container(spot.device, it)) for spot, it in pile.containers)
+        for volume in pile.volumes:
+            if volume.question is None:
+                self._known[volume.device] = self._of_volume(volume)
+            elif volume.device not in pile.tables:
+                self._known[volume.device] = owned_by_one(unknown_owner(volume.question))
 
-    def of(self, volume: PhysicalVolume) -> Ground:
+    def on(self, device: Device) -> Ground:
+        """Who has the sectors of a device, which is looked up once it is asked for."""
+        return lambda first, end: (self._known.get(device) or self._of_other(device))(first, end)
+
+    def _of_table(self, device: Device, table: Table) -> Ground:
+        """Who has the sectors of a disk with a partition table."""
+        if table.fault:
+            return owned_by_one(unknown_owner(table.fault))
+        copies = itertools.chain([table.kind], itertools.repeat(f"backup of the {table.kind}" if table.copy else "MBR"))
+        claims = [OwnedRun(start // SECTOR, end // SECTOR, name) for (start, end), name in zip(table.taken, copies)]
+        claims += [self._within(part.start, part.size, part) for part in table.partitions.values()]
+        return claimed(claims, owners_of_unclaimed(device, "no partition has it"))
+
+    def _of_volume(self, volume: PhysicalVolume) -> Ground:
         """Who has the sectors of a physical volume."""
         sector, area = volume.label.sector, "metadata area of LVM"
         claims = [OwnedRun(sector, sector + 1, "label of LVM")]
@@ -329,17 +366,80 @@ class GroupOwners:
 
     def _and_once(self, name: str, volume: PhysicalVolume) -> Ground:
         """The same for all, and the volumes that were removed, and had some of the sectors."""
-        once = self._removed.get(volume.identity, ())
-        return lambda first, end: [OwnedRun(first, end, name), *claims_within(once, first, end)]
+        once = ground_of(self._removed.get(volume.identity, ()))
+        return lambda first, end: [OwnedRun(first, end, name), *once(first, end)]
+
+    def _within(self, start: int, size: int, device: Device) -> OwnedRun:
+        """What has sectors in which a device lies."""
+        return OwnedRun(start // SECTOR, (start + size) // SECTOR, device.name, 0, self.on(device))
+
+    def _of_other(self, device: Device) -> Ground:
+        """Who has sectors of a device that is none of these."""
+        within = [found.spot.device for found in self._pile.found if found.spot.image is device]
+        inside = [volume for volume in self._pile.volumes if volume.device in within]
+        found = next((found for found in self._pile.found if found.spot.device is device), None)
+        if inside:
+            said = unknown_owner("nothing says what is around the physical volumes that looking through it found")
+        elif found is None or found.what in ("unknown", "foreign"):
+            said = unknown_owner(found.note if found else "it was looked into no more")
+        else:
+            said = f"{found.what}: {found.note}" if found.note else found.what
+        claims = [self._within(volume.start, volume.size, volume.device) for volume in inside]
+        return self._known.setdefault(device, claimed(claims, owned_by_one(said)))
 
 
-def without_group(volume: PhysicalVolume) -> str:
-    """What is said of a physical volume that no current text of a group names."""
-    if volume.faults:
-        return unknown_owner(volume.faults[0])
-    if volume.current:
-        group = volume.current[0].group
-        return unknown_owner(f"the current text of {group} doesn't name this physical volume, whose own is older")
-    if volume.label.is_used is False:
-        return "physical volume of no group"
-    return unknown_owner("nothing says to which group this physical volume belongs: give the images of the others")
+def owners_of_container(device: Device, container: Container) -> Ground:
+    """Who has the sectors of a LUKS container: its header, and its encrypted data."""
+    name, start = f"LUKS{container.version}", container.start
+    if start is None:
+        return owned_by_one(f"{name} container: {container.fault}")
+    end = device.size // SECTOR if container.length is None else start + container.length
+    claims = [OwnedRun(0, max(start, container.header), f"{name} header")]
+    claims += [OwnedRun(start, end, f"{name} data, encrypted")] * (start >= container.header)
+    return claimed(claims, owners_of_unclaimed(device, "the container doesn't say that it has it"))
+
+
+def owners_of_member(array: Array, member: Member, above: Ground) -> Ground:
+    """Who has the sectors of a member of an array: that, or the superblock with what it keeps free."""
+    start, rest = member.superblock.start, owned_by_one(f"superblock of {array.label}, with what it keeps free")
+    if array.device is None:
+        data = owned_by_one(f"{array.label}, which isn't followed: {array.why}")
+    elif not any(other is member for other in array.by_role.values()):
+        data = owned_by_one(f"a member of {array.label} that is stale or was being rebuilt")
+    else:
+        data = filled(functools.partial(owners_of_array_data, array, member, above), rest)
+    return claimed([OwnedRun(start, start + array.length(member), "", 0, data)], rest)
+
+
+def owners_of_array_data(array: Array, member: Member, above: Ground, first: int, end: int) -> Iterator[OwnedRun]:
+    """Who has sectors of a member's data: sectors of the array, or parity."""
+    device, chunks = array.device, functools.partial(chunks_of, name=array.label, above=above)
+    if array.level == "raid1":
+        yield OwnedRun(first, end, array.label, first, above)
+    elif array.level in ("linear", "raid0"):
+        tables = device.source if isinstance(device, MappedDevice) else Tables()
+        for line in tables.lines():
+            columns, chunk = len(line.places()), int(line.words[1]) if line.target == "striped" else ALL
+            for place, (disk, start, count) in enumerate(line.spans()):
+                part = tables.disks[disk]
+                if isinstance(part, Part) and part.lower is member.device:
+                    begin, until = max(first, start), min(end, start + (count or 0))
+                    yield from chunks(begin, until, chunk, lambda row: [row * columns + place], begin=start,
+                                      to=line.start)
+    else:
+        role = next(role for role, other in array.by_role.items() if other is member)
+        of_row = functools.partial(copies_in, array, role) if array.level == "raid10" else None
+        yield from chunks(first, min(end, array.chunks * array.chunk), array.chunk,
+                          of_row or (lambda row: [array.number(role, row)]), parity=f"parity of {array.label}")
+
+
+def copies_in(array: Array, role: int, row: int) -> List[int]:
+    """The chunks of raid10 that a member has in a row."""
+    near, far, is_offset = array.copies
+    stride, end = 1 if is_offset else max(1, array.chunks // far), array.sectors // array.chunk
+    near_by: Set[int] = set()
+    for turn in range(far):
+        base = (row - turn * stride) // (far if is_offset else 1)
+        about = (base * array.count + (role - turn * near) % array.count) // near
+        near_by.update(range(max(0, about - near), min(end, about + near + 1)))
+    return sorted(it for it in near_by if (role, row) in (array.place(it, copy) for copy in range(near * far)))
