@@ -1,9 +1,9 @@
-"""The file system in an image, by what stands at its beginning: XFS, of which xfs_db of xfsprogs says which files have its
-blocks, or one of the kinds ext2, ext3 and ext4, of which debugfs of e2fsprogs does, and which it has for itself.
+"""The file system in an image, by what stands at its beginning: XFS, of which xfs_db of xfsprogs says which files have
+its blocks, or ext2, ext3 or ext4, of which debugfs of e2fsprogs does, and which it has for itself.
 
 What debugfs can't read for damage is told, and asked again without sums and bitmaps, and then by the copies of the
-superblock. What it answers is taken. It prints a name as it stands on the disk, so one with a line feed may look like the
-line of another inode. What is told here is only what was asked for, and leads to its inode where it is looked up.
+superblock. It prints a name as it stands on the disk, so one with a line feed may look like the line of another inode.
+What is told here is only what was asked for, and leads to its inode where it is looked up.
 """
 
 import bisect
@@ -14,24 +14,23 @@ import tempfile
 from collections import namedtuple
 from typing import Callable, Collection, Dict, Iterable, Iterator, List, Optional, Sequence, Set, Tuple
 
-from dmremap_tools.base import paths, program, quoting, streams
-from dmremap_tools.base.numbers import SECTOR
-from dmremap_tools.base.refusal import Refusal
+from dmremap_tools.base import SECTOR, Refusal, paths, program, quoting, streams
 from dmremap_tools.formats.disk_image import EXT_AT, EXT_MAGIC
 from dmremap_tools.model.device import Lenient, blocks_of
 from dmremap_tools.model.placed import image_of
 
 MOST_BLOCKS = MOST_INODES = 1000000
 MOST_COMPLAINTS = 3
-XFS_DB, DEBUGFS = "xfs_db", "debugfs"
+XFS_DB, DEBUGFS, FEWER = "xfs_db", "debugfs", "ask for the maps of fewer images"
 # What the superblock says: sizes in bytes, numbers of blocks, and logarithms of blocks and inodes.
 Geometry = namedtuple("Geometry", "blocksize dblocks agblocks agblklog inopblog inodesize")
 XFS_FIGURE = re.compile(r"^(%s) = ([0-9]{1,20})$" % "|".join(Geometry._fields), re.M)
 USE = re.compile(r"^block [0-9]{1,20} \(([0-9]{1,10})/([0-9]{1,10})\) type ([a-z0-9]+)(?: inode ([0-9]{1,20}))?$", re.M)
 # Where it is seen by which bytes what begins there.
 MAGICS = {"btrfs": (65536 + 64, b"_BHRfS_M"), "xfs": (0, b"XFSB"), "ext": (EXT_AT + 56, EXT_MAGIC)}
-# Bytes of one request, of which the system takes 131,071, and debugfs 8,191 where it reads many.
-LONGEST, LONGEST_OF_MANY, MOST_AT_ONCE = 100000, 8000, 4096
+# Numbers of one request, with at most 15 digits each, as the system takes 131,071 bytes; bytes of one where debugfs
+# reads many, of which it takes 8,191; and how many these are.
+MOST_NUMBERS, LONGEST_OF_MANY, MOST_AT_ONCE = 8000, 8000, 4096
 NO_ANSWER = b"pwd"
 ECHO, NOT_OPEN = "debugfs: ", ": Filesystem not open"
 OWNED = re.compile(r"([0-9]{1,20})\t([1-9][0-9]{0,9}|<block not found>)")
@@ -68,9 +67,9 @@ class NoSystem(Refusal):
 
 
 class FileSystem:
-    """A file system in an image, in which runs of sectors of a volume are asked for. Each kind finds out how many `sectors`
-    a block has, the block after the last, the inodes that have blocks, the paths of inodes, and which are in use. It says
-    which inodes lie in sectors of a block, if that is one of a table of them, and how a block is used without an inode."""
+    """A file system in an image, in which runs of sectors of a volume are asked for. Each kind finds out how many
+    `sectors` a block has, the block after the last, the inodes that have blocks, the paths of inodes, and which are in
+    use. It says which inodes lie in sectors of a block of their table, and how a block is used without an inode."""
 
     inodes_at: Callable[[int, int, int], Optional[Iterable[int]]]
     use_without_inode: Callable[[int], str]
@@ -106,17 +105,16 @@ class FileSystem:
         """The blocks that are asked for, each once, up to the end of the file system."""
         found = [range(first // self.sectors, (first + count - 1) // self.sectors + 1) for first, count in self.runs]
         if sum(blocks.stop - blocks.start for blocks in found) > MOST_BLOCKS:
-            raise Refusal(self.volume, f"more than {MOST_BLOCKS} blocks of it are lost: ask for the maps of fewer images")
+            raise Refusal(self.volume, f"more than {MOST_BLOCKS} blocks of it are lost: {FEWER}")
         return sorted({block for blocks in found for block in blocks if block < self.end})
 
     def tabled(self) -> List[int]:
         """The inodes in the sectors that are asked for."""
         found: Set[int] = set()
         for run in self.runs:
-            for part in blocks_of(*run, self.sectors):
-                found.update(self.inodes_at(*part) or ())
+            found.update(inode for part in blocks_of(*run, self.sectors) for inode in self.inodes_at(*part) or ())
             if len(found) > MOST_INODES:
-                raise Refusal(self.volume, f"more than {MOST_INODES} inodes are lost: ask for the maps of fewer images")
+                raise Refusal(self.volume, f"more than {MOST_INODES} inodes are lost: {FEWER}")
         return sorted(found)
 
 
@@ -218,27 +216,27 @@ def system_in(place: paths.DiskPlace, volume: str, runs: Sequence[SectorRun]) ->
     """The file system in an image of a volume, with the files that have these runs of sectors looked up."""
     disk, at = Lenient(image_of(place.path)), place.start
     image = place.path + f"?offset={at}" * bool(at)
-    found = {kind: disk.read(at + start, len(magic)) == magic for kind, (start, magic) in MAGICS.items()}
+    found = [kind for kind, (start, magic) in MAGICS.items() if disk.read(at + start, len(magic)) == magic]
+    shown = quoting.shown(image)
     if "?" in place.path:
-        raise Refusal(quoting.shown(image), "debugfs takes what follows a `?` in a path as an option: give the file another name")
-    if found.get("btrfs"):
-        raise Refusal(quoting.shown(image), "it is btrfs, whose files have no places: see `btrfs inspect-internal logical-resolve`")
-    if not found.get("xfs"):
+        raise Refusal(shown, "debugfs takes what follows a `?` in a path as an option: give the file another name")
+    if "btrfs" in found:
+        raise Refusal(shown, "it is btrfs, whose files have no places: see `btrfs inspect-internal logical-resolve`")
+    if "xfs" not in found:
         try:
             return ExtSystem(image, volume, runs)
         except Refusal as fault:
-            is_known = found.get("ext") or program.found(DEBUGFS) == DEBUGFS
+            is_known = "ext" in found or program.found(DEBUGFS) == DEBUGFS
             raise fault if is_known else NoSystem(fault.where, fault.why)
     if program.found(XFS_DB) == XFS_DB:
-        raise Refusal(quoting.shown(image), "it is XFS, which xfs_db reads, and that isn't here: install xfsprogs")
+        raise Refusal(shown, "it is XFS, which xfs_db reads, and that isn't here: install xfsprogs")
     if at:
-        raise Refusal(quoting.shown(image), "it is XFS, and xfs_db reads no file system within a file: `losetup -r -o %d`" % at)
+        raise Refusal(shown, f"it is XFS, and xfs_db reads no file system within a file: `losetup -r -o {at}`")
     return XfsSystem(place.path, volume, runs)
 
 
 class ExtSystem(FileSystem):
-    """Where a system has what is its own, is as `stats` of debugfs prints it. It `is_sure` that each block in use is an
-    inode's, or its own by what is known here."""
+    """Where a system has what is its own, is as `stats` of debugfs prints it."""
 
     def __init__(self, image: str, volume: str, runs: Sequence[SectorRun]) -> None:
         super().__init__(image, volume, runs)
@@ -306,6 +304,7 @@ class ExtSystem(FileSystem):
         self._first, self._per_group, self._per_table = (figure[it] for it in (
             "First block", "Blocks per group", "Inodes per group"))
         self._inode_size, self._first_inode = figure.get("Inode size") or 128, figure.get("First inode", 11)
+        # Whether each block in use is an inode's, or the system's own by what is known here.
         self._is_sure = not UNSURE & features
         self._table_blocks = -(-self._per_table * self._inode_size // size)
         self._tables = sorted((table, number) for number, _, _, table in groups)
@@ -346,12 +345,10 @@ class ExtSystem(FileSystem):
                     found[int(match[1])].append(match[2])
         pairs = [(inode, path) for inode, paths in found.items() for path in paths]
         said = self._ask_many("imap " + debugfs_word(path) for _, path in pairs)
-        answers = itertools.chain(said, itertools.repeat(""))
-        for inode in {it for (it, _), answer in zip(pairs, answers) if LEADS_TO.findall(answer)[:1] != [str(it)]}:
-            found[inode] = self._names_alone(inode)
-        if ROOT in found:
-            found[ROOT] = ["/"]
-        return found
+        for (inode, _), answer in zip(pairs, itertools.chain(said, itertools.repeat(""))):
+            if LEADS_TO.findall(answer)[:1] != [str(inode)]:
+                found[inode] = self._names_alone(inode)
+        return {**found, ROOT: ["/"]} if ROOT in found else found
 
     def _names_alone(self, inode: int) -> List[str]:
         """The paths of an inode that is asked for alone. A path that leads elsewhere goes on the name before it."""
@@ -373,17 +370,13 @@ class ExtSystem(FileSystem):
 
     def _ask_for(self, command: str, wanted: Sequence[int]) -> Iterator[Tuple[Sequence[int], str, List[str]]]:
         """The same for a command about numbers, of which as many as there is room for are asked for at once."""
-        first = size = 0
-        for place, number in enumerate(wanted):
-            size += len(str(number)) + 1
-            if size > LONGEST or place + 1 == len(wanted):
-                some = wanted[first:place + 1]
-                yield (some, *self._ask("-R", "%s %s" % (command, " ".join(map(str, some)))))
-                first, size = place + 1, 0
+        for first in range(0, len(wanted), MOST_NUMBERS):
+            some = wanted[first:first + MOST_NUMBERS]
+            yield (some, *self._ask("-R", "%s %s" % (command, " ".join(map(str, some)))))
 
     def _ask_many(self, requests: Iterable[str]) -> Iterator[str]:
-        """What it answers to each of many requests, none of which has a line feed. One that is too long has no answer. What
-        it complains of is not told. No answer may have a line that looks like a request."""
+        """What it answers to each of many requests, none of which has a line feed. One that is too long has no answer.
+        What it complains of is not told. No answer may have a line that looks like a request."""
         rest = iter(requests)
         for some in iter(lambda: list(itertools.islice(rest, MOST_AT_ONCE)), []):
             lines = (request.encode("utf-8", "surrogateescape") for request in some)
