@@ -7,23 +7,26 @@ import os
 import stat
 from typing import Dict, Iterable, Iterator, List, NamedTuple, Optional, Set, Tuple
 
-from dmremap_tools.base import names, paths, program, quoting, streams, tables
+from dmremap_tools.base import Refusal, names, paths, program, quoting, streams, tables
 from dmremap_tools.base.given import Given, put
-from dmremap_tools.base.refusal import Refusal
 from dmremap_tools.formats import store_places
-from dmremap_tools.model.placed import by_ids, disks_of, image_of
+from dmremap_tools.model.placed import by_ids, image_of
+from dmremap_tools.model.volume_group import disks_of
 
 NEXT = "--paths says where disks are, and --fresh takes every snapshot as new"
-INVALID = ("it is invalid, as it was full once: what the origin overwrote since is lost, and nothing of the snapshot is read; --fresh "
-           "takes what the origin has")
+INVALID = ("it is invalid, as it was full once: what the origin overwrote since is lost, and nothing of the snapshot "
+           "is read; --fresh takes what the origin has")
+FLEETING = "it isn't persistent, so no disk says what is in it; --fresh takes it as new"
+IN_USE = ("{} is a block device: if a snapshot on it is in use, suspend it first, or give an image that was read with "
+          "O_DIRECT, as `dd iflag=direct` does")
 
 
 class Stack(NamedTuple):
-    """The devices in their order, and the sectors of each disk; `group` is the file of metadata that has both."""
+    """The devices in their order, the sectors of each disk, and the ids of those that metadata says."""
 
     devices: List[tables.TableDevice]
     sizes: Dict[str, int]
-    group: Optional[str] = None
+    ids: Dict[str, bytes] = {}
 
     def by_path(self) -> Dict[str, tables.TableDevice]:
         """The devices by their paths below /dev/mapper."""
@@ -75,7 +78,9 @@ def load(asked: str, given: Given, folder: str) -> Stack:
     put(text, [printed])
     if copy.disks is not None:
         return Stack(tables.read(text)[0], tables.read_disks(copy.disks))
-    return Stack(tables.read(text)[0], {name: size for name, size, _ in disks_of(copy.file)}, copy.file)
+    disks = list(disks_of(copy.file))
+    ids = {name: identity for name, _, identity in disks if identity is not None}
+    return Stack(tables.read(text)[0], {name: size for name, size, _ in disks}, ids)
 
 
 def add_words(parser: argparse.ArgumentParser) -> None:
@@ -88,18 +93,17 @@ def start(words: argparse.Namespace, source: Given, devices: Optional[Iterable[s
     """Starts for these devices of a source, or for all. Refuses snapshots whose stores can't be read or are invalid."""
     asked, places = program.dmremap(words.program), paths.places(words.paths)
     loaded = load(asked, source, folder)
-    unknown = next((name for name in places if name not in loaded.sizes), None)
-    if unknown is not None:
+    for unknown in (name for name in places if name not in loaded.sizes):
         # The disk that was meant would be read at its own name.
         why = f"no disk is called {quoting.shown(unknown)}: give a name that the tables have"
         raise Refusal(streams.name_of(words.paths), why)
-    places = by_ids(loaded.group, places, loaded.sizes, asked)
+    places = by_ids(loaded.ids, places, loaded.sizes, asked)
     part = loaded if devices is None else loaded.part(devices)
     command = [asked, "map", *part.write(folder)]
     snapshots = [] if words.fresh else [it for it in part.devices if it.lines[0].target == "snapshot"]
     for device in snapshots:
         if device.lines[0].words[2] == "N":
-            raise Refusal("the store of " + device.name, "it isn't persistent, so no disk says what is in it; --fresh takes it as new")
+            raise Refusal("the store of " + device.name, FLEETING)
     if snapshots:
         lowest = part.below(it.lines[0].words[1] for it in snapshots)[1]
         stores = {disk: places.get(disk) or paths.DiskPlace(disk) for disk in sorted(lowest)}
@@ -125,6 +129,5 @@ def rows_of(places: Dict[str, paths.DiskPlace]) -> Iterator[str]:
         row = paths.line(disk, place.path, place.start)
         image_of(place.path)
         if stat.S_ISBLK(os.stat(place.path).st_mode):
-            streams.tell(f"{quoting.shown(place.path)} is a block device: if a snapshot on it is in use, suspend it first, or give an "
-                         "image that was read with O_DIRECT, as `dd iflag=direct` does")
+            streams.tell(IN_USE.format(quoting.shown(place.path)))
         yield row

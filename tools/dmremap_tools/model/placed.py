@@ -1,21 +1,18 @@
-"""Where the disks of tables, or of a text of lvm2, lie in images: at places that are given, or where the images have the
-physical volumes of the text. Places are refused at which the bytes of a disk aren't those that lie there, as in a
-member of an array that has only some of these."""
+"""Where the disks of tables, or of a text of lvm2, lie in images: at places that are given, or where the images have
+the text's physical volumes. Places are refused at which the bytes of a disk aren't those that lie there, as in a member
+of an array that has only some of these."""
 
 import os
 import re
-from typing import Dict, Iterable, Iterator, Optional, Tuple
+from typing import Dict, Iterable, Iterator, Optional
 
-from dmremap_tools.base import quoting, streams, written
-from dmremap_tools.base.numbers import SECTOR
+from dmremap_tools.base import SECTOR, Refusal, quoting, written
 from dmremap_tools.base.paths import DiskPlace
-from dmremap_tools.base.refusal import Refusal
-from dmremap_tools.model.config_text import Document, shown
+from dmremap_tools.model.config_text import shown
 from dmremap_tools.model.device import Device, Image, Lenient, Part
 from dmremap_tools.model.md_superblock import BAD_BLOCKS, HARMLESS, Member, has_all
 from dmremap_tools.model.physical_volume import Label, label_of
 from dmremap_tools.model.pile import Pile
-from dmremap_tools.model.volume_group import GroupText, disk_names
 
 # What tables call an array, and a partition of one.
 ARRAY, PARTITION = re.compile(r"(?:/dev/)?md(?:_?d?\d+(?:p\d+)?|/.+)|9:\d+"), re.compile(r".*p\d+")
@@ -30,29 +27,11 @@ OLDER = ("a member of an md array that was away when others changed: it has the 
          "take that")
 
 
-def disks_of(path: str) -> Iterator[Tuple[str, int, Optional[bytes]]]:
-    """The name of each physical volume of a text's group, its sectors, and its id, if it has one. Refuses a text without
-    any, and a physical volume without a length."""
-    document = Document(streams.name_of(path), streams.read_bytes(path))
-    group = next((group for group in map(GroupText, document.top.sections()) if group.physicals), None)
-    if not group:
-        raise Refusal(document.path, "no physical volumes of a group: give a text of /etc/lvm/backup, or what "
-                      "`metadata` prints")
-    physicals = list(group.physicals.values())
-    for name, node in zip(disk_names(physicals), physicals):
-        size = node.value(b"dev_size", int)
-        if size is None or size <= 0:
-            why = f"no dev_size of {shown(node.key)}: take the copy that lvm2-text makes"
-            raise document.refused(node.start, why)
-        yield name, size, node.value(b"id", bytes)
-
-
-def by_ids(text: Optional[str], places: Dict[str, DiskPlace], sizes: Dict[str, int],
+def by_ids(ids: Dict[str, bytes], places: Dict[str, DiskPlace], sizes: Dict[str, int],
            asked: str) -> Dict[str, DiskPlace]:
-    """The places of disks, of which some may be whole disks that have a physical volume on a partition. Without `text`,
-    the metadata of their group, they are what was given. `sizes` has the sectors of each disk, and `asked` is dmremap.
-    Refuses an image of another disk, and one of which nothing says where the disk is."""
-    ids = {name: identity for name, _, identity in (disks_of(text) if text is not None else ()) if identity is not None}
+    """The places of disks, of which some may be whole disks that have a physical volume on a partition. Without `ids`
+    of physical volumes, they are what was given. `sizes` has the sectors of each disk, and `asked` is dmremap. Refuses
+    an image of another disk, and one of which nothing says where the disk is."""
     found, pile = dict(places), pile_at((place.path for place in places.values()), asked)
     check_places(places, pile, bool(ids))
     for name, place in places.items():
@@ -61,8 +40,8 @@ def by_ids(text: Optional[str], places: Dict[str, DiskPlace], sizes: Dict[str, i
             continue
         if name in ids:
             found[name] = place_of_volume(pile, image, name, ids[name], place)
-        # The image of a whole disk isn't one of a partition, which doesn't begin where that does. A disk as long as said
-        # is taken, and one whose image ends too early, if its partitions lie within so many sectors.
+        # The image of a whole disk isn't one of a partition, which doesn't begin where that does. A disk as long as
+        # said is taken, and one whose image ends too early, if its partitions lie within so many sectors.
         table = pile.tables.get(image) if not found[name].is_said else None
         ends = [image.bytes, *(part.start + part.size for part in table.partitions.values())] if table else []
         if table and size is not None and image.bytes // SECTOR != size and max(ends) > size * SECTOR:
@@ -92,8 +71,7 @@ def image_at(pile: Pile, path: str) -> Optional[Image]:
 
 
 def begins_in(pile: Pile, device: Device, image: Image) -> Iterator[int]:
-    """The bytes of an image from which on all bytes of a device lie, one after the other: of an array those of its
-    members that have them."""
+    """The bytes of an image at which a device begins that lies there in a row, as an array does on some members."""
     if device is image:
         yield 0
     elif isinstance(device, Part):
@@ -120,9 +98,10 @@ def place_of_volume(pile: Pile, image: Image, name: str, identity: bytes, place:
         found = {begin: known for begin, known in found.items() if begin in here}
     mine = next((begin for begin, known in found.items() if known == identity), None)
     table, note = pile.tables.get(image), next((found.note for found in pile.found if found.spot.device is image), "")
-    if mine is not None and whys.get(mine):
-        raise Refusal(image.name, whys[mine] or "")
     if mine is not None:
+        why = whys.get(mine)
+        if why:
+            raise Refusal(image.name, why)
         return DiskPlace(place.path, mine, True)
     if found:
         wrong, ids = f"it isn't {quoting.shown(name)}, whose id is {shown(identity)}", map(shown, found.values())
@@ -149,9 +128,7 @@ def check_places(places: Dict[str, DiskPlace], pile: Pile, are_volumes: bool = F
     those of disks. Where they are physical volumes or arrays, a place at which a member begins is the same."""
     for name, place in places.items():
         image, is_array = image_at(pile, place.path), bool(ARRAY.fullmatch(name))
-        if not image:
-            continue
-        begins = [(spot, begin) for spot in pile.spots() for begin in begins_in(pile, spot.device, image)]
+        begins = [(spot, it) for spot in pile.spots() for it in (begins_in(pile, spot.device, image) if image else ())]
         behind = [spot for spot, begin in begins if begin < place.start < begin + spot.device.size]
         damaged = next((spot for spot in behind if spot in pile.damaged), None)
         if damaged:
@@ -160,7 +137,7 @@ def check_places(places: Dict[str, DiskPlace], pile: Pile, are_volumes: bool = F
             for spot, begin in ((spot, begin) for spot, begin in begins if spot.device is member.device):
                 data = begin + member.superblock.start * SECTOR
                 is_beginning, is_behind = place.start in (begin, data), spot in behind
-                is_volume = are_volumes and (is_beginning or not place.is_said) and bool(label_at(image, data))
+                is_volume = are_volumes and (is_beginning or not place.is_said) and image and label_at(image, data)
                 why = md_member_fault(member, pile) if is_behind or is_volume or is_array and is_beginning else None
                 if why:
                     raise Refusal(quoting.shown(place.path), why)
@@ -177,9 +154,7 @@ def md_member_fault(member: Member, pile: Pile) -> Optional[str]:
         return PARTS
     if mine.role is None or mine.features & ~HARMLESS:
         return CHANGING
-    alike = (it for it in pile.members if it.superblock.array == mine.array)
-    newer = ((pile.spot_of[it.device].path, it.superblock.events) for it in alike)
-    ages = (OLDER.format(mine.events, path, events) for path, events in newer if events > mine.events)
     if mine.features & BAD_BLOCKS:
         return BAD
-    return next(ages, None)
+    alike = (it for it in pile.members if it.superblock.array == mine.array and it.superblock.events > mine.events)
+    return next((OLDER.format(mine.events, pile.spot_of[it.device].path, it.superblock.events) for it in alike), None)

@@ -1,11 +1,11 @@
 """The volumes of a group as its metadata says them, and why dmremap can't follow some of them."""
 
 import collections
-from typing import Dict, List, NamedTuple, Optional
+from typing import Dict, Iterator, List, NamedTuple, Optional, Tuple
 
-from dmremap_tools.base import names
+from dmremap_tools.base import Refusal, names, streams
 from dmremap_tools.formats import store_places
-from dmremap_tools.model.config_text import Node, shown
+from dmremap_tools.model.config_text import Document, Node, shown
 
 # The types of segments that dmremap reads, and what lvm2 calls the first of them as well.
 STRIPED, LINEAR, SNAPSHOT, NO_STORE = b"striped", b"linear", b"snapshot", (b"zero", b"error")
@@ -57,8 +57,8 @@ class VolumeText:
             return None
         node = self.segments[0].node
         is_merging = node.child(b"merging_store") is not None
-        names = (b"origin", b"merging_store" if is_merging else b"cow_store")
-        origin, store = (node.value(name, bytes) or b"" for name in names)
+        fields = (b"origin", b"merging_store" if is_merging else b"cow_store")
+        origin, store = (node.value(field, bytes) or b"" for field in fields)
         return Record(self, origin, store, is_merging, node.value(b"chunk_size", int))
 
     def leave(self, why: str) -> None:
@@ -117,8 +117,8 @@ class GroupText:
             key = shown(segment.node.key)
             if segment.kind is not None and segment.kind not in TYPES:
                 return f"its {key} has the type {shown(segment.kind)}"
-            names = [it for it, _ in segment.stripes if isinstance(it, bytes) and it not in self.physicals]
-            lower = next((it for it in names if it in self.volumes), None)
+            below = [it for it, _ in segment.stripes if isinstance(it, bytes) and it not in self.physicals]
+            lower = next((it for it in below if it in self.volumes), None)
             if lower is not None:
                 return f"it lies on the volume {shown(lower)}"
             if segment.kind == STRIPED and not segment.is_even(self.extent_size):
@@ -174,11 +174,20 @@ class GroupText:
                 self._leave_snapshot(record, f"it is a snapshot of {shown(record.origin)} {why}")
 
 
-def disk_names(physicals: List[Node]) -> List[str]:
-    """The names that dmremap has for these disks: the paths that are names of one disk each, or else the keys."""
+def disks_of(path: str) -> Iterator[Tuple[str, int, Optional[bytes]]]:
+    """The name that dmremap has for each physical volume of a text's group, the path if it is a name of this one alone,
+    or else the key; its sectors, and its id, if it has one. Refuses a text without any, and one without a length."""
+    document = Document(streams.name_of(path), streams.read_bytes(path))
+    groups = (GroupText(section).physicals.values() for section in document.top.sections())
+    physicals = list(next(filter(None, groups), ()))
+    if not physicals:
+        raise Refusal(document.path, "no physical volumes of a group: give a text of /etc/lvm/backup, or what "
+                      "`metadata` prints")
     paths = [(it.value(b"device", bytes) or it.key).decode("utf-8", "surrogateescape") for it in physicals]
-    count, named = collections.Counter(paths), []
-    for node, path in zip(physicals, paths):
-        is_name = path.startswith("/") and names.DISK.fullmatch(path) and count[path] == 1
-        named.append(path if is_name else node.key.decode("utf-8", "surrogateescape"))
-    return named
+    count = collections.Counter(paths)
+    for node, name in zip(physicals, paths):
+        is_name = name.startswith("/") and names.DISK.fullmatch(name) and count[name] == 1
+        size = node.value(b"dev_size", int)
+        if size is None or size <= 0:
+            raise document.refused(node.start, f"no dev_size of {shown(node.key)}: take the copy that lvm2-text makes")
+        yield name if is_name else node.key.decode("utf-8", "surrogateescape"), size, node.value(b"id", bytes)
