@@ -34,7 +34,7 @@ class Piece(NamedTuple):
 
     request: int
     what: str
-    count: int
+    count: int  # type: ignore[assignment]
     disk: str = ""
     start: int = 0
     to: str = ""
@@ -61,7 +61,7 @@ class Answers(streams.Lines):
 
     statuses = 0
 
-    def __iter__(self) -> Iterator[Piece]:
+    def __iter__(self) -> Iterator[Piece]:  # type: ignore[override]
         return map(_piece, filter(None, map(self._fields, super().__iter__())))
 
     def by_blocks(self) -> Iterator[Block]:

@@ -35,8 +35,8 @@ def dmremap(given: Optional[str]) -> str:
     build it is never run: what it left, or ./try, is taken in its place if it fits the sources; else NoProgram."""
     tools = os.path.abspath(sys.argv[0]), os.path.realpath(sys.argv[0])
     places = [given] if given is not None else [os.path.join(os.path.dirname(it), "dmremap") for it in tools]
-    found = [path for path in map(shutil.which, [*places, *["dmremap"] * (given is None)]) if path]
-    built = next(filter(None, map(_built, found)), None)
+    found = [path for path in (shutil.which(it) for it in [*places, *["dmremap"] * (given is None)]) if path]
+    built = next((path for path in map(_built, found) if path), None)
     if found and not built:
         raise NoProgram("dmremap", NOT_BUILT)
     return built or given or "dmremap"
@@ -78,8 +78,8 @@ def ask(words: Sequence[str], given: Optional[int] = None) -> Tuple[str, str, in
             child.kill()
             child.wait()
         said.seek(0)
-        both = printed, said.read(streams.MOST_TEXT)
-    return (*(it.decode("utf-8", "surrogateescape") for it in both), status)
+        texts = [it.decode("utf-8", "surrogateescape") for it in (printed, said.read(streams.MOST_TEXT))]
+    return texts[0], texts[1], status
 
 
 def ask_quietly(words: Sequence[str], given: Optional[int] = None) -> Tuple[str, str]:
@@ -90,8 +90,9 @@ def ask_quietly(words: Sequence[str], given: Optional[int] = None) -> Tuple[str,
     return printed, said
 
 
-def start(words: Sequence[str], **how: Any) -> "subprocess.Popen[bytes]":
-    """Starts a program, whose path may have any bytes, under a name that is text, as dmremap wants all its words."""
+def start(words: Sequence[str], **how: Any) -> Any:
+    """Starts a program, whose path may have any bytes, under a name that is text, as dmremap wants all its words. Of
+    the Popen that it gives those pipes are there that `how` says."""
     streams.flush()
     path, *others = (it.encode("utf-8", "surrogateescape") for it in words)
     try:

@@ -113,7 +113,10 @@ class Known(Device):
 
     def __init__(self, name: str, size: int, load: Callable[[int, int], bytes]) -> None:
         super().__init__(name, size)
-        self.load = load  # type: ignore[method-assign]
+        self._load = load
+
+    def load(self, start: int, size: int) -> bytes:
+        return self._load(start, size)
 
 
 class Part(Device):
