@@ -93,12 +93,11 @@ class Pile:
         self.volumes: List[PhysicalVolume] = []
         self.leftovers: List[PhysicalVolume] = []
         self.groups: List[Group] = []
-        # All members, also those of which no array is put together; and what seems to be one by a damaged superblock.
+        # All members, also those of which no array is put together.
         self.members: List[Member] = []
-        self.damaged: List[Spot] = []
         self._members: Dict[bytes, List[Member]] = {}
-        # Members with damaged superblocks, and the ids that these give their arrays.
-        self._damaged: List[Tuple[Spot, bytes]] = []
+        # What seems to be members by damaged superblocks, with the ids that these give their arrays.
+        self.damaged: List[Tuple[Spot, bytes]] = []
         # Disks that were members of arrays before they had a partition table, by the ids of these.
         self._left: Dict[bytes, Spot] = {}
         # Why nobody can be sure of what lies on a device; and who else says that it has it.
@@ -119,7 +118,7 @@ class Pile:
         self._assemble()
         if not self.arrays:
             # A half of a mirror alone has all data.
-            for spot, _ in self._damaged:
+            for spot, _ in self.damaged:
                 self._look_into(spot, table_in(spot.device, known_in(spot.device)))
         self._group()
         # What isn't known may be the other half of a mirror, with newer data.
@@ -143,7 +142,7 @@ class Pile:
         cut = [each for each in self.volumes if self.spot_of[each.device].image and each.size > each.device.size]
         texts = [text for volume in self.volumes for text in volume.current] if cut else []
         on_arrays = {identity for text in texts for identity in text.on_arrays()}
-        damaged = [spot.device for spot, _ in self._damaged]
+        damaged = [spot.device for spot, _ in self.damaged]
         for volume in cut:
             if volume.start or volume.identity in on_arrays or volume.device in damaged:
                 volume.doubt = ONE_MEMBER.format(volume.place, volume.device.size, volume.size)
@@ -224,8 +223,7 @@ class Pile:
             if len(owners) > 1:
                 self._questions[device] = Doubt(TWO_OWNERS.format(device.name))
         if damaged and not owners:
-            self.damaged.append(spot)
-            self._damaged += [(spot, damaged[-1][1])] if any(identity for _, identity in damaged) else []
+            self.damaged.append((spot, damaged[-1][1]))
             self._say(spot, "md member", DAMAGED.format(damaged[-1][0]))
 
     def _foreign(self, spot: Spot) -> List[signatures.Signature]:
@@ -328,7 +326,7 @@ class Pile:
                 array = made[identity] = put_together(self._members[identity])
                 if level == MOST_LEVELS:
                     array.give_up(NESTED)
-                newer = [spot for spot, other in self._damaged if other == identity or other not in self._members]
+                newer = [spot for spot, other in self.damaged if other == identity or other not in self._members]
                 if newer and array.device and array.may_be_old:
                     array.give_up(MAY_BE_NEWER.format(newer[0].device.name))
                 if array.device:
@@ -352,7 +350,7 @@ class Pile:
         """Takes back what was found on the device of an array."""
         def is_elsewhere(other: Device) -> bool:
             return other is not device and (not isinstance(other, Part) or is_elsewhere(other.lower))
-        of_spots: List[List[Any]] = [self.found, self.containers, self._damaged]
+        of_spots: List[List[Any]] = [self.found, self.containers, self.damaged]
         of_devices: List[List[Any]] = [self.volumes, self.leftovers, self.members, *self._members.values()]
         for found in of_spots:
             found[:] = [each for each in found if is_elsewhere(each[0].device)]

@@ -110,7 +110,7 @@ def place_of_volume(pile: Pile, image: Image, name: str, identity: bytes, place:
         numbers = quoting.some(list(map(str, table.partitions))) or "-"
         raise Refusal(image.name, table.fault or f"the image of a whole disk ({table.kind}), none of whose partitions "
                       f"({numbers}) has a sound label: {GIVE}")
-    if any(each.device is image for each in pile.damaged):
+    if any(spot.device is image for spot, _ in pile.damaged):
         raise Refusal(image.name, note)
     for member in (member for begin, member in members if begin == place.start and member.superblock.start):
         raise Refusal(image.name, md_member_fault(member, pile) or NO_VOLUME)
@@ -130,7 +130,7 @@ def check_places(places: Dict[str, DiskPlace], pile: Pile, are_volumes: bool = F
         image, is_array = image_at(pile, place.path), bool(ARRAY.fullmatch(name))
         begins = [(spot, it) for spot in pile.spots() for it in (begins_in(pile, spot.device, image) if image else ())]
         behind = [spot for spot, begin in begins if begin < place.start < begin + spot.device.size]
-        damaged = next((spot for spot in behind if spot in pile.damaged), None)
+        damaged = next((spot for spot in behind if spot in dict(pile.damaged)), None)
         if damaged:
             raise Refusal(place.path, next(found.note for found in pile.found if found.spot is damaged))
         for member in pile.members:
