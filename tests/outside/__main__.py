@@ -30,7 +30,7 @@ HERE = os.path.dirname(os.path.abspath(__file__))
 FOLDERS = [os.path.join(HERE, name) for name in ("program", "tools", "scripts", "documents")]
 sys.path += [*FOLDERS, os.path.join(os.path.dirname(os.path.dirname(HERE)), "tools")]
 
-from harness import Case, Program, Tally
+from harness import Case, Program, Tally, case_of
 
 TOP = os.path.dirname(os.path.dirname(HERE))
 BUILT = os.path.join(TOP, "crates", "dmremap", "out", "dmremap")
@@ -82,7 +82,8 @@ def suites_of(modules, patterns, tally):
     names = [os.path.basename(it)[:-len(".py")] for it in paths]
     for name in set(modules) - set(names):
         tally.fail("the modules", "there is none named " + name)
-    suites = {name: loader.loadTestsFromModule(importlib.import_module(name)) for name in names if name in modules or not modules}
+    cases = {name: case_of(importlib.import_module(name)) for name in names if name in modules or not modules}
+    suites = {name: loader.loadTestsFromTestCase(case) for name, case in cases.items()}
     return {name: suite for name, suite in suites.items() if suite.countTestCases()}
 
 

@@ -107,18 +107,12 @@ class Tally(unittest.TestResult):
 
 
 class Case(unittest.TestCase):
-    """The tests of a module. Each function of `checks` is one, by its name with `test` in place of `check`: it gets what the
-    case has under the names of its arguments, of which `tally` is the case itself, and others what `setUp` adds."""
+    """The tests of a module."""
 
     program: Program
     top: str  # of the repository
     own_folder: str  # the module's own folder
     is_own: bool  # whether the program is that of this repository
-
-    def __init_subclass__(cls, checks=(), **others):
-        super().__init_subclass__(**others)
-        for check in checks:
-            setattr(cls, check.__name__.replace("check", "test", 1), _test(check))
 
     @property
     def tally(self):
@@ -145,10 +139,25 @@ class Case(unittest.TestCase):
             self.skipTest("%s: %s" % (name, why))
 
 
-def _test(check):
+def case_of(module):
+    """The case of a module, in which each function `test_..` of the module is a test: it gets what the case has under the
+    names of its arguments, of which `tally` is the case itself, or what the module's function of that name makes of it.
+    What all tests of a module have together is made by a class of its own."""
+    own = [it for it in vars(module).values() if getattr(it, "__module__", "") == module.__name__]
+    made = type("Tests", (Case,), {"__module__": module.__name__})
+    case = next((it for it in own if isinstance(it, type) and issubclass(it, Case)), made)
+    setattr(module, case.__name__, case)
+    for function in (it for it in own if inspect.isfunction(it) and it.__name__.startswith("test_")):
+        setattr(case, function.__name__, _test(function))
+    return case
+
+
+def _test(function):
     """A function as a method."""
-    names = list(inspect.signature(check).parameters)
-    return lambda case: check(*[getattr(case, name) for name in names])
+    def given(case, name):
+        return getattr(case, name) if hasattr(case, name) else function.__globals__[name](case)
+    names = list(inspect.signature(function).parameters)
+    return lambda case: function(*[given(case, name) for name in names])
 
 
 def run(words, given=b"", stdin=None, stdout=None, stderr=None, before=None, folder=None, env=None):

@@ -8,7 +8,6 @@ import textwrap
 import documents
 import transcripts
 from documents import text_of
-from harness import Case
 
 # How many bytes a page has, at least and at most.
 BYTES = 1000, 2000
@@ -16,7 +15,7 @@ BYTES = 1000, 2000
 SHOWN = re.compile(r"\]\(([\w./-]+\.rt)\)|^```rust\n(.*?)^```$", re.M | re.S)
 
 
-def check_pages(tally, program, top):
+def test_pages(tally, program, top):
     code = documents.code_of(top)
     for crate in re.findall(r"^(\w+):", text_of(os.path.join(top, "crates.txt")), re.M):
         name = os.path.join("crates", crate, "README.md")
@@ -57,7 +56,3 @@ def stands_in(block, source):
     wanted, lines = block.rstrip("\n").split("\n"), source.split("\n")
     rows = (lines[at:at + len(wanted)] for at, line in enumerate(lines) if line.strip() == wanted[0].strip())
     return "#[test]" in source and any(textwrap.dedent("\n".join(it)) == "\n".join(wanted) for it in rows)
-
-
-class CratePages(Case, checks=[check_pages]):
-    """Each crate's page."""

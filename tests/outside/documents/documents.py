@@ -7,7 +7,6 @@ import re
 
 import diagnostics
 import transcripts
-from harness import Case
 
 # Where a path of this repository begins, as documents write it.
 PATH = re.compile(r"(?:crates|docs|examples|tests|tools)/[\w./*-]*[\w*]")
@@ -42,7 +41,7 @@ MARK = "# needs "
 WALK, COMMANDS = re.compile(r"\n## 1\. From images alone\n(.*?)\n## ", re.S), 12
 
 
-def check_names(tally, top):
+def test_names(tally, top):
     documents = [os.path.join(top, *it) for it in (("README.md",), ("CHANGELOG.md",), ("tests", "benches", "RESULTS.md"))]
     documents += sorted(glob.glob(os.path.join(top, "docs", "*.md")))
     code = code_of(top)
@@ -63,13 +62,13 @@ def check_names(tally, top):
     tally.holds("definitions that comments name", not lost, "there is no %s" % ", ".join(lost))
 
 
-def check_sizes(tally, top):
+def test_sizes(tally, top):
     for name, most in BYTES.items():
         size = os.path.getsize(os.path.join(top, name))
         tally.holds("the size of %s" % name, size <= most, "it has %d bytes" % size)
 
 
-def check_commands(tally, program, top):
+def test_commands(tally, program, top):
     for name in ("README.md", os.path.join("docs", "TUTORIAL.md"), os.path.join("docs", "PYTHON.md")):
         text = text_of(os.path.join(top, name))
         transcripts.check(tally, program, top, name, transcripts.of_markdown(text))
@@ -83,7 +82,7 @@ def check_commands(tally, program, top):
                 "it has %d commands, or one of sed" % len(walk))
 
 
-def check_picture(tally, program, top):
+def test_picture(tally, program, top):
     """The numbers in the picture are where lines begin and end on the disk, its length, and where the write reads and writes."""
     group, picture = os.path.join(top, GROUP), text_of(os.path.join(top, PICTURE))
     lines = re.findall(r": 0 (\d+) linear \S+ (\d+)", program.run(["table", "lvm", group]).out.decode())
@@ -168,7 +167,3 @@ def anchors(text):
 def text_of(path):
     with open(path, encoding="utf-8") as it:
         return it.read()
-
-
-class Documents(Case, checks=[check_names, check_sizes, check_picture, check_commands]):
-    """What the documents name, and the commands that they show."""

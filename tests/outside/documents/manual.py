@@ -9,7 +9,7 @@ import shutil
 import help_words
 import transcripts
 from dmremap_tools import commands
-from harness import Case, run
+from harness import run
 
 SECTIONS = ["NAME", "SYNOPSIS", "DESCRIPTION", "COMMANDS", "FORMATS", "OUTPUT", "EXIT STATUS", "DIAGNOSTICS",
             "EXAMPLES", "LIMITS", "SEE ALSO"]
@@ -31,7 +31,7 @@ COLUMNS = 80
 WHOLE = re.compile(r'"(dmremap: (?!name: )\w+(?:: \w+)?)(?:\\n)?"')
 
 
-def check_page(tally, program, top):
+def test_page(tally, program, top):
     path = os.path.join(top, "docs", "dmremap.1")
     text = text_of(path)
     check_shown(tally, path)
@@ -104,13 +104,9 @@ def text_of(path):
         return it.read()
 
 
-def check_columns(tally, top):
+def test_columns(tally, top):
     """The help of the tools fits a terminal."""
     for name in [None, *(it.name for it in commands.COMMANDS)]:
         got = run([os.path.join(top, "dmremap-tools"), *filter(None, [name]), "--help"], env=dict(os.environ, COLUMNS=str(COLUMNS)))
         longest = max(got.out.decode().splitlines(), key=len, default="")
         tally.holds("the columns of the help of %s" % (name or "the tools"), 0 < len(longest) <= COLUMNS, "it has the line %r" % longest)
-
-
-class Manual(Case, checks=[check_page, check_columns]):
-    """The page as a whole, and the help of the tools."""

@@ -5,13 +5,13 @@ import os
 import re
 import sys
 
-from harness import Case, run
+from harness import run
 
 # A line of a list: a number of a line, what kind of item there is if it is no definition, and its name.
 ENTRY = re.compile(r"^ +\d+  (?:(?:type|trait|constant) )?([^ :,\n]+)", re.M)
 
 
-def check_lists(tally, top):
+def test_lists(tally, top):
     def printed(*words):
         made = run([sys.executable, "-B", os.path.join(top, "tests", "reading"), *words])
         tally.holds("reading %s" % " ".join(words), made.status == 0, (made.out + made.err).decode().strip())
@@ -28,7 +28,3 @@ def check_lists(tally, top):
     lost = [it for it in names if it not in book]
     tally.holds("the book", not lost, "it lacks %s" % ", ".join(lost[:9]))
     tally.holds("the contracts of the book", "pub fn map_whole" in book.rpartition("The contracts:")[2], "it doesn't end with them")
-
-
-class ReadingList(Case, checks=[check_lists]):
-    """What `tests/reading` prints."""

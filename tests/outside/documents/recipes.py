@@ -8,7 +8,7 @@ import shutil
 
 import transcripts
 from documents import MARK, text_of
-from harness import Case, run
+from harness import run
 
 # A recipe with its heading.
 RECIPE = re.compile(r"^##+ ([^\n]*)\n(.*?)(?=^##+ |\Z)", re.M | re.S)
@@ -18,7 +18,7 @@ BEGIN, WALK = "Before you begin", "walk"
 MOUNTED = MARK + "root, nbdkit"
 
 
-def check_document(tally, program, top):
+def test_document(tally, program, top):
     """Pastes the blocks of each recipe that need nothing else, twice."""
     recipes = [(title, shown_by(transcripts.blocks(text))) for title, text in RECIPE.findall(page(top, "RECIPES.md"))]
     lost = [title for title, pairs in recipes if None in pairs]
@@ -34,7 +34,7 @@ def check_document(tally, program, top):
                 check_recipe(tally, folder, begin, "the recipe %s, pasted %s" % (title, time), pairs)
 
 
-def check_mounted(tally, program, top):
+def test_mounted(tally, program, top):
     """Pastes the blocks that serve and mount a volume, where that can be done."""
     blocks = [shown_by(transcripts.blocks(text)) for _, text in RECIPE.findall(page(top, "RECIPES.md"))]
     pairs = [it for found in blocks for it in filter(None, found) if it[0].startswith(MOUNTED)]
@@ -100,7 +100,7 @@ def page(top, name):
     return text_of(os.path.join(top, "docs", name))
 
 
-def check_refusal(tally, program):
+def test_refusal(tally, program):
     """dmremap refuses the line that a command prints in place of what it can't make, wherever it reads it."""
     table, disks, line = "a: 0 8 linear sda 0\n", "sda 8\n", "refused\n"
     message = "dmremap: %s\n"
@@ -111,7 +111,3 @@ def check_refusal(tally, program):
     for form in ("concise", "lvm"):
         words = ["table", form, program.file("refusal/source", line)] + [program.file("refusal/disks", disks)] * (form == "concise")
         tally.same("a refused text, as " + form, program.run(words), 1, "", message % ("source: syntax at %d" % (1 + (form == "lvm"))))
-
-
-class Recipes(Case, checks=[check_document, check_mounted, check_refusal]):
-    """The recipes, and the line `refused`."""

@@ -6,7 +6,6 @@ import os
 import re
 
 from documents import text_of
-from harness import Case
 
 # What these documents have at most, so that each is read at one sitting.
 BYTES = {"ARCHITECTURE.md": 8800, "DECISIONS.md": 4000, "DEVELOPING.md": 8500, "PROMISES.md": 17600}
@@ -20,7 +19,7 @@ EDITS, SAID = "crates/*/must-fail/*.edit", re.compile(r"at most (\d+) must-fail 
 NAME = re.compile(r"`([\w:]+)`")
 
 
-def check_pages(tally, top):
+def test_pages(tally, top):
     words = words_of_sources(top)
     for name, most in BYTES.items():
         path = os.path.join(top, "docs", name)
@@ -60,7 +59,3 @@ def words_of_sources(top):
     files = [it for pattern in SOURCES for it in glob.glob(os.path.join(top, pattern), recursive=True)]
     files = [it for it in files if os.path.isfile(it) and "/out/" not in it]
     return {word for it in files for text in (os.path.relpath(it, top), text_of(it)) for word in re.findall(r"\w+", text)}
-
-
-class SourceNames(Case, checks=[check_pages]):
-    """Names, sizes, numbers and arrows."""

@@ -13,7 +13,7 @@ from harness import Case, run
 from tool_calls import TOOL, samples
 
 
-def check_made(tally, top, derive):
+def test_made(tally, top, derive):
     for name, text in derive.made().items():
         with open(os.path.join(top, name), encoding="utf-8") as it:
             tally.holds(name, it.read() == text, "it isn't what tools/derive writes")
@@ -28,7 +28,7 @@ def loaded(path):
     return module
 
 
-def check_offered(tally, program, top, derive):
+def test_offered(tally, program, top, derive):
     """The commands, and the options of each."""
     found = list(derive.parsers())
     rows = [([""], {command.name for command, _, _ in found}), (["met"], {"metadata"})]
@@ -36,7 +36,7 @@ def check_offered(tally, program, top, derive):
     completions.check_rows(tally, top, os.path.dirname(program.file("offered/a file")), TOOL, rows, left_out={"--help"})
 
 
-def check_derived(tally, program, top):
+def test_derived(tally, program, top):
     """A manual that doesn't fit on the disk, and completions without their folder."""
     derived = os.path.join(os.path.realpath(program.folder), "derived")
     shutil.copytree(os.path.join(top, "tools"), os.path.join(derived, "tools"), ignore=shutil.ignore_patterns("completions"))
@@ -53,7 +53,7 @@ def check_derived(tally, program, top):
         tally.holds("what it wrote before", one.read() == other.read(), "it is another")
 
 
-def check_packed(tally, program, top):
+def test_packed(tally, program, top):
     """The packed file is the same each time, and does what the sources do, from anywhere."""
     packed = [os.path.join(program.folder, "packed", str(it), TOOL) for it in range(2)]
     for path in packed:
@@ -71,7 +71,7 @@ def check_packed(tally, program, top):
         tally.same("tools/pack to " + path, run([os.path.join(top, "tools", "pack"), path]), 5, "", "pack: %s: %s\n" % (ascii(path)[1:-1], why))
 
 
-def check_started(tally, program, top):
+def test_started(tally, program, top):
     """The script at the top works by a link, from any folder."""
     link = os.path.join(program.folder, "a link to the tool")
     os.symlink(os.path.join(top, TOOL), link)
@@ -79,7 +79,7 @@ def check_started(tally, program, top):
     tally.same("the tool by a link", run([link, "--help"], folder="/"), 0, wanted.out)
 
 
-class ToolDocuments(Case, checks=[check_made, check_offered, check_derived, check_packed, check_started]):
+class ToolDocuments(Case):
     """What is made of the tools' texts, and of the tools."""
 
     @classmethod

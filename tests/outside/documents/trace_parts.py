@@ -7,7 +7,7 @@ import shutil
 
 import transcripts
 from documents import text_of
-from harness import Case, run
+from harness import run
 from tool_calls import TOOL
 
 SECTION = re.compile(r"\n### A long trace in parts\n(.*?)\n##", re.S)
@@ -15,7 +15,7 @@ SMALLER = (("--block 10M", "--block 20k"), ("1000000", "700"))
 COUNT = 5000
 
 
-def check_commands(tally, program, top):
+def test_commands(tally, program, top):
     found = SECTION.search(text_of(os.path.join(top, "docs", "RECIPES.md")))
     commands = [smaller("\n".join(lines)) for _, lines in transcripts.blocks(found[1])] if found else []
     if not tally.holds("the commands for a long trace", len(commands) == 2, "RECIPES has %d" % len(commands)):
@@ -54,7 +54,3 @@ def smaller(text):
 def bytes_of(folder, name):
     with open(os.path.join(folder, name), "rb") as it:
         return it.read()
-
-
-class TraceParts(Case, checks=[check_commands]):
-    """The commands of the recipe."""

@@ -10,7 +10,7 @@ import re
 
 import transcripts
 from documents import text_of
-from harness import Case, run
+from harness import run
 
 ARROW = "→"
 # A refused text, perhaps the disks that it stands over, and the answer.
@@ -29,13 +29,13 @@ SPAN = re.compile(r">([^<>]+) \.\. ([^<>]+)</text>")
 WORKED, COUNT = "## 10. Worked examples", 4
 
 
-def check_formats(tally, program, top):
+def test_formats(tally, program, top):
     formats = text_of(os.path.join(top, "docs", "FORMATS.md"))
     transcripts.check(tally, program, top, "docs/FORMATS.md", transcripts.of_markdown(formats))
     check_refused(tally, program, top, formats)
 
 
-def check_mapping(tally, program, top):
+def test_mapping(tally, program, top):
     mapping = text_of(os.path.join(top, "docs", "MAPPING.md"))
     examples = EXAMPLE.findall(mapping)
     tally.holds("examples", len(examples) == mapping.count("\n```example"), "some aren't run")
@@ -45,7 +45,7 @@ def check_mapping(tally, program, top):
         check_worked(tally, program, words.split(), body)
 
 
-def check_pictures(tally, program, top):
+def test_pictures(tally, program, top):
     check_store(tally, program, text_of(os.path.join(top, "docs", "store.svg")))
 
 
@@ -131,7 +131,3 @@ def place_of(text, numbers):
 
 def ended(lines):
     return "".join(it + "\n" for it in lines)
-
-
-class Worked(Case, checks=[check_formats, check_mapping, check_pictures]):
-    """The examples of both pages, and of their pictures."""

@@ -4,8 +4,6 @@ Each row shows one rule of mapping, of joining or of the texts that are taken. I
 enough to be followed by hand: what is wanted is written down from the rules, and never taken from a run.
 """
 
-from harness import Case
-
 # A name, FILE, DISKS, the requests, what is answered, and why the run ended before their end, if it did.
 ROWS = [
     # One device.
@@ -100,11 +98,7 @@ ROWS = [
 ]
 
 
-def check_rows(tally, program):
+def test_rows(tally, program):
     for name, table, disks, requests, output, refused in ROWS:
         message = "dmremap: %s\n" % refused if refused else ""
         tally.same(name, program.map(table, disks, requests), 3 if refused else 0, output, message)
-
-
-class Answers(Case, checks=[check_rows]):
-    """Each row."""

@@ -1,6 +1,5 @@
 """Metadata of volume groups as vgcfgbackup(8) writes it, and the order in which it is checked."""
 
-from harness import Case
 from vgcfgbackup import READABLE, WRITABLE, backup, created, physical, striped, volume
 
 HOME = volume("home", "J8bKcY-Gz1Q-XW3a-0kNf-p8bU-2zTq-mL5oRr", WRITABLE, striped(0, 10, ("pv0", 0)),
@@ -42,7 +41,7 @@ FAULTS = [
 ]
 
 
-def check_backups(tally, program):
+def test_backups(tally, program):
     for name, text in (("a full backup", BACKUP), ("a group before its head", GROUP_FIRST)):
         got = program.run(["map", "lvm", program.file("backup", text)], given=REQUESTS)
         tally.same(name, got, 0, PIECES)
@@ -55,7 +54,3 @@ def check_backups(tally, program):
         tally.same("a backup with " + name, got, 1, "", "dmremap: source: %s\n" % message)
     got = program.run(["map", "lvm", program.file("backup", BACKUP), program.file("disks")], given=REQUESTS)
     tally.same("disks for a backup", got, 2, "", "dmremap: words: disks\n")
-
-
-class Backups(Case, checks=[check_backups]):
-    """Whole backups, and such with faults."""

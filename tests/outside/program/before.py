@@ -8,7 +8,7 @@ has to be what the whole stream answers there.
 import os
 import random
 
-from harness import Case, become_nobody
+from harness import become_nobody
 
 SNAPSHOT = ("s: 0 32 snapshot base cow P 8\n", "base 32\ncow 64\n")
 # Two snapshots of one origin, which its own device serves.
@@ -79,7 +79,7 @@ WRONG = [
 ]
 
 
-def check_rows(tally, program):
+def test_rows(tally, program):
     for name, table, disks, earlier, requests, output in ROWS:
         tally.same("after %s" % name, mapped(program, table, disks, earlier, requests, "--status"), 0, output)
     for earlier, word in REFUSED:
@@ -87,7 +87,7 @@ def check_rows(tally, program):
         tally.same("earlier requests, %s" % word, got, 1, "", "dmremap: before: %s\n" % word)
 
 
-def check_read_only(tally, program):
+def test_read_only(tally, program):
     """A read-only device over a snapshot: what was written below shows, and what was written to it does not."""
     words = ["map", "concise", program.file("concise", READ_ONLY), program.file("disks", SNAPSHOT[1]), "--status", "--before"]
     for name, earlier, output in [
@@ -102,7 +102,7 @@ def mapped(program, table, disks, earlier, requests, *more):
     return program.run(words + ["--before", program.file("earlier", earlier), *more], given=requests)
 
 
-def check_words(tally, program):
+def test_words(tally, program):
     for line, told in WRONG:
         got = program.run(line.split())
         is_told = got.status == 2 and got.out == b"" and told.encode() in got.err
@@ -113,7 +113,7 @@ def check_words(tally, program):
         tally.same("the words %s" % words, program.run(words, given="R s 8 1\n"), 0, "1 R cow 16 1\n")
 
 
-def check_files(tally, program):
+def test_files(tally, program):
     """What can't be opened or read, and which fault is told; no request is read then."""
     table, disks = program.file("table", SNAPSHOT[0]), program.file("disks", SNAPSHOT[1])
     start = ["map", "table", table, disks, "--before"]
@@ -138,7 +138,7 @@ def check_files(tally, program):
         tally.same("a full output after a refusal", program.run(start + ["missing"], stdout=full), *refused)
 
 
-def check_cuts(tally, program):
+def test_cuts(tally, program):
     """Requests that are made from a fixed seed, cut in two at several places."""
     chance = random.Random(62)
     table, disks = PAIR[0].replace("16 ", "96 "), "base 96\nc1 160\nc2 80\n"
@@ -158,7 +158,3 @@ def renumbered(line, cut):
     if not number.isdigit():
         return line
     return "%d %s" % (int(number) - cut, rest) if int(number) > cut else None
-
-
-class Before(Case, checks=[check_rows, check_read_only, check_words, check_files, check_cuts]):
-    """What earlier requests left, and texts of them that are refused."""

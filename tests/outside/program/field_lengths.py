@@ -4,8 +4,6 @@ Short fields may be read and written as words of a known length, long ones in an
 the end of what was read in a third. No answer shows which way a line went.
 """
 
-from harness import Case
-
 MOST_NAME = 127
 MOST_DISK_NAME = 255
 MOST_SECTORS = 1 << 50
@@ -24,7 +22,7 @@ def answers(pieces):
     return "".join("%d %s\n" % answer for answer in enumerate(pieces, 1))
 
 
-def check_names(tally, program):
+def test_names(tally, program):
     """Devices with names of each length. Those of a length differ in their last letter."""
     names = [front(length, last) for length in range(1, MOST_NAME + 1) for last in ("", "b", "c")]
     count = len(names)
@@ -37,7 +35,7 @@ def check_names(tally, program):
         tally.same("names of devices, %s" % order, program.map(table, "sda %d\n" % (10 * count), given), 0, wanted)
 
 
-def check_unknown_names(tally, program):
+def test_unknown_names(tally, program):
     """Names that no device has, beside devices whose names are one letter shorter or longer, or differ at the end."""
     for length in list(range(2, 20)) + [31, 32, 33, 63, 64, 65, MOST_NAME - 1]:
         for other in (length - 1, length + 1):
@@ -51,7 +49,7 @@ def check_unknown_names(tally, program):
                                "dmremap: request 3: unknown\n")
 
 
-def check_disk_names(tally, program):
+def test_disk_names(tally, program):
     """Disks with names of each length, in lines of reads, of writes, and of both in turn, and as parts of one request."""
     names = ["s" * (length - 1) + "d" for length in range(1, MOST_DISK_NAME + 1)]
     table = "".join("a: %d 8 linear %s 5\n" % (8 * at, name) for at, name in enumerate(names))
@@ -67,7 +65,7 @@ def check_disk_names(tally, program):
         tally.same("names of disks, one %s" % letter, got, 0, wanted)
 
 
-def check_numbers(tally, program):
+def test_numbers(tally, program):
     """Starts of 1 to 19 digits with lengths of 1 to 7."""
     starts = numbers_below(10 ** 19)
     asked = [(start, length) for start in starts for length in starts if length <= MOST_LENGTH]
@@ -79,7 +77,7 @@ def check_numbers(tally, program):
         tally.same("starts and lengths, %s" % letter, got, 0, wanted)
 
 
-def check_wrong_numbers(tally, program):
+def test_wrong_numbers(tally, program):
     """Lengths of 7 to 20 digits, starts of 20, and a zero or another byte at each place of a number."""
     wrong = [(1, number, "number" if number >= 10 ** 19 else "length")
              for number in numbers_below(10 ** 20) if number > MOST_LENGTH]
@@ -101,7 +99,7 @@ def numbers_below(end):
     return sorted({number for row in rows for count in range(1, 21) for number in [int(row[:count])] if number < end})
 
 
-def check_last_bytes(tally, program):
+def test_last_bytes(tally, program):
     """Lines that begin at each of the last places of what one read takes."""
     last = "W name 1234567 1000\n"
     for left in range(3 * len(last) + 1):
@@ -114,7 +112,7 @@ def check_last_bytes(tally, program):
         tally.same("requests after %d bytes" % len(given), got, 0, wanted)
 
 
-def check_gathered(tally, program):
+def test_gathered(tally, program):
     """Lines of answers that begin at each place at which what is gathered may be passed on."""
     for longer in range(24):
         starts = [10] * longer + [9] * (24 - longer) + [1234567, 9] * 4000
@@ -123,7 +121,7 @@ def check_gathered(tally, program):
         tally.same("%d longer lines" % longer, got, 0, answers("R sda %d 7" % start for start in starts))
 
 
-def check_gathered_names(tally, program):
+def test_gathered_names(tally, program):
     """The same with names of disks that fill the room of a line's head, or nearly, and longer ones."""
     for length in (1, 27, 28, 29, 30, 31, 32, 127, MOST_DISK_NAME):
         name = "s" * length
@@ -134,10 +132,3 @@ def check_gathered_names(tally, program):
             wanted = answers("%s %s %d 7" % (letter, name, start) for letter, start in lines)
             got = program.map("a: 0 2000000 linear %s 0\n" % name, "%s 2000000\n" % name, given)
             tally.same("names of %d bytes, %d longer lines" % (length, longer), got, 0, wanted)
-
-
-class FieldLengths(Case, checks=[
-    check_names, check_unknown_names, check_disk_names, check_numbers, check_wrong_numbers, check_last_bytes,
-    check_gathered, check_gathered_names
-]):
-    """Names, numbers and lines of each length."""

@@ -4,7 +4,7 @@ import os
 import subprocess
 import threading
 
-from harness import Case, become_nobody
+from harness import become_nobody
 
 TABLE = "a: 0 8 linear sda 4\n"
 DISKS = "sda 12\n"
@@ -45,7 +45,7 @@ ODD_PATHS = ["two words", "  spaces around  ", "*", "$HOME", "a;b", "quote'and\"
              "new\nline", "-hyphen", "folder with spaces/a file"]
 
 
-def check_paths(tally, program):
+def test_paths(tally, program):
     for path in ODD_PATHS:
         table = os.path.relpath(program.file("tables/" + path, TABLE), program.folder + "/tables")
         disks = program.file("lists/" + path, DISKS)
@@ -53,7 +53,7 @@ def check_paths(tally, program):
         tally.same("files named %r" % path, got, 0, ANSWER)
 
 
-def check_refused(tally, program):
+def test_refused(tally, program):
     table, disks = program.file("table", TABLE), program.file("disks", DISKS)
     zeros = program.file("zeros", "z: 0 8 zero\n")
     wrong = program.file("wrong", "no table\n")
@@ -78,7 +78,7 @@ def check_refused(tally, program):
             tally.same(name, got, 1, "", "dmremap: %s: read\n" % part)
 
 
-def check_unreadable(tally, program):
+def test_unreadable(tally, program):
     table, disks = program.file("table", TABLE), program.file("disks", DISKS)
     closed = program.file("closed", DISKS)
     os.chmod(closed, 0)
@@ -93,7 +93,7 @@ def check_unreadable(tally, program):
     tally.same("an unreadable DISKS", runs[2], 1, "", "dmremap: disks: read\n")
 
 
-def check_others(tally, program):
+def test_others(tally, program):
     table, disks = program.file("table", TABLE), program.file("disks", DISKS)
     link = os.path.join(program.folder, "link")
     os.symlink(table, link)
@@ -112,7 +112,7 @@ def check_others(tally, program):
         tally.same("an endless " + name, got, 1, "", "dmremap: %s: long\n" % part)
 
 
-def check_pipes(tally, program):
+def test_pipes(tally, program):
     """Two pipes, whose writer opens DISKS once FILE is written; and one that nobody writes to."""
     pipes = [os.path.join(program.folder, it) for it in ("file pipe", "disks pipe", "silent pipe")]
     for it in pipes:
@@ -142,7 +142,7 @@ def write_pipes(pipes, contents):
             it.write(content.encode())
 
 
-def check_descriptors(tally, program):
+def test_descriptors(tally, program):
     """The numbers of closed streams are free for FILE and DISKS, and free again once these were read."""
     files = [program.file("table", TABLE), program.file("disks", DISKS)]
     for words in (["map", "table", *files], ["replay", "table", *files], ["map", "lvm", program.file("vg0", METADATA)]):
@@ -157,7 +157,7 @@ def check_descriptors(tally, program):
     tally.same("check with a closed standard input", got, 0, "devices 1\ndisks 1\ndepth 1\ntidy\n")
 
 
-def check_metadata(tally, program):
+def test_metadata(tally, program):
     """Metadata is FILE alone: there is no DISKS."""
     given = "R vg0-lv0 0 8\nW vg0-lv0 204792 16\nW vg0-lv0 204792 8\n"
     output = "1 R /dev/sda1 2048 8\n2 error 16\n3 W /dev/sda1 206840 8\n"
@@ -185,9 +185,3 @@ def write_slowly(path, content):
     with open(path, "wb", buffering=0) as it:
         for byte in content.encode():
             it.write(bytes([byte]))
-
-
-class Files(Case, checks=[
-    check_paths, check_refused, check_unreadable, check_others, check_pipes, check_descriptors, check_metadata
-]):
-    """Files that are read, and such that can't be."""

@@ -1,7 +1,6 @@
 """Metadata of volume groups: what volumes map to, and each word of a refusal. A row changes a line."""
 
 from files import METADATA
-from harness import Case
 
 # In place of line 24: the end of the volume, and a read-only one of two stripes in lines 25 to 36.
 SECOND = """    }
@@ -177,7 +176,7 @@ WHOLE = [
 ]
 
 
-def check_rows(tally, program):
+def test_rows(tally, program):
     for number, line, requests, output in MAPPED:
         path = program.file("group", with_line(BOTH, number, line))
         tally.same("a group with %r" % line, program.run(["map", "lvm", path], given=requests), 0, output)
@@ -196,7 +195,3 @@ def check_rows(tally, program):
     for text, words, status in WHOLE:
         got = program.run(["map", "lvm", program.file("group", text)], given="R lv0 0 8\n")
         tally.same("the metadata %r" % text[:40], got, status, "", "dmremap: %s\n" % words)
-
-
-class Groups(Case, checks=[check_rows]):
-    """Each row."""

@@ -13,7 +13,7 @@ import shutil
 
 import images
 from groups import BOTH
-from harness import Case, is_static, run
+from harness import is_static, run
 from stored import put, taken
 
 MEMORY = "dmremap: memory\n"
@@ -54,7 +54,7 @@ REQUESTS = ["R s 18 2\n", "W s 18 1\n", "R s 16 4\n"]
 ANSWERS = ["1 old base 18 2\n", "2 wrote 2 18 1\n", "3 old base 16 2\n3 wrote 2 18 1\n3 old base 19 1\n"]
 
 
-def check_runs(tally, program):
+def test_runs(tally, program):
     shim = Shim(program)
     if is_static(program.path):
         tally.skip("growths that are refused", "no shim is loaded into a static program")
@@ -163,7 +163,7 @@ def check_reads(tally, shim, program):
     tally.holds("reads of a store", is_few, "%d, and %d for %d areas" % (got.reads, others, areas))
 
 
-def check_volumes(tally, program):
+def test_volumes(tally, program):
     """Metadata of many volumes of many segments."""
     number = 40
     segment = ('segment%d { start_extent = %d extent_count = 1 type = "striped" stripe_count = 1 '
@@ -183,7 +183,7 @@ def check_volumes(tally, program):
     tally.same("%d volumes of %d segments" % (number, number), got, 0, lines)
 
 
-def check_claims(tally, program):
+def test_claims(tally, program):
     """`check` of as many columns as a source holds: each on a sector of its own, and all on one."""
     disks = ["%c%c" % (first, second) for first in range(97, 123) for second in range(65, 104) if second != 92]
     apart = claims("%s %d" % (disk, sector) for sector in range(1000) for disk in disks)
@@ -210,7 +210,7 @@ def claims(columns):
         lines.append(line)
 
 
-def check_last_sectors(tally, program):
+def test_last_sectors(tally, program):
     """A replay at the end of the greatest device."""
     most = 1 << 50
     files = ("a: 0 %d linear sda 0\n" % most, "sda %d\n" % most)
@@ -219,7 +219,3 @@ def check_last_sectors(tally, program):
         most - 8, most - 16, most - 8, most - 1)
     got = program.run(words_of(program, "replay table", files), given=given)
     tally.same("a replay of the last sectors below 2^50", got, 0, answers)
-
-
-class Growths(Case, checks=[check_runs, check_volumes, check_claims, check_last_sectors]):
-    """What runs ask for, and what loads ask for by their sizes."""

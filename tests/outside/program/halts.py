@@ -14,7 +14,7 @@ import kinds
 import origins
 import replays
 from growths import Shim
-from harness import Case, Program
+from harness import Program
 from replays import first_units, lines, played
 from snapshots import concise, plain
 
@@ -144,7 +144,7 @@ def long_row(length, chunk, count):
     return source, disks, asked, wanted
 
 
-def check_long(tally):
+def test_long(tally):
     """A long write that is halted after each of its units."""
     for count in range(4 * 2 * (origins.SNAPSHOTS + 1) + 2):
         source, disks, asked, wanted = long_row(8, 2, count)
@@ -152,7 +152,7 @@ def check_long(tally):
         tally.holds("a long write that is halted after %d units" % count, got == wanted, "the plain rules give " + got)
 
 
-def check_tests(tally, program, top):
+def test_tests(tally, program, top):
     """The tests of dm_replay, if the gate left them."""
     tests = os.path.join(top, TESTS)
     if os.access(tests, os.X_OK):
@@ -163,7 +163,7 @@ def check_tests(tally, program, top):
         tally.skip("stops, and each growth of one", "there is no %s, which the gate leaves" % TESTS)
 
 
-def check_table(tally, top):
+def test_table(tally, top):
     """The rows of the tests' own table."""
     with open(os.path.join(top, TABLE), encoding="ascii") as table:
         rows = table.read().partition('"\\\n')[2].rpartition('";\n')[0].split("#")
@@ -195,7 +195,3 @@ def check_growths(tally, shim):
         got = [(first, shim.run([TEST], first, "start", others)) for first in range(1, asked + 1)]
         wrong = [(first, it.status, it.out, it.err) for first, it in got if it.status or not it.refused]
         tally.holds("stops with " + name, asked > 0 and not wrong, "of %d growths %s" % (asked, wrong[:3]))
-
-
-class Halts(Case, checks=[check_table, check_long, check_tests]):
-    """The rules, and the tests that play them."""

@@ -6,7 +6,6 @@ import re
 
 import diagnostics
 import explanations
-from harness import Case
 
 # What a message may have in place of what its form names.
 NAMED = {"PART": "source", "NUMBER": "20", "WORD": "field", "NAME": "vg0-snap", "LINE": "3", "N": "7"}
@@ -14,7 +13,7 @@ NAMED = {"PART": "source", "NUMBER": "20", "WORD": "field", "NAME": "vg0-snap", 
 COMMAND = "name"
 
 
-def check_words(tally, program, top):
+def test_words(tally, program, top):
     with open(os.path.join(top, "docs", "dmremap.1"), encoding="utf-8") as it:
         sections = diagnostics.section_of(it.read(), "DIAGNOSTICS")
     listed = help_of(program, "map").partition("\nMessages, ")[2].partition("\n\n")[0]
@@ -62,7 +61,7 @@ def help_of(program, word):
     return program.run(["help", word]).out.decode()
 
 
-def check_command(tally, program):
+def test_command(tally, program):
     """A command is meant where it has the name of a word."""
     tally.same("help on a command", program.run(["help", COMMAND]), 0, program.run([COMMAND, "--help"]).out)
     got = program.run(["help", "no: such: word"])
@@ -70,7 +69,7 @@ def check_command(tally, program):
     tally.holds("help on no word", is_refused, "status %s, %r" % (got.status, got.err))
 
 
-def check_itself(tally, program):
+def test_itself(tally, program):
     """How to ask for help."""
     wanted = program.run(["help", "help"])
     tally.holds("help help", (wanted.status, wanted.err) == (0, b"") and b"WORD" in wanted.out, "status %s, %r" % (wanted.status, wanted.err))
@@ -78,12 +77,8 @@ def check_itself(tally, program):
         tally.same("help " + word, program.run(["help", word]), 0, wanted.out)
 
 
-def check_streams(tally, program):
+def test_streams(tally, program):
     with open("/dev/full", "wb") as full:
         tally.same("help on a word and a full output", program.run(["help", "field"], stdout=full), 5, "", "dmremap: output: write\n")
     got = program.run(["help", "field"], before=lambda: os.close(1))
     tally.same("help on a word and a closed output", got, 5, "", "dmremap: output: write\n")
-
-
-class HelpMessages(Case, checks=[check_words, check_command, check_itself, check_streams]):
-    """What help says of messages, and how it ends."""

@@ -66,7 +66,7 @@ COMMANDS_WITH_REQUESTS = {"map", "replay"}
 COLUMNS = 80
 
 
-def check_commands(tally, program, commands):
+def test_commands(tally, program, commands):
     tally.holds("the commands of help", len(commands) > 6, "they are %s" % commands)
     for command in [*commands, "help", None]:
         longest = max(help_of(program, command).splitlines(), key=len)
@@ -120,7 +120,7 @@ def outcomes(program, command):
     return found
 
 
-def check_statuses(tally, program, commands):
+def test_statuses(tally, program, commands):
     """Each status comes as the help says, and the help of a command lists each that came."""
     everything = {}
     for command in commands:
@@ -145,7 +145,7 @@ def check_listed(tally, name, listed, found):
                         "the status is %s" % found.get(way))
 
 
-def check_meanings(tally, program, manual):
+def test_meanings(tally, program, manual):
     """Help and manual say the same of each status."""
     entries = re.findall(r"^\.TP\n\.B (\d)\n((?:(?!\.TP|\.PP).*\n)*)", manual, re.M)
     entries = [(number, re.sub(r"\.\w+ |\n| ,", " ", text).replace("  ", " ")) for number, text in entries]
@@ -155,7 +155,7 @@ def check_meanings(tally, program, manual):
             tally.holds("%s on status %s" % (name, number), re.search(meant, text), "it says %r" % text)
 
 
-def check_limits(tally, program, parts):
+def test_limits(tally, program, parts):
     """A number that the help gives is the manual's too, and the program takes it and nothing above."""
     most = number_in(help_of(program, "map"), r"A request has 1 to (\d+) sectors\.")
     table, disks = "a: 0 %d zero\n" % (2 * most + 2), "sda 1\n"
@@ -180,7 +180,7 @@ def number_in(text, pattern):
     return int(found[1]) if found else 0
 
 
-def check_lines(tally, program, parts):
+def test_lines(tally, program, parts):
     """The words of lines: the manual has the same forms, and the program takes and writes them."""
     text = help_of(program, "map")
     forms = re.findall(r"NAME: .*", lines_of(text, "FILE"))
@@ -210,7 +210,7 @@ def lines_of(text, label):
     return re.search(r"^  %s .*\n(?:  (?:N | {7}).*\n)*" % label, text, re.M)[0]
 
 
-def check_forms(tally, program, synopsis, commands):
+def test_forms(tally, program, synopsis, commands):
     """The manual's synopsis has the arguments and options of the help."""
     shown = {}
     for form in re.findall(r"^\.SY dmremap\n(.*?)^\.YS", synopsis, re.M | re.S):
@@ -228,7 +228,7 @@ def check_forms(tally, program, synopsis, commands):
         tally.holds("the manual's form of %s" % command, shown.get(command) == wanted, "it is %s, and help has %s" % (shown.get(command), wanted))
 
 
-def check_examples(tally, program, top, commands):
+def test_examples(tally, program, top, commands):
     """Each help has an example, which can be followed."""
     folder = os.path.join(program.folder, "help", "examples")
     os.makedirs(folder)
@@ -246,9 +246,7 @@ def check_examples(tally, program, top, commands):
             tally.holds("the example %s" % example[1], got.status == 0 and got.out and not got.err, "%s, %r" % (got.status, got.err))
 
 
-class HelpTexts(Case, checks=[
-    check_commands, check_statuses, check_meanings, check_limits, check_lines, check_forms, check_examples
-]):
+class HelpTexts(Case):
     """The help of each command, beside the parts of the manual."""
 
     @classmethod

@@ -4,8 +4,6 @@ recursion would take. Small texts that are only wrong are rows of the modules of
 
 import resource
 
-from harness import Case
-
 MIB = 1048576
 SECONDS = 10
 MEMORY = 256 << 20
@@ -159,7 +157,7 @@ REPLAYED = [
 ]
 
 
-def check_rows(tally, program):
+def test_rows(tally, program):
     for name, form, source, disks, message in REFUSED:
         got = bounded(program, form, source, disks, "R a 0 1\n")
         tally.same("%s, in the format %s" % (name, form), got, 1, "", "dmremap: %s\n" % message)
@@ -183,7 +181,3 @@ def bounded(program, form, source, disks, requests, command="map"):
 def bind():
     resource.setrlimit(resource.RLIMIT_CPU, (SECONDS, SECONDS))
     resource.setrlimit(resource.RLIMIT_AS, (MEMORY, MEMORY))
-
-
-class Hostile(Case, checks=[check_rows]):
-    """Each row."""

@@ -6,7 +6,7 @@ import struct
 
 import physical_volumes
 import stored
-from harness import Case, become_nobody
+from harness import become_nobody
 from models import DATA, EXTENT, identity, linear, segment, text, volume
 
 SECTOR = 512
@@ -67,7 +67,7 @@ def mapped(program, images, asked=ASKED, *more, command="map", **how):
 PAIR = [("sda", disk("a", area())), ("sdb", disk("b", area()))]
 
 
-def check_maps(tally, program):
+def test_maps(tally, program):
     tally.same("two disks", mapped(program, PAIR), 0, ANSWER % ("sda", "sdb"))
     tally.same("in the other order", mapped(program, PAIR[::-1]), 0, ANSWER % ("sda", "sdb"))
     tally.same("the first alone", mapped(program, PAIR[:1]), 0, ANSWER % ("sda", "/dev/b"))
@@ -86,7 +86,7 @@ def check_maps(tally, program):
     tally.same("the first of two labels", mapped(program, [("sda", two)]), 1, "", told("sda", "foreign"))
 
 
-def check_commands(tally, program):
+def test_commands(tally, program):
     table = "vg0-home: 0 40 linear sda 2072\nvg0-home: 40 16 linear sdb 2048\n"
     tally.same("table", mapped(program, PAIR, "", command="table"), 0, table)
     concise = "vg0-home,,,rw,0 40 linear sda 2072,40 16 linear sdb 2048\n"
@@ -111,7 +111,7 @@ def told(name, word):
     return "dmremap: disk %s: %s\n" % (name, word)
 
 
-def check_refused(tally, program):
+def test_refused(tally, program):
     full = disk("a", area())
     first, size = physical_volumes.FIRST, 65536
     pairs = struct.pack("<2Q", 1, 1) * 27
@@ -152,7 +152,7 @@ def check_refused(tally, program):
         tally.same("%s is missing" % name, mapped(program, [("sda", full[:end])]), 1, "", told("sda", "read"))
 
 
-def check_groups(tally, program):
+def test_groups(tally, program):
     """Faults of a disk beside another one, and which of several is told."""
     later = area(text("vg0", "g", 5, "ab", HOME))
     other = area(text("vg1", "k", 4, "c", volume("home", "h", linear(0, 5, ("pv0", 3)))))
@@ -181,7 +181,7 @@ def told_of(program, content):
     return got.status, got.out, got.err
 
 
-def check_rings(tally, program):
+def test_rings(tally, program):
     """A text that goes round its ring, and areas beside it."""
     size = len(TEXT) + 512 + 100
     for offset in (512, 513, 611, 612, 613, 1024, size - 513, size - 512, size - 1):
@@ -202,7 +202,7 @@ def check_rings(tally, program):
         tally.holds("an image of %d bytes" % (cut * 256), is_told, "status %s, %r" % (got.status, got.err))
 
 
-def check_files(tally, program):
+def test_files(tally, program):
     """What can't be opened or read as an image, and many images."""
     folder, pipe = os.path.join(program.folder, "folder"), os.path.join(program.folder, "image.pipe")
     os.makedirs(folder, exist_ok=True)
@@ -218,7 +218,7 @@ def check_files(tally, program):
     tally.same("2,000 images", mapped(program, many), 1, "", told("d0", "read"))
 
 
-def check_stores(tally, program):
+def test_stores(tally, program):
     """The stores of snapshots in the same images, earlier requests, and the status."""
     known = text("vg0", "g", 4, "ab", *SNAPSHOT)
     at = (DATA + 8 * EXTENT) * SECTOR
@@ -243,9 +243,3 @@ def check_stores(tally, program):
     other = text("vg0", "g", 4, "ba", *SNAPSHOT)
     got = mapped(program, [("sda", disk("a", area(other)))], asked)
     tally.same("a store on a disk without an image", got, 1, "", "dmremap: store vg0-snap: missing\n")
-
-
-class Images(Case, checks=[
-    check_maps, check_commands, check_refused, check_groups, check_rings, check_files, check_stores
-]):
-    """What heads say, what of them is refused, and runs from the stores in the same images."""

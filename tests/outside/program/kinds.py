@@ -7,7 +7,6 @@ What is wanted was worked out by hand. Random stacks and requests with all kinds
 
 import replays
 import snapshots
-from harness import Case
 
 
 def taken(request, count, further):
@@ -172,7 +171,7 @@ LOADS = [
 ]
 
 
-def check_rows(tally, program):
+def test_rows(tally, program):
     for name, source, disks, requests, output in WRITES:
         tally.same(name, snapshots.run(program, source, disks, requests, "--status"), 0, output)
     for source, disks, requests, answers in REPLAYED:
@@ -188,7 +187,7 @@ def check_rows(tally, program):
             tally.same("the flag %s in %s text" % (flag, form), got, 1, "", "dmremap: source: %s\n" % wanted)
 
 
-def check_texts(tally, program):
+def test_texts(tally, program):
     for kind in "PNK":
         check_kind(tally, program, kind)
 
@@ -205,7 +204,3 @@ def check_kind(tally, program, kind):
 
 def run(program, command, form, source):
     return program.run([command, form, program.file("source", source), program.file("disks", "base 8\ncow 8\n")])
-
-
-class Kinds(Case, checks=[check_rows, check_texts]):
-    """Stores of each kind."""

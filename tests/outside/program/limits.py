@@ -3,7 +3,7 @@
 import os
 import resource
 
-from harness import Case, Outcome
+from harness import Outcome
 from streams import figure_of
 
 BYTES = 1048576
@@ -18,7 +18,7 @@ MOST_TOUCHED = 1.25
 MOST_LOADED = 5 << 9
 
 
-def check_counts(tally, program):
+def test_counts(tally, program):
     devices = "".join("d%d: 0 1 linear sda %d\n" % (it, it) for it in range(1024))
     disks = "".join("s%d 1\n" % it for it in range(1024))
     lines = "".join(ZERO_LINE % it for it in range(LINES))
@@ -51,7 +51,7 @@ def check_counts(tally, program):
     tally.same("1,048,576 sectors, and one more", got, 3, "1 R sda 0 1048576\n", "dmremap: request 2: length\n")
 
 
-def check_rows(tally, program):
+def test_rows(tally, program):
     """Rows of 64, 65 and more elements, in all that keeps one in memory: none of them is too long."""
     for count in (64, 65, 128):
         columns = "".join(" s%d 0" % it for it in range(count))
@@ -86,7 +86,7 @@ def group_of(stripes):
             'logical_volumes { lv { status = ["READ", "WRITE"] segment_count = 1 %s } } }\n' % (volumes, segment))
 
 
-def check_sizes(tally, program):
+def test_sizes(tally, program):
     lines = [ZERO_LINE % it for it in range(LINES)]
     left = BYTES - sum(map(len, lines))
     # A line may have one space at its end, and the name of a device up to 127 bytes.
@@ -117,7 +117,7 @@ def check_sizes(tally, program):
         tally.same("%d bytes as DISKS" % size, got, 1, "", "dmremap: %s\n" % message)
 
 
-def check_many_requests(tally, program):
+def test_many_requests(tally, program):
     number = 200000
     given = "".join("R a %d 1\n" % (it % 1000) for it in range(number))
     output = "".join("%d R sda %d 1\n" % (it + 1, it % 1000 + 24) for it in range(number))
@@ -125,7 +125,7 @@ def check_many_requests(tally, program):
     tally.same("200,000 requests", got, 0, output)
 
 
-def check_memory(tally, program):
+def test_memory(tally, program):
     """Under a rising limit the program doesn't start, then has too little memory, then works."""
     table = "".join("a: %d 1 linear sda %d\n" % (it, it) for it in range(20000))
     got, limit, little = Outcome(None, b"", b""), 1 << 20, []
@@ -144,7 +144,7 @@ def check_memory(tally, program):
         tally.skip("status 6", "no limit here leaves room to start and too little to load")
 
 
-def check_touched_memory(tally, program):
+def test_touched_memory(tally, program):
     """Of the memory that is reserved for chunks, little is touched before they are taken, and no more for more places
     than the origin has chunks."""
     requests = "".join("W s %d 1\n" % (32 * it) for it in range(10))
@@ -163,7 +163,7 @@ def check_touched_memory(tally, program):
                     "it is %.2f times that for %d places" % (ratio, chunks))
 
 
-def check_loaded_memory(tally, program):
+def test_loaded_memory(tally, program):
     """A load takes little more memory than its devices, disks and their names need."""
     taken = []
     for count in (1, 1000):
@@ -182,7 +182,7 @@ def memory_of(program, word, table, disks, requests, answers):
     return figure_of(program, words, requests, answers, "status", word)
 
 
-def check_replay_memory(tally, program):
+def test_replay_memory(tally, program):
     """A replay out of memory has answered the requests before, in full."""
     number = 100000
     table, disks = "a: 0 %d linear sda 0\n" % (2 * number), "sda %d\n" % (2 * number)
@@ -210,7 +210,7 @@ def limit_memory(limit):
     resource.setrlimit(resource.RLIMIT_AS, (limit, limit))
 
 
-def check_small_stack(tally, program):
+def test_small_stack(tally, program):
     """A stack with too little room is refused before a file is opened. The least one has room for snapshots of
     snapshots as deep as they may be, each of a striped origin, and for the greatest environment that it allows."""
     most = resource.getrlimit(resource.RLIMIT_STACK)[1]
@@ -244,10 +244,3 @@ def deepest():
 def limit_stack(limit, most=None):
     """Sets the limit of the stack, and what a process may still ask for, which is no more if it isn't given."""
     resource.setrlimit(resource.RLIMIT_STACK, (limit, limit if most is None else most))
-
-
-class Limits(Case, checks=[
-    check_counts, check_rows, check_sizes, check_many_requests, check_memory, check_touched_memory, check_loaded_memory,
-    check_replay_memory, check_small_stack
-]):
-    """Counts, sizes, memory and the stack."""

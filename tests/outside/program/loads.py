@@ -1,7 +1,5 @@
 """Refused tables and disk lists: each word of a refusal, its place and its status."""
 
-from harness import Case
-
 
 def chain(levels):
     """Devices d1, d2, .. of which each lies over the one before."""
@@ -226,7 +224,7 @@ TAKEN = [
 LENGTHS = [6, 7, 8, 9, 10, 11, 14, 15, 16, 17, 18, 30, 31, 32, 33, 34, 48, 62, 63, 64, 65, 66, 130]
 
 
-def check_lengths(tally, program):
+def test_lengths(tally, program):
     """Lines of these lengths, as they should be, and with one more space at each place."""
     def table(name, line):
         return program.map(line + "\n", "", "R %s 0 8\n" % name)
@@ -253,7 +251,7 @@ def check_lengths(tally, program):
                 tally.same("the line %r" % text, load(name, text), *wanted)
 
 
-def check_rows(tally, program):
+def test_rows(tally, program):
     tables = [(table, DISK, message) for table, message in TABLES]
     disk_lists = [(VOLUME, disks, message) for disks, message in DISK_LISTS]
     for table, disks, message in REFUSED + tables + disk_lists + SEVERAL_FAULTS:
@@ -261,7 +259,3 @@ def check_rows(tally, program):
         tally.same("a load of %r, %r" % (table[:40], disks[:40]), got, 1, "", "dmremap: %s\n" % message)
     for table, disks, requests, output in TAKEN:
         tally.same("a load of %r" % table[:40], program.map(table, disks, requests), 0, output)
-
-
-class Loads(Case, checks=[check_lengths, check_rows]):
-    """Lines of each length, and each row."""

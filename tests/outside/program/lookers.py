@@ -6,10 +6,9 @@ import os
 import re
 
 from documents import text_of
-from harness import Case
 
 
-def check_sources(tally, top):
+def test_sources(tally, top):
     sources = os.path.join(top, "crates", "dm_stack", "src")
     looker, stack = (text_of(os.path.join(sources, name)) for name in ("looker.rt", "stack.rt"))
     derived = re.search(r"#\[derive\((.*)\)\]\npub struct Looker<'s> \{\n((?:    .*\n)*)\}", looker)
@@ -22,7 +21,3 @@ def check_sources(tally, top):
     tally.holds("a looker hands out no stack", not told, "%s does" % ", ".join(told))
     finds = re.findall(r"^ *(pub(?:\(crate\))?) fn find_line\(", stack, re.M)
     tally.holds("only a looker finds lines", finds == ["pub(crate)"], "find_line is %s" % finds)
-
-
-class Lookers(Case, checks=[check_sources]):
-    """What the sources declare."""

@@ -9,7 +9,6 @@ import random
 
 import replays
 import snapshots
-from harness import Case
 from snapshots import Plain, concise
 
 ROUNDS = 100
@@ -208,7 +207,7 @@ def depth(stack, to):
     return 1 + max([depth(stack, it) for it in named], default=0)
 
 
-def check_rows(tally, program):
+def test_rows(tally, program):
     for source, disks, words in REFUSED:
         got = program.map(source, disks)
         tally.same("the load of %r" % source, got, 1, "", "dmremap: source: %s\n" % words)
@@ -234,7 +233,7 @@ def long_stack(length, chunk):
     return source, disks
 
 
-def check_random(tally, program):
+def test_random(tally, program):
     """Small stacks at random."""
     for seed in range(ROUNDS):
         check_requests(tally, program, random.Random(seed))
@@ -242,7 +241,7 @@ def check_random(tally, program):
         check_claims(tally, program, random.Random(seed))
 
 
-def check_long(tally, program):
+def test_long(tally, program):
     """Each chunk is copied to each snapshot and then written; the second time it is only written."""
     source, disks = long_stack(LENGTH, CHUNK)
     wanted = ""
@@ -296,7 +295,3 @@ def disks_of(stack):
 def run(program, words, source):
     """Runs a command that reads no request."""
     return program.run(words + ["table", program.file("table", source), program.file("disks", DISKS)])
-
-
-class Origins(Case, checks=[check_rows, check_long, check_random]):
-    """Rows, the longest requests, and stacks at random."""

@@ -65,7 +65,7 @@ REFUSED = [
 ]
 
 
-def check_answers(tally, program):
+def test_answers(tally, program):
     for given, units, wanted, later in ROWS:
         got = program.run(words_of(program, *SNAPSHOT, units), given=given)
         tally.same("%r, cut after %d units" % (given, units), got, 0, wanted + later)
@@ -120,7 +120,7 @@ def reads(stack, given, values):
     return wanted
 
 
-def check_words(tally, program):
+def test_words(tally, program):
     words = words_of(program, *SNAPSHOT, 1)
     for it in ([], words[:1], words[:2], words + ["1"], ["--help"], *(words[:2] + [it] for it in NO_UNITS)):
         tally.same("power_cut with %r" % it, program.run(it, given="W s 0 1\n"), 2, "", USAGE)
@@ -134,13 +134,13 @@ def check_words(tally, program):
     tally.same("a FILE that may not be read", got, 1, "", "dmremap: source: read\n")
 
 
-def check_refused(tally, program):
+def test_refused(tally, program):
     for source, disks, given, message, status in REFUSED:
         got = program.run(words_of(program, source, disks, 1), given=given)
         tally.same("power_cut refuses %r of %r" % (given[:40], source), got, status, "", "dmremap: %s\n" % message)
 
 
-def check_streams(tally, program):
+def test_streams(tally, program):
     words = words_of(program, *SNAPSHOT, 1)
     for given in ("W s 0 1\n", "W base 0 1\n"):
         here = failing_input(given)
@@ -154,14 +154,14 @@ def check_streams(tally, program):
     tally.same("a closed output of power_cut", got, 5, "", "dmremap: output: write\n")
 
 
-def check_growths(tally, program):
+def test_growths(tally, program):
     shim = Shim(program)
     if tally.holds("the shim of power_cut", not shim.fault, shim.fault):
         given, units, wanted, later = ROWS[7]
         growths.check_growths(tally, shim, "power_cut", words_of(program, *SNAPSHOT, units), [given], [wanted + later])
 
 
-def check_small_stack(tally, program):
+def test_small_stack(tally, program):
     """It is refused before a word is read, and the least one that isn't has room for the deepest stack."""
     for size in (64, 511):
         got = program.run([], before=lambda: limit_stack(size << 10))
@@ -178,9 +178,7 @@ def words_of(program, source, disks, units):
     return [program.file("cut/table", source), program.file("cut/disks", disks), str(units)]
 
 
-class PowerCuts(Case, checks=[
-    check_answers, check_words, check_refused, check_streams, check_growths, check_small_stack
-]):
+class PowerCuts(Case):
     """The program that the gate leaves."""
 
     @classmethod

@@ -5,7 +5,7 @@ import os
 from backups import BACKUP
 from files import METADATA
 from groups import BOTH
-from harness import Case, failing_input
+from harness import failing_input
 
 TABLE = "a: 0 8 linear sda 0 \nb: 0 8 zero\nb: 8 16 striped 2 4 /dev/mapper/a 0 sda 8\n"
 DISKS = "sda 16\n"
@@ -194,7 +194,7 @@ def files_of(program):
     return ["table", program.file("printed.table", TABLE), program.file("printed.disks", DISKS)]
 
 
-def check_forms(tally, program):
+def test_forms(tally, program):
     backup = ["lvm", program.file("printed.backup", BACKUP)]
     for given, printed in ((files_of(program), TABLES), (backup, GROUP)):
         for form, text in printed:
@@ -205,13 +205,13 @@ def check_forms(tally, program):
     tally.same("a printed table, read again", program.run(["table"] + again), 0, printed)
 
 
-def check_names(tally, program):
+def test_names(tally, program):
     for words, text, word in NAMES:
         message = "dmremap: name: %s\n" % word if word else ""
         tally.same(" ".join(words), program.run(words), 1 if word else 0, text, message)
 
 
-def check_texts(tally, program):
+def test_texts(tally, program):
     for text, disks, printed in TEXTS:
         files = ["table", program.file("table", text), program.file("disks", disks)]
         for form, wanted in zip(("table", "concise"), printed):
@@ -223,7 +223,7 @@ def check_texts(tally, program):
             tally.same("%s of the table %r" % (form, text[:40]), got, 1, "", "dmremap: %s\n" % refused)
 
 
-def check_groups(tally, program):
+def test_groups(tally, program):
     for form, text in READ_ONLY_TEXTS:
         got = program.run([form, "lvm", program.file("backup", READ_ONLY)])
         tally.same("%s of a read-only volume" % form, got, 0, text)
@@ -233,7 +233,7 @@ def check_groups(tally, program):
         tally.same("table of " + name, program.run(["table", "lvm", path]), 1 if refused else 0, text, message)
 
 
-def check_concise(tally, program):
+def test_concise(tally, program):
     for text, disks, printed, refused in CONCISE:
         files = ["concise", program.file("concise", text), program.file("disks", disks)]
         message = "dmremap: source: %s\n" % refused if refused else ""
@@ -251,7 +251,7 @@ def check_concise(tally, program):
         tally.same("no DISKS for concise text", program.run(["map"] + files[:2]), 2, "", "dmremap: words: disks\n")
 
 
-def check_streams(tally, program):
+def test_streams(tally, program):
     """Files that can't be read, and streams that fail or are closed."""
     words = ["table", *files_of(program)]
     text = TABLES[0][1]
@@ -270,7 +270,3 @@ def check_streams(tally, program):
     with open("/dev/full", "wb") as full:
         empty = ["table", "table", program.file("empty"), program.file("empty")]
         tally.same("a full output, no tables", program.run(empty, stdout=full))
-
-
-class Printing(Case, checks=[check_forms, check_texts, check_groups, check_concise, check_names, check_streams]):
-    """Each command that prints."""

@@ -19,7 +19,7 @@ if __name__ == "__main__":
     sys.path[:0] = [os.path.join(TOP, "tests", "outside", *names) for names in ((), ("program",), ("tools",))]
 
 import images
-from harness import Case, Program
+from harness import Program
 from models import identity, text
 from physical_volumes import MAGIC, checksum
 
@@ -218,16 +218,12 @@ def compare(program, seed, count):
     return wrong, seen
 
 
-def check_heads(tally, program):
+def test_heads(tally, program):
     tally.holds("the sum that FORMATS has", checksum(b"123456789") == 0x4991CF02, "it is another")
     wrong, seen = compare(program, 18, 500)
     tally.holds("500 groups at random", not wrong, "of %d the first are %s" % (len(wrong), wrong[:3]))
     missed = {*WORDS, "none"} - {*seen}
     tally.holds("their words", not missed, "none is %s" % missed)
-
-
-class RandomHeads(Case, checks=[check_heads]):
-    """What heads at random say, or how they are refused."""
 
 
 if __name__ == "__main__":

@@ -6,8 +6,6 @@ asks for each sector by itself and joins the answers. A new target gets a stack 
 
 from itertools import combinations
 
-from harness import Case
-
 SECTORS = 24
 DISKS = "sda 64\nsdb 64\n"
 
@@ -61,7 +59,7 @@ def joined(number, sectors):
     return "".join("%d %s %d\n" % (number, " ".join(first), length) for first, length in lines)
 
 
-def check_ranges(tally, program):
+def test_ranges(tally, program):
     for source in STACKS:
         for op in "RW":
             each = "".join("%s a %d 1\n" % (op, sector) for sector in range(SECTORS))
@@ -77,7 +75,7 @@ def check_ranges(tally, program):
             tally.same(name, program.map(source, DISKS, given), 0, wanted)
 
 
-def check_lines(tally, program):
+def test_lines(tally, program):
     """The last and the first sector of each line, from the last line on: none comes after the one before."""
     for name, lengths in LENGTHS.items():
         start, table, asked = 0, "", []
@@ -90,7 +88,3 @@ def check_lines(tally, program):
         requests = "".join("R a %d 1\n" % sector for sector, _ in asked)
         answers = "".join("%d R sda %d 1\n" % (number + 1, place) for number, (_, place) in enumerate(asked))
         tally.same("lines, %s" % name, program.map(table, "sda %d\n" % 2 ** 50, requests), 0, answers)
-
-
-class Ranges(Case, checks=[check_lines, check_ranges]):
-    """All ranges of small stacks."""

@@ -5,7 +5,6 @@ import os
 from documents import text_of
 from files import METADATA
 from groups import with_line
-from harness import Case
 from vgcfgbackup import READABLE, UNSEEN, WRITABLE, backup, created, physical, snapshot, striped, volume
 
 EXAMPLE = os.path.join(os.path.dirname(os.path.abspath(__file__)), "..", "..", "..", "examples", "vg0-snapshot.backup")
@@ -203,11 +202,11 @@ BACKUP_REFUSED = [
 ]
 
 
-def check_example(tally):
+def test_example(tally):
     tally.holds("the example of a group with a snapshot", text_of(EXAMPLE) == GROUP, "it is not the group of this module")
 
 
-def check_tables(tally, program):
+def test_tables(tally, program):
     for name, text, tables in TABLES:
         path = program.file("records", text)
         tally.same("tables of " + name, program.run(["table", "lvm", path]), 0, tables)
@@ -234,7 +233,7 @@ def check_tables(tally, program):
     tally.same("a name between a store and its origin", got, 1, "", "dmremap: source: name at 37\n")
 
 
-def check_refused(tally, program):
+def test_refused(tally, program):
     for changes, words in REFUSED:
         text = GROUP
         for number, line in changes:
@@ -246,7 +245,7 @@ def check_refused(tally, program):
         tally.same(name, got, 1, "", "dmremap: source: %s\n" % words)
 
 
-def check_requests(tally, program):
+def test_requests(tally, program):
     path = program.file("records", GROUP)
     for requests, output in REQUESTS:
         tally.same("requests %r" % requests, program.run(["map", "lvm", path], given=requests), 0, output)
@@ -260,7 +259,7 @@ def check_requests(tally, program):
     tally.same("a record is no device", got, 3, "", "dmremap: request 1: unknown\n")
 
 
-def check_backup(tally, program):
+def test_backup(tally, program):
     got = program.run(["concise", "lvm", program.file("records", BACKUP)])
     tally.same("a full backup with snapshots", got, 0, BACKUP_TABLES)
     for old, new, words in BACKUP_REFUSED:
@@ -280,7 +279,3 @@ def concise(read_only):
     lines = (REAL + OVER + COW + SNAP).splitlines()
     return ";".join(line.replace(": ", ",,,%s," % ("ro" if at in read_only else "rw"), 1)
                     for at, line in enumerate(lines)) + "\n"
-
-
-class Records(Case, checks=[check_example, check_tables, check_refused, check_requests, check_backup]):
-    """Groups with records of snapshots."""

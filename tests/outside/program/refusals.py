@@ -11,7 +11,6 @@ import os
 import re
 
 from documents import text_of
-from harness import Case
 
 # A growth of std or of `indexmap`: it fails only where the allocator refuses it.
 STD = "a growth of the kit's"
@@ -121,7 +120,7 @@ MIXED = re.compile(r"\s\|\s+(?:\w+::)*(?:Memory|OutOfMemory)\b|\b(?:Memory|OutOf
 RENAMED = re.compile(r"^ *(?:pub )?use .*(?:\bMemory\b|\bAlloc(?:Error|Failed) as\b)", re.M)
 
 
-def check_sources(tally, top):
+def test_sources(tally, top):
     sources = sorted(glob.glob(os.path.join(top, "crates", "*", "src", "**", "*.rt"), recursive=True))
     sources = [it for it in sources if not re.search("tests|fixtures", os.path.relpath(it, top))]
     constants = {it.split("/src/")[0]: {} for it in sources}
@@ -196,7 +195,3 @@ def arm_of(line):
 
 def depth_of(line):
     return len(line) - len(line.lstrip())
-
-
-class Refusals(Case, checks=[check_sources]):
-    """Each place of the sources that gives up."""

@@ -7,7 +7,6 @@ stacks and requests are made from fixed seeds, so every run tries the same ones.
 import copy
 import random
 
-from harness import Case
 from snapshots import Plain, concise
 
 ROUNDS = 100
@@ -155,7 +154,7 @@ def lines(number, answers):
     return "".join("%d %s %d\n" % (number, " ".join(str(it) for it in first), length) for first, length in runs)
 
 
-def check_random(tally, program):
+def test_random(tally, program):
     for seed in range(ROUNDS):
         dice = random.Random(seed)
         stack, tops = tidy_stack(dice)
@@ -170,7 +169,7 @@ def check_random(tally, program):
         tally.same("the replay of %s" % concise(stack), run(program, concise(stack), disks, given), 0, wanted)
 
 
-def check_no_errors(tally, program):
+def test_no_errors(tally, program):
     """No read or write of a stack that loses nothing is an error. Without a sector of its store, a snapshot is lost."""
     for seed in range(ROUNDS):
         dice = random.Random(seed)
@@ -193,7 +192,7 @@ def check_no_errors(tally, program):
             tally.same("the replay of %s with %d sectors less in its store" % (source, less), got, 0, wanted)
 
 
-def check_large_stacks(tally, program):
+def test_large_stacks(tally, program):
     """More requests than could be answered in time if each looked at all lines or columns of its stack."""
     lines = "".join("a: %d 1 linear s %d\n" % (it, it) for it in range(LINES))
     columns = "".join("a: %d 128 striped 128 1 %s\n" % (128 * line, " ".join("s %d" % (128 * line + it) for it in range(128)))
@@ -207,7 +206,7 @@ def check_large_stacks(tally, program):
         tally.same("%d requests over %s" % (MANY, name), got, 0, wanted)
 
 
-def check_rows(tally, program):
+def test_rows(tally, program):
     for table, disks, requests, output, refused, status in ROWS:
         files = [program.file("table", table), program.file("disks", disks)]
         got = program.run(["replay", "table", *files], given=requests)
@@ -215,7 +214,7 @@ def check_rows(tally, program):
         tally.same(name, got, status, output, "dmremap: %s\n" % refused if refused else "")
 
 
-def check_ends(tally, program):
+def test_ends(tally, program):
     """How a replay ends early: what was answered before, the message and the status."""
     first = "1 wrote 1 0 8\n"
     for rest, word in [("R s 0 0\n", "length"), ("R base 0 1\n", "not top"), ("R t 0 1\n", "not top"), ("R", "unended")]:
@@ -234,7 +233,3 @@ def run(program, source, disks, requests):
 
 def words_of(program, source, disks):
     return ["replay", "concise", program.file("concise", source), program.file("disks", disks)]
-
-
-class Replays(Case, checks=[check_random, check_rows, check_no_errors, check_large_stacks, check_ends]):
-    """Stacks at random, rows, and ends."""

@@ -1,7 +1,5 @@
 """The command `check`: what it counts, the depth, and the clash of two lines."""
 
-from harness import Case
-
 # The format, FILE, DISKS, the report, and why the load is refused, if it is.
 ROWS = [
     ("table", "", "", "devices 0\ndisks 0\ndepth 0\ntidy\n", ""),
@@ -25,12 +23,8 @@ ROWS = [
 ]
 
 
-def check_rows(tally, program):
+def test_rows(tally, program):
     for form, source, disks, report, refused in ROWS:
         got = program.run(["check", form, program.file("source", source), program.file("disks", disks)])
         message = "dmremap: %s\n" % refused if refused else ""
         tally.same("check of %r" % source, got, 1 if refused else 0, report, message)
-
-
-class Reports(Case, checks=[check_rows]):
-    """Each row."""

@@ -3,8 +3,6 @@
 The questions about a line are asked in a fixed order, so a line with several mistakes shows which comes first.
 """
 
-from harness import Case
-
 TABLE = "a: 0 100 linear sda 50\n"
 DISKS = "sda 150\n"
 FIRST = "R a 0 1\n"
@@ -84,7 +82,7 @@ GOOD = [
 ]
 
 
-def check_words(tally, program):
+def test_words(tally, program):
     for bad, word in BAD:
         bad = bad if isinstance(bad, bytes) else bad.encode()
         got = program.map(TABLE, DISKS, bad)
@@ -100,7 +98,7 @@ def check_words(tally, program):
         tally.same("the requests %r" % requests, program.map(TABLE, DISKS, requests), 0, output)
 
 
-def check_letters(tally, program):
+def test_letters(tally, program):
     """Each byte in the place of a request's letter, before few and many bytes, and where requests are read in a row."""
     for letter in sorted(set(range(256)) - set(b"RW")):
         bad = bytes([letter]) + b" a 0 1\n"
@@ -110,7 +108,7 @@ def check_letters(tally, program):
                 tally.same("a request with the letter %r" % bad[:1], got, 3, answer, "dmremap: request 2: form\n")
 
 
-def check_digits(tally, program):
+def test_digits(tally, program):
     """Starts of each number of digits, with few and with many bytes after them."""
     most = 1 << 50
     table, disks = "a: 0 %d linear sda 0\n" % most, "sda %d\n" % most
@@ -122,7 +120,7 @@ def check_digits(tally, program):
             tally.same("%d requests at %d" % (more, start), got, 0, output)
 
 
-def check_beginnings(tally, program):
+def test_beginnings(tally, program):
     """Each beginning of a line and of a rest without its newline, up to a clean end."""
     both = FIRST + "R a 1 1"
     for count in range(len(both) + 1):
@@ -132,7 +130,7 @@ def check_beginnings(tally, program):
                    3 if rest else 0, ANSWER if newline else "", message)
 
 
-def check_rows(tally, program):
+def test_rows(tally, program):
     """Requests in a row over many lines: a bad one at each place, more than a buffer holds, and an end at each byte."""
     row = [asked(at) for at in range(60)]
     for before in range(36):
@@ -163,7 +161,3 @@ def requests_of(row):
 
 def answers_of(row):
     return "".join(answer for _, answer in row)
-
-
-class RequestLines(Case, checks=[check_words, check_letters, check_digits, check_beginnings, check_rows]):
-    """Lines that are read, and such that end a run."""

@@ -5,7 +5,6 @@ what it wrote."""
 
 import random
 
-from harness import Case
 from stored import place, put, stored
 
 ROUNDS, CUTS = 4, 20
@@ -88,7 +87,7 @@ class Machine:
         return dict(zip(self.rows, values[length:])), wanted
 
 
-def check_restarts(tally, program):
+def test_restarts(tally, program):
     for seed in range(ROUNDS):
         dice, machine = random.Random(seed), Machine(program)
         wrong = []
@@ -100,7 +99,3 @@ def check_restarts(tally, program):
             wrong += [(number, it, replayed.get(it), value) for it, value in wanted.items() if replayed.get(it) != value]
         tally.holds("restarts after %d cuts, seed %d" % (CUTS, seed), not wrong, "%d sectors differ, as %s" % (len(wrong), wrong[:3]))
         tally.holds("chunks in each store, seed %d" % seed, all(machine.lists.values()), "%s" % machine.lists)
-
-
-class Restarts(Case, checks=[check_restarts]):
-    """Runs that start from the stores that a power cut left."""

@@ -5,8 +5,6 @@ A store begins with a chunk for its header and one for the first area of numbers
 taken is kept at the store's third. The numbers can be followed by hand.
 """
 
-from harness import Case
-
 # A name, FILE, DISKS, the requests and what is answered.
 ROWS = [
     # A chunk is copied and then written.
@@ -225,7 +223,7 @@ LOADED = [
 ]
 
 
-def check_rows(tally, program):
+def test_rows(tally, program):
     for name, table, disks, requests, output in ROWS:
         tally.same(name, program.map(table, disks, requests), 0, output)
     for name, table, disks, requests, output, refused, status in STATUS:
@@ -237,7 +235,3 @@ def check_rows(tally, program):
         tally.same("a load of snapshots, %r" % table[:60], got, 1, "", "dmremap: %s\n" % words)
     for table in LOADED:
         tally.same("a load of snapshots, %r" % table[:60], program.map(table, DISKS))
-
-
-class SnapshotRows(Case, checks=[check_rows]):
-    """Each row."""

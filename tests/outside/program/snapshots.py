@@ -6,8 +6,6 @@ one before left. The stacks and requests are made from fixed seeds, so every run
 
 import random
 
-from harness import Case
-
 ROUNDS = 200
 REQUESTS = 30
 LONG_STORE = "s,,,,0 8 snapshot base cow P 1024"
@@ -314,14 +312,14 @@ def small_requests(dice, stack):
         yield dice.choice("RWW"), name, start, dice.randint(1, 9)
 
 
-def check_rows(tally, program):
+def test_rows(tally, program):
     for source, disks, requests, output in ROWS:
         tally.same("requests of %s" % source, run(program, source, disks, requests), 0, output)
     for source, disks, message in REFUSED:
         tally.same("the load of %s" % source, run(program, source, disks, ""), 1, "", "dmremap: %s\n" % message)
 
 
-def check_random(tally, program):
+def test_random(tally, program):
     """Small stacks at random."""
     for seed in range(ROUNDS):
         dice = random.Random(seed)
@@ -339,7 +337,7 @@ def check_random(tally, program):
         tally.same("the small stack of %s" % source, got, 0, wanted + stack.status())
 
 
-def check_status(tally, program):
+def test_status(tally, program):
     for disks, length, line in STATUS:
         length_of = dict(it.split() for it in disks.splitlines())
         stack = Plain({"s": [(0, 64, ("snapshot", "base", "cow", "P", 1))]}, set(), {it: int(length_of[it]) for it in length_of})
@@ -353,7 +351,3 @@ def check_status(tally, program):
 def run(program, source, disks, requests, *flags):
     words = ["map", "concise", program.file("concise", source), program.file("disks", disks), *flags]
     return program.run(words, given=requests)
-
-
-class Snapshots(Case, checks=[check_rows, check_status, check_random]):
-    """Rows, status lines, and stacks at random."""

@@ -9,7 +9,7 @@ import struct
 import subprocess
 import threading
 
-from harness import Case, Outcome, become_nobody, run
+from harness import Outcome, become_nobody, run
 from streams import figure_of
 
 SECTOR = 512
@@ -149,7 +149,7 @@ def told(word):
     return "dmremap: store s: %s\n" % word
 
 
-def check_words(tally, program):
+def test_words(tally, program):
     for line, part in WRONG:
         got = program.run(line.split())
         is_told = got.status == 2 and got.out == b"" and part.encode() in got.err
@@ -165,13 +165,13 @@ def check_words(tally, program):
         tally.same("the words %s" % words, got, 0, "1 R cow 16 1\n2 R cow 24 1\n3 R base 24 1\n")
 
 
-def check_texts(tally, program):
+def test_texts(tally, program):
     for text, word in REFUSED:
         got = stored(program, TABLE % (800, 8), DISKS % (800, 4000), text, "R s 8 1\n")
         tally.same("the paths %r" % text[:60], got, 1, "", "dmremap: paths: %s\n" % word)
 
 
-def check_files(tally, program):
+def test_files(tally, program):
     """What of PATHS can't be read, and what goes before it."""
     table, disks = program.file("table", TABLE % (800, 8)), program.file("disks", DISKS % (800, 4000))
     start = ["map", "table", table, disks, "--paths"]
@@ -211,7 +211,7 @@ def endless(path, line):
         return
 
 
-def check_places(tally, program):
+def test_places(tally, program):
     """Where a disk lies: a file by any path, and a byte of it."""
     for name, text, file, start in [
             ("a path with spaces", "cow two  words .img\n", "two  words .img", 0),
@@ -245,7 +245,7 @@ def check_places(tally, program):
     tally.same("an image of which nothing is asked", got, 0, "1 R base 4 1\n")
 
 
-def check_headers(tally, program):
+def test_headers(tally, program):
     for header, word in HEADERS:
         got = of_store(program, 8, [(1, 2)], "R s 8 1\n", header=header)
         if word:
@@ -259,7 +259,7 @@ def check_headers(tally, program):
     tally.same("the status of one", got, 0, "s: 0 800 snapshot Invalid\n")
 
 
-def check_lists(tally, program):
+def test_lists(tally, program):
     for name, pairs, word in LISTS:
         got = of_store(program, 8, pairs)
         tally.same("a list with %s" % name, got, 1 if word else 0, "", told(word) if word else "")
@@ -282,7 +282,7 @@ def where_of(chunk, count, old):
     return "cow %d" % (place(chunk, count - 1 - old) * chunk) if old < count else "base %d" % (old * chunk)
 
 
-def check_ends(tally, program):
+def test_ends(tally, program):
     """A store that ends near the end of an area."""
     chunk = 1
     for name, store_len, count, word in [
@@ -301,7 +301,7 @@ def check_ends(tally, program):
             tally.same(name, got, 0, "1 R cow %d 1\n" % place(chunk, count - 1))
 
 
-def check_images(tally, program):
+def test_images(tally, program):
     """Images that end, and what can't be opened or read as one."""
     pairs = taken(8, 300)
     # The header, 8 rows of the first area, and two of the second, of which the last has the free pair.
@@ -328,7 +328,7 @@ def check_images(tally, program):
         tally.same("%s as an image" % name, got, 1, "", told("read"))
 
 
-def check_devices(tally, program):
+def test_devices(tally, program):
     """A block device as an image."""
     image = put(program, "c.img", 8, [(1, 2)])
     made = run(["losetup", "-r", "-f", "--show", image]) if shutil.which("losetup") and not os.geteuid() else None
@@ -341,7 +341,7 @@ def check_devices(tally, program):
     tally.same("a block device as an image", got, 0, "1 R cow 16 1\n")
 
 
-def check_blocks(tally, program):
+def test_blocks(tally, program):
     """An image that ends inside a block of 128 rows: it is read row by row, as far as the list and the free pair after it go."""
     chunk = 1024
     for count in (1, 32, 4095, 4096, 5000, 32 * chunk):
@@ -355,7 +355,7 @@ def check_blocks(tally, program):
                 tally.same("an image of %d pairs that ends with the last row" % count, got, 0, "1 R %s 1\n" % where_of(chunk, count, 0))
 
 
-def check_reads(tally, program):
+def test_reads(tally, program):
     """A long list is read in blocks."""
     chunk, reads = 1024, []
     for count in (1, 32 * chunk):
@@ -371,7 +371,7 @@ def check_reads(tally, program):
     tally.holds("the reads of 1,024 rows", more <= MORE_READS, "they are %d more than for one" % more)
 
 
-def check_shrinks(tally, program):
+def test_shrinks(tally, program):
     """An image that becomes shorter while its list is read: the program is stopped for that after the first blocks."""
     pairs = taken(8, 400000)
     path = put(program, "c.img", 8, pairs)
@@ -398,7 +398,7 @@ def bytes_read(process):
         return int(it.readline().split()[1])
 
 
-def check_missing(tally, program):
+def test_missing(tally, program):
     """Sectors of a store on disks that PATHS doesn't name, or whose image ends: the first in the order of the list."""
     # The header and half of the first area lie on sda, the other half of each on sdb.
     put(program, "whole.img", 8, taken(8, 1), size=96 * SECTOR)
@@ -437,7 +437,7 @@ def spread(image, start, column):
     return bytes(found).ljust(64 * SECTOR, b"\0")
 
 
-def check_kinds(tally, program):
+def test_kinds(tally, program):
     put(program, "c.img", 8, [(1, 2)])
     for kind, paths, answer in (("P", "cow c.img\n", "cow 16"), ("K", "cow c.img\n", "cow 16"), ("N", "cow c.img\n", "base 8"), ("N", "", "base 8")):
         table = (TABLE % (800, 8)).replace(" P ", " %s " % kind)
@@ -455,7 +455,7 @@ def check_kinds(tally, program):
     tally.same("two stores on one disk, one over the other", got, 0, "1 R sda 16 1\n2 R sda 424 1\n3 R sda 416 1\n4 R base 24 1\n")
 
 
-def check_runs(tally, program):
+def test_runs(tally, program):
     """A run goes on from the state: the next chunk has the next place, and a full store is full."""
     got = of_store(program, 8, [(3, 2), (1, 3)], "W s 0 8\nR s 0 8\nR s 24 8\n", "--status")
     tally.same("a write after two chunks", got, 0,
@@ -476,7 +476,7 @@ def check_runs(tally, program):
         tally.holds("no request is read after a refused store", os.lseek(requests.fileno(), 0, os.SEEK_CUR) == 0, "some were")
 
 
-def check_replays(tally, program):
+def test_replays(tally, program):
     """A replay begins from the state, too, on disks that hold what they held."""
     got = of_store(program, 8, [(3, 2), (1, 3)], "R s 8 1\nW s 0 1\nR s 0 16\nR s 24 1\n", command="replay")
     tally.same("a replay from two chunks", got, 0, "1 old cow 24 1\n2 wrote 2 0 1\n3 wrote 2 0 1\n3 old base 1 7\n"
@@ -500,10 +500,3 @@ def check_replays(tally, program):
     words = ["replay", "table", program.file("table", TABLE % (800, 8)), program.file("disks", DISKS % (800, 4000))]
     got = program.run(words + ["--paths", "missing"], given="R s 8 1\n")
     tally.same("a replay without its PATHS", got, 1, "", "dmremap: paths: read\n")
-
-
-class Stored(Case, checks=[
-    check_words, check_texts, check_files, check_places, check_headers, check_lists, check_ends, check_images,
-    check_devices, check_blocks, check_reads, check_shrinks, check_missing, check_kinds, check_runs, check_replays
-]):
-    """Lists of paths, stores, and runs from them."""

@@ -10,7 +10,7 @@ import subprocess
 import tempfile
 import time
 
-from harness import Case, Outcome, failing_input
+from harness import Outcome, failing_input
 
 TABLE = "a: 0 4096 striped 2 1 sda 0 sdb 0\n"
 # The same in four lines, whose requests are read several at a time before the first of them is answered.
@@ -30,7 +30,7 @@ UNWRITTEN = "dmremap: output: write\n"
 UNREAD = "dmremap: requests: read\n"
 
 
-def check_output(tally, program):
+def test_output(tally, program):
     """An output that takes nothing; the requests are answered however the run would have ended."""
     for name, given in (("a short answer", SHORT), ("a long answer", LONG), ("a bad request", SHORT + BAD)):
         with open("/dev/full", "wb") as full:
@@ -45,7 +45,7 @@ def check_output(tally, program):
         tally.same("a full output, a refused load", got, 1, "", "dmremap: source: empty at 1\n")
 
 
-def check_writes(tally, program):
+def test_writes(tally, program):
     """How often each command writes: what it has to say is gathered. A socket keeps apart what each write gave it."""
     table, disks = program.file("table", TABLE), program.file("disks", DISKS)
     files = ["table", table, disks]
@@ -64,7 +64,7 @@ def check_writes(tally, program):
                     "%d writes of %d lines" % (len(writes), text.count(b"\n")))
 
 
-def check_reader(tally, program):
+def test_reader(tally, program):
     """A reader that takes a line and goes, as `head` does. The program may not go on for ever."""
     words = [program.path, "map", "table", program.file("table", TABLE), program.file("disks", DISKS)]
     for name, given in (("before anything was written", SHORT), ("in the midst of a long answer", LONG)):
@@ -81,7 +81,7 @@ def check_reader(tally, program):
         tally.same("a reader that goes away " + name, Outcome(ran.wait(), b"", message), 5, "", UNWRITTEN)
 
 
-def check_full_pauses(tally, program):
+def test_full_pauses(tally, program):
     """An output that takes nothing more, and fails at once, while the program waits for requests, and has room again
     before they come. What it did not take is lost, and nothing may be written after it."""
     words = ["table", program.file("table", TABLE), program.file("disks", DISKS)]
@@ -137,7 +137,7 @@ def full_pipe(room):
     return here, there
 
 
-def check_gone_pauses(tally, program):
+def test_gone_pauses(tally, program):
     """A reader that goes away while the program waits for requests."""
     for command, answer in (("map", SHORT_ANSWER), ("replay", "1 old sda 0 1\n1 old sdb 0 1\n")):
         words = [program.path, command, "table", program.file("table", TABLE), program.file("disks", DISKS)]
@@ -167,7 +167,7 @@ def await_pause(process):
         time.sleep(0.02)
 
 
-def check_beginnings(tally, program):
+def test_beginnings(tally, program):
     """A file that may grow to `most` bytes and no more, as on a disk that runs full."""
     whole = program.map(TABLE, DISKS, LONG).out
     tally.same("the same device in four lines", program.map(FOUR, DISKS, LONG), 0, whole)
@@ -180,7 +180,7 @@ def check_beginnings(tally, program):
             tally.same("an output that fails after %d bytes%s" % (most, name), got, 5, whole[:most], UNWRITTEN)
 
 
-def check_each_beginning(tally, program):
+def test_each_beginning(tally, program):
     """A file that runs full after each byte of what is written at the end of a run, or printed."""
     table = ["table", program.file("table", SNAPSHOTS), program.file("disks", STORES)]
     for name, words in (("status lines", ["map", *table, "--status"]), ("concise text", ["concise", *table])):
@@ -201,7 +201,7 @@ def limit_files(most):
     resource.setrlimit(resource.RLIMIT_FSIZE, (most, most))
 
 
-def check_requests(tally, program):
+def test_requests(tally, program):
     folder = os.open(program.folder, os.O_RDONLY)
     tally.same("a folder as requests", program.map(TABLE, DISKS, stdin=folder), 4, "", UNREAD)
     os.close(folder)
@@ -267,7 +267,7 @@ def check_unclosed(tally, program):
                        "dmremap: request %d: %s\n" % (number, word))
 
 
-def check_messages(tally, program):
+def test_messages(tally, program):
     """Where the message can't be written, the output and the status are what they were."""
     rows = [
         ("no fault", TABLE, SHORT, 0, SHORT_ANSWER),
@@ -282,7 +282,7 @@ def check_messages(tally, program):
         tally.same("a closed standard error, " + name, got, status, output)
 
 
-def check_pauses(tally, program):
+def test_pauses(tally, program):
     """A request is answered before the next one is written, though its pipe stays open."""
     disks = program.file("disks", DISKS)
     rows = [
@@ -327,10 +327,3 @@ def figure_of(program, words, given, answers, file, word):
         figure = int(re.search(word + r":\s+(\d+)", it.read())[1])
     rest, message = ran.communicate()
     return figure, Outcome(ran.returncode, wrote + rest, message)
-
-
-class Streams(Case, checks=[
-    check_output, check_writes, check_reader, check_full_pauses, check_gone_pauses, check_beginnings,
-    check_each_beginning, check_requests, check_messages, check_pauses
-]):
-    """Each stream, and how it may end."""

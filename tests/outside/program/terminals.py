@@ -4,7 +4,7 @@ import os
 import pty
 import subprocess
 
-from harness import Case, run
+from harness import run
 
 TABLE, DISKS = "a: 0 8 linear sda 4\n", "sda 12\n"
 HELP, EXPLAIN, FAILS = "what it means:  dmremap help ", "what mends it:  dmremap-tools explain ", "why it fails:   dmremap-tools explain "
@@ -51,7 +51,7 @@ def told(command, given, folder, environment=None, stdin=subprocess.PIPE):
     return shown.decode().replace("\r\n", "\n")
 
 
-def check_told(tally, program, top):
+def test_told(tally, program, top):
     folder = os.path.join(program.folder, "terminals")
     for name, content in FILES.items():
         program.file(os.path.join(folder, name), content)
@@ -69,7 +69,3 @@ def check_told(tally, program, top):
         for command in (it.partition(":  ")[2] for it in named if " .. " not in it):
             got = run(["bash", "-c", command], folder=folder, env=environment)
             tally.holds("what is typed after %s: %s" % (words, command), got.status == 0 and got.out, "status %s, %s" % (got.status, got.err))
-
-
-class Terminals(Case, checks=[check_told]):
-    """The commands that follow a message."""

@@ -2,8 +2,6 @@
 
 import os
 
-from harness import Case
-
 VERSION = "0.1.0"
 
 VOLUME = "vol: 0 100 linear sda 50\n"
@@ -150,7 +148,7 @@ STATUS = [
 ]
 
 
-def check_words(tally, program):
+def test_words(tally, program):
     paths = {"TABLE": program.file("table", VOLUME), "DISKS": program.file("disks", DISKS)}
     real = lambda words: [paths.get(it, it) for it in words]
     for words in HELP:
@@ -180,7 +178,7 @@ def check_words(tally, program):
                0, "1 R sda 50 1\n")
 
 
-def check_told(tally, program):
+def test_told(tally, program):
     for line, told in TOLD:
         got = program.run(line.split())
         is_told = got.status == 2 and got.out == b"" and told.encode() in got.err
@@ -198,7 +196,7 @@ def check_told(tally, program):
     tally.holds("words that are no text", is_told, "status %s, on standard error %r" % (got.status, got.err))
 
 
-def check_unprinted(tally, program):
+def test_unprinted(tally, program):
     """Help and the version on an output that takes nothing, and words that are refused on such a standard error."""
     for words in HELP + VERSIONED:
         name = "an output that is %%s, by %s" % words
@@ -209,7 +207,3 @@ def check_unprinted(tally, program):
     for words in ([], ["map"], ["map", "table", "missing"]):
         with open("/dev/full", "wb") as full:
             tally.same("a full standard error, by %s" % words, program.run(words, stderr=full), 2)
-
-
-class Words(Case, checks=[check_words, check_told, check_unprinted]):
-    """Words that are taken, and such that are refused."""

@@ -24,7 +24,7 @@ SOURCE = "crates/low/src/text"
 USAGE = "usage: tools/building/build [--run WORD.. | --by COMMAND..]\n"
 
 
-def check_calls(tally, tree):
+def test_calls(tally, tree):
     tally.same("./build", tree.run([], tree.build), 0, "", BUILDING + told())
     tally.same("./build once it is built", tree.run([], tree.build), 0)
     for words in (["--help"], ["more"], ["--by"]):
@@ -36,7 +36,7 @@ def check_calls(tally, tree):
     tally.holds("./dmremap on one processor", got.status == 0 and calls.count("--jobs 1") == 3, "rt was called: %s" % calls)
 
 
-def check_faults(tally, tree):
+def test_faults(tally, tree):
     """Each has a message, if there is somewhere to put it, and leaves nothing behind."""
     first = "dmremap: low is proved and built (1 of 3, after 0 min 0 s)\n"
     failed = BUILDING + first + "rt: this is middle\ndmremap: the build of middle failed"
@@ -108,7 +108,7 @@ def check_rights(tally, tree):
         tally.skip("./dmremap with no right to build", "only root can become somebody else")
 
 
-def check_full_disks(tally, tree):
+def test_full_disks(tally, tree):
     """A disk that is full, and a limit of the size of files, which is met at other places. Neither loses what is kept."""
     words = ["splitname", "a-b"]
     for limit in (0, 10, 100, 2000):
@@ -132,7 +132,7 @@ def check_full_disks(tally, tree):
     tally.same("./dmremap after that", tree.run(words), 0, "a b\n", BUILDING + told())
 
 
-def check_changed(tally, tree):
+def test_changed(tally, tree):
     """What is changed during a build gets into no crate of it, and the program is built anew."""
     for name, place in ("a source", SOURCE), ("a source of the crate that is built", "crates/dmremap/src/text"):
         tree.put()
@@ -186,7 +186,7 @@ def check_checkout(tally, tree):
     shutil.rmtree(tree.path(".git"))
 
 
-def check_by(tally, tree):
+def test_by(tally, tree):
     """A command builds the program, as the gate does."""
     make = "mkdir -p crates/dmremap/out && cp %s crates/dmremap/out && echo > crates/dmremap/out/dmremap.o && echo said"
     make %= "'%s'" % tree.program.path
@@ -212,7 +212,7 @@ def check_by(tally, tree):
     tally.same("./dmremap after a command that makes nothing", got, 0, "a b\n", BUILDING + told())
 
 
-def check_turns(tally, tree):
+def test_turns(tally, tree):
     """A second call waits while another one builds, and also for what one left that was killed. Six calls build once."""
     tree.rt(HELD_RT)
     let = os.path.join(tree.folder, "let")
@@ -268,7 +268,7 @@ class Said:
         return without_times(self.text.replace(b"\r\n", b"\n"))
 
 
-def check_told(tally, tree):
+def test_told(tally, tree):
     """What runs is told again and again: in lines, and on a terminal in one that is rewritten."""
     with open(tree.build, encoding="utf-8") as it:
         text = it.read()
@@ -297,7 +297,7 @@ def check_told(tally, tree):
     os.close(there)
 
 
-def check_stopped(tally, tree):
+def test_stopped(tally, tree):
     """A build that is interrupted, or told to end, leaves nothing running, and what was kept of a crate where it was."""
     tree.rt(SLOW_RT)
     for number, status in ((signal.SIGINT, 130), (signal.SIGTERM, 143), (signal.SIGHUP, 129)):
@@ -317,7 +317,7 @@ def check_stopped(tally, tree):
         tally.holds(name + " loses nothing", os.path.exists(kept) and tree.leaves_nothing(), "something is lost, or left")
 
 
-def check_killed(tally, tree):
+def test_killed(tally, tree):
     """A build that is killed, at any moment: the next call ends well, with what was kept of each crate."""
     tree.rt(RT)
     kept = ["crates/%s/out/incremental/kept" % it for it in CRATES]
@@ -340,41 +340,7 @@ def check_killed(tally, tree):
     tally.holds("./dmremap after a build that was killed", not wrong, "%s" % wrong[:2])
 
 
-def check_folders(tally, tree):
-    """Two crates that stand on the same one are built at a time, with what was kept of each, which comes back."""
-    tree.rt(HELD_RT)
-    tree.write("crates.txt", "low:\nmiddle: low\ndmremap: low middle beside\nbeside: low\n")
-    let = os.path.join(tree.folder, "let")
-    places = tree.path("crates/beside/out/rlib/places")
-    folder = tree.path("crates/dmremap/out/site/folders/beside")
-    for end in (signal.SIGTERM, signal.SIGKILL, None):
-        tree.remove()
-        tree.write(places, "kept\n")
-        with tempfile.TemporaryFile() as err:
-            ran = tree.start(["splitname", "a-b"], err, LET=let, FREE="low dmremap")
-            has_begun = becomes(lambda: sorted(tree.called()) == ["beside", "low", "middle"])
-            is_there = os.path.exists(os.path.join(folder, "crates", "low", "out", "rlib", "places"))
-            if end:
-                ran.send_signal(end)
-                ran.wait()
-            tree.program.file("let")
-            out = ran.communicate(timeout=30)[0]
-        if end == signal.SIGKILL:
-            # What it left goes on; the next call waits for that.
-            out = tree.run(["splitname", "a-b"], variables={"LET": let}).out
-        os.remove(let)
-        if end != signal.SIGTERM:
-            tree.run([], tree.build)
-        with open(places, encoding="utf-8") as it:
-            text = it.read().splitlines()
-        is_right = has_begun and is_there and text[0] == "kept" and tree.leaves_nothing()
-        is_right &= text[1:] == [] if end == signal.SIGTERM else len(text) > 1 and text[1].startswith(folder)
-        is_right &= out == (b"" if end == signal.SIGTERM else b"a b\n")
-        tally.holds("./dmremap in folders, and %s" % (end.name if end else "no signal"), is_right,
-                    "%s, %s, %s" % (out, tree.called(), text))
-
-
-def check_packed(tally, tree):
+def test_packed(tally, tree):
     """What rt keeps is packed once ./dmremap has built the program, and is there again for a build."""
     if shutil.which("zstd") is None:
         tally.skip("./dmremap packs what rt keeps", "there is no zstd")
@@ -408,7 +374,41 @@ def check_packed(tally, tree):
     tally.same("./dmremap beside a damaged pack", tree.run(["splitname", "a-b"]), 0, "a b\n", BUILDING + told())
 
 
-def check_whole_gate(tally, top):
+def test_folders(tally, tree):
+    """Two crates that stand on the same one are built at a time, with what was kept of each, which comes back."""
+    tree.rt(HELD_RT)
+    tree.write("crates.txt", "low:\nmiddle: low\ndmremap: low middle beside\nbeside: low\n")
+    let = os.path.join(tree.folder, "let")
+    places = tree.path("crates/beside/out/rlib/places")
+    folder = tree.path("crates/dmremap/out/site/folders/beside")
+    for end in (signal.SIGTERM, signal.SIGKILL, None):
+        tree.remove()
+        tree.write(places, "kept\n")
+        with tempfile.TemporaryFile() as err:
+            ran = tree.start(["splitname", "a-b"], err, LET=let, FREE="low dmremap")
+            has_begun = becomes(lambda: sorted(tree.called()) == ["beside", "low", "middle"])
+            is_there = os.path.exists(os.path.join(folder, "crates", "low", "out", "rlib", "places"))
+            if end:
+                ran.send_signal(end)
+                ran.wait()
+            tree.program.file("let")
+            out = ran.communicate(timeout=30)[0]
+        if end == signal.SIGKILL:
+            # What it left goes on; the next call waits for that.
+            out = tree.run(["splitname", "a-b"], variables={"LET": let}).out
+        os.remove(let)
+        if end != signal.SIGTERM:
+            tree.run([], tree.build)
+        with open(places, encoding="utf-8") as it:
+            text = it.read().splitlines()
+        is_right = has_begun and is_there and text[0] == "kept" and tree.leaves_nothing()
+        is_right &= text[1:] == [] if end == signal.SIGTERM else len(text) > 1 and text[1].startswith(folder)
+        is_right &= out == (b"" if end == signal.SIGTERM else b"a b\n")
+        tally.holds("./dmremap in folders, and %s" % (end.name if end else "no signal"), is_right,
+                    "%s, %s, %s" % (out, tree.called(), text))
+
+
+def test_whole_gate(tally, top):
     """The script of all tests says what it does, and starts none for a word that it doesn't know."""
     check = os.path.join(top, "check")
     got = run([check, "--help"])
@@ -417,10 +417,7 @@ def check_whole_gate(tally, top):
     tally.same("./check of a word", run([check, "now"]), 2, "", "usage: ./check [--help]\n")
 
 
-class Building(Case, checks=[
-    check_calls, check_faults, check_full_disks, check_changed, check_by, check_turns, check_told, check_stopped,
-    check_killed, check_packed, check_folders, check_whole_gate
-]):
+class Building(Case):
     """Builds of a small tree."""
 
     @classmethod

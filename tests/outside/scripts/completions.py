@@ -9,7 +9,7 @@ import signal
 import time
 
 import help_words
-from harness import SECONDS, Case, run
+from harness import SECONDS, run
 
 # What a shell runs to print, one on each line, what is offered for the last of the words after the script.
 # Without a terminal zsh completes nothing, so the calls that offer words print them.
@@ -71,7 +71,7 @@ VERSION = "--version"
 OTHERS = ["name", "splitname", "help"]
 
 
-def check_typed(tally, program, top):
+def test_typed(tally, program, top):
     for shell, words, start, script in TYPED:
         if shutil.which(shell) is None:
             tally.skip("what is typed in " + shell, "it isn't there")
@@ -119,7 +119,7 @@ def said_in(path, terminal):
     return said
 
 
-def check_offered(tally, program, top):
+def test_offered(tally, program, top):
     folder = os.path.join(program.folder, "completed")
     for name in ("stack.table", "stack.disks", "other file"):
         program.file(os.path.join("completed", name))
@@ -177,7 +177,3 @@ def rows_of(program):
         (["map", "table", "--", "-"], set()),
     ]
     return rows
-
-
-class Completions(Case, checks=[check_offered, check_typed]):
-    """What is offered, and what is typed."""

@@ -115,7 +115,7 @@ def check_works(tally, program, folder, name):
     tally.holds("the tool of " + name, got.status == 0 and b"dmremap-tools" in got.out, "%s, %r" % (got.status, got.err))
 
 
-def check_installed(tally, program, tree):
+def test_installed(tally, program, tree):
     wanted = installed_in(tree)
     tally.holds("what there is to install", len(wanted) > 30, "it is %s" % sorted(wanted))
     folder = os.path.join(program.folder, "a folder", "below it")
@@ -130,7 +130,7 @@ def check_installed(tally, program, tree):
         tally.same("./install %s" % words, run([os.path.join(tree, "install"), *words]), 2, "", USAGE)
 
 
-def check_destination(tally, program, tree):
+def test_destination(tally, program, tree):
     """DESTDIR stands before the prefix, also before the one that is meant if none is given."""
     below = os.path.join(program.folder, "destination")
     for words, prefix in (([], os.path.join("usr", "local")), ([os.sep + "own"], "own")):
@@ -140,7 +140,7 @@ def check_destination(tally, program, tree):
         tally.holds("./install below DESTDIR, %s" % prefix, is_there, "%s, %r, %s" % (got.status, got.err, sorted(there)))
 
 
-def check_links(tally, program, tree):
+def test_links(tally, program, tree):
     """What is installed gets in place of a link, and not through it."""
     folder = os.path.join(program.folder, "linked prefix")
     mine = program.file("mine", "mine\n")
@@ -156,7 +156,7 @@ def check_links(tally, program, tree):
     check_works(tally, program, folder, "./install over links")
 
 
-def check_removed(tally, program, tree):
+def test_removed(tally, program, tree):
     """What was installed is removed, and what others put there stays."""
     folder = os.path.join(program.folder, "a folder", "below it")
     others = ["bin/other", DOCUMENTS + "/other.md"]
@@ -182,7 +182,7 @@ def check_removed(tally, program, tree):
     os.rmdir(stuck)
 
 
-def check_libraries(tally, program, top):
+def test_libraries(tally, program, top):
     """The program needs the C library alone, of the version that the README names or a later one; that of a release none."""
     if is_static(program.path):
         check_static(tally, program.path, "the program")
@@ -197,7 +197,7 @@ def check_libraries(tally, program, top):
     tally.holds("the C library that the README names", told == least, "it names %s, and the program needs %s" % (told, least))
 
 
-def check_release(tally, program, top, tree):
+def test_release(tally, program, top, tree):
     missing = [it for it in ("git", "cc") if shutil.which(it) is None]
     if missing:
         tally.skip("./release", "there is no %s" % missing[0])
@@ -375,9 +375,7 @@ def above(path):
         yield path
 
 
-class Installs(Case, checks=[
-    check_installed, check_destination, check_removed, check_links, check_libraries, check_release
-]):
+class Installs(Case):
     """A repository that is installed, and released."""
 
     @classmethod

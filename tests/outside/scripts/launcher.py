@@ -18,7 +18,7 @@ ODD = ["a & b", "a&", "with\nnewlines\n", "back\\slash\\", "-x", "%s", "*", "$HO
 CALLS = ["low lib", "middle lib", "dmremap run -- --help"]
 
 
-def check_version(tally, top):
+def test_version(tally, top):
     """The documents have the logic of the toolchain that a file says, which the build compares."""
     with open(os.path.join(top, TOOLCHAIN), encoding="utf-8") as it:
         logic = it.read().strip()
@@ -37,7 +37,7 @@ def path_without(tree, *left_out):
     return few
 
 
-def check_own(tally, tree, top, is_own):
+def test_own(tally, tree, top, is_own):
     """The repository's own ./dmremap finds the program that these tests run, and that it is made of what is there. It has
     no means to build another."""
     if not is_own:
@@ -47,7 +47,7 @@ def check_own(tally, tree, top, is_own):
     tally.same("the repository's own ./dmremap, which ./check or a build leaves", got, 0, ANSWER)
 
 
-def check_words(tally, tree):
+def test_words(tally, tree):
     got = tree.put(ECHO)
     tally.same("./build", got, 0, "", BUILDING + told())
     for words in (["two words", "", "  ", "*", "$HOME", "a\\b", "--", "-x", "--run"], []):
@@ -58,7 +58,7 @@ def check_words(tally, tree):
     tally.same("./dmremap with words, where it builds", tree.run(words), 3, shown, BUILDING + told())
 
 
-def check_places(tally, tree):
+def test_places(tally, tree):
     tree.put()
     parent, words = tree.folder, tree.words()
     link, chain, folder = (os.path.join(parent, it) for it in ("a link", "a link to the link", "a linked tree"))
@@ -95,7 +95,7 @@ def check_places(tally, tree):
     tally.same("./dmremap under CDPATH", got, 0, ANSWER)
 
 
-def check_odd_places(tally, program, top):
+def test_odd_places(tally, program, top):
     """Where a path has what a shell may read otherwise, the program is still the one of the sources."""
     for odd in ODD:
         tree = Tree(program, top, os.path.join("odd", odd))
@@ -112,7 +112,7 @@ def check_odd_places(tally, program, top):
         os.remove(link)
 
 
-def check_own_path(tally, program, top):
+def test_own_path(tally, program, top):
     """A path to the program that is no UTF-8, or in other letters, by each way to it."""
     parent = os.path.join(program.folder, os.fsdecode(b"a path \xff"))
     tree = Tree(program, top, "own")
@@ -127,7 +127,7 @@ def check_own_path(tally, program, top):
     tally.same("the tools over such a program", run([os.path.join(top, "dmremap-tools"), *words]))
 
 
-def check_interrupts(tally, tree):
+def test_interrupts(tally, tree):
     """An interrupt while the scripts are loaded, before they can end a build, ends them in silence."""
     path = tree.path("tools/building/calls.py")
     with open(path, encoding="utf-8") as it:
@@ -146,7 +146,7 @@ def check_interrupts(tally, tree):
     tree.write("tools/building/calls.py", kept)
 
 
-def check_changes(tally, tree):
+def test_changes(tally, tree):
     """A change of anything that the program is made of, and nothing else, makes it anew."""
     words = tree.words()
     tree.remove()
@@ -173,7 +173,7 @@ def check_changes(tally, tree):
     tally.same("./dmremap after a change of a crate that the program doesn't stand on", got, 0, ANSWER)
 
 
-def check_times(tally, tree):
+def test_times(tally, tree):
     """Times alone change nothing, and hide nothing."""
     words, source = tree.words(), tree.path(SOURCES[0])
     tree.put()
@@ -296,7 +296,7 @@ def settle(tree):
     time.sleep(max(0, last + 3.1 - time.time()))
 
 
-def check_kept(tally, tree):
+def test_kept(tally, tree):
     """Where what is kept of the build is gone, or cut short, as by a kill, the program is built anew."""
     words = tree.words()
     tree.put()
@@ -316,7 +316,7 @@ def check_kept(tally, tree):
     tally.same("./dmremap where out is gone", tree.run(words, given=REQUESTS), 0, ANSWER, BUILDING + told())
 
 
-def check_lacking(tally, tree):
+def test_lacking(tally, tree):
     """Where rt or python3 is missing, another version of either is there, or the program can't be run."""
     tree.put()
     got = tree.run(tree.words(), given=REQUESTS, variables={"PATH": path_without(tree, "python3")})
@@ -355,10 +355,7 @@ def check_lacking(tally, tree):
         tally.holds("./dmremap by %s, whose program can't be run" % " ".join(shell), is_told, "%s, %r" % (got.status, got.err))
 
 
-class Launcher(Case, checks=[
-    check_version, check_own, check_words, check_places, check_odd_places, check_changes, check_times, check_kept,
-    check_lacking, check_own_path, check_interrupts
-]):
+class Launcher(Case):
     """Calls of the script in small trees."""
 
     @classmethod

@@ -40,7 +40,7 @@ class Tools:
             tally.holds("%s, by %s" % (name, os.path.basename(tool)), is_so, "status %s, %r, %r, %s" % (got.status, got.out, got.err, called))
 
 
-def check_unbuilt(tally, tools, tree, program):
+def test_unbuilt(tally, tools, tree, program):
     """Nothing is built; something tried, or built, that fits the sources, and then doesn't; a program on the path, and the script there."""
     tools.finds(tally, "a scan where nothing is built", "?", NOT_BUILT)
     for tool in tools.ways:
@@ -75,7 +75,7 @@ def check_unbuilt(tally, tools, tree, program):
     tally.holds("the script that is given", got.status == 4 and got.err.decode() == NOT_BUILT and not called, "status %s, %r" % (got.status, got.err))
 
 
-class Unbuilt(Case, checks=[check_unbuilt]):
+class Unbuilt(Case):
     """A tree with the tools."""
 
     def setUp(self):

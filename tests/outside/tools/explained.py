@@ -75,7 +75,7 @@ def make_folder(program, top):
     return folder
 
 
-def check_refusals(tally, explain, top):
+def test_refusals(tally, explain, top):
     """What is said of each refusal, what is marked, and the remedy; and that a row stands for each row of the document."""
     with open(os.path.join(top, "docs", "RECIPES.md"), encoding="utf-8") as it:
         shown = {(symptom, next(filter(None, CODE.search(command).groups()))) for symptom, _, command in ROW.findall(it.read())}
@@ -130,7 +130,7 @@ def help_rows(explain, message):
     return [row.strip() for it in entries if re.search("(?m)^dmremap: %s$" % form, it) for row in it.splitlines() if row.startswith(" ")]
 
 
-def check_ways(tally, explain):
+def test_ways(tally, explain):
     """Ways as they are shown."""
     for words, shown in explained_rows.WAYS:
         requests = "".join(it + "\n" for it in words if REQUEST.match(it))
@@ -139,14 +139,14 @@ def check_ways(tally, explain):
         tally.holds("the way of %s as words" % words, explain.run(words).out.decode().startswith(shown + "\n" + said), shown)
 
 
-def check_causes(tally, explain):
+def test_causes(tally, explain):
     """An error has its cause, and its text begins so."""
     for name, words, cause in explained_rows.ERRORS:
         out = explain.run(words).out.decode()
         tally.holds("an error because of " + name, re.search(r"^[| ]*\+- error \d+: %s" % re.escape(cause), out, re.M), out)
 
 
-def check_json(tally, explain):
+def test_json(tally, explain):
     """The same as objects."""
     got = explain.run(["--json", "map", "lvm", "vg0-snapshot.backup", "R vg0-snap 8000 16"])
     made = json.loads(got.out.decode())
@@ -157,7 +157,7 @@ def check_json(tally, explain):
     tally.holds("a refusal as JSON", made["place"] == wanted and made["message"] == "dmremap: source: field at 1", str(made))
 
 
-def check_stacks(tally, explain, program):
+def test_stacks(tally, explain, program):
     """Random stacks with snapshots: the levels make dmremap's answer of the whole together, or the command would refuse. Every
     other one begins from its stores, which lie on disks of one image."""
     dice = random.Random(79)
@@ -223,7 +223,7 @@ def request(dice, name, lengths):
     return "%s %s %d %d" % (dice.choice("RWW"), name, start, dice.randrange(1, min(24, lengths[name] - start + 1) + 1))
 
 
-def check_stores(tally, explain, program):
+def test_stores(tally, explain, program):
     """Snapshots that begin as their stores are, if that is asked for."""
     words = ["map", "lvm", "vg0-snapshot.backup", "R vg0-snap 8000 16", "W vg0-snap 8000 1", "R vg0-lv0 0 1"]
     with open(os.path.join(samples(explain.top), "snap.store"), "rb") as it, open(os.path.join(explain.folder, "sda1.img"), "wb") as image:
@@ -250,7 +250,7 @@ def check_stores(tally, explain, program):
     tally.holds("a store without paths", got.status == 0 and b"nowhere" in got.out, "status %s, %r, %r" % (got.status, got.err, got.out))
 
 
-def check_ends(tally, explain, program):
+def test_ends(tally, explain, program):
     """What isn't explained is refused, and outputs may fail."""
     words = ["map", "table", "long.table", "disks"]
     got = explain.run(words, given="R a 0 1\n" * 17)
@@ -269,9 +269,7 @@ def check_ends(tally, explain, program):
     tally.holds("foreign text", got.status == 0 and b"\x1b" not in got.out and b"\\x1b" in got.out, repr(got.out))
 
 
-class Explained(Case, checks=[
-    check_refusals, check_ways, check_causes, check_json, check_stacks, check_stores, check_ends,
-]):
+class Explained(Case):
     """Refusals and answers that are explained."""
 
     @classmethod

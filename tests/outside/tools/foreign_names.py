@@ -6,8 +6,7 @@ import shutil
 
 import containers
 import models
-from harness import Case
-from models import A, DATA, SECTOR, content_of, dashed, disk, linear, member, segment, text, volume
+from models import A, DATA, SECTOR, content_of, dashed, disk, linear, member, pile, segment, text, volume
 
 ODD = ["two\nlines a 0 8", "esc\x1b[2Jape", "quo'te\"s\\", "image?offset=0", "\u202eright to left\x85"]
 PLAIN = "plain"
@@ -58,7 +57,7 @@ def calls(pile, images, name):
         yield got if words else models.tool_calls.Outcome(got.status, b"", got.err)
 
 
-def check_fields(tally, pile):
+def test_fields(tally, pile):
     """Each name in each field: as many lines as of a plain name, and no control character."""
     for where, images in FIELDS:
         lines = {}
@@ -76,7 +75,7 @@ def check_fields(tally, pile):
                 tally.holds("%s is %r, call %d" % (where, name, number), is_so, "status %s, %r" % (got.status, said[-600:]))
 
 
-def check_paths(tally, pile):
+def test_paths(tally, pile):
     """By the tables of an image, dmremap reads the store in it, and not in a file whose path is the beginning of its path; what no
     line of PATHS says is refused."""
     known = text("vg0", "g", 4, "a", volume("home", "h", linear(0, 2, ("pv0", 3))), volume("snap", "s", linear(0, 4, ("pv0", 10)), status='"READ", "WRITE"'),
@@ -103,10 +102,3 @@ def check_paths(tally, pile):
     got = models.tool_calls.call(pile.top, ["metadata", "image?offset=0"], folder=pile.folder)
     tally.same("the text of a file that is called as a place in another", got, 1, "", "dmremap-tools metadata: image?offset=0: a file is called so, and here it means "
                "a byte of image: give the file another name, or a link to it\n")
-
-
-class ForeignNames(Case, checks=[check_fields, check_paths]):
-    """Piles of images, each in an empty folder."""
-
-    def setUp(self):
-        self.pile = models.empty_pile(self, "foreign_names")

@@ -6,8 +6,7 @@ import os
 import random
 
 import physical_volumes
-from harness import Case
-from models import (A, B, DATA, EXTENT, HIDDEN, SECTOR, dashed, disk, empty_pile, extents_of, identity, linear, named, segment, text, volume)
+from models import A, B, DATA, EXTENT, HIDDEN, SECTOR, dashed, disk, extents_of, identity, linear, named, pile, segment, text, volume
 
 FIRST = HEADER = physical_volumes.FIRST
 LABEL = SECTOR
@@ -32,7 +31,7 @@ def sides():
     return disk("a", A, *one), disk("b", B, *other)
 
 
-def check_forks(tally, pile):
+def test_forks(tally, pile):
     """A fork, sound, and with each disk's label, header or both damaged, in both orders: what one side alone has is given, if
     its text can be read, and what both have is refused, with the name of the image whose text can't be."""
     sound = sides()
@@ -65,7 +64,7 @@ def check_forks(tally, pile):
         pile.put(("one", "two")[hurt], sound[hurt])
 
 
-def check_members(tally, pile):
+def test_members(tally, pile):
     """A disk that the text names, whose metadata can't be read: its ring has the current text, an older one, a later one or none."""
     texts = [text("vg0", "g", number, "ab", home(3), *[home(20, "late", "l", "pv1")] * (number > 3)) for number in range(1, 7)]
     pile.put("one", disk("a", A, *texts[:5]))
@@ -84,7 +83,7 @@ def check_members(tally, pile):
     pile.holds(tally, "a volume on a disk that was away", "vg0/late", late)
 
 
-def check_unused(tally, pile):
+def test_unused(tally, pile):
     """A disk on which lvm2 keeps no text hides nothing of a removed volume; what a move leaves isn't a volume."""
     older = text("vg0", "g", 3, "ab", home(3), home(20, "gone", "n"), home(30, "pvmove0_mimage_0", "p"))
     ring = physical_volumes.area(b"", 0, size=64 * 1024, flags=1)
@@ -95,7 +94,7 @@ def check_unused(tally, pile):
     pile.holds(tally, "a removed volume beside it", "vg0/gone", extents_of(A, 20, 5))
 
 
-def check_ways(tally, pile):
+def test_ways(tally, pile):
     """What is said of a mirror's images, of a disk without a label, and of two copies of a disk."""
     legs = [volume("m_mimage_%d" % leg, "ij"[leg], linear(0, 5, ("pv0", 10 * leg)), status=HIDDEN) for leg in range(2)]
     mirror = volume("m", "m", segment(0, 5, "mirror", "mirror_count = 2", 'mirrors = ["m_mimage_0", 0, "m_mimage_1", 0]'))
@@ -109,7 +108,7 @@ def check_ways(tally, pile):
     os.unlink(os.path.join(pile.folder, "two"))
 
 
-def check_unlabelled(tally, pile):
+def test_unlabelled(tally, pile):
     """A disk whose label is gone or damaged: of a group of one disk it is known by its text, and of others the text is told."""
     known = text("vg0", "g", 4, "a", home(3))
     sound = disk("a", A, text("vg0", "g", 3, "a", home(3), home(20, "gone", "n")), known)
@@ -137,7 +136,7 @@ def check_unlabelled(tally, pile):
         pile.refuses(tally, "a disk without a label, " + name, "vg0/home", why)
 
 
-def check_many(tally, pile):
+def test_many(tally, pile):
     """A ring with hundreds of older texts, of one group and of many: a few programs are asked, and each volume is told."""
     count, asked, log = 300, os.path.join(pile.folder, "out-program"), os.path.join(pile.folder, "out-log")
     with open(asked, "w", encoding="ascii") as script:
@@ -158,7 +157,7 @@ def check_many(tally, pile):
         tally.holds("older texts " + name, got.status == 0 and got.out.count(b"removed") >= count - 1 and started <= 6, f"{got.status}, {started} programs, {got.out[-300:]!r}")
 
 
-def check_damage(tally, pile):
+def test_damage(tally, pile):
     """Random damage in labels, headers and rings of two disks of a group, and of a fork: what is given in any order of the
     images is the volume, and nothing fails but in words."""
     dice = random.Random(5)
@@ -178,10 +177,3 @@ def check_damage(tally, pile):
             got = [pile.save("vg0/" + name, *order) for order in itertools.permutations(("one", "two"))]
             is_right = all(outcome.status in (0, 1) and (outcome.status == 1 or saved in right) for outcome, saved in got)
             tally.holds("a damaged disk", is_right and got[0][0].status == got[1][0].status, f"number {number}, {name}: {[(outcome.status, outcome.err[-200:]) for outcome, _ in got]}")
-
-
-class GroupStates(Case, checks=[check_forks, check_members, check_unused, check_ways, check_unlabelled, check_many, check_damage]):
-    """Piles of images, each in an empty folder."""
-
-    def setUp(self):
-        self.pile = empty_pile(self, "group_states")

@@ -4,14 +4,13 @@ import os
 
 import array_rows
 import device_rows
-from harness import Case
 from tool_calls import call, check_rows
 
-def check_commands(tally, program, top):
+def test_commands(tally, program, top):
     check_rows(tally, program, top, array_rows.ROWS + device_rows.ROWS)
 
 
-def check_small_chunks(tally, program, top):
+def test_small_chunks(tally, program, top):
     """The longest read that is followed through the smallest chunks: a line for each of 131,072, in a second or two."""
     text = array_rows.members(3, level="raid5", layout="left-symmetric", size=1 << 40, chunk="     Chunk Size : 4K\n")
     examined, pieces = program.file("layers/examined", text), program.file("layers/pieces", "1 R /dev/md0 0 1048576\n")
@@ -22,7 +21,3 @@ def check_small_chunks(tally, program, top):
     tally.same("a long read through small chunks", got, 0, wanted)
     took = ended.children_user + ended.children_system - begun.children_user - begun.children_system
     tally.holds("how long that takes", took < 3, "it takes %.1f s" % took)
-
-
-class Layers(Case, checks=[check_commands, check_small_chunks]):
-    """Rows, and many chunks."""

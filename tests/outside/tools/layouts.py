@@ -6,7 +6,6 @@ import random
 import re
 
 import tool_calls
-from harness import Case
 from origins import SHARING, claims, disks_of, small_stack, tidiness
 from snapshots import concise
 from tool_calls import bad, good, lost
@@ -83,17 +82,17 @@ STORES = [
 ]
 
 
-def check_rows(tally, program, top):
+def test_rows(tally, program, top):
     tool_calls.check_rows(tally, program, top, SPANS + READERS + PICTURES + STORES)
 
 
-def check_random(tally, program, top):
+def test_random(tally, program, top):
     """Stacks at random."""
     for seed in range(STACKS):
         check_stack(tally, program, top, random.Random(seed))
 
 
-def check_many_clashes(tally, program, top):
+def test_many_clashes(tally, program, top):
     """Of ranges within each other all have clashes with all: a million are printed."""
     path = program.file("clashes/table", "".join("v%d: 0 %d linear sda %d\n" % (it, 10000 - 2 * it, it) for it in range(3000)))
     got = tool_calls.call(top, ["spans", "--clashes", program.file("clashes/disks", "sda 10000\n"), path])
@@ -102,7 +101,7 @@ def check_many_clashes(tally, program, top):
                 "status %s, %d lines, %r" % (got.status, got.out.count(b"\n"), got.err))
 
 
-def check_full(tally, program, top):
+def test_full(tally, program, top):
     """When stores are full: as the status after each number of requests says it."""
     def full(requests, table, disks):
         files = ["--requests", program.file("full/requests", requests), "table", program.file("full/table", table), program.file("full/disks", disks)]
@@ -145,7 +144,7 @@ def check_full(tally, program, top):
     tally.same("stores by no program", got, 1, "", "dmremap-tools store: no/where: No such file or directory\n")
 
 
-def check_places(tally, program, top):
+def test_places(tally, program, top):
     """Whether a store can be full: as a store that takes all chunks of its snapshot says it."""
     for seed in range(12):
         dice = random.Random(seed)
@@ -188,7 +187,7 @@ def line_of(name, statuses):
     return "%s: invalid by request %d, before it %s\n" % (name, number, statuses[number - 1])
 
 
-def check_sizes(tally, program, top):
+def test_sizes(tally, program, top):
     """How much of a store writes fill: as the program says it of a store with room for all."""
     for seed in range(8):
         dice = random.Random(seed)
@@ -248,9 +247,3 @@ def extents(units):
         found.append((at, 1, disk, sector))
     return "".join("%d %d %s\n" % (start, count, last if first is None else "%s %d" % (last, first))
                    for start, count, last, first in found)
-
-
-class Layouts(Case, checks=[
-    check_rows, check_full, check_places, check_sizes, check_many_clashes, check_random
-]):
-    """Rows, sizes, and stacks at random."""

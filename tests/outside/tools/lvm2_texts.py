@@ -11,7 +11,7 @@ import re
 
 import tool_calls
 from dmremap_tools.model.config_text import Document
-from harness import Case, run
+from harness import run
 from lvm2_rows import BARE, GROUP, ONLY, REFUSED, ROWS, other
 from tool_calls import read
 
@@ -21,7 +21,7 @@ DAMAGES, MEMORY = 60, 200 << 20
 USAGE = "usage: dmremap-tools lvm2-text [-h] [--only NAME] [--program PROGRAM] TEXT\ndmremap-tools lvm2-text: "
 
 
-def check_rows(tally, program, top):
+def test_rows(tally, program, top):
     for name, text, changes, messages, table in ROWS:
         check_row(tally, program, top, name, text, changes, messages, table)
     for name, text, message in REFUSED:
@@ -32,7 +32,7 @@ def check_rows(tally, program, top):
     tally.same("only a volume that isn't there", got, 1, "", "dmremap-tools lvm2-text: %s: no volume x: give a name that the text has\n" % program.file("lvm2/text", BARE))
 
 
-def check_plain(tally, program, top):
+def test_plain(tally, program, top):
     """Texts that need no change, and the same in other words."""
     for name in PLAIN:
         text = read(os.path.join(top, "examples", name))
@@ -117,7 +117,7 @@ def respelled(text, dice):
     return re.sub(rb"\n", lambda found: dice.choice([b"\n", b"\r\n", b" # x = \"\n", b"\t\n"]), text)
 
 
-def check_damaged(tally, program, top):
+def test_damaged(tally, program, top):
     """Of a damaged text there is a copy that the program reads, or a refusal."""
     dice = random.Random(76)
     texts = [read(os.path.join(top, "examples", it)) for it in PLAIN + (os.path.join("samples", "vgm.backup"),)]
@@ -157,7 +157,7 @@ def damaged(text, dice):
     return bytes(text)
 
 
-def check_asked(tally, program, top):
+def test_asked(tally, program, top):
     """The program is asked: what it says decides, and there is no copy where it can't be."""
     path = program.file("lvm2/refuses", '#!/bin/sh\necho "dmremap: source: field at 3" >&2\nexit 1\n')
     os.chmod(path, 0o755)
@@ -167,7 +167,7 @@ def check_asked(tally, program, top):
     tally.holds("a copy that the program refuses", got.status == 1 and not got.out and b"(dmremap: source: field at 3)" in got.err, got.err)
 
 
-def check_words(tally, program, top):
+def test_words(tally, program, top):
     """Words, and texts that can't be read."""
     def copy(*words, **how):
         return run([os.path.join(top, tool_calls.TOOL), "lvm2-text", "--program", program.path, *words], **how)
@@ -186,7 +186,7 @@ def check_words(tally, program, top):
     tally.same("a copy on a full disk", got, 5, "", "dmremap-tools lvm2-text: standard output: No space left on device\n")
 
 
-def check_large(tally, program, top):
+def test_large(tally, program, top):
     """Sections in each other to any depth, and a long text, are no trouble."""
     got = tool_calls.call(top, ["lvm2-text", "--program", program.path, program.file("lvm2/text", BARE + "\r\n" * 400000)], memory=MEMORY)
     is_so = got.status == 0 and parts_of(got.out) == parts_of(BARE.encode()) and got.out.count(b"\n") == BARE.count("\n") + 400000
@@ -205,7 +205,3 @@ def check_large(tally, program, top):
     got = copied(program, top, many)
     is_so = got.status == 0 and parts_of(got.out) == parts_of(many.replace("read_ahead = -1", "").encode()) and got.err.count(b"\n") == 1000
     tally.holds("a group of a thousand volumes", is_so, "status %s, %r" % (got.status, got.err[:200]))
-
-
-class Lvm2Texts(Case, checks=[check_rows, check_plain, check_damaged, check_asked, check_words, check_large]):
-    """Each row, texts in other words, and large ones."""

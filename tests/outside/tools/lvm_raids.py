@@ -9,8 +9,7 @@ import struct
 import tool_calls
 from dmremap_tools.base.refusal import Refusal
 from dmremap_tools.model.pile import Pile as Images
-from harness import Case
-from models import CLEAN, DATA, EXTENT, HIDDEN, SECTOR, content_of, disk, empty_pile, leg_bitmap, linear, named, segment, text, volume
+from models import CLEAN, DATA, EXTENT, HIDDEN, SECTOR, content_of, disk, leg_bitmap, linear, named, pile, segment, text, volume
 from plain_model import PARITY_KINDS, parity_legs, stripe_of
 
 # Sectors of a chunk, rows of chunks, extents of a leg's superblock and of its data, and those that a volume takes of a disk.
@@ -99,7 +98,7 @@ def copied_raids():
         yield Raid("v%d" % place, kind, content, legs, level, layout, place), [set(range(first, first + copies)) for first in range(0, count, copies)]
 
 
-def check_missing(tally, pile):
+def test_missing(tally, pile):
     """Each type of raid whole, without each leg, and without each pair of legs: its bytes, or a refusal."""
     cases = [[(raid, lambda gone, most=most: len(gone) <= most) for raid in raids]
              for most, raids in ((1, parity_raids(RAID5, 5, 4)), (2, parity_raids(RAID6, 6, 5)), (1, parity_raids({"raid5_rs": 3}, 5, 3)), (2, parity_raids({"raid6_ls_6": 18}, 6, 6)))]
@@ -123,7 +122,7 @@ FAILED, RECOVERED = {"failed": 2}, {"recovered": 24}
 HALF = 24 * SECTOR
 
 
-def check_states(tally, pile):
+def test_states(tally, pile):
     """What superblocks say of legs, in both orders of the images: its bytes, or a refusal."""
     wanted, older = content_of("new", ROWS * CHUNK), content_of("old", ROWS * CHUNK)
     five = content_of("five", ROWS * CHUNK * 2)
@@ -195,7 +194,7 @@ def check_states(tally, pile):
     check("whose superblocks say several places", "several places of its data", reshaped, {1: {"offset": 0}}, [])
 
 
-def check_told(tally, pile):
+def test_told(tally, pile):
     """What `scan` and `save` say of raids, in a process of their own: those whose legs are a table, and those that aren't."""
     raids = [raid for raid, _ in copied_raids()]
     put(pile, raids)
@@ -208,7 +207,7 @@ def check_told(tally, pile):
     pile.holds(tally, "a raid10 without two legs", "vg0/v3", raids[3].content, "diskd", "diska")
 
 
-def check_owners(tally, pile):
+def test_owners(tally, pile):
     """Who has the sectors of legs, each of which says so itself, or has parity."""
     five, six = list(parity_raids(RAID5, 5, 4)), list(parity_raids({"raid6_zr": 8, "raid6_nc": 10, "raid6_la_6": 16}, 6, 5))
     for raids in (five, six, [raid for raid, _ in copied_raids()]):
@@ -230,7 +229,7 @@ def check_owners(tally, pile):
             os.unlink(os.path.join(pile.folder, image))
 
 
-def check_damaged(tally, pile):
+def test_damaged(tally, pile):
     """Random damage in superblocks and bitmaps: the right bytes, or a refusal in words."""
     dice = random.Random(11)
     five = content_of("five", ROWS * CHUNK * 2)
@@ -249,10 +248,3 @@ def check_damaged(tally, pile):
         for raid in raids:
             got = read(pile, raid.name, dice.sample(sorted(sound), dice.randrange(2, 4)))
             tally.holds("damaged superblocks", isinstance(got, str) and got or got == raid.content, "number %d: %s of other bytes" % (number, raid.name))
-
-
-class LvmRaids(Case, checks=[check_missing, check_states, check_told, check_owners, check_damaged]):
-    """Raids of LVM, each in an empty folder."""
-
-    def setUp(self):
-        self.pile = empty_pile(self, "lvm_raids")

@@ -13,13 +13,13 @@ import elsewhere_rows
 import machine_rows
 import physical_volumes
 import tool_calls
-from harness import Case, run
+from harness import run
 from tool_calls import TOOL, read
 
 SAMPLES = ("ls", "status", "lsblk")
 
 
-def check_rows(tally, program, top):
+def test_rows(tally, program, top):
     for row in machine_rows.ROWS:
         check_row(tally, program, top, *row)
     tool_calls.check_rows(tally, program, top, elsewhere_rows.ROWS)
@@ -43,7 +43,7 @@ def check_row(tally, program, top, command, words, inputs, output, message, stat
         tally.holds("that it loads, " + name, made.status == 0, made.err)
 
 
-def check_samples(tally, program, top):
+def test_samples(tally, program, top):
     """Both forms of a machine's tables give the same, but for what table text can't say."""
     def made(table):
         inputs = [read(os.path.join(tool_calls.samples(top), it + ".txt")) for it in (*SAMPLES, table)]
@@ -55,7 +55,7 @@ def check_samples(tally, program, top):
     tally.same("a machine's tables in both forms", made("table"), 0, wanted.out)
 
 
-def check_missing(tally, program, top):
+def test_missing(tally, program, top):
     """A file that isn't there or is a folder is told, and what would have been written over stays."""
     for name, why in (("nowhere", "No such file or directory"), (".", "Is a directory")):
         got, written = called(program, top, ["machine", "--disks", "disks", name, "status", "lsblk", "table"], [])
@@ -69,7 +69,7 @@ def check_missing(tally, program, top):
 DEVICES = "253:0 8192 dm-0 \n253:1 32768 dm-1 \n253:2 8192 dm-2 \n253:3 8192 dm-3 \n"
 
 
-def check_images(tally, program, top):
+def test_images(tally, program, top):
     """Lengths of images, in whole sectors."""
     folder = os.path.join(program.folder, "machines")
     program.file("machines/sda1.img", bytes(2048 * 512))
@@ -111,7 +111,7 @@ def check_images(tally, program, top):
         tally.same("a machine with sectors of %s bytes" % size, got, 2, "refused\n", "%s machine: --sector-size is a multiple of 512, up to 2^30: %s\n" % (TOOL, size))
 
 
-def check_containers(tally, program, top):
+def test_containers(tally, program, top):
     """Containers of LUKS in images, by their headers: where the data begins and how long it is, or what is wrong."""
     disk = 8192 * 512
     first, second = containers.version_1(64).ljust(disk, b"\0"), containers.version_2().ljust(disk, b"\0")
@@ -168,7 +168,7 @@ def containers_in(program, top, content):
     return [tuple(row[key] for key in ("version", "start", "sectors", "why", "id")) for row in json.loads(got.out)["luks"]]
 
 
-def check_large(tally, program, top):
+def test_large(tally, program, top):
     """Devices on each other, a thousand of them, from the top down and from the bottom up."""
     count = 1000
     for order in (range(count), range(count - 1, -1, -1)):
@@ -180,7 +180,3 @@ def check_large(tally, program, top):
         found = {int(it) for it in re.findall(r"left out: d(\d+) \(it stands on itself, or on too many others\), the disk", got.err.decode())}
         is_so = got.status == 0 and found == left and got.out.count(b"\n") == count - len(left)
         tally.holds("a thousand devices on each other", is_so, "status %s, %s" % (got.status, sorted(found ^ left)[:5]))
-
-
-class Machines(Case, checks=[check_rows, check_samples, check_missing, check_images, check_containers, check_large]):
-    """Each row, the samples, files that aren't there, and large machines."""

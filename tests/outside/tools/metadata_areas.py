@@ -61,7 +61,7 @@ def sample(group):
     return volume((FIRST, area(valid, VALID, others=[(OLD, old)]))), old[:-1], valid[:-1]
 
 
-def check_sample(tally, program, command, group):
+def test_sample(tally, program, command, group):
     head, _, valid = sample(group)
     path = os.path.join(tool_calls.samples(command.top), "vg0-head.img")
     tally.holds("the sample of a metadata area", read(path) == head, "it is not what this module makes")
@@ -71,7 +71,7 @@ def check_sample(tally, program, command, group):
     tally.same("the table of that text", program.run(["table", "lvm", program.file("area", got.out)]), 0, wanted)
 
 
-def check_rings(command, group):
+def test_rings(command, group):
     whole = text_of_area(group, b"CCCCCC", 3)
     for size in (SECTOR + len(whole), SIZE, 1 << 21):
         for offset in (SECTOR, size - 1, size - len(whole)):
@@ -79,7 +79,7 @@ def check_rings(command, group):
             command.takes("one at %d of an area of %d bytes" % (offset, size), head, whole)
 
 
-def check_flips(tally, group):
+def test_flips(tally, group):
     """No bit of the label's sector, of the area's header and of the text may be another: it is refused, or the text is right."""
     whole = text_of_area(group, b"CCCCCC", 3)
     parts = [("label", range(SECTOR, 2 * SECTOR), True), ("header", range(FIRST, FIRST + SECTOR), False)]
@@ -124,7 +124,7 @@ def unsaid():
         streams.tell = tell
 
 
-def check_lengths(tally, group):
+def test_lengths(tally, group):
     """An image that ends anywhere is refused in words, with and without its label, or the text is right."""
     whole = text_of_area(group, b"CCCCCC", 3)
     head = volume((FIRST, area(whole)))
@@ -231,21 +231,21 @@ TAKEN = [
 ]
 
 
-def check_whole(tally, program, command):
+def test_whole(tally, program, command):
     """Of a whole image dmremap's own answer is printed, so that nothing is told of an area that isn't used."""
     path = program.file("whole", images.disk("a", images.area(), images.area(b"x", flags=1)))
     env = dict(os.environ, PATH=os.path.dirname(program.path) + os.pathsep + os.environ["PATH"])
     tally.same("the text of a whole image", command.run(path, env=env), 0, images.TEXT[:-1])
 
 
-def check_rows(command):
+def test_rows(command):
     for name, head, *told, message in REFUSED:
         command.refuses(name, head, message, told="".join(told))
     for name, head, text, message in TAKEN:
         command.takes(name, head, text, message)
 
 
-def check_disks(command):
+def test_disks(command):
     """Images of whole disks, whose partitions have the physical volume."""
     for name, disk, message in DISKS:
         command.refuses(name, disk, message)
@@ -305,7 +305,7 @@ PARTITIONS = [
 ]
 
 
-def check_places(command):
+def test_places(command):
     """Volumes that begin elsewhere, by a label, a partition table's second copy, or an array's superblock."""
     for name, disk, words in PLACES:
         command.takes(name, disk, TEXT, words=words or ["head"])
@@ -343,7 +343,7 @@ NO_PLACES = [
 ]
 
 
-def check_heads(command):
+def test_heads(command):
     """Heads of several volumes of a group."""
     volumes = "}\nlogical_volumes {\nhome {\n}\nroot {\n}\n}"
     apart = TEXT.replace(b"7\n}", ("6\n" + volumes[2:] + "\n}").encode())
@@ -363,7 +363,7 @@ def check_heads(command):
                        "disk:1: vg0 seqno 7, volumes: none\ndisk:2: vg0 seqno 6, volumes: home, root\n" + differ % "disk:1")
 
 
-def check_files(tally, program, command):
+def test_files(tally, program, command):
     """What can't be read: one line, status 1, and nothing of Python."""
     for name, message in (("nowhere", "No such file or directory"), (".", "neither a file nor a disk: give an image of the disk")):
         for words in ([], ["--list"]):
@@ -407,7 +407,7 @@ def as_nobody():
         os.seteuid(user)
 
 
-def check_texts(tally, command, group):
+def test_texts(tally, command, group):
     """The texts that are left where the header is lost; one that the end of the area cuts is not printed."""
     head, old, valid = sample(group)
 
@@ -456,10 +456,7 @@ def no_group(head):
 HOSTILE = [("a long word", b"a" * (1 << 19)), ("braces", b' {\nid = "' * (1 << 16)), ("words and braces", b'aaaa {\nid = "' * (1 << 15))]
 
 
-class MetadataAreas(Case, checks=[
-    check_sample, check_rings, check_flips, check_lengths, check_whole, check_rows, check_disks, check_places, check_heads,
-    check_files, check_texts
-]):
+class MetadataAreas(Case):
     """All that the command is tried on."""
 
     def setUp(self):

@@ -4,8 +4,7 @@ import itertools
 import os
 
 import models
-from harness import Case
-from models import EXTENT, HIDDEN, SECTOR, content_of, disk, leg_bitmap, leg_superblock, linear, member, segment, text, volume
+from models import EXTENT, HIDDEN, SECTOR, content_of, disk, leg_bitmap, leg_superblock, linear, member, pile, segment, text, volume
 from plain_comparison import changed
 from plain_model import parity_legs
 
@@ -19,7 +18,7 @@ def put_all(pile, images):
         pile.put(name, image)
 
 
-def check_pairs(tally, pile):
+def test_pairs(tally, pile):
     """raid6 without each pair of its members, and without three of them."""
     data = content_of("raid6", 3 * 5 * CHUNK)
     legs = parity_legs(data, 6, 2, 5, CHUNK)
@@ -30,7 +29,7 @@ def check_pairs(tally, pile):
     pile.refuses(tally, "raid6 without three members", "md:array", "is missing", "m0", "m1")
 
 
-def check_dropped(tally, pile):
+def test_dropped(tally, pile):
     """A member of raid5 that was dropped, or is behind: one event or two."""
     data = content_of("raid5", 2 * 3 * CHUNK)
     legs = parity_legs(data, 5, 2, 3, CHUNK)
@@ -47,7 +46,7 @@ def check_dropped(tally, pile):
             pile.holds(tally, "raid5 with a member %s, and without another" % name, "md:array", data, "m0", "m1")
 
 
-def check_bad(tally, pile):
+def test_bad(tally, pile):
     """Bad sectors, which a log counts from the beginning of a member on, in units of a power of two."""
     data = content_of("mirror", 64)
     for shift, logged, runs in ((0, [(70, 3)], [(6, 9)]), (3, [(9, 2)], [(8, 24)])):
@@ -68,7 +67,7 @@ def check_bad(tally, pile):
         pile.holds(tally, "metadata 1.%d with %d sectors more" % (version, tail_sectors), "md:array", data)
 
 
-def check_volumes(tally, pile):
+def test_volumes(tally, pile):
     """raid5 of LVM, whole, without each leg, with regions that were being written, and written to while a leg was out."""
     length, region = 4 * EXTENT, 16
     data = content_of("raid5 of LVM", 2 * length)
@@ -110,7 +109,7 @@ def check_volumes(tally, pile):
     pile.holds(tally, "raid5 of LVM that was written to while a leg was out", "vg0/home", data)
 
 
-def check_trees(tally, pile):
+def test_trees(tally, pile):
     """A thin volume whose tree has nodes below its root, and whose blocks don't divide the bytes that are asked for at once."""
     chunk, extents = 384, 160
     content = content_of("pool", extents * EXTENT)
@@ -129,10 +128,3 @@ def check_trees(tally, pile):
         wanted[key * chunk * SECTOR:(key + 1) * chunk * SECTOR] = blocks[number]
     put_all(pile, {"disk": disk("a", bytes(data), known)})
     pile.holds(tally, "a thin volume by a tree of two levels", "vg0/home", bytes(wanted))
-
-
-class MissingMembers(Case, checks=[check_pairs, check_dropped, check_bad, check_volumes, check_trees]):
-    """Each over piles in one folder."""
-
-    def setUp(self):
-        self.pile = models.empty_pile(self, "members")

@@ -9,7 +9,7 @@ import explained
 import remedies
 import terminals
 from documents import text_of
-from harness import Case, run
+from harness import run
 
 from tool_calls import samples
 
@@ -94,7 +94,7 @@ def put_files(program, top):
     return folder
 
 
-def check_told(tally, program, top):
+def test_told(tally, program, top):
     """What is typed after a mistake, step by step."""
     environment = dict(os.environ, PATH=remedies.put_machine(program, top) + os.pathsep + os.environ["PATH"])
     for typed, said, printed in ROWS:
@@ -108,7 +108,3 @@ def check_told(tally, program, top):
         mended = run(["bash", "-ec", commands], folder=folder, env=environment)
         is_so = commands and (mended.status, mended.out.decode()) == (0, printed)
         tally.holds("what mends `%s`" % typed, is_so, "%s: status %s, %s, %s" % (commands, mended.status, mended.out, mended.err))
-
-
-class Mistakes(Case, checks=[check_told]):
-    """Mistakes, and what a terminal leads to."""

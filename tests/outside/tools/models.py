@@ -19,7 +19,6 @@ import types
 import physical_volumes
 import tool_calls
 import used
-from harness import Case
 from physical_volumes import section
 from plain_model import parity_legs
 
@@ -72,6 +71,11 @@ class Pile:
         left = [other for other in os.listdir(self.folder) if other.startswith("out")]
         is_so = got.status == 1 and why in got.err.decode() and saved is None and not left
         tally.holds(name, is_so, "status %s, %r, left %s" % (got.status, got.err, left))
+
+
+def pile(tally):
+    """The pile of a test."""
+    return empty_pile(tally, "pile")
 
 
 def empty_pile(case, name):
@@ -158,7 +162,7 @@ def named(rows, key, value):
     return next((row for row in rows if row[key] == value), {})
 
 
-def check_groups(tally, pile):
+def test_groups(tally, pile):
     """A group over two disks beside what is foreign; with one missing, and with one that is cut short; in two orders."""
     known = text("vg0", "g", 4, "ab", *PLAIN)
     pile.put("one", disk("a", A, known))
@@ -190,7 +194,7 @@ def check_groups(tally, pile):
     pile.refuses(tally, "a disk and a copy of it", "vg0/home", "copy and two both are the physical volume")
 
 
-def check_partitions(tally, pile):
+def test_partitions(tally, pile):
     """A physical volume in a partition: of a GPT, of its backup, of an MBR, of one inside an extended one, of sectors of 4096
     bytes, and of none that is left."""
     lone = text("vg0", "g", 4, "a", volume("home", "h", linear(0, 5, ("pv0", 3))))
@@ -235,7 +239,7 @@ def store(origin_sectors, pairs, is_valid=1):
     return head + area + b"".join(new for _, new in pairs)
 
 
-def check_layers(tally, pile):
+def test_layers(tally, pile):
     """Snapshots, one that is invalid, one that is being merged; pvmove in progress; mirrors; what isn't followed."""
     new = [(number, content_of("new %d" % number, CHUNK)) for number in (7, 0, 19)]
     data = bytearray(A)
@@ -283,7 +287,7 @@ def check_layers(tally, pile):
     tally.holds("a snapshot by them", read == over(extents_of(data, 0, 5), new), f"{answers.out!r}, {answers.err!r}")
 
 
-def check_stores(tally, pile):
+def test_stores(tally, pile):
     """Stores on two disks, of which one is missing or ends too soon: what the list and the chunks lie on has to be there, and no more. And
     lists that no kernel writes."""
     def made(count, chunk=1, wiped=(0, 0), key="cow_store", **head):
@@ -355,7 +359,7 @@ def check_stores(tally, pile):
     pile.refuses(tally, "a merge whose store has no header", "vg0/home", "nothing tells whether the merge ended")
 
 
-def check_levels(tally, pile):
+def test_levels(tally, pile):
     """Volumes on each other in many levels, as lines of tables and as mirrors, beside one that lies on a disk."""
     data = bytearray(A)
     for number in range(2):
@@ -414,7 +418,7 @@ def journal(blocks):
     return head + b"".join(map(bytes, sectors))
 
 
-def check_legs(tally, pile):
+def test_legs(tally, pile):
     """A mirror of LVM over dm-integrity, whose journal has newer blocks; damaged journals and superblocks."""
     held = [(3, content_of("held", 1)), (17, content_of("kept", 1))]
     data = extents_of(A, 0, 5)
@@ -476,7 +480,7 @@ def member(data, level, number, roles, events, layout=0, chunk=8, size=64, disks
     return bytes(image)
 
 
-def check_arrays(tally, pile):
+def test_arrays(tally, pile):
     """Arrays whole and with members missing or stale, one of unequal members, and a group on one."""
     data = content_of("array", 128)
     legs = parity_legs(data, 5, 2, 3, 8)
@@ -532,7 +536,7 @@ def check_arrays(tally, pile):
     pile.refuses(tally, "raid0 without a whole chunk", "md:array", "its members have no whole chunk", "z0", "z1")
 
 
-def check_nested(tally, pile):
+def test_nested(tally, pile):
     """Arrays of one member that lie in each other, in as many levels as are followed, and in one more."""
     wanted = content_of("inner", 64)
     for count in (8, 9):
@@ -548,7 +552,7 @@ def check_nested(tally, pile):
     os.unlink(os.path.join(pile.folder, "disk"))
 
 
-def check_lost_superblocks(tally, pile):
+def test_lost_superblocks(tally, pile):
     """Members whose superblock is damaged or gone: a mirror's other half may be older, and one member of raid0 isn't the disk."""
     base = text("vg0", "g", 4, "a", volume("home", "h", linear(0, 5, ("pv0", 3)))).replace(b"/dev/a", b"/dev/md0")
     inside, older = disk("a", A, base), disk("a", B, base)
@@ -661,7 +665,7 @@ def put_pools(pile):
                                 "vg0/quick": slow[:size] + fast[:size] + slow[2 * size:3 * size] + fast[2 * size:3 * size]}
 
 
-def check_thin(tally, pile):
+def test_thin(tally, pile):
     """Thin volumes and a cached one, and metadata that is damaged."""
     data, known, contents = put_pools(pile)
     for name, content in contents.items():
@@ -676,7 +680,7 @@ def check_thin(tally, pile):
             pile.holds(tally, "the other volume", "vg0/two", contents["vg0/two"])
 
 
-def check_names(tally, pile):
+def test_names(tally, pile):
     """Two groups of one name, sides of a fork, a group that was renamed, volumes and groups that were removed."""
     def lone(name, letter, seqno, disk_letter, *volumes):
         return text(name, letter, seqno, disk_letter, *volumes)
@@ -733,7 +737,7 @@ def check_names(tally, pile):
     pile.refuses(tally, "no such group", "nowhere/home", "no group is called nowhere")
 
 
-def check_areas(tally, pile):
+def test_areas(tally, pile):
     """A disk with two metadata areas, of which one is damaged, or behind."""
     home, other = volume("home", "h", linear(0, 5, ("pv0", 3))), volume("other", "o", linear(0, 2, ("pv0", 30)))
     older, old, new = text("vg0", "g", 3, "a", home, other), text("vg0", "g", 4, "a", home), text("vg0", "g", 5, "a", home, volume("new", "n", linear(0, 2, ("pv0", 30))))
@@ -765,7 +769,7 @@ def check_areas(tally, pile):
     os.unlink(os.path.join(pile.folder, "disk"))
 
 
-def check_saving(tally, pile):
+def test_saving(tally, pile):
     """A file that is there, that is an image, or in no folder; a map by which a run goes on; an image that is called as a format."""
     pile.put("one", disk("a", A, text("vg0", "g", 4, "a", volume("home", "h", linear(0, 5, ("pv0", 3))))))
     wanted = extents_of(A, 3, 5)
@@ -811,7 +815,7 @@ def check_saving(tally, pile):
     tally.holds("an image that isn't there", got.status == 1 and b"nowhere: No such file or directory" in got.err, got.err)
 
 
-def check_files(tally, pile):
+def test_files(tally, pile):
     """`tables` and `lost`: the program answers by the tables as the bytes lie; sectors that a map has as bad are lost, unless
     another disk has them."""
     known = text("vg-0", "g", 4, "ab", *PLAIN)
@@ -849,7 +853,7 @@ def check_files(tally, pile):
 MOUNTS = {"ext2": "ro,loop", "ext3": "ro,loop,noload", "ext4": "ro,loop,noload", "xfs": "ro,loop,norecovery", "btrfs": "ro,loop", "luks": None, None: None}
 
 
-def check_served(tally, pile):
+def test_served(tally, pile):
     """`serve` refuses what can't be served, needs nbdkit, replaces a socket only if nobody listens on it, and prints what fits the volume."""
     serve = importlib.import_module("dmremap_tools.images.serve")
     for system, options in MOUNTS.items():
@@ -937,7 +941,7 @@ def kill_children():
     return killed
 
 
-def check_plugin(tally, pile):
+def test_plugin(tally, pile):
     """The plugin's own functions: odd reads and extents over several parts, of which one is missing; a child that is killed; stripes of a
     sector of which every other one is zeros, in bounded memory."""
     known = text("vg0", "g", 4, "a", volume("v", "v", linear(0, 1, ("pv0", 3)), linear(1, 1, ("pv0", 0)), segment(2, 1, "zero"), linear(3, 1, ("pv0", 63))),
@@ -966,7 +970,7 @@ def check_plugin(tally, pile):
 TRIES = 80
 
 
-def check_hostile(tally, pile):
+def test_hostile(tally, pile):
     """Images with random changes, also of texts whose sums are right: a refusal in words, or an answer, which is right unless the text
     itself says otherwise."""
     known = text("vg0", "g", 4, "ab", *PLAIN, volume("thin", "t", segment(0, 8, "thin", 'thin_pool = "wide-one"', "device_id = 1")))
@@ -990,14 +994,3 @@ def check_hostile(tally, pile):
         tally.holds("saving from changed images", is_so, "number %d: status %s, %r" % (number, got.status, got.err[-300:]))
         saved += content is not None
     tally.holds("how many could be saved", 0 < saved < TRIES, saved)
-
-
-class Models(Case, checks=[
-    check_groups, check_partitions, check_layers, check_stores, check_levels, check_legs, check_arrays, check_nested,
-    check_lost_superblocks, check_thin, check_names, check_areas, check_saving, check_files, check_served, check_plugin,
-    check_hostile
-]):
-    """Piles of images, each in an empty folder."""
-
-    def setUp(self):
-        self.pile = empty_pile(self, "models")

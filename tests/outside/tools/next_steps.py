@@ -10,7 +10,6 @@ import os
 import re
 
 from documents import text_of
-from harness import Case
 
 VERBS = ("activate|add|ask|assemble|begin|compare|dump|end|give|install|leave|look|make|mend|name|put|read|repair|restore|run|save|say|"
          "see|take|trace|try|unpack|use|write")
@@ -98,7 +97,7 @@ def constants_of(tree):
                     yield name.id, value
 
 
-def check_messages(tally, top):
+def test_messages(tally, top):
     found = list(Sources(os.path.join(top, "tools", "dmremap_tools")).refusals())
     adding = {(module, function) for module, _, function, _, _, texts in found if texts and all(map(STEP.search, texts))}
     met = set()
@@ -109,7 +108,3 @@ def check_messages(tally, top):
             is_told = is_added or STEP.search(text) or not re.search("[A-Za-z]", text) or text in EXCEPTIONS
             tally.holds("%s, line %d" % (module, line), is_told, "it says no next step: " + text)
     tally.holds("the exceptions", met == EXCEPTIONS, "there are none of %s" % (EXCEPTIONS - met))
-
-
-class NextSteps(Case, checks=[check_messages]):
-    """Each message of the sources."""

@@ -13,8 +13,7 @@ import physical_volumes
 import tool_calls
 from dmremap_tools.formats import disk_image, signatures
 from dmremap_tools.model.device import Image, Lenient
-from harness import Case
-from models import A, B, DATA, EXTENT, MIB, SECTOR, content_of, disk, empty_pile, extents_of, linear, member, named, text, volume
+from models import A, B, DATA, EXTENT, MIB, SECTOR, content_of, disk, empty_pile, extents_of, linear, member, named, pile, text, volume
 from plain_model import parity_legs
 
 HOME = [volume("home", "h", linear(0, 5, ("pv0", 3)))]
@@ -86,7 +85,7 @@ def summed(image, at):
     return bytes(made)
 
 
-def check_resync(tally, pile):
+def test_resync(tally, pile):
     """Mirrors whose resync was broken off: the member from which others are filled is read, and what is in step of others."""
     data, other = content_of("in step", 64), content_of("not yet", 64)
     for level, layout in ((1, 0), (10, 0x102)):
@@ -109,7 +108,7 @@ def check_resync(tally, pile):
     in_any_order(tally, pile, "a second member that ran on after the first failed", {"b": failed}, "md:array", data)
 
 
-def check_apart(tally, pile):
+def test_apart(tally, pile):
     """Halves that ran apart: what is the same on both is given."""
     one, other = bytearray(content_of("both", 64)), bytearray(content_of("both", 64))
     other[40 * SECTOR:41 * SECTOR] = b"x" * SECTOR
@@ -125,7 +124,7 @@ def check_apart(tally, pile):
     in_any_order(tally, pile, "a half that was away", stale, "md:array", bytes(one))
 
 
-def check_filled(tally, pile):
+def test_filled(tally, pile):
     """Members that were being rebuilt: not read where others are, alone refused without a fault, and read as far as they were filled
     where another one is missing."""
     data = content_of("array", 128)
@@ -150,7 +149,7 @@ def check_filled(tally, pile):
     tally.holds("what is beside it", named(found["groups"], "name", "old").get("state") == "complete", found)
 
 
-def check_last_partition(tally, pile):
+def test_last_partition(tally, pile):
     """A member with metadata 1.0 or 0.90 in the last partition of a disk, which ends with that."""
     last = member(content_of("x", 2048), 1, 0, (0, 1), 4, size=2048, version=0)
     in_any_order(tally, pile, "a group beside a member at the end of the disk", {"sda": with_mbr(b"", (2048, NEW), (8192, last))}, "new/root", NEW_BYTES)
@@ -162,7 +161,7 @@ def check_last_partition(tally, pile):
     in_any_order(tally, pile, "a group beside a member with metadata 0.90", {"sda": with_mbr(b"", (2048, NEW), (8192, old))}, "new/root", NEW_BYTES)
 
 
-def check_left_over(tally, pile):
+def test_left_over(tally, pile):
     """What is left over of an earlier use of a disk: a label, superblocks and a second header of LUKS."""
     disk_with_both = {"sda": with_mbr(OLD, (4096, NEW))}
     in_any_order(tally, pile, "a partition of a disk with an old label", disk_with_both, "new/root", NEW_BYTES)
@@ -186,7 +185,7 @@ def check_left_over(tally, pile):
     in_any_order(tally, pile, "a physical volume over an old container", {"sda": bytes(second)}, "old/home", OLD_BYTES)
 
 
-def check_nested(tally, pile):
+def test_nested(tally, pile):
     """Arrays on arrays, where the inner superblock is seen on the outer members too."""
     inner = [member(content_of("leg %d" % number, 64), 0, number, (0, 1), 3, name=b"inner") for number in range(2)]
     outer = {"%s%d" % (name, leg): member(content, 1, leg, (0, 1), 5, size=sectors(content), version=0, name=name.encode())
@@ -199,7 +198,7 @@ def check_nested(tally, pile):
     in_any_order(tally, pile, "stripes over a mirror with a stale half", stale, "md:inner", whole)
 
 
-def check_signatures(tally, pile):
+def test_signatures(tally, pile):
     """Signatures of what nothing follows: what is found there is told, and refused; one in the midst of it says nothing."""
     for label, place, magic in (("DDF", -SECTOR, b"\xde\x11\xde\x11"), ("IMSM", -2 * SECTOR, b"Intel Raid ISM Cfg Sig. 1.1"),
                                 ("Adaptec", -SECTOR, b"\x37\xfc\x4d\x1e"), ("VIA", -SECTOR, VIA),
@@ -220,7 +219,7 @@ def check_signatures(tally, pile):
     in_any_order(tally, pile, "a signature within a volume", {"sda": bytes(inside)}, "old/home", OLD_BYTES)
 
 
-def check_own_signatures(tally, pile):
+def test_own_signatures(tally, pile):
     """Signatures that are found where there is no wipefs, and those whose sums are wrong, which are none."""
     for kind, place, magic, is_summed in (
             ("adaptec_raid_member", -SECTOR, b"\x37\xfc\x4d\x1e", False), ("hpt45x_raid_member", -11 * SECTOR, b"\xf3\x16\x78\x5a", False),
@@ -245,7 +244,7 @@ def kinds_in(pile, image):
     return [each.kind for each in signatures.signatures_in(Lenient(Image(os.path.join(pile.folder, "sda"))))]
 
 
-def check_lengths(tally, pile):
+def test_lengths(tally, pile):
     """Physical volumes that are about so long as several disks, or longer than one beside another of its length: stripes."""
     long = text("old", "g", 4, "a", *HOME, extents=2 * 64 + 256)
     half = physical_volumes.volume((physical_volumes.FIRST, physical_volumes.area(long, SECTOR, size=64 * 1024, others=[(SECTOR, long)])),
@@ -257,7 +256,7 @@ def check_lengths(tally, pile):
     in_any_order(tally, pile, "the same beside one of its length", {"sda": third, "sdb": bytes(len(third))}, "old/home", None, "one of the stripes")
 
 
-def check_headless(tally, pile):
+def test_headless(tally, pile):
     """A physical volume without its first sectors, whose metadata area lies at its end."""
     known, size = text("old", "g", 4, "a", *HOME), DATA * SECTOR + len(A)
     node = known.replace(b"dev_size = %d" % (DATA + 64 * EXTENT), b"dev_size = %d" % (DATA + 64 * EXTENT + 128))
@@ -265,7 +264,7 @@ def check_headless(tally, pile):
     in_any_order(tally, pile, "a physical volume without a label", {"sda": bytes(DATA * SECTOR) + A + bytes(ring)}, "old/home", OLD_BYTES)
 
 
-def check_containers(tally, pile):
+def test_containers(tally, pile):
     """Headers of LUKS that cryptsetup refuses are told as that, and a sound one is not."""
     def slots(*areas):
         return containers.text_of(keys=areas)
@@ -300,7 +299,7 @@ def check_containers(tally, pile):
         tally.holds("a device that is too small, of " + label, "ends before the data" in (row["why"] or ""), row)
 
 
-def check_kinds(tally, pile):
+def test_kinds(tally, pile):
     """Names of what is like something else."""
     bcache = bytes.fromhex("c68573f64e1a45ca8265f57f48ba6d81")
     for name, wanted, places in (
@@ -331,7 +330,7 @@ def check_kinds(tally, pile):
         tally.holds("a table of " + name, "partition table (%s) that isn't followed" % name in whys[0], whys)
 
 
-def check_tables_within(tally, pile):
+def test_tables_within(tally, pile):
     """A table of another kind in a partition of an MBR, while what begins the disk looks like a file system: both are told."""
     part = bytearray(MIB)
     part[512:516] = b"WEV\x82"
@@ -366,14 +365,14 @@ class ShuffledPile(models.Pile):
         return got, saved
 
 
-def check_orders(tally, pile):
+def test_orders(tally, pile):
     """The arrays of other tests, saved in two orders under two names each."""
-    for check in (models.check_arrays, models.check_nested, models.check_lost_superblocks, models.check_legs):
+    for check in (models.test_arrays, models.test_nested, models.test_lost_superblocks, models.test_legs):
         shuffled = empty_pile(tally, "orders")
         check(tally, ShuffledPile(tally, shuffled.program, shuffled.top, shuffled.folder))
 
 
-def check_machines(tally, pile):
+def test_machines(tally, pile):
     """The machines in the folder that DMREMAP_IMAGES names, if it does: each volume, in two orders under two names."""
     top = os.environ.get("DMREMAP_IMAGES")
     if not top:
@@ -398,13 +397,3 @@ def check_machines(tally, pile):
             outcomes.append(told)
             shutil.rmtree(folder)
         tally.holds("%s in two orders" % machine, outcomes[0] == outcomes[1], [each for each in zip(*outcomes) if each[0] != each[1]])
-
-
-class Owned(Case, checks=[
-    check_resync, check_apart, check_filled, check_last_partition, check_left_over, check_nested, check_signatures, check_own_signatures, check_lengths,
-    check_headless, check_containers, check_kinds, check_tables_within, check_orders, check_machines
-]):
-    """Piles of images, each in an empty folder."""
-
-    def setUp(self):
-        self.pile = empty_pile(self, "owned")

@@ -7,11 +7,9 @@ import struct
 import containers
 import models
 import physical_volumes
-from harness import Case
-from models import A, DATA, EXTENT, HIDDEN, SECTOR, content_of, disk, extents_of, linear, member, segment, text, volume
+from models import A, DATA, EXTENT, HIDDEN, SECTOR, content_of, disk, extents_of, linear, member, pile, segment, text, volume
 from physical_volumes import gpt, mbr
 from plain_model import parity_legs
-
 
 UNMAPPED = b"no map was given: only what the images lack counts as missing\n"
 
@@ -84,7 +82,7 @@ PARTED = [
 ]
 
 
-def check_tables(tally, pile):
+def test_tables(tally, pile):
     """Partitions where their tables say that they are."""
     for name, image, wanted in PARTED:
         pile.put("disk", image.ljust(256 * SECTOR, b"\0"))
@@ -120,7 +118,7 @@ HELD = [
 ]
 
 
-def check_held(tally, pile):
+def test_held(tally, pile):
     """What is there beside groups."""
     for name, image, wanted in HELD:
         pile.put("disk", image)
@@ -131,7 +129,7 @@ def check_held(tally, pile):
         tally.holds("who has sectors of " + name, got.status == 0 and not missing and covered == set(range(sectors)), "%s missing of %s, %r" % (missing, lines, got.err))
 
 
-def check_words(tally, pile):
+def test_words(tally, pile):
     """How sectors are asked for: lines, bytes, a kernel's log, a map; what ends after the image, and what isn't there."""
     pile.put("a disk", laid(100, (0, mbr((0x83, 8, 8)))))
     inside = "a disk %d %d = a disk:1 %d = unknown: nothing is found in it\n"
@@ -151,7 +149,7 @@ def check_words(tally, pile):
     tally.holds("a map of no image", asked(pile, "", "sda", "--map", "sdb=map").status == 2, "it is taken")
 
 
-def check_groups(tally, pile):
+def test_groups(tally, pile):
     """Volumes that nobody activated; what is free, was once taken, or isn't known, as the text is lost, damaged or of another time."""
     known = text("vg0", "g", 4, "ab", *models.PLAIN)
     pile.put("one", disk("a", A, known))
@@ -184,7 +182,7 @@ def check_groups(tally, pile):
         tally.holds(name, got.status == 0 and got.out.decode().startswith("one %d 1 = %s" % (place, why)), got.out)
 
 
-def check_ladder(tally, pile):
+def test_ladder(tally, pile):
     """Volumes on each other in circles, and with more ways up than can be told."""
     def mirror(name, *lowers):
         legs = ", ".join('"%s", 0' % lower for lower in lowers)
@@ -198,7 +196,7 @@ def check_ladder(tally, pile):
     tally.holds("too many ways up", got.status == 1 and b"sector %d: too many ways lead up from there" % DATA in got.err, got.err)
 
 
-def check_layers(tally, pile):
+def test_layers(tally, pile):
     """Snapshots with what their stores have, one that is being merged, pvmove, raid of LVM."""
     new = [(number, content_of("new %d" % number, models.CHUNK)) for number in (7, 0, 19)]
     data = bytearray(A)
@@ -238,7 +236,7 @@ def check_layers(tally, pile):
         tally.same("who has extent %d" % place, got, 0, "disk %d 1 = %s\n" % (first, wanted))
 
 
-def check_pools(tally, pile):
+def test_pools(tally, pile):
     """Blocks of a pool and of a cache, and what is kept of them."""
     _, _, contents = models.put_pools(pile)
     found, besides = agrees(tally, "thin volumes and a cached one", pile, "disk", contents)
@@ -246,7 +244,7 @@ def check_pools(tally, pile):
     tally.holds("what pools keep", {"metadata of vg0/pool, below one, two, none", "data of vg0/pool, below one, two, none", "cache of vg0/quick"} <= set(besides), besides)
 
 
-def check_arrays(tally, pile):
+def test_arrays(tally, pile):
     """Members of arrays of each level: each sector of data is where the array has it."""
     data = content_of("array", 128)
     chunks = [data[at:at + 8 * SECTOR] for at in range(0, len(data), 8 * SECTOR)]
@@ -281,12 +279,3 @@ def check_arrays(tally, pile):
         pile.put("bad%d" % number, member(leg, 0, number, (0, 1), 7, layout=1, size=0, bad=[(70, 3)] * number))
     got = asked(pile, "bad1 64 64\n", "bad0", "bad1")
     tally.holds("a member of raid0 with bad blocks", b"bad1 72 8 = md:array 24 = " in got.out and b"superblock" not in got.out, got.out)
-
-
-class Owners(Case, checks=[
-    check_tables, check_held, check_words, check_groups, check_ladder, check_layers, check_pools, check_arrays
-]):
-    """Piles of images, each in an empty folder."""
-
-    def setUp(self):
-        self.pile = models.empty_pile(self, "owners")

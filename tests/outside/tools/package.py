@@ -9,14 +9,14 @@ import re
 
 import dmremap_tools
 from dmremap_tools import commands, main
-from harness import Case, run
+from harness import run
 
 PACKAGE = "dmremap_tools"
 # A folder, what it is for, and which folders it imports.
 DRAWN = re.compile(r"^    (\w+) {2,}[^:\n]+?(?:: ([\w ]+))?$", re.M)
 
 
-def check_folders(tally, top):
+def test_folders(tally, top):
     package = os.path.join(top, "tools", PACKAGE)
     drawing = dmremap_tools.__doc__.partition("How to add a command")[0]
     drawn = [(name, set(imports.split())) for name, imports in DRAWN.findall(drawing)]
@@ -46,7 +46,7 @@ def imported_by(folder, folders):
     return found & set(folders) - {os.path.basename(folder)}
 
 
-def check_options(tally):
+def test_options(tally):
     taken = {}
     for command in commands.COMMANDS:
         module = importlib.import_module("%s.%s" % (PACKAGE, command.module))
@@ -59,10 +59,6 @@ def check_options(tally):
         tally.holds("what %s takes" % option, len(values) == 1, "it takes %s" % values)
 
 
-def check_columns(tally, top):
+def test_columns(tally, top):
     got = [run([os.path.join(top, "dmremap-tools"), "owner", "--help"], env=dict(os.environ, COLUMNS=str(columns))) for columns in (80, 200)]
     tally.same("the help on a wide terminal", got[1], 0, got[0].out)
-
-
-class Package(Case, checks=[check_folders, check_options, check_columns]):
-    """Folders and options."""

@@ -8,7 +8,7 @@ import unittest
 import xml.etree.ElementTree as tree
 import zlib
 
-from harness import Case, run
+from harness import run
 from tool_calls import call, check_rows, lost, samples
 
 WHITE, BLUE, WRITTEN = (255, 255, 255), (31, 95, 191), (192, 48, 32)
@@ -33,6 +33,8 @@ PLOT = ["--plot", "plot.svg", "--lengths"]
 
 def drawn(tally, program, top, words, given):
     """The texts of a picture, and its pixels."""
+    if not shutil.which("rsvg-convert"):
+        raise unittest.SkipTest("pictures that are drawn: there is no rsvg-convert")
     got = call(top, words, given, program.folder)
     if not tally.holds(" ".join(words), got.status == 0 and got.err == b"", "status %s, %r" % (got.status, got.err)):
         return "", None
@@ -83,7 +85,7 @@ def nearest(left, above, corner):
     return min((abs(guess - left), 0, left), (abs(guess - above), 1, above), (abs(guess - corner), 2, corner))[2]
 
 
-def check_bars(tally, program, top):
+def test_bars(tally, program, top):
     """The middle of each range is of its device's colour, which the legend has; gaps are not; clashes have red edges."""
     text, pixels = drawn(tally, program, top, ["picture"], SPANS)
     # A rectangle of each range, from its tooltip.
@@ -107,7 +109,7 @@ def check_bars(tally, program, top):
     tally.holds("snapshots of one origin don't clash", "red" not in text, text)
 
 
-def check_names(tally, program, top):
+def test_names(tally, program, top):
     """A legend of many long names fits, and names that hold anything are shown."""
     many = "".join("sda %d %d %s 0 linear\n" % (it, it + 1, "n%d" % it + "m" * (it % 120)) for it in range(300)) + "sda 300 300 - - end\n"
     text, pixels = drawn(tally, program, top, ["picture"], many)
@@ -118,7 +120,7 @@ def check_names(tally, program, top):
     drawn(tally, program, top, ["picture"], b"sda 0 8 \x1b]0;\xff<script>&\xe2\x80\xae 0 linear\nsda 8 8 - - end\n")
 
 
-def check_plot(tally, program, top):
+def test_plot(tally, program, top):
     """What is read is blue, what is written red, each where it belongs. The size doesn't grow with the answers."""
     program.file("disks", DISKS)
     few = "".join("%d R sda %d 10\n" % (it + 1, 10 * it) for it in range(100)) + "".join("%d W sdb 0 10\n" % (it + 101) for it in range(50))
@@ -142,11 +144,11 @@ def check_plot(tally, program, top):
     tally.holds("disks in the order of DISKS", 0 < text.find("sda: sectors") < text.find("sdb: sectors"), text[:300])
 
 
-def check_pictures(tally, program, top):
+def test_pictures(tally, program, top):
     check_rows(tally, program, top, PICTURES)
 
 
-def check_costs(tally, program, top):
+def test_costs(tally, program, top):
     """A picture of many disks takes little memory for each of which little is there, and times far apart take little time."""
     program.file("disks", "".join("d%d 8\n" % it for it in range(1025)))
     rows = ["%d R d%d 0 8\n" % (it + 1, it) for it in range(1025)]
@@ -169,16 +171,3 @@ def check_costs(tally, program, top):
 def hue(colour):
     """White, or which of blue and red there is more of."""
     return "white" if min(colour) > 240 else "blue" if colour[2] > colour[0] else "red"
-
-
-class Pictures(Case, checks=[check_pictures, check_costs]):
-    """What is said of pictures, and what they cost."""
-
-
-class Drawn(Case, checks=[check_bars, check_names, check_plot]):
-    """Pictures that are drawn."""
-
-    @classmethod
-    def setUpClass(cls):
-        if not shutil.which("rsvg-convert"):
-            raise unittest.SkipTest("pictures that are drawn: there is no rsvg-convert")

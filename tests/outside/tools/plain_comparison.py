@@ -23,7 +23,6 @@ import models
 import plain_model
 import used
 from dmremap_tools.model.pile import Pile
-from harness import Case
 from models import CLEAN, DATA, EXTENT, HIDDEN, SECTOR, segment, volume
 
 SECTORS = 200
@@ -541,7 +540,7 @@ def differences(program, folder, number, only=None):
 FEW = 4
 
 
-def check_few(tally, program, own_folder):
+def test_few(tally, program, own_folder):
     """A few machines of each kind."""
     folder = os.path.join(own_folder, "plain")
     os.makedirs(folder)
@@ -552,10 +551,6 @@ def check_few(tally, program, own_folder):
             total += counts
             tally.holds("the machine %d with %s" % (number, kind), not found, found[:3])
     tally.holds("that both bytes and gaps were compared", min(total["bytes"], total["gap"]) > 100, total)
-
-
-class PlainComparison(Case, checks=[check_few]):
-    """The tools' answers beside those of the plain model."""
 
 
 def main(count, first=0, program=os.path.join(TOP, "crates", "dmremap", "out", "dmremap"), only=None):

@@ -10,7 +10,7 @@ import shutil
 import explained
 import explained_rows
 from documents import text_of
-from harness import Case, run
+from harness import run
 
 from tool_calls import samples
 
@@ -67,7 +67,7 @@ def put_files(program, top):
     return folder
 
 
-def check_typed(tally, program, top):
+def test_typed(tally, program, top):
     """Those of all rows, in a folder that is as new for each."""
     machine, typed = put_machine(program, top), set()
     environment = dict(os.environ, PATH=machine + os.pathsep + os.environ["PATH"])
@@ -93,7 +93,7 @@ def forms_in(top):
                 yield re.compile(".*".join(map(re.escape, PUT.split(node.value))))
 
 
-def check_help(tally, program, top):
+def test_help(tally, program, top):
     """Those of all entries of help."""
     environment = dict(os.environ, PATH=put_machine(program, top) + os.pathsep + os.environ["PATH"])
     words = re.search(r"help knows:\n((?:  .*\n)+)", program.run(["help", "no: such: word"]).err.decode())[1].replace("\n", " ").split(",")
@@ -105,7 +105,3 @@ def check_help(tally, program, top):
     for command in OF_HELP.values():
         got = run(["bash", "-ec", command], folder=folder, env=environment)
         tally.holds("what help has typed: %s" % command, got.status == 0, "status %s, %s" % (got.status, got.err))
-
-
-class Remedies(Case, checks=[check_typed, check_help]):
-    """The remedies that explain and help print."""

@@ -8,8 +8,7 @@ import shutil
 
 import models
 import tool_calls
-from harness import Case
-from models import A, DATA, EXTENT, SECTOR, content_of, disk, extents_of, linear, member, text, volume
+from models import A, DATA, EXTENT, SECTOR, content_of, disk, extents_of, linear, member, pile, text, volume
 from plain_model import parity_legs
 
 OTHER = "--map-of-other-length"
@@ -41,7 +40,7 @@ def put(pile, name, content, *lost):
     return ["--map", "%s=map.%s" % (name, name)]
 
 
-def check_copies(tally, pile):
+def test_copies(tally, pile):
     """Two members of a mirror, which lack different sectors: all of it is there, for each command."""
     content = disk("a", A, GROUP)
     start = 64 + DATA + 3 * EXTENT
@@ -66,7 +65,7 @@ def check_copies(tally, pile):
     pile.refuses(tally, "a volume of which both lack a sector", "vg0/home", "m1 lacks its bytes", "m0", "m1", more=words)
 
 
-def check_gaps(tally, pile):
+def test_gaps(tally, pile):
     """An image alone: what it lacks is told, and is a hole in what is saved; a sound volume beside it is whole."""
     content, first = disk("a", A, GROUP), DATA + 3 * EXTENT
     words = put(pile, "one", content, (first + 7, 2), (first + 9, 1))
@@ -91,7 +90,7 @@ def check_gaps(tally, pile):
     tally.same("a path with an equals sign", pile.call("lost", "vg0/home", "a=b", "--map", "a=b=map.one"), 0, "3 sectors: no file system\n3 sectors lost of 40\n")
 
 
-def check_lengths(tally, pile):
+def test_lengths(tally, pile):
     """A map that begins or ends elsewhere than its image: refused in each command, unless it is said; then the rest wasn't read."""
     content = disk("a", A, GROUP)
     size, end = len(content) // SECTOR, DATA + 4 * EXTENT
@@ -114,7 +113,7 @@ def check_lengths(tally, pile):
             tally.holds("a map %s that is meant" % name, got.status == 1 and b"no group is called vg0" in got.err, got.err)
 
 
-def check_rows(tally, pile):
+def test_rows(tally, pile):
     """A raid5 without a member, of which another lacks one sector: that of the missing one is lost as well, and not the chunk."""
     data = content_of("array", 128)
     images = [member(leg, 5, number, (0, 1, 2), 7, layout=2) for number, leg in enumerate(parity_legs(data, 5, 2, 3, 8))]
@@ -128,7 +127,7 @@ def check_rows(tally, pile):
         tally.holds("what is saved of it", len(differ) == lost and not any(saved[at * SECTOR:(at + 1) * SECTOR].strip(b"\0") for at in differ), differ)
 
 
-def check_owners(tally, pile):
+def test_owners(tally, pile):
     """Who has what a map lacks, of which a snapshot reads some from its origin."""
     known = text("vg0", "g", 4, "a", volume("home", "h", linear(0, 2, ("pv0", 3))), volume("snap", "s", linear(0, 4, ("pv0", 10)), status='"READ", "WRITE"'),
                  volume("snapshot0", "n", models.segment(0, 2, "snapshot", "chunk_size = 4", 'origin = "home"', 'cow_store = "snap"')))
@@ -145,7 +144,7 @@ def check_owners(tally, pile):
     pile.refuses(tally, "such a snapshot", "vg0/snap", "one lacks its bytes", "one", more=words)
 
 
-def check_tables(tally, pile):
+def test_tables(tally, pile):
     """`save` by tables: a disk with a gap; one that a store lies on."""
     pile.put("sda", content_of("a", 56) + bytes(8 * SECTOR))
     pile.put("out.t", b"v: 0 16 linear sda 8\nw: 0 16 linear sda 40\ns: 0 16 snapshot /dev/mapper/w /dev/mapper/c P 4\nc: 0 8 linear sda 56\n")
@@ -164,7 +163,7 @@ def check_tables(tally, pile):
     tally.holds("a store on it", got.status == 1 and b"sda: a store lies on it, which dmremap reads without its map: give GROUP/VOLUME and images" in got.err, got.err)
 
 
-def check_sources(tally, pile):
+def test_sources(tally, pile):
     """A map of another volume, or of other images: refused, and nothing changes; the same volume goes on, also by other names."""
     pile.put("one", disk("a", A, GROUP))
     first = ["out.map", "out"]
@@ -207,7 +206,7 @@ def beaten(path):
         os.link = link
 
 
-def check_turns(tally, pile):
+def test_turns(tally, pile):
     """Two runs by one map: the second is refused, and takes nothing away."""
     pile.put("one", disk("a", A, GROUP))
     told = "out.map: another save goes on by it, or began it just now: wait until that has ended, or give another name\n"
@@ -229,7 +228,7 @@ def check_turns(tally, pile):
     tally.same("and once that has ended", pile.call("save", "vg0/home", "out", "one", "--resume", "out.map"), 0)
 
 
-def check_again(tally, pile):
+def test_again(tally, pile):
     """A run that goes on with fewer maps of images, which would take zeros for data, or with more, where zeros may have been taken."""
     content, first = disk("a", A, GROUP), DATA + 3 * EXTENT
     words = put(pile, "one", content, (first + 7, 2))
@@ -250,12 +249,3 @@ def check_again(tally, pile):
     got = pile.call(*again, *words)
     why = b"out.map: it was begun without some map of an image, and what that lacks may be in OUT as zeros: give a new name as --resume, and another OUT\n"
     tally.holds("going on with one", got.status == 1 and got.err.endswith(why), got.err)
-
-
-class RescueMaps(Case, checks=[
-    check_copies, check_gaps, check_lengths, check_rows, check_owners, check_tables, check_sources, check_turns, check_again
-]):
-    """Piles of images with maps, each in an empty folder."""
-
-    def setUp(self):
-        self.pile = models.empty_pile(self, "rescue_maps")

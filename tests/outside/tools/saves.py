@@ -13,7 +13,6 @@ import time
 
 import physical_volumes
 import tool_calls
-from harness import Case
 from tool_calls import read
 
 SECTOR = 512
@@ -76,7 +75,7 @@ LOST = "%d sectors of the file from %d on can't be read\n"
 FAILS, CUT = "reads fail there, as the tables say", "%s ends at byte %d"
 
 
-def check_volumes(tally, program, top):
+def test_volumes(tally, program, top):
     """A whole volume, of which a line is an error; and once more without that line. What isn't all there is refused, unless it may
     have gaps."""
     disks = Disks(program)
@@ -121,7 +120,7 @@ def said_of(disks, top, *words):
     return int(sectors), ids
 
 
-def check_gaps(tally, program, top):
+def test_gaps(tally, program, top):
     """A disk that is missing, and sectors that can't be read: holes, a map of ddrescue, and a run that goes on by it."""
     disks = Disks(program)
     sectors, ids = said_of(disks, top)
@@ -155,7 +154,7 @@ def check_gaps(tally, program, top):
 WHOLE = "dmremap-tools save: %s: the image of a whole disk (%s), and p has %d sectors: give the partition that it is, as IMAGE?offset=BYTES\n"
 
 
-def check_whole_disks(tally, program, top):
+def test_whole_disks(tally, program, top):
     """Images with partition tables: of a disk that is as long as DISKS says, or that ends too early, and of one that is given for
     a partition."""
     gpt, mbr = physical_volumes.gpt((40, 95), last=128), physical_volumes.mbr((0x8E, 40, 56))
@@ -195,7 +194,7 @@ BOTH = "the disk has a partition table (MBR) as well, which was made later, so t
 UNLABELLED = "the image of a whole disk (GPT), none of whose partitions (1) has a sound label: give the partition that it is, as IMAGE?offset=BYTES"
 
 
-def check_labels(tally, program, top):
+def test_labels(tally, program, top):
     """Disks of which labels don't say which part is meant, so that its place has to: one with both a partition table and a
     label, one whose partition has none, one with a label elsewhere, and the head of one."""
     mbr, gpt = physical_volumes.mbr((0x8E, 40, 56)), physical_volumes.gpt((40, 95), last=199).ljust(40 * SECTOR, b"\0")
@@ -228,7 +227,7 @@ def check_labels(tally, program, top):
                    "then what is missing\n" % told)
 
 
-def check_file(tally, program, top):
+def test_file(tally, program, top):
     """A file of the volume, by what filefrag printed of it: its extents, its hole, and its length."""
     disks = Disks(program)
     extents = ("Filesystem type is: ef53\nFile size of /f is 9000 (18 blocks of 512 bytes)\n"
@@ -244,7 +243,7 @@ def check_file(tally, program, top):
     tally.same("two files", disks.save(top, "files", "--extents", two), 1, "", "dmremap-tools save: %s: more than one file: give the extents of one\n" % two)
 
 
-def check_odd_file(tally, program, top):
+def test_odd_file(tally, program, top):
     """A file of an odd number of bytes, which is saved once without a disk and then with it, by its map."""
     disks = Disks(program)
     program.file("save/table", TABLE.replace("error", "zero"))
@@ -269,7 +268,7 @@ def check_odd_file(tally, program, top):
         tally.holds("its last map", read(disks.target("odd.map")).decode() == text, read(disks.target("odd.map")))
 
 
-def check_edges(tally, program, top):
+def test_edges(tally, program, top):
     """Sectors that can't be read on both sides of the end of what is read at once."""
     at_once = 2048
     content = os.urandom(3 * at_once * SECTOR)
@@ -286,7 +285,7 @@ def check_edges(tally, program, top):
         tally.holds("what is saved around %s" % bad, read(os.path.join(folder, "out%d" % number)) == wanted, "it is another")
 
 
-def check_refusals(tally, program, top):
+def test_refusals(tally, program, top):
     """A target that is there, or can't be made; a map of another file; a command that dmremap refuses."""
     disks = Disks(program)
     program.file("save/there", "")
@@ -350,7 +349,7 @@ def check_refusals(tally, program, top):
 READ_TOO = "%s: it is read, too: give another file to write"
 
 
-def check_outputs(tally, program, top):
+def test_outputs(tally, program, top):
     """A target or a map that is one of the disks, or both of which are one; and names and links that stand in the way of neither."""
     disks = Disks(program)
     program.file("save/table", TABLE.replace("error", "zero"))
@@ -394,7 +393,7 @@ SLOW = """#!/bin/sh
 """
 
 
-def check_ends(tally, program, top):
+def test_ends(tally, program, top):
     """A save that is told to end, or fails: no target is left, nor anything beside it, but with a map both, from which it goes on."""
     disks = Disks(program)
     program.file("save/table", TABLE.replace("error", "zero"))
@@ -428,7 +427,7 @@ TRIES = 150
 BITS = [b"0", b"18446744073709551615", b"9" * 40, b"-1", b"\0", b"\xff", b"\n", b" ", b"R", b"error", b"size", b"+", b"0x", b"?"]
 
 
-def check_mutations(tally, program, top):
+def test_mutations(tally, program, top):
     """Inputs with random changes: a file, or a refusal in words after which there is none."""
     disks = Disks(program)
     extents = ("Filesystem type is: ef53\nFile size of /f is 5001 (10 blocks of 512 bytes)\n"
@@ -457,10 +456,3 @@ def mutated(text, dice):
         at = dice.randrange(len(text) + 1)
         text = text[:at] + dice.choice(BITS + [b""]) + text[at + dice.randrange(4):]
     return text
-
-
-class Saves(Case, checks=[
-    check_volumes, check_file, check_odd_file, check_edges, check_gaps, check_whole_disks, check_labels, check_refusals,
-    check_outputs, check_ends, check_mutations
-]):
-    """Volumes and files out of images."""

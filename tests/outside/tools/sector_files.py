@@ -37,7 +37,7 @@ def said(*rows, sectors, lost):
     return "".join("%d sectors: %s\n" % row for row in rows) + "%d sectors lost of %d\n" % (lost, sectors)
 
 
-def check_sample(tally, program, top):
+def test_sample(tally, program, top):
     """Sectors of the sample."""
     sample = os.path.join(tool_calls.samples(top), "home.img")
     sectors = os.path.getsize(sample) // 512
@@ -49,7 +49,7 @@ def check_sample(tally, program, top):
         tally.same("files of %s" % asked, files(program, top, asked, sample), 0, said(*rows, sectors=sectors, lost=sum(count for _, count in asked)))
 
 
-def check_refusals(tally, program, top):
+def test_refusals(tally, program, top):
     """What is no file system, of which the sectors are counted; what looks like one, without debugfs and with it."""
     image = program.file("files/none", bytes(100352))
     tally.same("files of no file system", files(program, top, [(0, 1), (7, 2)], image), 0, said((3, "no file system"), sectors=196, lost=3))
@@ -59,7 +59,7 @@ def check_refusals(tally, program, top):
     tally.holds("files of a damaged file system", (got.status, got.out) == (1, b"") and got.err.startswith(begins), got.err)
 
 
-def check_large_inodes(tally, program, top):
+def test_large_inodes(tally, program, top):
     """Inodes of two sectors, of which either one is asked for."""
     image = made(tally, program, "large inodes", {it: b"x" for it in ("one", "two", "three", "four", "five")}, "-t", "ext4", "-b", "4096", "-I", "1024")
     if not image:
@@ -73,7 +73,7 @@ def check_large_inodes(tally, program, top):
             tally.same("sector %d of the inode of %s" % (at - sector, name), got, 0, said((1, "inode table: /" + name), sectors=16384, lost=1))
 
 
-def check_killed(tally, program, top):
+def test_killed(tally, program, top):
     """A debugfs that is killed: where it is asked for something besides, that is no answer; and where other options help, it is."""
     sample, real = os.path.join(tool_calls.samples(top), "home.img"), found("debugfs")
     folder = os.path.dirname(program.file("killed/map", "0x0 ?\n0x0 0x8000 -\n0x8000 0x7000 +\n"))
@@ -107,7 +107,7 @@ def all_files(program, top, image):
     return got, {name[len("folder "):] if name.startswith("folder ") else name: int(count) for count, name in lines}
 
 
-def check_odd_names(tally, program, top):
+def test_odd_names(tally, program, top):
     """Names with line feeds, escapes and quotes, and folders that look as if the next line were about another inode."""
     contents = {name: os.urandom(3000) for name in ODD}
     contents.update({"d\n%d\t/victim%d" % (inode, inode): os.urandom(1024) for inode in range(11, 30)})
@@ -135,7 +135,7 @@ KINDS = [("-t", "ext2", "-b", "1024"), ("-t", "ext3", "-b", "2048"), ("-t", "ext
          ("-t", "ext4", "-b", "1024", "-L", "²²")]
 
 
-def check_whole(tally, program, top):
+def test_whole(tally, program, top):
     """In whole file systems of many kinds each block in use is a file's or the system's, and each file has its blocks."""
     for number, words in enumerate(KINDS):
         image = made(tally, program, "whole%d" % number, {"a": os.urandom(9), "d/e": os.urandom(400000), "d/f": os.urandom(3000)}, *words)
@@ -148,7 +148,7 @@ def check_whole(tally, program, top):
         tally.holds("the whole file system of %s" % " ".join(words), is_so, "%r, %r, %r" % (got.err, found_files, wanted))
 
 
-def check_lost(tally, program, top):
+def test_lost(tally, program, top):
     """File systems whose sectors read as zeros, as ddrescue leaves them: the files of what was lost there are named."""
     names = ["/d/f%d" % it for it in range(6)]
     image = made(tally, program, "lost", {**{it[1:]: os.urandom(3000) for it in names}, "big": os.urandom(200000)}, size="24M")
@@ -180,7 +180,7 @@ def check_lost(tally, program, top):
         tally.holds("files where %s is lost" % name, is_so, "%r and not %r; %r" % (got.out, wanted, got.err))
 
 
-def check_lost_inodes(tally, program, top):
+def test_lost_inodes(tally, program, top):
     """Where many inodes are lost, each of their names is found, though debugfs doesn't know any more how many there are."""
     names = {"/%s%d" % (kind, it) for kind in ("f", "linked") for it in range(6)}
     for it in range(6):
@@ -202,7 +202,7 @@ def check_lost_inodes(tally, program, top):
     tally.same("the names of lost inodes", got, 0, said(*rows, sectors=16384, lost=len(lost)))
 
 
-def check_xfs(tally, program, top):
+def test_xfs(tally, program, top):
     """An XFS file system: its files, the files of its inodes, and data whose inode is lost. btrfs is named."""
     image = program.file("btrfs.img", bytes(65536 + 64) + b"_BHRfS_M" + bytes(440))
     got = files(program, top, [(0, 1)], image)
@@ -280,10 +280,7 @@ def write_at(path, at, content):
         file.write(content)
 
 
-class SectorFiles(Case, checks=[
-    check_sample, check_refusals, check_odd_names, check_whole, check_lost, check_lost_inodes, check_large_inodes,
-    check_killed, check_xfs
-]):
+class SectorFiles(Case):
     """Files of the sample, and of file systems that are made here."""
 
     @classmethod

@@ -6,7 +6,7 @@ import os
 import random
 
 import lvm2_rows
-from harness import Case, run
+from harness import run
 from tool_calls import TOOL, call, read
 from used import store
 
@@ -80,7 +80,7 @@ SOURCE = ["table", "table", "disks"]
 PATHS = ["--paths", "paths"]
 
 
-def check_orders(case):
+def test_orders(case):
     """All three, in each order of their lines."""
     for order in itertools.permutations(SNAPSHOTS):
         case.put("ordered", BELOW + "".join(order))
@@ -95,7 +95,7 @@ def check_orders(case):
 OF_GROUP = {"one": (range(10, 20), [(5, 2)]), "two": ([*range(20, 24), *range(60, 66)], [(63, 2), (0, 3)]), "three": (range(30, 40), [(9, 2), (8, 3), (7, 4)])}
 
 
-def check_group(case):
+def test_group(case):
     """Three of one group, whose stores have room for more areas, in each order of the volumes: none is taken for fresh."""
     disk = bytearray(os.urandom(4096 * SECTOR))
     place_of = {name: [8 + 8 * extent + it for extent in extents for it in range(8)] for name, (extents, _) in OF_GROUP.items()}
@@ -119,7 +119,7 @@ def check_group(case):
             remove(case, "out")
 
 
-def check_saved(case):
+def test_saved(case):
     """What `save` makes of each, of a device on one, and of one whose store isn't read."""
     case.put("upper", "t: 0 20 linear /dev/mapper/s2 7\n" + BELOW + "".join(SNAPSHOTS))
     for name, wanted, words, told in (
@@ -137,7 +137,7 @@ INVALID = "the store of s1: it is invalid, as it was full once: what the origin 
 NOT_HERE = "the store of s1: a disk that its header or its list lies on isn't here (d); --paths says where disks are, and --fresh takes every snapshot as new"
 
 
-def check_not_read(case):
+def test_not_read(case):
     """Snapshots that can't be read: nothing is made, and what is said leads on."""
     os.mkfifo(os.path.join(case.folder, "pipe"))
     whole = bytes(case.disks["d"])
@@ -160,7 +160,7 @@ def remove(case, name):
     os.unlink(os.path.join(case.folder, name))
 
 
-def check_lines(case):
+def test_lines(case):
     """The lines for dd, of reads and of writes."""
     got = case.call("dd", *PATHS, *SOURCE, given="R s2 5 50\nR base 0 3\n")
     made = run(["sh"], given=got.out, folder=case.folder)
@@ -186,7 +186,7 @@ def check_lines(case):
     case.tally.same("dd with an image on standard output", got, 2, "refused\n", TOOL + " dd: '-' is no file to write: give it a name\n")
 
 
-def check_extents(case):
+def test_extents(case):
     """Where snapshots lie: as the places of their sectors say."""
     for name in ("base", "s1", "s2", "s3"):
         wanted, homes = [], case.homes[name]
@@ -204,7 +204,7 @@ def check_extents(case):
     case.tally.same("extents of no device", case.call("extents", "w", "table", "lines", "lines.disks"), 1, "", TOOL + " extents: lines: no device w: `dmremap table` prints their names\n")
 
 
-def check_elsewhere(case):
+def test_elsewhere(case):
     """A store that would read as zeros, which a kernel takes for one that has nothing in it."""
     text = "base,,,rw,0 64 linear d 0;c1,,,rw,0 80 linear e 64;s1,,,rw,0 64 snapshot /dev/mapper/base /dev/mapper/c1 P 8\n"
     case.put("concise", text)
@@ -219,10 +219,6 @@ def check_elsewhere(case):
     case.tally.holds("an origin of zeros elsewhere", got.status == 0, "%s, %r" % (got.status, got.err))
 
 
-class SnapshotReaders(Case, checks=[
-    check_orders, check_group, check_saved, check_not_read, check_lines, check_extents, check_elsewhere
-]):
+def case(tally):
     """Each command that reads."""
-
-    def setUp(self):
-        self.case = Readers(self, self.program, self.top)
+    return Readers(tally, tally.program, tally.top)

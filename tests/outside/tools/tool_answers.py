@@ -3,7 +3,7 @@
 import os
 import random
 
-from harness import Case, run
+from harness import run
 from tool_calls import call, check_rows, good, lost, read
 
 # What is made of answers.
@@ -69,12 +69,12 @@ NO_PIECES = [REPLAYED, "", "1 R a 0", "1 R a 0 0", "0 R a 0 1", "1 R a 0 x", "1 
              "1 R a 0 100000000000000000000", "1 copy a 0 1 b", "1 fill a 0", "1 zero 0", "a: 0 8 linear b 0", "refused"]
 
 
-def check_answers(tally, program, top):
+def test_answers(tally, program, top):
     check_rows(tally, program, top, ANSWERED)
     check_rows(tally, program, top, [lost("report", [], ["1 R /a 0 1\n" + it + "\n"], "1:2: not a piece of an answer, give what `dmremap map` prints: " + it) for it in NO_PIECES])
 
 
-def check_blocks(tally, program, top):
+def test_blocks(tally, program, top):
     """The figures of many random pieces, in blocks of one kind and of several, are those of each alone."""
     for seed in range(6):
         dice = random.Random(seed)
@@ -142,7 +142,7 @@ def figures_of(rows):
     return "".join(found + [f"split {count} {counts.count(count)}\n" for count in sorted(set(counts))])
 
 
-def check_costs(tally, program, top):
+def test_costs(tally, program, top):
     """Pieces on more disks than there are, and none that is equal to a long trace, take little memory."""
     path = program.file("costs/pieces", "".join(f"1 R {'d' * 200}{it} 0 8\n" for it in range(150000)))
     got = call(top, ["report", path], memory=MEMORY)
@@ -172,7 +172,7 @@ DD = [
 ]
 
 
-def check_dd(tally, program, top):
+def test_dd(tally, program, top):
     """The lines for dd, and that what is written to a volume through them is read from it again."""
     folder = os.path.dirname(program.file("dd/table", DD_TABLE))
     for name, text in (("disks", DD_DISKS), ("here", "a /dev/sdx\n"), ("placed", "a /dev/sdx?offset=1024\n"), ("within", "a /dev/sdx?offset=100\n"),
@@ -193,7 +193,3 @@ def check_dd(tally, program, top):
         tally.same("the lines of dd %s %s" % (operation, words), got, 0, b"" if words else image)
     tally.holds("what dd read", read(os.path.join(folder, "out")) == image, "it is something else")
     tally.holds("where dd wrote", read(os.path.join(folder, "a"))[3 * 512:] == image[:4096] + image[8192:], "it is elsewhere")
-
-
-class ToolAnswers(Case, checks=[check_answers, check_blocks, check_costs, check_dd]):
-    """Rows, blocks of pieces, and lines of dd."""

@@ -2,17 +2,16 @@
 
 import os
 
-from harness import Case
 from tool_calls import bad, call, check_rows, good, lost
 
 LAST = 1048576
 
 
-def check_requests(tally, program, top):
+def test_requests(tally, program, top):
     check_rows(tally, program, top, FILEFRAG + DEBUGFS + DEVICES + TRACE + LOGS + TABLES)
 
 
-def check_times(tally, program, top):
+def test_times(tally, program, top):
     """Each request has its time, also where a long one is cut into several."""
     rows = [(0.5, " R 8 + 16"), (0.75, " R 0 + 3145729"), (1.25, " N 0 + 8"), (1.5, "WS 0 + 1048577"), (2.0, " R 8 + 1048576")]
     lines = "".join((QUEUED % what).replace("0.000000000", "%.9f" % time) for time, what in rows)
@@ -349,7 +348,3 @@ TABLES = [
     lost("tree", [], ["a: 0 8 linear sda 12"], "1:1: the text ends within a line, give all of it: a: 0 8 linear sda 12"),
     lost("tree", [], ["a,,,rw,0 8 linear sda 12"], "1:1: the text ends within a line, give all of it: a,,,rw,0 8 linear sda 12"),
 ]
-
-
-class ToolRequests(Case, checks=[check_requests, check_times]):
-    """Rows, and times of a trace."""

@@ -88,13 +88,13 @@ BITS = [b"0", b"18446744073709551615", b"18446744073709551616", b"9" * 40, b"-1"
         b"/dev/dm-0", b"a" * 300, "\u202e".encode(), b"{", b"}", b'"', b"#", b"=", b"[", b"]", b"\\"]
 
 
-def check_commands(tally, folder):
+def test_commands(tally, folder):
     commands = importlib.import_module("dmremap_tools.commands").COMMANDS
     lost = {it.name for it in commands} ^ (set(CALLS) | UNPRINTED)
     tally.holds("commands whose streams are tried", not lost, "others are %s" % sorted(lost))
 
 
-def check_calls(tally, top, folder, commands):
+def test_calls(tally, top, folder, commands):
     for call_tried in commands:
         check_ends(tally, top, folder, *call_tried)
         check_cuts(tally, top, folder, *call_tried)
@@ -201,7 +201,7 @@ def fault_of(command, got):
     return ""
 
 
-def check_mutations(tally, top, folder, commands):
+def test_mutations(tally, top, folder, commands):
     """Random changes of all inputs."""
     dice = random.Random(0)
     choices = [(command, words, *it) for command, words in commands for it in inputs_of(words, folder)]
@@ -239,7 +239,7 @@ def mutated(content, dice):
     return bytes(content)
 
 
-def check_terminal(tally, top, folder):
+def test_terminal(tally, top, folder):
     """What a foreign text holds reaches no terminal as it is."""
     with open(os.path.join(folder, "foreign"), "wb") as it:
         it.write(b"1 R \x1b[2Jsda\xff\xe2\x80\xae 4096 256\n")
@@ -256,7 +256,7 @@ def check_terminal(tally, top, folder):
     tally.holds("a foreign name on a terminal", shown == (lines % ((b"\\x1b[2Jsda\\xff\\u202e",) * 2)).replace(b"\n", b"\r\n"), "it shows %r" % shown)
 
 
-def check_live(tally, top, folder):
+def test_live(tally, top, folder):
     """A command in a pipe answers what it was given before it waits for more."""
     for words, given, wanted in ((["cut"], b"R a 0 1\n", b"R a 0 1\n"),
                                  (["trace", "ls.txt", "vg0.table"], b"253,0 0 7 0.5 4101 Q R 8 + 16 [fio]\n", b"R vg0-lv0 8 16\n")):
@@ -271,7 +271,7 @@ def check_live(tally, top, folder):
         tally.holds("how %s ends" % words[0], ran.wait() == 0, "status %s" % ran.returncode)
 
 
-def check_many(tally, top, folder):
+def test_many(tally, top, folder):
     """Lines of the usual form, which are read many at once, give what they give where other lines between them, which change
     nothing, have each of them read by itself."""
     dice = random.Random(7)
@@ -305,7 +305,7 @@ def queued_line(dice):
         dice.randrange(1 << 40), dice.choice((8, 256)), dice.choice(("fio", "kworker/u8:2")))
 
 
-def check_interrupt(tally, top, folder):
+def test_interrupt(tally, top, folder):
     """Who interrupts a command, or tells it to end, has it end in silence. It spoils what it printed, and what it began to write
     beside is gone. A signal that is passed over, as nohup wants it, does nothing."""
     words = ["trace", "--write-times", "times beside", "ls.txt", "vg0.table"]
@@ -348,7 +348,7 @@ def write(folder, name, content):
         it.write(content)
 
 
-def check_outputs(tally, top, folder):
+def test_outputs(tally, top, folder):
     """A file beside is never one that is read, whatever it is called, nor another output; a refusal leaves it as it was, and it
     is written through the link that was given."""
     shutil.copy(os.path.join(folder, "blkparse.txt"), os.path.join(folder, "e"))
@@ -387,7 +387,7 @@ def check_outputs(tally, top, folder):
     tally.holds("what refusals leave", not left, "there is %s" % left)
 
 
-def check_unsaid(tally, top, folder):
+def test_unsaid(tally, top, folder):
     """Where the message of a refusal can't be written either, what was printed is spoiled all the same."""
     words = ["trace", "--write-times", "beside", "ls.txt", "vg0.table"]
     for closed, wanted in (2, b"refused\n"), (1, b""):
@@ -400,7 +400,7 @@ def check_unsaid(tally, top, folder):
     tally.same("no input", got, REFUSED, "refused\n", TOOL + " cut: standard input: Bad file descriptor\n")
 
 
-def check_locale(tally, program, top, folder):
+def test_locale(tally, program, top, folder):
     """Names in other letters, where the locale has only those of ASCII."""
     program.file(os.path.join("streams", "\u00e9", "\u00e9.img"), "image".ljust(4096))
     program.file("streams/\u00e9.paths", "base \u00e9/\u00e9.img\n")
@@ -418,7 +418,7 @@ def check_locale(tally, program, top, folder):
         tally.same("what is said then", got, 1, "", TOOL + " report: \u00e9.none: No such file or directory\n")
 
 
-def check_rooms(tally, top, folder):
+def test_rooms(tally, top, folder):
     """No room for what is kept in files meanwhile."""
     none = lambda: resource.setrlimit(resource.RLIMIT_FSIZE, (0, 0))
     stack = ["table", "snap.table", "snap.disks"]
@@ -429,7 +429,7 @@ def check_rooms(tally, top, folder):
         tally.holds("%s without room" % command, is_so, "status %s, %r" % (got.status, got.err))
 
 
-def check_killed(tally, top, folder):
+def test_killed(tally, top, folder):
     """A dmremap that is killed is an output that failed."""
     with open(os.path.join(folder, "dies"), "w") as it:
         it.write('#!/bin/sh\n[ "$1" = "$DIES_AT" ] && kill -9 $$\nexec ./dmremap "$@"\n')
@@ -451,7 +451,7 @@ def check_killed(tally, top, folder):
     tally.same("requests and tables from one input", got, 2, "refused\n", TOOL + " dd: standard input can't be two files: give the path of one\n")
 
 
-def check_long(tally, top, folder, commands):
+def test_long(tally, top, folder, commands):
     """Of a word of the command line a message shows at most 100 characters, and nothing that a terminal obeys."""
     main = importlib.import_module("dmremap_tools.main")
     for command, plain in commands:
@@ -468,7 +468,7 @@ def check_long(tally, top, folder, commands):
             tally.holds("long words of %s: %s" % (command.name, [it[:20] for it in words]), is_so, said[:500])
 
 
-def check_words(tally, top):
+def test_words(tally, top):
     """Words that make no sense."""
     usage = "usage: %s COMMAND ..\n%s: " % (TOOL, TOOL)
     tally.same("no command", call(top, []), 2, "", usage + "--help lists the commands\n")
@@ -486,10 +486,7 @@ def check_words(tally, top):
     tally.holds("--help", got.status == 0 and b"\nanswers:\n" in got.out and got.err == b"", "%s, %r" % (got.status, got.err))
 
 
-class ToolStreams(Case, checks=[
-    check_commands, check_calls, check_terminal, check_live, check_many, check_interrupt, check_outputs, check_locale,
-    check_unsaid, check_rooms, check_killed, check_long, check_words, check_mutations
-]):
+class ToolStreams(Case):
     """Each command, and what may come of its streams."""
 
     @classmethod

@@ -8,7 +8,7 @@ import struct
 
 import tool_streams
 import walks
-from harness import Case, run
+from harness import run
 from physical_volumes import dashed, gpt, volume
 from tool_calls import TOOL, call
 
@@ -57,7 +57,7 @@ class Stores:
         self.tally.same("used: " + name, self.call(words, source, device), 1, "", "%s%s extents: %s\n" % (told, TOOL, why))
 
 
-def check_states(case):
+def test_states(case):
     case.same("a store with two chunks", USED)
     case.same("the origin", FRESH, "", device="o")
     for name, content, out, count in (
@@ -86,7 +86,7 @@ def check_states(case):
     case.put("image", store(PAIRS))
 
 
-def check_refused(case):
+def test_refused(case):
     """Stores that dmremap refuses, each in words, and images that none is read from."""
     where, damaged = "the store of s: ", "which no kernel writes: it is damaged, was changed while it was read, or is another snapshot's" + NEXT
     belong = "look whether the disks, their places and the tables belong together" + NEXT
@@ -124,7 +124,7 @@ def check_refused(case):
     case.refused("a path that isn't UTF-8", "%s: dmremap: paths: text at 1" % case.program.path, ["--paths", "away"])
 
 
-def check_unloaded(case):
+def test_unloaded(case):
     """Snapshots and stores that dmremap loads no stack with: what it says is told; and others that do what was meant."""
     case.put("unloaded", "s: 0 32 snapshot base cow P 8\n")
     case.refused("a short one", "%s: it ends with status 1: see what it said" % case.program.path, source=("table", "unloaded", "disks"), told="dmremap: source: snapshot at 1\n")
@@ -138,7 +138,7 @@ def check_unloaded(case):
         case.same("in place of " + name, USED.replace("base", origin).replace("cow", kept), words=["--paths", "kept"], source=("table", "loaded", "loaded.disks"))
 
 
-def check_places(case):
+def test_places(case):
     """Stores that lie on devices: striped, and a group."""
     content = store(PAIRS)
     columns = [b"".join(content[at + 4 * column * SECTOR:at + 4 * (column + 1) * SECTOR] for at in range(0, len(content), 8 * SECTOR)) for column in (0, 1)]
@@ -190,7 +190,7 @@ def check_places(case):
                  ["--paths", "hole.paths"], ("table", "hole", "hole.disks"))
 
 
-def check_stacks(case):
+def test_stacks(case):
     """Read-only snapshots, origins that fail, snapshots of snapshots, and stores that nothing is read through."""
     case.put("ro", "s,,,ro,0 64 snapshot base cow P 8\n")
     case.same("a read-only one", USED, source=("concise", "ro", "disks"))
@@ -212,7 +212,7 @@ def check_stacks(case):
     case.put("image", store(PAIRS))
 
 
-def check_words(case):
+def test_words(case):
     for words, why in ((["--fresh", "s", "s", "table", "table", "disks"], "argument FORMAT: invalid choice: 's'"), (["--store", "s=image", "s", "table", "table", "disks"],
                         "argument FORMAT: invalid choice: 's'")):
         got = call(case.top, ["extents", *words], folder=case.folder)
@@ -226,7 +226,7 @@ def check_words(case):
     case.tally.same("used: by a dmremap that dies", got, 5, "", "%s extents: %s: it was ended by signal 9\n" % (TOOL, dies))
 
 
-def check_changed(case):
+def test_changed(case):
     """Random changes of the image of a store: an answer, or a refusal in words."""
     command = importlib.import_module("dmremap_tools.commands").find("extents")
     dice, content = random.Random(7), store(PAIRS)
@@ -243,10 +243,6 @@ def check_changed(case):
     case.put("image", content)
 
 
-class Used(Case, checks=[
-    check_states, check_refused, check_unloaded, check_places, check_stacks, check_words, check_changed
-]):
+def case(tally):
     """Stores of each state, and changed ones."""
-
-    def setUp(self):
-        self.case = Stores(self, self.program, self.top)
+    return Stores(tally, tally.program, tally.top)

@@ -6,7 +6,7 @@ import random
 import shutil
 
 import tool_calls
-from harness import Case, run
+from harness import run
 from physical_volumes import FIRST, SECTOR, TIME, area, dashed, gpt, md_member, volume, with_backup
 from tool_calls import read
 
@@ -134,7 +134,7 @@ def sample_images(home):
     return dict(zip(NAMES, [made[0], made[1], damaged])), rescue
 
 
-def check_samples(tally, top):
+def test_samples(tally, top):
     folder = tool_calls.samples(top)
     home = read(os.path.join(folder, "home.img"))
     made, rescue = sample_images(home)
@@ -143,7 +143,7 @@ def check_samples(tally, top):
         tally.holds("the sample " + name, found == content, "it is not what this module makes")
 
 
-def check_walks(tally, program, top):
+def test_walks(tally, program, top):
     missing = [it for it in ("mke2fs", "debugfs") if not shutil.which(it, path=os.environ["PATH"] + ":/sbin:/usr/sbin")]
     if missing:
         tally.skip("a walk from images to files", "there is no " + missing[0])
@@ -230,7 +230,3 @@ def dumped(folder, name):
     """A file of the file system that was saved."""
     env = dict(os.environ, PATH=os.environ["PATH"] + ":/sbin:/usr/sbin")
     return run(["debugfs", "-R", "cat /" + name, "saved"], folder=folder, env=env).out
-
-
-class Walks(Case, checks=[check_samples, check_walks]):
-    """The samples, and the walk."""
