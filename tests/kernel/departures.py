@@ -8,7 +8,8 @@ FORMATS or MAPPING below which the program's own rule stands; the row begins wit
 import os
 import re
 
-from documents import anchors, text_of
+from documents import anchors
+from harness import text_of
 
 PLACES = {
     "the last place before an area": "MAPPING.md#4-snapshots",

@@ -14,6 +14,8 @@ SECONDS = 60
 # The segments of a program that asks for a loader, and for libraries.
 INTERPRETER, DYNAMIC = 3, 2
 NOBODY = 65534
+# What takes nothing that is written to it.
+FULL_OUTPUT = open("/dev/full", "wb", buffering=0)
 
 
 class Outcome:
@@ -140,9 +142,9 @@ class Case(unittest.TestCase):
 
 
 def case_of(module):
-    """The case of a module, in which each function `test_..` of the module is a test: it gets what the case has under the
-    names of its arguments, of which `tally` is the case itself, or what the module's function of that name makes of it.
-    What all tests of a module have together is made by a class of its own."""
+    """The case of a module, in which each function `test_..` of the module is a test: it gets what the case has under
+    the names of its arguments, of which `tally` is the case itself, or what the module's function of that name makes of
+    it. What all tests of a module have together is made by a class of its own."""
     own = [it for it in vars(module).values() if getattr(it, "__module__", "") == module.__name__]
     made = type("Tests", (Case,), {"__module__": module.__name__})
     case = next((it for it in own if isinstance(it, type) and issubclass(it, Case)), made)
@@ -195,6 +197,12 @@ def failing_input(content):
     os.write(there, as_bytes(content))
     os.close(there)
     return here
+
+
+def text_of(path):
+    """The text of a file."""
+    with open(path, encoding="utf-8") as it:
+        return it.read()
 
 
 def as_bytes(content):

@@ -7,7 +7,7 @@ import textwrap
 
 import documents
 import transcripts
-from documents import text_of
+from harness import text_of
 
 # How many bytes a page has, at least and at most.
 BYTES = 1000, 2000

@@ -7,6 +7,7 @@ import re
 
 import diagnostics
 import transcripts
+from harness import text_of
 
 # Where a path of this repository begins, as documents write it.
 PATH = re.compile(r"(?:crates|docs|examples|tests|tools)/[\w./*-]*[\w*]")
@@ -162,8 +163,3 @@ def anchors(text):
     """What a link calls the headings of a document."""
     plain = [re.sub(r"[^\w\s-]", "", it.lower()) for it in HEADING.findall(text)]
     return {it.replace(" ", "-") for it in plain}
-
-
-def text_of(path):
-    with open(path, encoding="utf-8") as it:
-        return it.read()

@@ -9,7 +9,7 @@ import shutil
 import help_words
 import transcripts
 from dmremap_tools import commands
-from harness import run
+from harness import run, text_of
 
 SECTIONS = ["NAME", "SYNOPSIS", "DESCRIPTION", "COMMANDS", "FORMATS", "OUTPUT", "EXIT STATUS", "DIAGNOSTICS",
             "EXAMPLES", "LIMITS", "SEE ALSO"]
@@ -97,11 +97,6 @@ def parts_of(heading, text):
     """The parts of a text, each with its title, which a pattern finds."""
     found = re.split(heading, text, flags=re.M)
     return list(zip(found[1::2], found[2::2]))
-
-
-def text_of(path):
-    with open(path, encoding="utf-8") as it:
-        return it.read()
 
 
 def test_columns(tally, top):

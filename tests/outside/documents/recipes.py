@@ -7,8 +7,8 @@ import re
 import shutil
 
 import transcripts
-from documents import MARK, text_of
-from harness import run
+from documents import MARK
+from harness import run, text_of
 
 # A recipe with its heading.
 RECIPE = re.compile(r"^##+ ([^\n]*)\n(.*?)(?=^##+ |\Z)", re.M | re.S)

@@ -5,7 +5,7 @@ import glob
 import os
 import re
 
-from documents import text_of
+from harness import text_of
 
 # What these documents have at most, so that each is read at one sitting.
 BYTES = {"ARCHITECTURE.md": 8800, "DECISIONS.md": 4000, "DEVELOPING.md": 8500, "PROMISES.md": 17600}

@@ -6,8 +6,7 @@ import re
 import shutil
 
 import transcripts
-from documents import text_of
-from harness import run
+from harness import run, text_of
 from tool_calls import TOOL
 
 SECTION = re.compile(r"\n### A long trace in parts\n(.*?)\n##", re.S)

@@ -69,5 +69,4 @@ def check(tally, program, top, name, shown):
         if any(it in command for it in ABOUT_FILES) and not shutil.which("debugfs", path=env["PATH"]):
             tally.skip(title, "there is no debugfs")
             continue
-        got = run(["bash", "-c", "exec 2>&1\n" + command], folder=folder, env=env)
-        tally.same(title, got, 0, output)
+        tally.same(title, run(["bash", "-c", "exec 2>&1\n" + command], folder=folder, env=env), 0, output)

@@ -9,8 +9,7 @@ import os
 import re
 
 import transcripts
-from documents import text_of
-from harness import run
+from harness import run, text_of
 
 ARROW = "→"
 # A refused text, perhaps the disks that it stands over, and the answer.

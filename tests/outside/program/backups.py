@@ -43,8 +43,7 @@ FAULTS = [
 
 def test_backups(tally, program):
     for name, text in (("a full backup", BACKUP), ("a group before its head", GROUP_FIRST)):
-        got = program.run(["map", "lvm", program.file("backup", text)], given=REQUESTS)
-        tally.same(name, got, 0, PIECES)
+        tally.same(name, program.run(["map", "lvm", program.file("backup", text)], given=REQUESTS), 0, PIECES)
     text = BACKUP
     for name, old, new, message in FAULTS:
         assert old in text, name

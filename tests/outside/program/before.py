@@ -8,7 +8,7 @@ has to be what the whole stream answers there.
 import os
 import random
 
-from harness import become_nobody
+from harness import FULL_OUTPUT, become_nobody
 
 SNAPSHOT = ("s: 0 32 snapshot base cow P 8\n", "base 32\ncow 64\n")
 # Two snapshots of one origin, which its own device serves.
@@ -131,11 +131,9 @@ def test_files(tally, program):
     # What the standard input holds is left to whoever reads it next.
     path = program.file("requests", "R s 8 1\n")
     with open(path, "rb") as requests:
-        got = program.run(start + ["missing"], stdin=requests)
-        tally.same("requests after a refusal", got, *refused)
+        tally.same("requests after a refusal", program.run(start + ["missing"], stdin=requests), *refused)
         tally.holds("no request is read after a refusal", os.lseek(requests.fileno(), 0, os.SEEK_CUR) == 0, "some were")
-    with open("/dev/full", "wb") as full:
-        tally.same("a full output after a refusal", program.run(start + ["missing"], stdout=full), *refused)
+    tally.same("a full output after a refusal", program.run(start + ["missing"], stdout=FULL_OUTPUT), *refused)
 
 
 def test_cuts(tally, program):

@@ -13,7 +13,7 @@ import shutil
 
 import images
 from groups import BOTH
-from harness import is_static, run
+from harness import is_static, run, text_of
 from stored import put, taken
 
 MEMORY = "dmremap: memory\n"
@@ -109,8 +109,7 @@ class Shim:
         variables = dict(os.environ, LD_PRELOAD=self.path, GROWTHS_REPORT=report, GROWTHS_FROM=start,
                          GROWTHS_REFUSED=str(first), **dict.fromkeys(others, "1"))
         got = self.program.run(words, env=variables, **how)
-        with open(report, encoding="ascii") as it:
-            got.growths, got.refused, got.reads = [int(word) for word in it.read().split()] or [0, 0, 0]
+        got.growths, got.refused, got.reads = [int(word) for word in text_of(report).split()] or [0, 0, 0]
         return got
 
 
@@ -195,8 +194,7 @@ def test_claims(tally, program):
     for name, (source, number), disk_list, last in rows:
         tally.holds("many " + name, number > 100000 and len(source) <= 1048576, "there are %d" % number)
         words = words_of(program, "check table", [source, "".join("%s 1000\n" % it for it in disk_list)])
-        got = program.run(words)
-        tally.same(name, got, 0, "devices 1\ndisks %d\ndepth 1\n%s" % (len(disk_list), last))
+        tally.same(name, program.run(words), 0, "devices 1\ndisks %d\ndepth 1\n%s" % (len(disk_list), last))
 
 
 def claims(columns):

@@ -14,7 +14,7 @@ import kinds
 import origins
 import replays
 from growths import Shim
-from harness import Program
+from harness import Program, text_of
 from replays import first_units, lines, played
 from snapshots import concise, plain
 
@@ -165,8 +165,7 @@ def test_tests(tally, program, top):
 
 def test_table(tally, top):
     """The rows of the tests' own table."""
-    with open(os.path.join(top, TABLE), encoding="ascii") as table:
-        rows = table.read().partition('"\\\n')[2].rpartition('";\n')[0].split("#")
+    rows = text_of(os.path.join(top, TABLE)).partition('"\\\n')[2].rpartition('";\n')[0].split("#")
     tally.holds("the rows of " + TABLE, len(rows) > 10, "it has %d" % len(rows))
     for name, source, disks, given, wanted in (it.split("|") for it in rows):
         stack = plain(source.strip(), disks)

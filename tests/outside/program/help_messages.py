@@ -6,6 +6,7 @@ import re
 
 import diagnostics
 import explanations
+from harness import FULL_OUTPUT, text_of
 
 # What a message may have in place of what its form names.
 NAMED = {"PART": "source", "NUMBER": "20", "WORD": "field", "NAME": "vg0-snap", "LINE": "3", "N": "7"}
@@ -14,8 +15,7 @@ COMMAND = "name"
 
 
 def test_words(tally, program, top):
-    with open(os.path.join(top, "docs", "dmremap.1"), encoding="utf-8") as it:
-        sections = diagnostics.section_of(it.read(), "DIAGNOSTICS")
+    sections = diagnostics.section_of(text_of(os.path.join(top, "docs", "dmremap.1")), "DIAGNOSTICS")
     listed = help_of(program, "map").partition("\nMessages, ")[2].partition("\n\n")[0]
     found = 0
     for form, entries in diagnostics.forms_of(sections):
@@ -78,7 +78,6 @@ def test_itself(tally, program):
 
 
 def test_streams(tally, program):
-    with open("/dev/full", "wb") as full:
-        tally.same("help on a word and a full output", program.run(["help", "field"], stdout=full), 5, "", "dmremap: output: write\n")
+    tally.same("help on a word and a full output", program.run(["help", "field"], stdout=FULL_OUTPUT), 5, "", "dmremap: output: write\n")
     got = program.run(["help", "field"], before=lambda: os.close(1))
     tally.same("help on a word and a closed output", got, 5, "", "dmremap: output: write\n")

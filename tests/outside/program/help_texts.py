@@ -10,9 +10,9 @@ import diagnostics
 import help_words
 import images as images_rows
 import transcripts
-from harness import Case
+from harness import FULL_OUTPUT, Case, text_of
 from limits import limit_stack
-from manual import entries_of, parts_of, text_of
+from manual import entries_of, parts_of
 
 TABLE, DISKS, REQUEST = "a: 0 8 linear sda 4\n", "sda 12\n", "R a 0 1\n"
 CLASH, CLASH_DISKS = "a: 0 8 linear sda 0\nb: 0 8 linear sda 4\n", "sda 16\n"
@@ -92,8 +92,7 @@ def outcomes(program, command):
         "bad words": status([command, "--nonsense"]),
         "small stack": status(good, before=lambda: limit_stack(256 << 10)),
     }
-    with open("/dev/full", "wb") as full:
-        found["full output"] = status(good, stdout=full)
+    found["full output"] = status(good, stdout=FULL_OUTPUT)
     if command in ("name", "splitname"):
         found["bad name"] = status([command, "a?", *good[2:]])
         if command == "name":

@@ -162,11 +162,9 @@ def test_rows(tally, program):
         got = bounded(program, form, source, disks, "R a 0 1\n")
         tally.same("%s, in the format %s" % (name, form), got, 1, "", "dmremap: %s\n" % message)
     for name, form, source, disks, requests, output in TAKEN:
-        got = bounded(program, form, source, disks, requests)
-        tally.same("%s, in the format %s" % (name, form), got, 0, output)
+        tally.same("%s, in the format %s" % (name, form), bounded(program, form, source, disks, requests), 0, output)
     for name, form, source, disks, requests, output in REPLAYED:
-        got = bounded(program, form, source, disks, requests, "replay")
-        tally.same("%s, replayed" % name, got, 0, output)
+        tally.same("%s, replayed" % name, bounded(program, form, source, disks, requests, "replay"), 0, output)
 
 
 def bounded(program, form, source, disks, requests, command="map"):

@@ -25,15 +25,12 @@ def test_counts(tally, program):
     columns = "".join(" s%d 0" % it for it in range(128))
     each = "".join("1 R s%d 0 1\n" % it for it in range(128))
     tally.same("1,024 devices", program.map(devices, "sda 1024\n", "W d1023 0 1\n"), 0, "1 W sda 1023 1\n")
-    got = program.map("a: 0 1 linear s1023 0\n", disks, "R a 0 1\n")
-    tally.same("1,024 disks", got, 0, "1 R s1023 0 1\n")
+    tally.same("1,024 disks", program.map("a: 0 1 linear s1023 0\n", disks, "R a 0 1\n"), 0, "1 R s1023 0 1\n")
     tally.same("1,025 disks", program.map("", disks + "t 1\n"), 1, "", "dmremap: disks: limit at 1025\n")
-    got = program.map(lines, "", "R a 0 65536\nR a 40000 1\n")
-    tally.same("65,536 lines", got, 0, "1 zero 65536\n2 zero 1\n")
+    tally.same("65,536 lines", program.map(lines, "", "R a 0 65536\nR a 40000 1\n"), 0, "1 zero 65536\n2 zero 1\n")
     got = program.map(lines, "sda 150\n", "R a 65528 8\nW a 65535 2\n")
     tally.same("the last of 65,536 lines", got, 0, "1 zero 8\n2 error 2\n")
-    got = program.map("a: 0 128 striped 128 1%s\n" % columns, disks, "R a 0 128\n")
-    tally.same("128 columns", got, 0, each)
+    tally.same("128 columns", program.map("a: 0 128 striped 128 1%s\n" % columns, disks, "R a 0 128\n"), 0, each)
     got = program.map("a: 0 129 striped 129 1%s s128 0\n" % columns, disks)
     tally.same("129 columns", got, 1, "", "dmremap: source: stripe at 1\n")
     # Columns of which each goes on where the one before it ends, so that the device is one piece of the disk.
@@ -110,19 +107,16 @@ def test_sizes(tally, program):
         got = program.map("a: 0 100 linear sda 50\n", disks, "R a 0 100\n")
         tally.same("a list of %d bytes" % len(disks), got, 1, "", "dmremap: %s\n" % message)
     for size, message in ((BYTES, "source: text at 1"), (BYTES + 1, "source: long"), (3 * BYTES, "source: long")):
-        got = program.map("\t" * size, "")
-        tally.same("%d bytes as FILE" % size, got, 1, "", "dmremap: %s\n" % message)
+        tally.same("%d bytes as FILE" % size, program.map("\t" * size, ""), 1, "", "dmremap: %s\n" % message)
     for size, message in ((BYTES, "disks: text at 1"), (BYTES + 1, "disks: long")):
-        got = program.map("", "\t" * size)
-        tally.same("%d bytes as DISKS" % size, got, 1, "", "dmremap: %s\n" % message)
+        tally.same("%d bytes as DISKS" % size, program.map("", "\t" * size), 1, "", "dmremap: %s\n" % message)
 
 
 def test_many_requests(tally, program):
     number = 200000
     given = "".join("R a %d 1\n" % (it % 1000) for it in range(number))
     output = "".join("%d R sda %d 1\n" % (it + 1, it % 1000 + 24) for it in range(number))
-    got = program.map("a: 0 1000 linear sda 24\n", "sda 1024\n", given)
-    tally.same("200,000 requests", got, 0, output)
+    tally.same("200,000 requests", program.map("a: 0 1000 linear sda 24\n", "sda 1024\n", given), 0, output)
 
 
 def test_memory(tally, program):

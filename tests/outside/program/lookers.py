@@ -5,7 +5,7 @@ What does not compile has no test of its own, so this reads the sources of `dm_s
 import os
 import re
 
-from documents import text_of
+from harness import text_of
 
 
 def test_sources(tally, top):

@@ -9,10 +9,9 @@ import random
 
 import replays
 import snapshots
-from snapshots import Plain, concise
+from snapshots import Plain, concise, disks_of
 
 ROUNDS = 100
-REQUESTS = 30
 
 # Which uses of one sector get along.
 SHARING = {("read", "read"), ("read", "serve"), ("serve", "read")}
@@ -209,8 +208,7 @@ def depth(stack, to):
 
 def test_rows(tally, program):
     for source, disks, words in REFUSED:
-        got = program.map(source, disks)
-        tally.same("the load of %r" % source, got, 1, "", "dmremap: source: %s\n" % words)
+        tally.same("the load of %r" % source, program.map(source, disks), 1, "", "dmremap: source: %s\n" % words)
     for source, depth, claims in CLAIMS:
         devices = len(source.splitlines())
         report = "devices %d\ndisks 3\ndepth %d\n%s\n" % (devices, depth, claims)
@@ -219,8 +217,7 @@ def test_rows(tally, program):
         tally.same("the table of %r" % source, run(program, ["table"], source), 0, table)
         tally.same("the concise text of %r" % source, run(program, ["concise"], source), 0, text)
     for source, disks, requests, output in WRITES:
-        got = snapshots.run(program, source, disks, requests, "--status")
-        tally.same("requests of %s" % source, got, 0, output)
+        tally.same("requests of %s" % source, snapshots.run(program, source, disks, requests, "--status"), 0, output)
     source, disks, requests, answers = REPLAYED
     tally.same("the replay of %s" % source, replays.run(program, source, disks, requests), 0, answers)
 
@@ -236,9 +233,10 @@ def long_stack(length, chunk):
 def test_random(tally, program):
     """Small stacks at random."""
     for seed in range(ROUNDS):
-        check_requests(tally, program, random.Random(seed))
-        check_replay(tally, program, random.Random(seed))
-        check_claims(tally, program, random.Random(seed))
+        dice = random.Random(seed)
+        snapshots.check_requests(tally, program, dice, small_stack(dice))
+        replays.check_replay(tally, program, dice, *tidy_stack(dice))
+        check_claims(tally, program, dice)
 
 
 def test_long(tally, program):
@@ -254,31 +252,6 @@ def test_long(tally, program):
     tally.same("the longest request of an origin with %d snapshots" % SNAPSHOTS, got, 0, wanted)
 
 
-def check_requests(tally, program, dice):
-    stack = small_stack(dice)
-    source, given, wanted = concise(stack), "", ""
-    asked = [name for name in stack.tables if not name.endswith("c")]
-    for number in range(1, REQUESTS + 1):
-        name = dice.choice(asked)
-        request = (dice.choice("RWW"), name, dice.randrange(stack.length("/dev/mapper/" + name)), dice.randint(1, 9))
-        given += "%s %s %d %d\n" % request
-        wanted += snapshots.lines(number, stack.request(*request))
-    got = snapshots.run(program, source, disks_of(stack), given, "--status")
-    tally.same("the small stack of %s" % source, got, 0, wanted + stack.status())
-
-
-def check_replay(tally, program, dice):
-    stack, tops = tidy_stack(dice)
-    source, values, given, wanted = concise(stack), {}, "", ""
-    for number in range(1, REQUESTS + 1):
-        name = dice.choice(tops)
-        start = dice.randrange(stack.length("/dev/mapper/" + name))
-        request = (dice.choice("RWW"), name, start, dice.randint(1, 9))
-        given += "%s %s %d %d\n" % request
-        wanted += replays.lines(number, replays.played(values, number, start, stack.request(*request)))
-    tally.same("the replay of %s" % source, replays.run(program, source, disks_of(stack), given), 0, wanted)
-
-
 def check_claims(tally, program, dice):
     stack = small_stack(dice) if dice.random() < 0.5 else tidy_stack(dice)[0]
     source = concise(stack)
@@ -286,10 +259,6 @@ def check_claims(tally, program, dice):
         len(stack.tables), len(stack.disks), max(depth(stack, "/dev/mapper/" + it) for it in stack.tables), tidiness(stack))
     got = program.run(["check", "concise", program.file("concise", source), program.file("disks", disks_of(stack))])
     tally.same("the check of %s" % source, got, 0, report)
-
-
-def disks_of(stack):
-    return "".join("%s %d\n" % it for it in stack.disks.items())
 
 
 def run(program, words, source):

@@ -9,7 +9,7 @@ import unittest
 import growths
 import halts
 from growths import Shim
-from harness import Case, Program, become_nobody, failing_input
+from harness import FULL_OUTPUT, Case, Program, become_nobody, failing_input
 from limits import deepest, limit_stack
 from replays import first_units, lines, played
 from snapshots import plain
@@ -147,8 +147,7 @@ def test_streams(tally, program):
         got = program.run(words, stdin=here)
         tally.same("requests that can't be read after %r" % given, got, 4, "", "dmremap: requests: read\n")
         os.close(here)
-    with open("/dev/full", "wb") as full:
-        got = program.run(words, given="W s 0 1\n", stdout=full)
+    got = program.run(words, given="W s 0 1\n", stdout=FULL_OUTPUT)
     tally.same("a full output of power_cut", got, 5, "", "dmremap: output: write\n")
     got = program.run(words, given="W s 0 1\n", before=lambda: os.close(1))
     tally.same("a closed output of power_cut", got, 5, "", "dmremap: output: write\n")

@@ -5,7 +5,7 @@ import os
 from backups import BACKUP
 from files import METADATA
 from groups import BOTH
-from harness import failing_input
+from harness import FULL_OUTPUT, failing_input
 
 TABLE = "a: 0 8 linear sda 0 \nb: 0 8 zero\nb: 8 16 striped 2 4 /dev/mapper/a 0 sda 8\n"
 DISKS = "sda 16\n"
@@ -45,73 +45,45 @@ REFUSED = [
     ("a: 0 8 zero\nb: 0 8 linear sda 1\n", "sda 8\n", "source: range at 2"),
 ]
 
-# Concise text with its disks, and what both commands print of it or tell.
+# Concise text with its disks, and what both commands print of it.
 CONCISE = [
     ("a,,,ro,0 8 linear sda 0;b,,,,0 8 linear /dev/mapper/a 0\n", "sda 8\n",
      ("a: 0 8 linear sda 0\nb: 0 8 linear /dev/mapper/a 0\n",
-      "a,,,ro,0 8 linear sda 0;b,,,rw,0 8 linear /dev/mapper/a 0\n"), ""),
+      "a,,,ro,0 8 linear sda 0;b,,,rw,0 8 linear /dev/mapper/a 0\n")),
     ("a,,,,0 8 zero;b,,,,0 8 zero, 8 8 error\n", "",
-     ("a: 0 8 zero\nb: 0 8 zero\nb: 8 8 error\n", "a,,,rw,0 8 zero;b,,,rw,0 8 zero,8 8 error\n"), ""),
-    ("a,LVM-abc,3,rw, 0 8 zero ", "", ("a: 0 8 zero\n", "a,,,rw,0 8 zero\n"), ""),
-    ("a,,,,0 8 zero ;b,,,,0 8 error ", "", ("a: 0 8 zero\nb: 0 8 error\n", "a,,,rw,0 8 zero;b,,,rw,0 8 error\n"),
-     ""),
+     ("a: 0 8 zero\nb: 0 8 zero\nb: 8 8 error\n", "a,,,rw,0 8 zero;b,,,rw,0 8 zero,8 8 error\n")),
+    ("a,LVM-abc,3,rw, 0 8 zero ", "", ("a: 0 8 zero\n", "a,,,rw,0 8 zero\n")),
+    ("a,,,,0 8 zero ;b,,,,0 8 error ", "", ("a: 0 8 zero\nb: 0 8 error\n", "a,,,rw,0 8 zero;b,,,rw,0 8 error\n")),
     ("a,LVM-x,3,ro,0 8 linear sda 0;b,,,,0 8 linear /dev/mapper/a 0\n", "sda 8\n",
      ("a: 0 8 linear sda 0\nb: 0 8 linear /dev/mapper/a 0\n",
-      "a,,,ro,0 8 linear sda 0;b,,,rw,0 8 linear /dev/mapper/a 0\n"), ""),
-    ("a,,,,0 8 zero ;b,,,, 0 8 error ", "", ("a: 0 8 zero\nb: 0 8 error\n", "a,,,rw,0 8 zero;b,,,rw,0 8 error\n"),
-     ""),
-    ("a,%s,,,0 8 zero" % ("u" * 128), "", ("a: 0 8 zero\n", "a,,,rw,0 8 zero\n"), ""),
-    ("", "", ("", "\n"), ""),
-    ("\n", "", ("", "\n"), ""),
-    ("a,,,xx,0 8 zero\n", "", ("", ""), "field at 1"),
-    ("a,,,,0 8 zero;", "", ("", ""), "syntax at 2"),
-    ("a,,,,0 8 zero;\n", "", ("", ""), "syntax at 2"),
-    ("a,,, ,0 8 zero", "", ("", ""), "syntax at 1"),
-    ("a,,,,0 8 zero\n;b,,,,0 8 zero", "", ("", ""), "syntax at 1"),
-    ("a,%s,,,0 8 zero\n" % ("u" * 129), "", ("", ""), "name at 1"),
-    ("a,,,,0 8 zero;\xe9,,,,0 8 zero", "", ("", ""), "text at 2"),
-    ("a,,,,0 8 zero;a,,,,0 8 zero", "", ("", ""), "twice at 2"),
-    # Each check alone, and each before the next.
-    ("a,,,,0 8 \tzero", "", ("", ""), "text at 1"),
-    (";", "", ("", ""), "syntax at 1"),
-    (" \n", "", ("", ""), "syntax at 1"),
-    ("\n\n", "", ("", ""), "syntax at 1"),
-    ("a,,,,0 8 zero\n\n", "", ("", ""), "syntax at 1"),
-    ("a,,,,0 8 zero;b,,,,\n0 8 zero", "", ("", ""), "syntax at 2"),
-    ("a,,,", "", ("", ""), "syntax at 1"),
-    ("a,,,,", "", ("", ""), "syntax at 1"),
-    ("a,,,,0 8 zero,", "", ("", ""), "syntax at 1"),
-    ("a,,,,0 8", "", ("", ""), "syntax at 1"),
-    ("a ,,,,0 8 zero", "", ("", ""), "syntax at 1"),
-    ("a, ,,,0 8 zero", "", ("", ""), "syntax at 1"),
-    ("a,, ,,0 8 zero", "", ("", ""), "syntax at 1"),
-    ("a,,,ro ,0 8 zero", "", ("", ""), "syntax at 1"),
-    ("a,,,,  0 8 zero", "", ("", ""), "syntax at 1"),
-    ("a,,,,0 8 zero  ", "", ("", ""), "syntax at 1"),
-    ("a,,,,0  8 zero", "", ("", ""), "syntax at 1"),
-    ("a,,,xx,0 8 zero", "", ("", ""), "field at 1"),
-    ("a,,,RO,0 8 zero", "", ("", ""), "field at 1"),
-    ("a,,01,,0 8 zero", "", ("", ""), "field at 1"),
-    ("a,,-1,,0 8 zero", "", ("", ""), "field at 1"),
-    ("a,,,,0 8 mirror", "", ("", ""), "field at 1"),
-    ("a,,,,0 8 zero 0", "", ("", ""), "field at 1"),
-    ("a,,,,0 8 snapshot b c PO 8", "", ("", ""), "field at 1"),
-    ("a,,,,0 8 snapshot b c P", "", ("", ""), "field at 1"),
-    (",,,,0 8 zero", "", ("", ""), "name at 1"),
-    ("a!,,,,0 8 zero", "", ("", ""), "name at 1"),
-    ("a,u!,,,0 8 zero", "", ("", ""), "name at 1"),
-    ("a,,,,0 8 linear sd\\a 0", "", ("", ""), "name at 1"),
-    ("a,,,,0 8 zero, 8 8 linear /dev/mapper/ 0", "", ("", ""), "name at 1"),
-    (",,,,0 8 zero;b,,x,,0 8 zero", "", ("", ""), "field at 2"),
-    (",,,,0 8 zero;b,,x,,0 8 zero;c,,,,08", "", ("", ""), "syntax at 3"),
-    (",,,,0 8 zero;b,,x,,0 8 zero;c,,,,08;d\r", "", ("", ""), "text at 4"),
-    # The source is told of before the disks.
-    ("a,,,xx,0 8 zero\n", "b", ("", ""), "field at 1"),
-    ("a,,,,0 8 zero;", "b", ("", ""), "syntax at 2"),
-    ("a,%s,,,0 8 zero" % ("u" * 129), "b", ("", ""), "name at 1"),
-    (";" * 1048576, "", ("", ""), "syntax at 1"),
-    (";" * 1048577, "", ("", ""), "long"),
+      "a,,,ro,0 8 linear sda 0;b,,,rw,0 8 linear /dev/mapper/a 0\n")),
+    ("a,,,,0 8 zero ;b,,,, 0 8 error ", "", ("a: 0 8 zero\nb: 0 8 error\n", "a,,,rw,0 8 zero;b,,,rw,0 8 error\n")),
+    ("a,%s,,,0 8 zero" % ("u" * 128), "", ("a: 0 8 zero\n", "a,,,rw,0 8 zero\n")),
+    ("", "", ("", "\n")),
+    ("\n", "", ("", "\n")),
 ]
+# What both refuse, and `map`, too. Each check alone, and each before the next; the source is told of before the disks.
+BAD_CONCISE = [(text, disks, word) for word, disks, rows in [
+    ("field at 1", "", ["a,,,xx,0 8 zero\n", "a,,,xx,0 8 zero", "a,,,RO,0 8 zero", "a,,01,,0 8 zero", "a,,-1,,0 8 zero",
+                        "a,,,,0 8 mirror", "a,,,,0 8 zero 0", "a,,,,0 8 snapshot b c PO 8", "a,,,,0 8 snapshot b c P"]),
+    ("syntax at 2", "", ["a,,,,0 8 zero;", "a,,,,0 8 zero;\n", "a,,,,0 8 zero;b,,,,\n0 8 zero"]),
+    ("syntax at 1", "", ["a,,, ,0 8 zero", "a,,,,0 8 zero\n;b,,,,0 8 zero", ";", " \n", "\n\n", "a,,,,0 8 zero\n\n",
+                         "a,,,", "a,,,,", "a,,,,0 8 zero,", "a,,,,0 8", "a ,,,,0 8 zero", "a, ,,,0 8 zero",
+                         "a,, ,,0 8 zero", "a,,,ro ,0 8 zero", "a,,,,  0 8 zero", "a,,,,0 8 zero  ", "a,,,,0  8 zero",
+                         ";" * 1048576]),
+    ("name at 1", "", ["a,%s,,,0 8 zero\n" % ("u" * 129), ",,,,0 8 zero", "a!,,,,0 8 zero", "a,u!,,,0 8 zero",
+                       "a,,,,0 8 linear sd\\a 0", "a,,,,0 8 zero, 8 8 linear /dev/mapper/ 0"]),
+    ("text at 2", "", ["a,,,,0 8 zero;\xe9,,,,0 8 zero"]),
+    ("twice at 2", "", ["a,,,,0 8 zero;a,,,,0 8 zero"]),
+    ("text at 1", "", ["a,,,,0 8 \tzero"]),
+    ("field at 2", "", [",,,,0 8 zero;b,,x,,0 8 zero"]),
+    ("syntax at 3", "", [",,,,0 8 zero;b,,x,,0 8 zero;c,,,,08"]),
+    ("text at 4", "", [",,,,0 8 zero;b,,x,,0 8 zero;c,,,,08;d\r"]),
+    ("field at 1", "b", ["a,,,xx,0 8 zero\n"]),
+    ("syntax at 2", "b", ["a,,,,0 8 zero;"]),
+    ("name at 1", "b", ["a,%s,,,0 8 zero" % ("u" * 129)]),
+    ("long", "", [";" * 1048577]),
+] for text in rows]
 
 # A group of one volume, and one of two, line by line.
 ONE, TWO = METADATA.splitlines(keepends=True), BOTH.splitlines(keepends=True)
@@ -160,33 +132,23 @@ NAMES = [
     (["name", "a-", "b"], "a---b\n", ""),
     (["name", "vg0", "lv-1", "real"], "vg0-lv--1-real\n", ""),
     (["name", "a" * 63, "b" * 63], "a" * 63 + "-" + "b" * 63 + "\n", ""),
-    (["name", "a" * 64, "b" * 63], "", "long"),
-    (["name", "--", "a", "-b"], "", "hyphen"),
-    (["name", "a", "b", "_c"], "", "letter"),
-    (["name", "a", ""], "", "empty"),
-    (["name", "", "b"], "", "empty"),
     (["name", "vg0", "lv-1"], "vg0-lv--1\n", ""),
     (["name", "vg", "lv", "real"], "vg-lv-real\n", ""),
     (["name", "A.b+c_d", "9--", "x-"], "A.b+c_d-9-----x--\n", ""),
-    (["name", "--", "a/b", "-b"], "", "letter"),
-    (["name", "", "b/"], "", "empty"),
-    (["name", "a", "b", "_tdata"], "", "letter"),
     (["name", "a", "_b"], "a-_b\n", ""),
-    (["name", "a", "\u00e9"], "", "letter"),
-    (["name", PART_OF_64, PART_OF_63], "", "long"),
-    (["name", "--", PART_OF_64, "-"], "", "hyphen"),
     (["splitname", "a---b"], "a- b\n", ""),
     (["splitname", "a-b--c-d"], "a b-c d\n", ""),
     (["splitname", "a-----b"], "a-- b\n", ""),
-    (["splitname", "a--b"], "", "split"),
-    (["splitname", "a-b-c-d"], "", "split"),
-    (["splitname", "a-b-_c"], "", "split"),
-    (["splitname", "--", "-a-b"], "", "split"),
     (["splitname", "vg0-lv0"], "vg0 lv0\n", ""),
-    (["splitname", "a-"], "", "split"),
-    (["splitname", "a-b/c"], "", "split"),
-    (["splitname", ""], "", "split"),
-]
+] + [(words, "", word) for word, rows in [
+    ("long", [["name", "a" * 64, "b" * 63], ["name", PART_OF_64, PART_OF_63]]),
+    ("hyphen", [["name", "--", "a", "-b"], ["name", "--", PART_OF_64, "-"]]),
+    ("letter", [["name", "a", "b", "_c"], ["name", "--", "a/b", "-b"], ["name", "a", "b", "_tdata"],
+                ["name", "a", "\u00e9"]]),
+    ("empty", [["name", "a", ""], ["name", "", "b"], ["name", "", "b/"]]),
+    ("split", [["splitname", "a--b"], ["splitname", "a-b-c-d"], ["splitname", "a-b-_c"], ["splitname", "--", "-a-b"],
+               ["splitname", "a-"], ["splitname", "a-b/c"], ["splitname", ""]]),
+] for words in rows]
 
 
 def files_of(program):
@@ -234,15 +196,15 @@ def test_groups(tally, program):
 
 
 def test_concise(tally, program):
-    for text, disks, printed, refused in CONCISE:
+    for text, disks, printed in CONCISE:
         files = ["concise", program.file("concise", text), program.file("disks", disks)]
-        message = "dmremap: source: %s\n" % refused if refused else ""
-        status = 1 if refused else 0
         for form, wanted in zip(("table", "concise"), printed):
-            name = "%s of the concise text %s" % (form, text[:40])
-            tally.same(name, program.run([form] + files), status, wanted, message)
-        if refused:
-            tally.same("map of the concise text " + text[:40], program.run(["map"] + files), 1, "", message)
+            tally.same("%s of the concise text %s" % (form, text[:40]), program.run([form] + files), 0, wanted)
+    for text, disks, word in BAD_CONCISE:
+        files = ["concise", program.file("concise", text), program.file("disks", disks)]
+        for command in ("table", "concise", "map"):
+            name = "%s of the concise text %s" % (command, text[:40])
+            tally.same(name, program.run([command] + files), 1, "", "dmremap: source: %s\n" % word)
     text, disks = CONCISE[0][:2]
     for end in (text, text[:-1]):
         files = ["concise", program.file("concise", end), program.file("disks", disks)]
@@ -264,9 +226,7 @@ def test_streams(tally, program):
     os.close(requests)
     tally.same("table, with a closed input", program.run(words, before=lambda: os.close(0)), 0, text)
     for name, asked in (("table", words), ("name", ["name", "a", "b"]), ("splitname", ["splitname", "a-b"])):
-        with open("/dev/full", "wb") as full:
-            tally.same("a full output, " + name, program.run(asked, stdout=full), 5, "", UNWRITTEN)
+        tally.same("a full output, " + name, program.run(asked, stdout=FULL_OUTPUT), 5, "", UNWRITTEN)
         tally.same("a closed output, " + name, program.run(asked, before=lambda: os.close(1)), 5, "", UNWRITTEN)
-    with open("/dev/full", "wb") as full:
-        empty = ["table", "table", program.file("empty"), program.file("empty")]
-        tally.same("a full output, no tables", program.run(empty, stdout=full))
+    empty = ["table", "table", program.file("empty"), program.file("empty")]
+    tally.same("a full output, no tables", program.run(empty, stdout=FULL_OUTPUT))

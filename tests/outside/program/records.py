@@ -2,7 +2,7 @@
 
 import os
 
-from documents import text_of
+from harness import text_of
 from files import METADATA
 from groups import with_line
 from vgcfgbackup import READABLE, UNSEEN, WRITABLE, backup, created, physical, snapshot, striped, volume

@@ -10,7 +10,7 @@ import glob
 import os
 import re
 
-from documents import text_of
+from harness import text_of
 
 # A growth of std or of `indexmap`: it fails only where the allocator refuses it.
 STD = "a growth of the kit's"

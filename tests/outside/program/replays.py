@@ -7,7 +7,8 @@ stacks and requests are made from fixed seeds, so every run tries the same ones.
 import copy
 import random
 
-from snapshots import Plain, concise
+from harness import FULL_OUTPUT
+from snapshots import Plain, concise, disks_of, small_requests
 
 ROUNDS = 100
 REQUESTS = 30
@@ -157,16 +158,16 @@ def lines(number, answers):
 def test_random(tally, program):
     for seed in range(ROUNDS):
         dice = random.Random(seed)
-        stack, tops = tidy_stack(dice)
-        values, given, wanted = {}, "", ""
-        for number in range(1, REQUESTS + 1):
-            name = dice.choice(tops)
-            start = dice.randrange(stack.length("/dev/mapper/" + name))
-            request = (dice.choice("RWW"), name, start, dice.randint(1, 9))
-            given += "%s %s %d %d\n" % request
-            wanted += lines(number, played(values, number, start, stack.request(*request)))
-        disks = "".join("%s %d\n" % it for it in stack.disks.items())
-        tally.same("the replay of %s" % concise(stack), run(program, concise(stack), disks, given), 0, wanted)
+        check_replay(tally, program, dice, *tidy_stack(dice))
+
+
+def check_replay(tally, program, dice, stack, tops):
+    """Requests at random of these devices."""
+    source, values, given, wanted = concise(stack), {}, "", ""
+    for number, request in enumerate(small_requests(dice, stack, tops), 1):
+        given += "%s %s %d %d\n" % request
+        wanted += lines(number, played(values, number, request[2], stack.request(*request)))
+    tally.same("the replay of %s" % source, run(program, source, disks_of(stack), given), 0, wanted)
 
 
 def test_no_errors(tally, program):
@@ -179,8 +180,7 @@ def test_no_errors(tally, program):
             whole = stack.length("/dev/mapper/" + name)
             start = dice.randrange(whole)
             given += "W %s %d %d\nR %s 0 %d\n" % (name, start, dice.randint(1, whole - start), name, whole)
-        disks = "".join("%s %d\n" % it for it in stack.disks.items())
-        got = run(program, concise(stack), disks, given)
+        got = run(program, concise(stack), disks_of(stack), given)
         errors = [it.decode() for it in got.out.splitlines() if b"error" in it]
         tally.holds("no errors in a replay of %s" % concise(stack), got.status == 0 and got.out and not errors, str(errors or got.err))
     for kind, chunk, length in STORES:
@@ -222,8 +222,7 @@ def test_ends(tally, program):
         tally.same("a replay up to %r" % rest, got, 3, first, "dmremap: request 2: %s\n" % word)
     got = run(program, "a,,,,0 8 linear base 0;b,,,,0 8 linear base 4", "base 16\n", "x")
     tally.same("a replay of lines that clash", got, 1, "", "dmremap: replay: untidy\n")
-    with open("/dev/full", "wb") as full:
-        got = program.run(words_of(program, *SNAPSHOT), given="R s 0 8\n", stdout=full)
+    got = program.run(words_of(program, *SNAPSHOT), given="R s 0 8\n", stdout=FULL_OUTPUT)
     tally.same("a replay on a full device", got, 5, "", "dmremap: output: write\n")
 
 

@@ -303,9 +303,9 @@ def small_stack(dice):
     return Plain(tables, read_only, disks)
 
 
-def small_requests(dice, stack):
-    """Requests of all devices that are no stores, a few of which pass an end."""
-    asked = [name for name in stack.tables if not name.endswith("c")]
+def small_requests(dice, stack, names=()):
+    """Requests of these devices, or of all that are no stores, a few of which pass an end."""
+    asked = names or [name for name in stack.tables if not name.endswith("c")]
     for _ in range(REQUESTS):
         name = dice.choice(asked)
         start = dice.randrange(stack.length("/dev/mapper/" + name))
@@ -323,18 +323,22 @@ def test_random(tally, program):
     """Small stacks at random."""
     for seed in range(ROUNDS):
         dice = random.Random(seed)
-        stack = small_stack(dice)
-        source, given, wanted = concise(stack), "", ""
-        for number, request in enumerate(small_requests(dice, stack), 1):
-            given += "%s %s %d %d\n" % request
-            wanted += lines(number, stack.request(*request))
-        for number, name in enumerate(stack.tables, REQUESTS + 1):
-            request = ("R", name, 0, stack.length("/dev/mapper/" + name))
-            given += "%s %s %d %d\n" % request
-            wanted += lines(number, stack.request(*request))
-        disks = "".join("%s %d\n" % it for it in stack.disks.items())
-        got = run(program, source, disks, given, "--status")
-        tally.same("the small stack of %s" % source, got, 0, wanted + stack.status())
+        check_requests(tally, program, dice, small_stack(dice))
+
+
+def check_requests(tally, program, dice, stack):
+    """Requests at random, and then all that each device has."""
+    source, given, wanted = concise(stack), "", ""
+    whole = [("R", name, 0, stack.length("/dev/mapper/" + name)) for name in stack.tables]
+    for number, request in enumerate([*small_requests(dice, stack), *whole], 1):
+        given += "%s %s %d %d\n" % request
+        wanted += lines(number, stack.request(*request))
+    got = run(program, source, disks_of(stack), given, "--status")
+    tally.same("the small stack of %s" % source, got, 0, wanted + stack.status())
+
+
+def disks_of(stack):
+    return "".join("%s %d\n" % it for it in stack.disks.items())
 
 
 def test_status(tally, program):

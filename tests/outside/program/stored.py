@@ -24,42 +24,26 @@ STRIPED_DISKS = "base 64\nsda 64\nsdb 56\n"
 MORE_READS = 8
 
 # Texts of paths that are refused, and what is told of them. The stack has the disks base and cow.
-REFUSED = [
-    ("\n", "syntax at 1"),
-    ("cow c.img", "syntax at 1"),
-    ("cow c.img\nbase", "syntax at 2"),
-    ("cow c.img\n\n", "syntax at 2"),
-    ("cow\n", "syntax at 1"),
-    ("cow \n", "syntax at 1"),
-    (" cow c.img\n", "syntax at 1"),
-    ("cow c.img?offset=1\n", "field at 1"),
-    ("cow c.img?offset=511\n", "field at 1"),
-    ("cow c.img?offset=513\n", "field at 1"),
-    ("cow c.img?offset=000000000000000511\n", "field at 1"),
-    ("cow c.img?offset=999999999999999999\n", "field at 1"),
-    ("cow a=b?offset=0?offset=7\n", "field at 1"),
-    ("a,b c.img\n", "name at 1"),
-    ("/dev/mapper/cow c.img\n", "name at 1"),
-    ("a" * 256 + " c.img\n", "name at 1"),
-    ("caf\u00e9 c.img\n", "name at 1"),
-    ("cow c.img\ncow d.img\n", "twice at 2"),
-    ("base c.img\ncow c.img\nbase d.img\n", "twice at 3"),
-    ("none c.img\nnone c.img\n", "twice at 2"),
-    ("none c.img\n", "unknown at 1"),
-    ("cow c.img\ns c.img\n", "unknown at 2"),
-    ("a" * 255 + " c.img\n", "unknown at 1"),
-    (b"cow c\xff.img\n", "text at 1"),
-    (b"cow c\0.img\n", "text at 1"),
-    (b"cow c.img\n\xc3\n\xa9\n", "text at 2"),
-    (b"cow c.img\nbase \xed\xa0\x80\n", "text at 2"),
-    (b"\n\xff", "text at 2"),
+REFUSED = [(text, message) for message, rows in [
+    ("syntax at 1", ["\n", "cow c.img", "cow\n", "cow \n", " cow c.img\n"]),
+    ("syntax at 2", ["cow c.img\nbase", "cow c.img\n\n"]),
+    ("field at 1", ["cow c.img?offset=1\n", "cow c.img?offset=511\n", "cow c.img?offset=513\n",
+                    "cow c.img?offset=000000000000000511\n", "cow c.img?offset=999999999999999999\n",
+                    "cow a=b?offset=0?offset=7\n"]),
+    ("name at 1", ["a,b c.img\n", "/dev/mapper/cow c.img\n", "a" * 256 + " c.img\n", "caf\u00e9 c.img\n"]),
+    ("twice at 2", ["cow c.img\ncow d.img\n", "none c.img\nnone c.img\n"]),
+    ("twice at 3", ["base c.img\ncow c.img\nbase d.img\n"]),
+    ("unknown at 1", ["none c.img\n", "a" * 255 + " c.img\n"]),
+    ("unknown at 2", ["cow c.img\ns c.img\n"]),
+    ("text at 1", [b"cow c\xff.img\n", b"cow c\0.img\n"]),
+    ("text at 2", [b"cow c.img\n\xc3\n\xa9\n", b"cow c.img\nbase \xed\xa0\x80\n", b"\n\xff"]),
     # Each check is over the whole text, and comes before the next one.
-    (b"none\ncow c\xff\n", "text at 2"),
-    ("a,b c.img?offset=1\ncow\n", "syntax at 2"),
-    ("a,b c.img\ncow c.img?offset=1\n", "field at 2"),
-    ("none c.img\na,b c.img\n", "name at 2"),
-    ("none c.img\ncow c.img\ncow c.img\n", "twice at 3"),
-]
+    ("text at 2", [b"none\ncow c\xff\n"]),
+    ("syntax at 2", ["a,b c.img?offset=1\ncow\n"]),
+    ("field at 2", ["a,b c.img\ncow c.img?offset=1\n"]),
+    ("name at 2", ["none c.img\na,b c.img\n"]),
+    ("twice at 3", ["none c.img\ncow c.img\ncow c.img\n"]),
+] for text in rows]
 
 # What the pairs of a list may not be, where a chunk has 8 sectors, a snapshot 100 of them and its store a list of 256:
 # a name, the pairs, and the word. The last pair of each is the one that is wrong.

@@ -10,7 +10,7 @@ import subprocess
 import tempfile
 import time
 
-from harness import Outcome, failing_input
+from harness import FULL_OUTPUT, Outcome, failing_input
 
 TABLE = "a: 0 4096 striped 2 1 sda 0 sdb 0\n"
 # The same in four lines, whose requests are read several at a time before the first of them is answered.
@@ -33,16 +33,14 @@ UNREAD = "dmremap: requests: read\n"
 def test_output(tally, program):
     """An output that takes nothing; the requests are answered however the run would have ended."""
     for name, given in (("a short answer", SHORT), ("a long answer", LONG), ("a bad request", SHORT + BAD)):
-        with open("/dev/full", "wb") as full:
-            tally.same("a full output, " + name, program.map(TABLE, DISKS, given, stdout=full), 5, "", UNWRITTEN)
+        tally.same("a full output, " + name, program.map(TABLE, DISKS, given, stdout=FULL_OUTPUT), 5, "", UNWRITTEN)
         got = program.map(TABLE, DISKS, given, before=lambda: os.close(1))
         tally.same("a closed output, " + name, got, 5, "", UNWRITTEN)
-    with open("/dev/full", "wb") as full:
-        tally.same("a full output, no request", program.map(TABLE, DISKS, "", stdout=full))
-        got = program.map(TABLE, DISKS, BAD, stdout=full)
-        tally.same("a full output, nothing but a bad request", got, 3, "", "dmremap: request 1: unknown\n")
-        got = program.map("a: 0 0 zero\n", DISKS, SHORT, stdout=full)
-        tally.same("a full output, a refused load", got, 1, "", "dmremap: source: empty at 1\n")
+    tally.same("a full output, no request", program.map(TABLE, DISKS, "", stdout=FULL_OUTPUT))
+    got = program.map(TABLE, DISKS, BAD, stdout=FULL_OUTPUT)
+    tally.same("a full output, nothing but a bad request", got, 3, "", "dmremap: request 1: unknown\n")
+    got = program.map("a: 0 0 zero\n", DISKS, SHORT, stdout=FULL_OUTPUT)
+    tally.same("a full output, a refused load", got, 1, "", "dmremap: source: empty at 1\n")
 
 
 def test_writes(tally, program):
@@ -231,10 +229,8 @@ def check_failing(tally, program):
         ("after a bad line", SHORT + BAD, 3, SHORT_ANSWER, "dmremap: request 2: unknown\n"),
     ]
     for name, given, status, output, message in rows:
-        got = map_failing(program, given)
-        tally.same("requests that fail " + name, got, status, output, message)
-    with open("/dev/full", "wb") as full:
-        got = map_failing(program, SHORT, stdout=full)
+        tally.same("requests that fail " + name, map_failing(program, given), status, output, message)
+    got = map_failing(program, SHORT, stdout=FULL_OUTPUT)
     tally.same("requests that fail, and a full output", got, 5, "", UNWRITTEN)
 
 
@@ -275,8 +271,7 @@ def test_messages(tally, program):
         ("a bad request", TABLE, SHORT + BAD, 3, SHORT_ANSWER),
     ]
     for name, table, given, status, output in rows:
-        with open("/dev/full", "wb") as full:
-            got = program.map(table, DISKS, given, stderr=full)
+        got = program.map(table, DISKS, given, stderr=FULL_OUTPUT)
         tally.same("a full standard error, " + name, got, status, output)
         got = program.map(table, DISKS, given, before=lambda: os.close(2))
         tally.same("a closed standard error, " + name, got, status, output)

@@ -2,6 +2,8 @@
 
 import os
 
+from harness import FULL_OUTPUT
+
 VERSION = "0.1.0"
 
 VOLUME = "vol: 0 100 linear sda 50\n"
@@ -11,134 +13,68 @@ HELP = [["--help"], ["-h"], ["help"], ["help", "map"], ["map", "--help"], ["tabl
         ["name", "--help"], ["splitname", "--help"]]
 
 # Words that are refused whatever formats and commands there are.
-REFUSED = [
-    [],
-    ["map"],
-    ["map", "table"],
-    ["nonsense"],
-    ["table"],
-    ["concise", "nonsense", "TABLE", "DISKS"],
-    ["name", "vg0"],
-    ["name", "vg0", "lv0", "real", "more"],
-    ["name", "vg0", "-lv0"],
-    ["splitname"],
-    ["splitname", "a-b", "c-d"],
-    ["--status", "name", "vg0", "lv0"],
-    ["name", "vg0", "lv0", "--status"],
-    ["splitname", "--status", "a-b"],
-    ["table", "table", "TABLE", "DISKS", "--status"],
-    ["concise", "--status", "table", "TABLE", "DISKS"],
-    ["--status"],
-    ["--status", "table", "table", "TABLE", "DISKS"],
-    ["--status", "map", "table", "TABLE", "DISKS"],
-    ["--before", "TABLE", "map", "table", "TABLE", "DISKS"],
-    ["--before=TABLE", "map", "table", "TABLE", "DISKS"],
-    ["--paths", "TABLE", "map", "table", "TABLE", "DISKS"],
-    ["help", "nonsense"],
-    ["help", "map", "field"],
-    ["help", "Field"],
-    ["help", "field", "field"],
-    ["help", "-"],
-    ["map", "table", "TABLE", "DISKS", "--status", "--status"],
-    ["map", "--status", "table", "TABLE", "DISKS", "--status"],
-    ["map", "table", "--", "TABLE", "DISKS", "--status"],
-    ["map", "table", "TABLE", "DISKS", "--status=yes"],
-    ["map", "table", "TABLE", "DISKS", "--stat"],
-    ["map", "nonsense", "TABLE", "DISKS"],
-    ["map", "lvm"],
-    ["map", "LVM", "TABLE"],
-    ["map", "table", "TABLE", "DISKS", "more"],
-    ["map", "table", "TABLE", "DISKS", "--nonsense"],
-    ["map", "table", "-", "DISKS"],
-    ["-V"],
-    ["--version=1"],
-    ["version"],
-    ["map", "table", "TABLE", "DISKS", "--version"],
-    ["table", "--version", "table", "TABLE", "DISKS"],
-    ["MAP", "table", "TABLE", "DISKS"],
-    [b"map", b"table", b"\xff", b"DISKS"],
-]
+REFUSED = [*map(str.split, ["map", "map table", "nonsense", "table", "concise nonsense TABLE DISKS", "name vg0",
+    "name vg0 lv0 real more", "name vg0 -lv0", "splitname", "splitname a-b c-d", "--status name vg0 lv0",
+    "name vg0 lv0 --status", "splitname --status a-b", "table table TABLE DISKS --status",
+    "concise --status table TABLE DISKS", "--status", "--status table table TABLE DISKS",
+    "--status map table TABLE DISKS", "--before TABLE map table TABLE DISKS", "--before=TABLE map table TABLE DISKS",
+    "--paths TABLE map table TABLE DISKS", "help nonsense", "help map field", "help Field", "help field field",
+    "help -", "map table TABLE DISKS --status --status", "map --status table TABLE DISKS --status",
+    "map table -- TABLE DISKS --status", "map table TABLE DISKS --status=yes", "map table TABLE DISKS --stat",
+    "map nonsense TABLE DISKS", "map lvm", "map LVM TABLE", "map table TABLE DISKS more",
+    "map table TABLE DISKS --nonsense", "map table - DISKS", "-V", "--version=1", "version",
+    "map table TABLE DISKS --version", "table --version table TABLE DISKS",
+    "MAP table TABLE DISKS"]), [], [b"map", b"table", b"\xff", b"DISKS"]]
 
 # Words that are refused, as one line, and a part of what is told.
-TOLD = [
-    ("name vg0", "<LV>"),
-    ("name a -b", "unexpected argument '-b'"),
-    ("splitname a-b c", "unexpected argument 'c'"),
-    ("table lvm a --status", "unexpected argument '--status'"),
-    ("tabel lvm a", "a similar subcommand exists: 'table'"),
-    ("concise tabel a b", "a similar value exists: 'table'"),
-    ("", "Usage: dmremap <COMMAND>"),
-    ("map", "<FORMAT> <FILE>"),
-    ("map lvm2 a", "invalid value 'lvm2' for '<FORMAT>'"),
-    ("table images a --paths b", "unexpected argument '--paths'"),
-    ("metadata lvm a", "invalid value 'lvm' for '<FORMAT>'"),
-    ("metadata images a b", "unexpected argument 'b'"),
-    ("explain table a b", "unrecognized subcommand 'explain'"),
-    ("map table a b --status --status", "'--status' cannot be used multiple times"),
-    ("map lvm a -- b --status", "unexpected argument '--status'"),
-    ("map table a b --status=yes", "unexpected value 'yes' for '--status'"),
-    ("splitname a-b --status", "unexpected argument '--status'"),
-    ("--status map table a b", "unexpected argument '--status'"),
-    ("--before c map table a b", "unexpected argument '--before'"),
-    ("--paths=c map table a b", "unexpected argument '--paths'"),
-    ("help nonsense", "unrecognized subcommand 'nonsense'\n\nWords of messages that help knows:\n  again, chunk,"),
-    ("--status table lvm a", "unexpected argument '--status'"),
-    ("map table a b c", "unexpected argument 'c'"),
-    ("map -x table a b", "unexpected argument '-x'"),
-    ("map table - d", "error: unexpected argument '-' found"),
-    ("map table f -", "error: unexpected argument '-' found"),
-    ("map --version", "unexpected argument '--version'"),
-]
+TOLD = [(line, told) for told, rows in [
+    ("<LV>", ["name vg0"]),
+    ("unexpected argument '-b'", ["name a -b"]),
+    ("unexpected argument 'c'", ["splitname a-b c", "map table a b c"]),
+    ("unexpected argument '--status'", ["table lvm a --status", "map lvm a -- b --status", "splitname a-b --status",
+                                "--status map table a b", "--status table lvm a"]),
+    ("a similar subcommand exists: 'table'", ["tabel lvm a"]),
+    ("a similar value exists: 'table'", ["concise tabel a b"]),
+    ("Usage: dmremap <COMMAND>", [""]),
+    ("<FORMAT> <FILE>", ["map"]),
+    ("invalid value 'lvm2' for '<FORMAT>'", ["map lvm2 a"]),
+    ("unexpected argument '--paths'", ["table images a --paths b", "--paths=c map table a b"]),
+    ("invalid value 'lvm' for '<FORMAT>'", ["metadata lvm a"]),
+    ("unexpected argument 'b'", ["metadata images a b"]),
+    ("unrecognized subcommand 'explain'", ["explain table a b"]),
+    ("'--status' cannot be used multiple times", ["map table a b --status --status"]),
+    ("unexpected value 'yes' for '--status'", ["map table a b --status=yes"]),
+    ("unexpected argument '--before'", ["--before c map table a b"]),
+    ("unrecognized subcommand 'nonsense'\n\nWords of messages that help knows:\n  again, chunk,", ["help nonsense"]),
+    ("unexpected argument '-x'", ["map -x table a b"]),
+    ("error: unexpected argument '-' found", ["map table - d", "map table f -"]),
+    ("unexpected argument '--version'", ["map --version"]),
+] for line in rows]
 
 # Words that ask for help, and a part of it.
-HELPED = [
-    ("--help", "Usage: dmremap <COMMAND>"),
-    ("--help", "  splitname  Prints"),
-    ("-h", "Usage: dmremap <COMMAND>"),
-    ("-h", "  concise    Checks"),
-    ("help", "Usage: dmremap <COMMAND>"),
-    ("help", "  6  out of memory\n\nManual: man dmremap\n"),
-    ("-h", "      --version  Print the version\n"),
-    ("help map", "map [OPTIONS] <FORMAT> <FILE> [DISKS]"),
-    ("help map", "FORMAT is one of\n  lvm      the"),
-    ("map --help", "map [OPTIONS] <FORMAT> <FILE> [DISKS]"),
-    ("map --help", "      --status"),
-    ("map --help", "      --before <REQUESTS>  First play these requests"),
-    ("table -h", "table <FORMAT> <FILE> [DISKS]"),
-    ("table -h", "dmremap table lvm"),
-    ("concise -h", "concise <FORMAT> <FILE> [DISKS]"),
-    ("concise -h", "dmremap concise lvm"),
-    ("check -h", "check <FORMAT> <FILE> [DISKS]"),
-    ("check -h", "clash LOWER SECTOR FIRST SECOND"),
-    ("replay -h", "replay [OPTIONS] <FORMAT> <FILE> [DISKS]"),
-    ("replay -h", "      --paths <PATHS>"),
-    ("replay -h", "dmremap replay table"),
-    ("metadata -h", "metadata <FORMAT> <PATHS>"),
-    ("metadata -h", "dmremap metadata images"),
-    ("name -h", "name <VG> <LV> [LAYER]"),
-    ("name -h", "dmremap name vg0 lv-1"),
-    ("splitname -h", "splitname <NAME>"),
-    ("splitname -h", "dmremap splitname vg0-lv--1"),
-]
+HELPED = [(line, told) for line, rows in [
+    ("--help", ["Usage: dmremap <COMMAND>", "  splitname  Prints"]),
+    ("-h", ["Usage: dmremap <COMMAND>", "  concise    Checks", "      --version  Print the version\n"]),
+    ("help", ["Usage: dmremap <COMMAND>", "  6  out of memory\n\nManual: man dmremap\n"]),
+    ("help map", ["map [OPTIONS] <FORMAT> <FILE> [DISKS]", "FORMAT is one of\n  lvm      the"]),
+    ("map --help", ["map [OPTIONS] <FORMAT> <FILE> [DISKS]", "      --status",
+                    "      --before <REQUESTS>  First play these requests"]),
+    ("table -h", ["table <FORMAT> <FILE> [DISKS]", "dmremap table lvm"]),
+    ("concise -h", ["concise <FORMAT> <FILE> [DISKS]", "dmremap concise lvm"]),
+    ("check -h", ["check <FORMAT> <FILE> [DISKS]", "clash LOWER SECTOR FIRST SECOND"]),
+    ("replay -h", ["replay [OPTIONS] <FORMAT> <FILE> [DISKS]", "      --paths <PATHS>", "dmremap replay table"]),
+    ("metadata -h", ["metadata <FORMAT> <PATHS>", "dmremap metadata images"]),
+    ("name -h", ["name <VG> <LV> [LAYER]", "dmremap name vg0 lv-1"]),
+    ("splitname -h", ["splitname <NAME>", "dmremap splitname vg0-lv--1"]),
+] for told in rows]
 
 # Words that ask for the version: before a command, as for help, and whatever comes after.
-VERSIONED = [
-    ["--version"],
-    ["--version", "map"],
-    ["--version", "--help"],
-]
+VERSIONED = [["--version"], ["--version", "map"], ["--version", "--help"]]
 
 # DISKS goes with tables alone.
-DISKLESS = [
-    "map table a.table",
-    "map lvm vg0.backup a.disks",
-    "table table a.table",
-    "map concise a.concise",
-    "concise lvm vg0.backup a.disks",
-    "map images a.paths a.disks",
-    "map images a.paths --paths b.paths",
-    "check images a.paths a.disks",
-]
+DISKLESS = ["map table a.table", "map lvm vg0.backup a.disks", "table table a.table", "map concise a.concise",
+            "concise lvm vg0.backup a.disks", "map images a.paths a.disks", "map images a.paths --paths b.paths",
+            "check images a.paths a.disks"]
 
 # Words that ask for status lines, of a stack without a snapshot.
 STATUS = [
@@ -200,10 +136,7 @@ def test_unprinted(tally, program):
     """Help and the version on an output that takes nothing, and words that are refused on such a standard error."""
     for words in HELP + VERSIONED:
         name = "an output that is %%s, by %s" % words
-        with open("/dev/full", "wb") as full:
-            tally.same(name % "full", program.run(words, stdout=full), 5, "", "dmremap: output: write\n")
-        got = program.run(words, before=lambda: os.close(1))
-        tally.same(name % "closed", got, 5, "", "dmremap: output: write\n")
+        tally.same(name % "full", program.run(words, stdout=FULL_OUTPUT), 5, "", "dmremap: output: write\n")
+        tally.same(name % "closed", program.run(words, before=lambda: os.close(1)), 5, "", "dmremap: output: write\n")
     for words in ([], ["map"], ["map", "table", "missing"]):
-        with open("/dev/full", "wb") as full:
-            tally.same("a full standard error, by %s" % words, program.run(words, stderr=full), 2)
+        tally.same("a full standard error, by %s" % words, program.run(words, stderr=FULL_OUTPUT), 2)

@@ -9,7 +9,7 @@ import signal
 import tempfile
 import time
 
-from harness import Case, Outcome, become_nobody, run
+from harness import FULL_OUTPUT, Case, Outcome, become_nobody, run, text_of
 from trees import ANEW, BUILD, BUILDING, CRATES, HELD_RT, RT, SLOW_RT, TOOLCHAIN, WAITING, Tree, becomes, runs, told, without_times
 
 # How often the script tells how far it is.
@@ -31,8 +31,7 @@ def test_calls(tally, tree):
         tally.same("./build %s" % words, tree.run(words, tree.build), 2, "", USAGE)
     tree.remove()
     got = tree.run(["splitname", "a-b"], before=lambda: os.sched_setaffinity(0, [min(os.sched_getaffinity(0))]))
-    with open(tree.calls, encoding="utf-8") as it:
-        calls = it.read()
+    calls = text_of(tree.calls)
     tally.holds("./dmremap on one processor", got.status == 0 and calls.count("--jobs 1") == 3, "rt was called: %s" % calls)
 
 
@@ -53,8 +52,7 @@ def test_faults(tally, tree):
         tally.holds("./dmremap %s leaves nothing" % name, tree.leaves_nothing(), "there are folders")
         closed = tree.run(["splitname", "a-b"], variables=variables, before=lambda: os.close(2))
         tally.same("./dmremap %s, with a closed standard error" % name, closed, 70)
-        with open("/dev/full", "wb") as full:
-            got = tree.run(["splitname", "a-b"], variables=variables, stderr=full)
+        got = tree.run(["splitname", "a-b"], variables=variables, stderr=FULL_OUTPUT)
         tally.same("./dmremap %s, with a full standard error" % name, got, 70)
     tree.remove()
     # cp gives what it makes the mode of this one.
@@ -88,8 +86,7 @@ def check_rights(tally, tree):
     for at, folders, _ in os.walk(tree.folder):
         os.chmod(at, 0o755)
     tree.run([], tree.build)
-    got = tree.run(["splitname", "a-b"], before=become_nobody)
-    tally.same("./dmremap of somebody else", got, 0, "a b\n")
+    tally.same("./dmremap of somebody else", tree.run(["splitname", "a-b"], before=become_nobody), 0, "a b\n")
     tree.remove()
     tree.run([], tree.build, before=lambda: os.umask(0o077))
     got = tree.run(["splitname", "a-b"], before=become_nobody)
@@ -206,8 +203,7 @@ def test_by(tally, tree):
         got = tree.run(["splitname", "a-b"])
         tally.same("./dmremap after a command " + name, got, 0, "a b\n", "" if is_kept else BUILDING + told())
     tree.put()
-    got = tree.run(["--by", "true"], tree.build)
-    tally.same("./build by a command that makes nothing", got)
+    tally.same("./build by a command that makes nothing", tree.run(["--by", "true"], tree.build))
     got = tree.run(["splitname", "a-b"])
     tally.same("./dmremap after a command that makes nothing", got, 0, "a b\n", BUILDING + told())
 
@@ -246,8 +242,7 @@ def test_turns(tally, tree):
             env = tree.environment(PAUSE="0.2")
             calls = [tree.start(["splitname", "a-%d" % it], err, env=env) for it in range(count)]
             ends = [it.communicate(timeout=60)[0] for it in calls]
-        wanted = [b"a %d\n" % it for it in range(count)]
-        is_right = ends == wanted and len(tree.called()) == 3 and tree.leaves_nothing()
+        is_right = ends == [b"a %d\n" % it for it in range(count)] and len(tree.called()) == 3 and tree.leaves_nothing()
         tally.holds("%d calls at once" % count, is_right, "%s, %s" % (ends, tree.called()))
 
 
@@ -270,8 +265,7 @@ class Said:
 
 def test_told(tally, tree):
     """What runs is told again and again: in lines, and on a terminal in one that is rewritten."""
-    with open(tree.build, encoding="utf-8") as it:
-        text = it.read()
+    text = text_of(tree.build)
     tally.holds("./build tells what runs", text.count(OFTEN[0]) == 1, "there is no %s" % OFTEN[0])
     often = tree.write(os.path.join(os.path.dirname(BUILD), "often"), text.replace(*OFTEN))
     os.chmod(often, 0o755)
@@ -399,8 +393,7 @@ def test_folders(tally, tree):
         os.remove(let)
         if end != signal.SIGTERM:
             tree.run([], tree.build)
-        with open(places, encoding="utf-8") as it:
-            text = it.read().splitlines()
+        text = text_of(places).splitlines()
         is_right = has_begun and is_there and text[0] == "kept" and tree.leaves_nothing()
         is_right &= text[1:] == [] if end == signal.SIGTERM else len(text) > 1 and text[1].startswith(folder)
         is_right &= out == (b"" if end == signal.SIGTERM else b"a b\n")

@@ -9,7 +9,7 @@ import signal
 import time
 
 import help_words
-from harness import SECONDS, run
+from harness import SECONDS, run, text_of
 
 # What a shell runs to print, one on each line, what is offered for the last of the words after the script.
 # Without a terminal zsh completes nothing, so the calls that offer words print them.
@@ -113,8 +113,7 @@ def said_in(path, terminal):
                 os.read(terminal, 65536)
             except OSError:
                 return "nothing, as the shell has ended"
-    with open(path, encoding="utf-8") as it:
-        said = it.read()
+    said = text_of(path)
     os.unlink(path)
     return said
 

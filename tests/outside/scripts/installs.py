@@ -10,7 +10,7 @@ import re
 import shutil
 import tarfile
 
-from harness import Case, is_static, run
+from harness import Case, is_static, run, text_of
 from tool_calls import read
 from trees import ANSWER, BUILD, DISKS, REQUESTS, SCRIPTS, TABLE
 
@@ -191,8 +191,7 @@ def test_libraries(tally, program, top):
     names = sorted(set(re.findall(rb"\0(lib[\w+-]+\.so[.\d]*)\0", found)))
     tally.holds("the libraries of the program", names == [b"libc.so.6"], "they are %s" % names)
     least = max(tuple(map(int, it)) for it in re.findall(rb"GLIBC_(\d+)\.(\d+)", found)) if b"GLIBC_" in found else None
-    with open(os.path.join(top, "README.md"), encoding="utf-8") as it:
-        told = LEAST.search(it.read())
+    told = LEAST.search(text_of(os.path.join(top, "README.md")))
     told = told and tuple(map(int, told.groups()))
     tally.holds("the C library that the README names", told == least, "it names %s, and the program needs %s" % (told, least))
 

@@ -8,7 +8,7 @@ import signal
 import subprocess
 import time
 
-from harness import Case, run
+from harness import Case, run, text_of
 from trees import ANSWER, BUILD, BUILDING, ECHO, LOGIC, REQUESTS, TOOLCHAIN, TOOLS, Tree, becomes, told
 
 # A change of any of these means that the program is built anew.
@@ -20,8 +20,7 @@ CALLS = ["low lib", "middle lib", "dmremap run -- --help"]
 
 def test_version(tally, top):
     """The documents have the logic of the toolchain that a file says, which the build compares."""
-    with open(os.path.join(top, TOOLCHAIN), encoding="utf-8") as it:
-        logic = it.read().strip()
+    logic = text_of(os.path.join(top, TOOLCHAIN)).strip()
     for name in ("README.md", os.path.join("docs", "PROMISES.md")):
         with open(os.path.join(top, name), encoding="utf-8") as it:
             tally.holds("the logic of the toolchain in " + name, "%s`" % logic in it.read(), "there is no " + logic)
@@ -48,8 +47,7 @@ def test_own(tally, tree, top, is_own):
 
 
 def test_words(tally, tree):
-    got = tree.put(ECHO)
-    tally.same("./build", got, 0, "", BUILDING + told())
+    tally.same("./build", tree.put(ECHO), 0, "", BUILDING + told())
     for words in (["two words", "", "  ", "*", "$HOME", "a\\b", "--", "-x", "--run"], []):
         tally.same("./dmremap with the words %r" % words, tree.run(words), 3, "\n".join(words) + "\n")
     os.remove(tree.built)
@@ -130,8 +128,7 @@ def test_own_path(tally, program, top):
 def test_interrupts(tally, tree):
     """An interrupt while the scripts are loaded, before they can end a build, ends them in silence."""
     path = tree.path("tools/building/calls.py")
-    with open(path, encoding="utf-8") as it:
-        kept = it.read()
+    kept = text_of(path)
     begun = os.path.join(tree.folder, "begun")
     tree.write("tools/building/calls.py", "import time\nopen(%r, 'w').close()\ntime.sleep(30)\n%s" % (begun, kept))
     for script in tree.script, tree.build:
@@ -150,8 +147,7 @@ def test_changes(tally, tree):
     """A change of anything that the program is made of, and nothing else, makes it anew."""
     words = tree.words()
     tree.remove()
-    got = tree.run(words, given=REQUESTS)
-    tally.same("./dmremap where nothing is built", got, 0, ANSWER, BUILDING + told())
+    tally.same("./dmremap where nothing is built", tree.run(words, given=REQUESTS), 0, ANSWER, BUILDING + told())
     tally.holds("./dmremap builds crate by crate", tree.called() == CALLS, "rt was called: %s" % tree.called())
     tally.same("./dmremap once it is built", tree.run(words, given=REQUESTS), 0, ANSWER)
     more, moved = (os.path.join("crates", "low", "src", it) for it in ("more", "moved"))

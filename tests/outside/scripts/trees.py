@@ -8,7 +8,7 @@ import signal
 import subprocess
 import time
 
-from harness import run
+from harness import run, text_of
 
 TABLE = "a: 0 8 linear sda 4\n"
 DISKS = "sda 12\n"
@@ -152,13 +152,11 @@ class Tree:
 
     def called(self):
         """How rt was called, but for the number of jobs."""
-        with open(self.calls, encoding="utf-8") as it:
-            return re.sub(r" --jobs \d+", "", it.read()).splitlines()
+        return re.sub(r" --jobs \d+", "", text_of(self.calls)).splitlines()
 
     def made_of(self):
         """The text that the program was made of."""
-        with open(self.built + ".o", encoding="utf-8") as it:
-            return it.read()
+        return text_of(self.built + ".o")
 
     def leaves_nothing(self):
         """Whether no folder is left of a build."""
@@ -183,8 +181,7 @@ def without_times(text):
 def runs(process):
     """Whether a process runs; one that has ended may still be listed."""
     try:
-        with open("/proc/%s/stat" % process, encoding="utf-8") as it:
-            return it.read().rpartition(")")[2].split()[0] != "Z"
+        return text_of("/proc/%s/stat" % process).rpartition(")")[2].split()[0] != "Z"
     except OSError:
         return False
 

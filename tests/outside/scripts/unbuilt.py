@@ -29,8 +29,7 @@ class Tools:
         """What a command does, and how often it called `rt`."""
         env = self.tree.environment()
         env["PATH"] = os.pathsep.join([*path, env["PATH"]])
-        got = run([tool, *words], env=env, folder=self.tree.folder)
-        return got, self.tree.called()
+        return run([tool, *words], env=env, folder=self.tree.folder), self.tree.called()
 
     def finds(self, tally, name, system, said="", path=()):
         """Which file system `scan` says to be in the volume, and what it says besides; `-`: one that nobody is asked about."""

@@ -1,8 +1,10 @@
 """Arrays of md: rows of the command `md`. What a kernel reads of such arrays is what the tables say: they were
 compared sector by sector. The texts are those of `mdadm --examine` 4.2."""
 
+import os
+
 import physical_volumes
-from tool_calls import bad, good
+from tool_calls import bad, call, check_rows, good
 
 NEW = """\
 /dev/%(disk)s:
@@ -281,4 +283,19 @@ IMAGES = [
     ("md", ["--name", "m"], [], "refused\n", "dmremap-tools md: give EXAMINED, or the members with --member\n", 2),
 ]
 
-ROWS = TABLES + REFUSED + FOLLOWED + UNFOLLOWED + IMAGES
+
+def test_rows(tally, program, top):
+    check_rows(tally, program, top, TABLES + REFUSED + FOLLOWED + UNFOLLOWED + IMAGES)
+
+
+def test_small_chunks(tally, program, top):
+    """The longest read that is followed through the smallest chunks: a line for each of 131,072, in a second or two."""
+    text = members(3, level="raid5", layout="left-symmetric", size=1 << 40, chunk="     Chunk Size : 4K\n")
+    examined, pieces = program.file("examined", text), program.file("pieces", "1 R /dev/md0 0 1048576\n")
+    begun = os.times()
+    got = call(top, ["md", "--follow", "/dev/md0", examined, pieces], memory=8 << 20)
+    ended = os.times()
+    wanted = "".join("1 R /dev/sd%s %d 8\n" % (disk, 2048 + 8 * row) for row in range(1 << 16) for disk in (("ab", "ca", "bc")[row % 3]))
+    tally.same("a long read through small chunks", got, 0, wanted)
+    took = ended.children_user + ended.children_system - begun.children_user - begun.children_system
+    tally.holds("how long that takes", took < 3, "it takes %.1f s" % took)

@@ -163,4 +163,6 @@ ADDRESSES = [
     bad("filefrag", ["--addresses", "b"], [FOUND % "ef53"], "1:1: not btrfs, leave out --addresses: Filesystem type is: ef53"),
 ]
 
-ROWS = POOLS + CACHES + TREES + ADDRESSES
+
+def test_rows(tally, program, top):
+    tool_calls.check_rows(tally, program, top, POOLS + CACHES + TREES + ADDRESSES)

@@ -1,6 +1,6 @@
 """What `elsewhere` makes of inputs: rows as those of `tool_calls`."""
 
-from tool_calls import bad, good
+from tool_calls import bad, check_rows, good
 
 PATHS = "/dev/sda1 /dev/loop0\n/dev/sda10 /dev/loop1\n"
 TEXT = "a,,,rw,0 8 linear /dev/sda1 0,8 8 linear /dev/sda10 0;b,,,ro,0 8 snapshot /dev/mapper/a /dev/sda1 P 8\n"
@@ -48,4 +48,6 @@ ELSEWHERE = [
     bad("elsewhere", ["--losetup", "--paths", "1"], [PATHS, "a: 0 8 linear /dev/sdb 2\n"], "2:1: no path of the disk /dev/sdb: add it to PATHS"),
 ]
 
-ROWS = ELSEWHERE
+
+def test_rows(tally, program, top):
+    check_rows(tally, program, top, ELSEWHERE)

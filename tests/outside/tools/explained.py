@@ -10,8 +10,7 @@ import shutil
 
 import explained_rows
 from explained_rows import FILES
-from harness import Case
-
+from harness import FULL_OUTPUT, Case
 from tool_calls import TOOL, call, samples
 
 STACKS = 120
@@ -148,8 +147,7 @@ def test_causes(tally, explain):
 
 def test_json(tally, explain):
     """The same as objects."""
-    got = explain.run(["--json", "map", "lvm", "vg0-snapshot.backup", "R vg0-snap 8000 16"])
-    made = json.loads(got.out.decode())
+    made = json.loads(explain.run(["--json", "map", "lvm", "vg0-snapshot.backup", "R vg0-snap 8000 16"]).out.decode())
     below = made["way"]["lines"][0]["pieces"][0]
     tally.holds("a way as JSON", made["answer"] == ["R /dev/sda1 10048 16"] and below["below"][0]["device"] == "vg0-lv0-real", str(made))
     made = json.loads(explain.run(["--json", "map", "table", "raid.table", "disks"]).out.decode())
@@ -262,9 +260,8 @@ def test_ends(tally, explain, program):
     got = explain.run(["map", "lvm", "vg0.backup", "R vg0-lv0 8000 16"], asked=wrong)
     why = b"explain: R vg0-lv0 8000 16: the levels don't make dmremap's answer together"
     tally.holds("levels that don't make the answer", got.status == 1 and why in got.err and not got.out, "status %s, %r" % (got.status, got.err))
-    with open("/dev/full", "wb") as full:
-        got = explain.run(["map", "lvm", "vgm.backup"], stdout=full.fileno())
-        tally.same("an explanation to a full output", got, 5, "", TOOL + " explain: standard output: No space left on device\n")
+    got = explain.run(["map", "lvm", "vgm.backup"], stdout=FULL_OUTPUT.fileno())
+    tally.same("an explanation to a full output", got, 5, "", TOOL + " explain: standard output: No space left on device\n")
     got = explain.run(["map", "table", "esc.table", "disks"])
     tally.holds("foreign text", got.status == 0 and b"\x1b" not in got.out and b"\\x1b" in got.out, repr(got.out))
 

@@ -11,7 +11,7 @@ import re
 
 import tool_calls
 from dmremap_tools.model.config_text import Document
-from harness import run
+from harness import FULL_OUTPUT, run
 from lvm2_rows import BARE, GROUP, ONLY, REFUSED, ROWS, other
 from tool_calls import read
 
@@ -67,8 +67,7 @@ def check_row(tally, program, top, name, text, changes, messages, table, words=(
     said, meant = parts_of(got.out), parts_of(wanted)
     tally.holds("the copy of " + name, said == meant, "%r is wanted, not %r" % (meant, said))
     tally.holds("the lines of the text of " + name, got.out.count(b"\n") == text.split(b"\0")[0].count(b"\n"), "there are others")
-    made = program.run(["table", "lvm", program.file("lvm2/copy", got.out)])
-    tally.same("the table of " + name, made, 0, table)
+    tally.same("the table of " + name, program.run(["table", "lvm", program.file("lvm2/copy", got.out)]), 0, table)
 
 
 def line_of(text, beginning):
@@ -94,8 +93,7 @@ def check_spelling(tally, program, top, name, text, dice):
     got = copied(program, top, other)
     path = program.file("lvm2/copy", got.out)
     wanted = program.run(["concise", "lvm", program.file("lvm2/plain", text)]).out
-    made = program.run(["concise", "lvm", path])
-    tally.same("the tables of %s in other words" % name, made, 0, wanted)
+    tally.same("the tables of %s in other words" % name, program.run(["concise", "lvm", path]), 0, wanted)
     tally.holds("the copy of %s in other words" % name, got.status == 0 and got.out.count(b"\n") == other.count(b"\n"),
                 "status %s, %r, of %r" % (got.status, got.err, other))
 
@@ -181,8 +179,7 @@ def test_words(tally, program, top):
     got = copy("-", given=BARE)
     tally.same("a text of a pipe", got, 0, got.out)
     tally.holds("the copy of a text of a pipe", parts_of(got.out) == parts_of(BARE.encode()), got.out)
-    with open("/dev/full", "wb") as full:
-        got = copy(program.file("lvm2/text", BARE), stdout=full)
+    got = copy(program.file("lvm2/text", BARE), stdout=FULL_OUTPUT)
     tally.same("a copy on a full disk", got, 5, "", "dmremap-tools lvm2-text: standard output: No space left on device\n")
 
 

@@ -9,7 +9,6 @@ import shutil
 import tempfile
 
 import containers
-import elsewhere_rows
 import machine_rows
 import physical_volumes
 import tool_calls
@@ -22,7 +21,6 @@ SAMPLES = ("ls", "status", "lsblk")
 def test_rows(tally, program, top):
     for row in machine_rows.ROWS:
         check_row(tally, program, top, *row)
-    tool_calls.check_rows(tally, program, top, elsewhere_rows.ROWS)
 
 
 def called(program, top, words, inputs):

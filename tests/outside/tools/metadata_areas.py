@@ -7,7 +7,7 @@ import os
 
 import images
 import tool_calls
-from harness import NOBODY, Case, run
+from harness import FULL_OUTPUT, NOBODY, Case, run
 from physical_volumes import FIRST, MAGIC, SECTOR, area, gpt, label, mbr, md_member, text_of_area, volume, with_backup
 from tool_calls import read
 
@@ -382,8 +382,7 @@ def test_files(tally, program, command):
                SAID + "/dev/stdin: neither a file nor a disk: give an image of the disk\n")
     with open(command.path, "rb") as given:
         tally.same("the text of standard input", command.run("-", stdin=given), 0, TEXT[:-1])
-    with open("/dev/full", "wb") as full:
-        got = command.run("head", stdout=full)
+    got = command.run("head", stdout=FULL_OUTPUT)
     tally.same("the text on a full disk", got, 5, "", SAID + "standard output: No space left on device\n")
     for words in ([], ["--seqno", "x", "head"], ["--part"], ["--list", "--seqno", "3", "head"]):
         got = command.run(*words)

@@ -8,9 +8,7 @@ import shutil
 import explained
 import remedies
 import terminals
-from documents import text_of
-from harness import run
-
+from harness import run, text_of
 from tool_calls import samples
 
 TABLE, LIST, READ = "a: 0 8 linear /dev/sda1 0\n", "/dev/sda1 100\n", "1 R /dev/sda1 0 8\n"

@@ -57,8 +57,7 @@ class Pile:
         path = os.path.join(self.folder, "out")
         if os.path.exists(path):
             os.unlink(path)
-        got = self.call("save", volume, "out", *(images or self.images()), *more)
-        return got, tool_calls.read(path)
+        return self.call("save", volume, "out", *(images or self.images()), *more), tool_calls.read(path)
 
     def holds(self, tally, name, volume, content, *images):
         """A volume that is saved whole."""

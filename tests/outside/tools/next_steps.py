@@ -9,7 +9,7 @@ import ast
 import os
 import re
 
-from documents import text_of
+from harness import text_of
 
 VERBS = ("activate|add|ask|assemble|begin|compare|dump|end|give|install|leave|look|make|mend|name|put|read|repair|restore|run|save|say|"
          "see|take|trace|try|unpack|use|write")

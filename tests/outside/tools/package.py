@@ -9,7 +9,7 @@ import re
 
 import dmremap_tools
 from dmremap_tools import commands, main
-from harness import run
+from harness import run, text_of
 
 PACKAGE = "dmremap_tools"
 # A folder, what it is for, and which folders it imports.
@@ -33,8 +33,7 @@ def imported_by(folder, folders):
     """The other folders of the package from which the modules of one import something, wherever in a module they do."""
     found = set()
     for path in glob.glob(os.path.join(folder, "*.py")):
-        with open(path, encoding="utf-8") as file:
-            tree = ast.parse(file.read())
+        tree = ast.parse(text_of(path))
         for node in ast.walk(tree):
             if isinstance(node, ast.Import):
                 modules = [it.name for it in node.names]

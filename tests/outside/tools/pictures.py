@@ -8,7 +8,7 @@ import unittest
 import xml.etree.ElementTree as tree
 import zlib
 
-from harness import run
+from harness import run, text_of
 from tool_calls import call, check_rows, lost, samples
 
 WHITE, BLUE, WRITTEN = (255, 255, 255), (31, 95, 191), (192, 48, 32)
@@ -47,8 +47,7 @@ def drawn(tally, program, top, words, given):
 
 
 def picture_in(path):
-    with open(path, encoding="utf-8") as it:
-        return it.read()
+    return text_of(path)
 
 
 class Pixels:

@@ -9,9 +9,7 @@ import shutil
 
 import explained
 import explained_rows
-from documents import text_of
-from harness import run
-
+from harness import run, text_of
 from tool_calls import samples
 
 # What stands in for programs that ask the machine, and takes only words that a real one would.

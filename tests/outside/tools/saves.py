@@ -144,8 +144,7 @@ def test_gaps(tally, program, top):
     with unreadable(range(0, 1)):
         got = disks.save(top, "begun", "--resume", disks.target("map"))
     tally.same("a volume that goes on", got, 4, "", LOST % (1, 40))
-    got = disks.save(top, "begun", "--resume", disks.target("map"))
-    tally.same("a volume that is finished", got, 0)
+    tally.same("a volume that is finished", disks.save(top, "begun", "--resume", disks.target("map")), 0)
     tally.holds("what it has", read(disks.target("begun")) == disks.volume(), "it is another")
     text = "0x%08X  0x%08X  +\n" % (0, SECTOR * 48)
     tally.holds("its last map", read(disks.target("map")).decode() == MAP % (sectors, ids, SECTOR * 48, "+") + text, read(disks.target("map")))
@@ -234,8 +233,7 @@ def test_file(tally, program, top):
                " ext:     logical_offset:        physical_offset: length:   expected: flags:\n"
                "   0:        0..       3:         26..        29:      4:            \n"
                "   1:        8..      17:          2..        11:     10:         30: last,eof\n/f: 2 extents found\n")
-    got = disks.save(top, "file", "--extents", program.file("save/extents", extents))
-    tally.same("a file", got, 0)
+    tally.same("a file", disks.save(top, "file", "--extents", program.file("save/extents", extents)), 0)
     volume = disks.volume()
     wanted = (volume[26 * SECTOR:30 * SECTOR] + bytes(4 * SECTOR) + volume[2 * SECTOR:12 * SECTOR])[:9000]
     tally.holds("what it has", read(disks.target("file")) == wanted, "it is another")

@@ -12,7 +12,7 @@ import signal
 import sys
 import tempfile
 
-from harness import SECONDS, Outcome, as_bytes
+from harness import SECONDS, Outcome, as_bytes, text_of
 
 TOOL = "dmremap-tools"
 BROKEN = 99
@@ -87,8 +87,7 @@ def call(top, words, given=b"", folder=None, stdout=None, stderr=None, memory=No
 
 def _address_space():
     """How many bytes of addresses this process has."""
-    with open("/proc/self/statm", encoding="ascii") as figures:
-        return int(figures.read().split()[0]) * resource.getpagesize()
+    return int(text_of("/proc/self/statm").split()[0]) * resource.getpagesize()
 
 
 def _status(status):

@@ -2,6 +2,7 @@
 
 import os
 
+from harness import text_of
 from tool_calls import bad, call, check_rows, good, lost
 
 LAST = 1048576
@@ -21,8 +22,7 @@ def test_times(tally, program, top):
     cut = "R vg0-lv0 0 1048576\nR vg0-lv0 1048576 1048576\nR vg0-lv0 2097152 1048576\nR vg0-lv0 3145728 1\n"
     tally.same("a trace with long requests", got, 0, "R vg0-lv0 8 16\n%sW vg0-lv0 0 1048576\nW vg0-lv0 1048576 1\nR vg0-lv0 8 1048576\n" % cut,
                "left out: 1 requests that are neither reads nor writes\n")
-    with open(os.path.join(folder, "beside"), encoding="ascii") as it:
-        found = it.read().splitlines()
+    found = text_of(os.path.join(folder, "beside")).splitlines()
     tally.holds("the times of long requests", list(map(float, found)) == [0.5] + 4 * [0.75] + 2 * [1.5] + [2.0], found)
 
 

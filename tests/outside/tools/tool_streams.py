@@ -12,7 +12,7 @@ import signal
 import subprocess
 import sys
 
-from harness import Case, Outcome, run
+from harness import FULL_OUTPUT, Case, Outcome, run
 from tool_calls import TOOL, call, read, samples
 
 # For each command the words of a call that has an answer, in a folder with the samples and what is made of them here. Words
@@ -126,14 +126,13 @@ def check_ends(tally, top, folder, command, given):
     if not tally.holds("%s has an answer" % words, plain.status == ANSWERED and plain.out, "status %s, %r" % (plain.status, plain.err)):
         return
     said = told + "%s %s: standard output: %s\n"
-    with open("/dev/full", "wb") as full:
-        got = call(top, words, folder=folder, stdout=full.fileno())
-        tally.same("%s to a full output" % command.name, got, FULL, "", said % (TOOL, command.name, "No space left on device"))
-        if told:
-            got = call(top, words, folder=folder, stderr=full.fileno())
-            tally.holds("%s to full messages" % command.name, got.status == FULL, "status %s" % got.status)
-        got = call(top, [command.name, "--help"], folder=folder, stdout=full.fileno())
-        tally.holds("the help of %s to a full output" % command.name, got.status == FULL and got.err.count(b"\n") == 1, got.err)
+    got = call(top, words, folder=folder, stdout=FULL_OUTPUT.fileno())
+    tally.same("%s to a full output" % command.name, got, FULL, "", said % (TOOL, command.name, "No space left on device"))
+    if told:
+        got = call(top, words, folder=folder, stderr=FULL_OUTPUT.fileno())
+        tally.holds("%s to full messages" % command.name, got.status == FULL, "status %s" % got.status)
+    got = call(top, [command.name, "--help"], folder=folder, stdout=FULL_OUTPUT.fileno())
+    tally.holds("the help of %s to a full output" % command.name, got.status == FULL and got.err.count(b"\n") == 1, got.err)
     here, there = os.pipe()
     os.close(here)
     tally.same("%s to a pipe that nobody reads" % command.name, call(top, words, folder=folder, stdout=there), GONE, "", told)
@@ -153,8 +152,7 @@ def check_cuts(tally, top, folder, command, words):
     for place, name in inputs_of(words, folder):
         content = read(os.path.join(folder, name))
         for length in sorted({0, *(dice.randrange(len(content)) for _ in range(CUTS))}):
-            got = with_input(top, folder, [command.name, *words], place + 1, content[:length])
-            why = fault_of(command, got)
+            why = fault_of(command, with_input(top, folder, [command.name, *words], place + 1, content[:length]))
             tally.holds("%s with %s cut at %d" % (command.name, name, length), not why, why)
 
 
@@ -209,8 +207,7 @@ def test_mutations(tally, top, folder, commands):
     for number in range(MUTATIONS):
         command, words, place, name = dice.choice(choices)
         content = mutated(kept[name], dice)
-        got = with_input(top, folder, [command.name, *words], place + 1, content)
-        why = fault_of(command, got)
+        why = fault_of(command, with_input(top, folder, [command.name, *words], place + 1, content))
         tally.holds("%s with change %d of %s" % (command.name, number, name), not why, why)
 
 
@@ -409,8 +406,7 @@ def test_locale(tally, program, top, folder):
     env = dict(os.environ, LC_ALL="C", PYTHONUTF8="0", PYTHONCOERCECLOCALE="0", PYTHONPATH=os.path.join(top, "tools"))
     for name, start in ("as a file", tool(top)), ("as a module", [sys.executable, "-m", "dmremap_tools"]):
         words = ["save", "v", "\u00e9.saved", "table", "\u00e9.table", "\u00e9.disks", "--paths", "\u00e9.paths", "--program", "./dmremap"]
-        got = run([*start, *words], folder=folder, env=env)
-        tally.same("saving where the locale isn't UTF-8, " + name, got)
+        tally.same("saving where the locale isn't UTF-8, " + name, run([*start, *words], folder=folder, env=env))
         path = os.path.join(folder, "\u00e9.saved")
         if tally.holds("what is saved then", os.path.exists(path), "it isn't there"):
             os.unlink(path)
@@ -462,8 +458,7 @@ def test_long(tally, top, folder, commands):
                   [it.option_strings[-1] + "=" + LONG[place % 3], *plain] for place, it in enumerate(options)]
         tried += [[*plain, LONG[0]], [*plain, "--" + LONG[1]]]
         for words in tried:
-            got = call(top, [command.name, *words], folder=folder)
-            said = got.err.decode("utf-8", "replace")
+            said = call(top, [command.name, *words], folder=folder).err.decode("utf-8", "replace")
             is_so = said.replace("\n", "").isprintable() and "Traceback" not in said and not TOO_LONG.search(said)
             tally.holds("long words of %s: %s" % (command.name, [it[:20] for it in words]), is_so, said[:500])
 

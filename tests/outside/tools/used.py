@@ -8,7 +8,7 @@ import struct
 
 import tool_streams
 import walks
-from harness import run
+from harness import run, text_of
 from physical_volumes import dashed, gpt, volume
 from tool_calls import TOOL, call
 
@@ -156,8 +156,7 @@ def test_places(case):
     case.put("striped.paths", "x away/x.img\ny y.img\n")
     case.refused("a store of whose disks one is away", "the store of s: a disk that its header or its list lies on isn't here (x)" + NEXT,
                  ["--paths", "striped.paths"], ("table", "striped", "striped.disks"))
-    with open(os.path.join(case.top, "examples", "vg0-snapshot.backup"), encoding="ascii") as it:
-        case.put("group", it.read())
+    case.put("group", text_of(os.path.join(case.top, "examples", "vg0-snapshot.backup")))
     case.put("sda1.img", b"")
     with open(os.path.join(case.folder, "sda1.img"), "r+b") as it:
         it.seek(206848 * SECTOR)
@@ -237,8 +236,7 @@ def test_changed(case):
         for _ in range(dice.choice((1, 1, 2, 5))):
             changed[dice.choice(spots)] = dice.choice((0, 1, 2, 3, 8, 16, 255))
         case.put("image", bytes(changed[:dice.choice((len(content), len(content), dice.randrange(len(content))))]))
-        got = case.call(PATHS, ("table", "table", "disks"))
-        why = tool_streams.fault_of(command, got)
+        why = tool_streams.fault_of(command, case.call(PATHS, ("table", "table", "disks")))
         case.tally.holds("used: change %d of an image" % number, not why, why)
     case.put("image", content)
 
