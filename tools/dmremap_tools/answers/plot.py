@@ -7,8 +7,7 @@ from collections import Counter
 from operator import add
 from typing import Dict, Iterator, List, Optional, Sequence, Tuple
 
-from dmremap_tools.base import pieces, streams, svg
-from dmremap_tools.base.refusal import Refusal
+from dmremap_tools.base import Refusal, pieces, streams, svg
 
 COLUMNS, ROWS, CELL, MARGIN = 450, 150, 2, 20
 # A column has a byte for each cell, with how often it was read, up to the darkest, and then how often it was written.

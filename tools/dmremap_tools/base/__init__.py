@@ -1,6 +1,6 @@
 """What all folders use: words, streams, texts and pictures, and how dmremap is asked."""
 
 from dmremap_tools.base.numbers import SECTOR
-from dmremap_tools.base.refusal import Refusal, WrongWords
+from dmremap_tools.base.refusal import INCOMPLETE, Refusal, WrongWords
 
-__all__ = ["SECTOR", "Refusal", "WrongWords"]
+__all__ = ["INCOMPLETE", "SECTOR", "Refusal", "WrongWords"]
