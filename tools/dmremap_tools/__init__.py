@@ -31,7 +31,7 @@ What a command uses of `base`, so that all behave alike:
     streams.read(path)          the whole text of a file or of `-`
     streams.out.write(text)     standard output; it is flushed before an input is waited for
     streams.beside(path)        a file that is written beside it, as TIMES
-    written.Place(path)         any other file that is written: never over an input, and put in its place once it is whole
+    written.Place(path)         any other file that is written: never over an input, put in its place once it is whole
     streams.tell(text)          a line on standard error
     streams.show_progress(text) how far long work is, on a terminal alone
     refusal.Refusal(where, why) raised, it ends the command with `dmremap-tools NAME: WHERE: WHY` and status 1

@@ -4,8 +4,7 @@ from typing import List, NamedTuple, Optional
 
 # The folders of the commands, and how `--help` calls what is in them.
 GROUPS = {"images": "images of disks", "requests": "requests", "tables": "FILE and DISKS", "metadata": "metadata",
-          "answers": "answers", "layouts": "layouts",
-          "explaining": "refusals and answers, explained"}
+          "answers": "answers", "layouts": "layouts", "explaining": "refusals and answers, explained"}
 
 
 class Command(NamedTuple):
@@ -57,8 +56,9 @@ def find(name: str) -> Optional[Command]:
 
 def overview() -> str:
     """What `dmremap-tools --help` prints."""
-    lines = ["usage: dmremap-tools COMMAND ..", "", "Connects dmremap with other tools, and makes something of its answers.",
+    lines = ["usage: dmremap-tools COMMAND ..", "",
+             "Connects dmremap with other tools, and makes something of its answers.",
              "`dmremap-tools COMMAND --help` tells more about a command, with an example."]
     for group, title in GROUPS.items():
-        lines += ["", title + ":"] + ["  %-12s %s" % (it.name, it.summary) for it in COMMANDS if it.group == group]
+        lines += ["", title + ":"] + [f"  {it.name:12} {it.summary}" for it in COMMANDS if it.group == group]
     return "\n".join(lines) + "\n"

@@ -3,6 +3,7 @@
 import argparse
 import difflib
 import errno
+import functools
 import gc
 import importlib
 import itertools
@@ -14,8 +15,7 @@ from types import ModuleType
 from typing import Callable, Dict, List, NoReturn, Sequence, Tuple, Type
 
 from dmremap_tools import commands
-from dmremap_tools.base import near_names, quoting, streams, written
-from dmremap_tools.base.refusal import Refusal, WrongWords
+from dmremap_tools.base import Refusal, WrongWords, near_names, quoting, streams, written
 
 TOOL = "dmremap-tools"
 OUTPUT_FAILED = 5
@@ -42,13 +42,6 @@ class ToldToEnd(BaseException):
     """A signal told the command to end: its number."""
 
 
-class HelpFormatter(argparse.RawDescriptionHelpFormatter):
-    """Formats a help for so many columns, however wide the terminal is."""
-
-    def __init__(self, prog: str) -> None:
-        super().__init__(prog, width=COLUMNS - 2)
-
-
 class Parser(argparse.ArgumentParser):
     """Reads the words of a command. Help goes to standard output, as everything else that is asked for."""
 
@@ -56,8 +49,8 @@ class Parser(argparse.ArgumentParser):
         streams.out.write(self.format_help())
 
     def parsed(self, words: List[str]) -> argparse.Namespace:
-        """The words of a command, with options in any place. If they end in those of another program, so do options that
-        aren't the command's own."""
+        """The words of a command, with options in any place. If they end in those of another program, so do options
+        that aren't the command's own."""
         self._words = words
         try:
             typed, others = self.parse_known_intermixed_args(words)
@@ -97,7 +90,8 @@ def run(words: List[str]) -> int:
     except Exception as fault:
         status, said = next(end for kind, end in ENDINGS.items() if isinstance(fault, kind))
         why = said.format(getattr(fault, "strerror", None) or fault, fault)
-        return _end(status, f"{name}: {why}" if why else "", is_fed, getattr(fault, "usage", ""), _next_step(words, why))
+        message, usage = f"{name}: {why}" if why else "", getattr(fault, "usage", "")
+        return _end(status, message, is_fed, usage, _next_step(words, why))
 
 
 def _run(command: "commands.Command | None", name: str, words: List[str]) -> int:
@@ -117,10 +111,10 @@ def _run(command: "commands.Command | None", name: str, words: List[str]) -> int
         streams.out.write(commands.overview())
         return 0
     if not words:
-        raise WrongWords("--help lists the commands", "usage: %s COMMAND .." % TOOL)
-    near = difflib.get_close_matches(words[0], [it.name for it in commands.COMMANDS], 1)
-    reason = "no command '%s'; %s--help lists them" % (quoting.shown(words[0]), "".join("near is %s; " % it for it in near))
-    raise WrongWords(reason, "usage: %s COMMAND .." % TOOL)
+        raise WrongWords("--help lists the commands", f"usage: {TOOL} COMMAND ..")
+    names = [it.name for it in commands.COMMANDS]
+    near = "".join(f"near is {it}; " for it in difflib.get_close_matches(words[0], names, 1))
+    raise WrongWords(f"no command '{quoting.shown(words[0])}'; {near}--help lists them", f"usage: {TOOL} COMMAND ..")
 
 
 def _told_to_end(number: int, _: object) -> NoReturn:
@@ -138,7 +132,9 @@ def _answer_signals(action: "signal.Handlers | Callable[[int, object], object]")
 def parser_of(command: "commands.Command", module: ModuleType, name: str) -> Parser:
     """The parser of a command, whose help has the module's docstring and its example."""
     text = "%s\n\nexample:\n%s" % (_wrapped(module.__doc__ or ""), _example(module.EXAMPLE))
-    parser = Parser(prog=name, description=text, allow_abbrev=False, formatter_class=HelpFormatter)
+    # So many columns, however wide the terminal is.
+    formatter = functools.partial(argparse.RawDescriptionHelpFormatter, width=COLUMNS - 2)
+    parser = Parser(prog=name, description=text, allow_abbrev=False, formatter_class=formatter)
     module.add_words(parser)
     return parser
 
@@ -155,7 +151,7 @@ def _wrapped(text: str) -> str:
 
 
 def _folded(line: str) -> List[str]:
-    """A line in pieces, of which the later ones stand below what it explains, or a little to the right of its beginning."""
+    """A line in pieces, of which the later ones stand below what it explains, or a little to the right."""
     item = ITEM.match(line)
     lead = len(line) - len(line.lstrip()) and (item.end() if item and item.end() < COLUMNS // 2 else 6)
     return textwrap.wrap(line, COLUMNS, subsequent_indent=" " * lead, break_long_words=False, break_on_hyphens=False)
@@ -180,7 +176,8 @@ def _next_step(words: List[str], why: str) -> List[str]:
 
 
 def _end(status: int, message: str, is_fed: bool, usage: str = "", step: Sequence[str] = ()) -> int:
-    """Removes what was begun, says why, and spoils the outputs. One that fails only now is told, too, unless messages fail."""
+    """Removes what was begun, says why, and spoils the outputs. One that fails only now is told, too, unless messages
+    fail."""
     _answer_signals(signal.SIG_IGN)
     written.discard()
     _answer_signals(signal.SIG_DFL)

@@ -1,12 +1,12 @@
 """Lists the files of a volume that missing or unreadable sectors hit.
 
-Takes GROUP/VOLUME and images, as `save` does. With --map IMAGE=MAP, for each image that has one, the areas that a map of
-ddrescue doesn't list as finished are missing, too. Only the length shows whether a map is that of its image: one of another
-length is refused. What another member of an array or another leg has isn't lost. Prints a line for each file: how many of its
-sectors are lost, and its path. `folder` stands before a folder, whose files may be lost whole. The last line says how many
-sectors are lost in all. In place of a path, a line may have
+Takes GROUP/VOLUME and images, as `save` does. With --map IMAGE=MAP, for each image that has one, the areas that a map
+of ddrescue doesn't list as finished are missing, too. Only the length shows whether a map is that of its image: one of
+another length is refused. What another member of an array or another leg has isn't lost. Prints a line for each file:
+how many of its sectors are lost, and its path. `folder` stands before a folder, whose files may be lost whole. The last
+line says how many sectors are lost in all. In place of a path, a line may have
 
-    inode N            a file without a name, such as the journal, or whose folder is lost; ?/PATH: a folder above may be lost
+    inode N            a file without a name, such as the journal, or in a lost folder; ?/PATH: one above may be lost
     inode table: FILE  the inode of this file lies there; `inode table` alone has inodes of no file
     in use             the file system's own: its superblocks, descriptors, bitmaps
     no inode           in use, but by no inode: perhaps data of a file whose inode is lost
@@ -15,9 +15,9 @@ sectors are lost in all. In place of a path, a line may have
     past its end       the part of the volume behind the file system
     no file system     none is there that is followed
 
-Needs debugfs of e2fsprogs for ext2, ext3 and ext4, and xfs_db of xfsprogs for XFS. These read the volume in its image, if it
-lies there in one piece. Otherwise they read a copy in the folder for temporary files, or the one that --saved names, which
-`save` made.
+Needs debugfs of e2fsprogs for ext2, ext3 and ext4, and xfs_db of xfsprogs for XFS. These read the volume in its image,
+if it lies there in one piece. Otherwise they read a copy in the folder for temporary files, or the one that --saved
+names, which `save` made.
 """
 
 import os
@@ -43,13 +43,12 @@ def add_words(parser: ArgumentParser) -> None:
     parser.add_argument("volume", metavar="GROUP/VOLUME", help="the volume, by its name")
     parser.add_argument("images", metavar="IMAGE", nargs="+", help="a file or a block device")
     rescue_map.add_words(parser)
-    parser.add_argument("--saved", metavar="FILE", help="a copy of the volume that `save` made, to read the file system from")
+    parser.add_argument("--saved", metavar="FILE", help="a copy that `save` made, to read the file system from")
     program.add_words(parser)
 
 
 def run(words: Namespace) -> None:
-    pile = Pile(words.images, words.program, rescue_map.unread_in(words, words.images))
-    target = pile.target(words.volume)
+    target = Pile(words.images, words.program, rescue_map.unread_in(words, words.images)).target(words.volume)
     lost = lacking(target.device, target.size)
     runs = [(begin // SECTOR, (end - begin) // SECTOR) for begin, end in lost]
     if runs:

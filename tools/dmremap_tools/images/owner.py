@@ -1,13 +1,13 @@
 """Names the owner of sectors of images: is data lost there, and may you write there?
 
-Takes images, which are searched as by `scan`, and standard input: lines IMAGE FIRST or IMAGE FIRST COUNT, in sectors of 512
-bytes unless --bytes or --sector-size says otherwise, or a kernel's log, of which the lines with `dev DISK, sector N` are taken.
-With --map IMAGE=MAP, asks for the areas that a map of ddrescue doesn't list as finished, and reads nothing there. Only the length
-shows whether a map is that of its image.
+Takes images, which are searched as by `scan`, and standard input: lines IMAGE FIRST or IMAGE FIRST COUNT, in sectors of
+512 bytes unless --bytes or --sector-size says otherwise, or a kernel's log, of which the lines with `dev DISK, sector
+N` are taken. With --map IMAGE=MAP, asks for the areas that a map of ddrescue doesn't list as finished, and reads
+nothing there. Only the length shows whether a map is that of its image.
 
-Prints a line for each run of sectors and each way up: the image, the first sector, how many, and who has them, with their own
-sectors: partition, array, volumes from below. Volumes count whether they are active or not. A sector may belong to an origin
-and its snapshots, or to several thin volumes. Other words are
+Prints a line for each run of sectors and each way up: the image, the first sector, how many, and who has them, with
+their own sectors: partition, array, volumes from below. Volumes count whether they are active or not. A sector may
+belong to an origin and its snapshots, or to several thin volumes. Other words are
 
     GPT, MBR, label of LVM, metadata area of LVM, superblock of .., LUKS2 header    labels of what lies elsewhere
     parity of .., metadata of .., store of .., journal of ..                        what keeps volumes
@@ -21,9 +21,7 @@ import re
 from argparse import ArgumentParser, Namespace
 from typing import Iterator, Tuple
 
-from dmremap_tools.base import numbers, program, quoting, streams
-from dmremap_tools.base.numbers import SECTOR
-from dmremap_tools.base.refusal import Refusal
+from dmremap_tools.base import SECTOR, Refusal, numbers, program, quoting, streams
 from dmremap_tools.formats import rescue_map
 from dmremap_tools.model.owners import Owners, Step, unknown_owner, ways
 from dmremap_tools.model.pile import Pile
@@ -41,8 +39,8 @@ def add_words(parser: ArgumentParser) -> None:
     rescue_map.add_words(parser)
     group = parser.add_mutually_exclusive_group()
     group.add_argument("--bytes", action="store_true", help="places and lengths are bytes")
-    numbers.add_sector_size(group, "places and lengths count in sectors or blocks of so many bytes, as smartctl's in those of the "
-                            "disk, and badblocks' in 1024; 512 if nothing is given")
+    numbers.add_sector_size(group, "places and lengths count in sectors or blocks of so many bytes, as smartctl's in "
+                            "those of the disk, and badblocks' in 1024; 512 if nothing is given")
     program.add_words(parser)
 
 

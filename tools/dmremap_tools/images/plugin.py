@@ -1,5 +1,5 @@
-"""A volume of a pile of images as a disk, for nbdkit: what the plugin of `serve` calls. Its functions have the names and
-arguments of nbdkit-python-plugin(3)."""
+"""A volume of a pile of images as a disk, for nbdkit: what the plugin of `serve` calls. Its functions have the names
+and arguments of nbdkit-python-plugin(3)."""
 
 import errno
 import itertools
@@ -39,7 +39,8 @@ def get_ready() -> None:
     try:
         words = Namespace(map=_given.get("map", []), map_of_other_length="map_of_other_length" in _given)
         unread = rescue_map.unread_in(words, _given["image"])
-        _target = Pile(_given["image"], next(reversed(_given.get("program", [])), None), unread).target(_given["volume"][-1])
+        asked = next(reversed(_given.get("program", [])), None)
+        _target = Pile(_given["image"], asked, unread).target(_given["volume"][-1])
     except Refusal as refusal:
         streams.tell(f"dmremap-tools serve: {refusal}")
         os._exit(1)

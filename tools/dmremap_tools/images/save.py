@@ -1,24 +1,27 @@
 """Saves a volume out of images, by its name.
 
-Takes GROUP/VOLUME, the file to write, and images, which are searched as by `scan`. GROUP may be the group's id, and may be left
-out if only one group has such a volume. A partition (disk.img:2), an array (md:NAME) or an image can be named as well. OUT gets
-the bytes of the volume, with holes where it reads as zeros. Without a map, OUT has its name only once it is whole.
+Takes GROUP/VOLUME, the file to write, and images, which are searched as by `scan`. GROUP may be the group's id, and may
+be left out if only one group has such a volume. A partition (disk.img:2), an array (md:NAME) or an image can be named
+as well. OUT gets the bytes of the volume, with holes where it reads as zeros. Without a map, OUT has its name only once
+it is whole.
 
-Refuses a volume if something of it is missing, and leaves no OUT. With --resume or --allow-missing, these sectors are reported
-and become holes. Sectors that can't be read are reported and become holes in any case. The status is 4 then, or 0 with
---allow-missing. --resume MAP writes these areas as a map of ddrescue; if MAP is there already, a run that was broken off goes
-on. MAP names its volume, and no other one continues by it. Give the maps of images each time.
+Refuses a volume if something of it is missing, and leaves no OUT. With --resume or --allow-missing, these sectors are
+reported and become holes. Sectors that can't be read are reported and become holes in any case. The status is 4 then,
+or 0 with --allow-missing. --resume MAP writes these areas as a map of ddrescue; if MAP is there already, a run that was
+broken off goes on. MAP names its volume, and no other one continues by it. Give the maps of images each time.
 
-With --map IMAGE=MAP, for each image that has one, the areas that a map of ddrescue doesn't list as finished aren't there. What
-another member of an array or another leg has is taken from that. Only the length shows whether a map is that of its image.
+With --map IMAGE=MAP, for each image that has one, the areas that a map of ddrescue doesn't list as finished aren't
+there. What another member of an array or another leg has is taken from that. Only the length shows whether a map is
+that of its image.
 
-Also takes VOLUME TARGET FORMAT FILE [DISKS], with FORMAT, FILE and DISKS as for `dmremap map`. The disks that they name are
-read at their names, or where --paths says. (If an image is called as a format is, write ./table.) With --extents, the output of
-`filefrag -v` for a file of the volume, TARGET is that file. A snapshot is read by its store, which lies on these disks, too;
---fresh takes snapshots as new, with the sectors of their origins alone.
+Also takes VOLUME TARGET FORMAT FILE [DISKS], with FORMAT, FILE and DISKS as for `dmremap map`. The disks that they name
+are read at their names, or where --paths says. (If an image is called as a format is, write ./table.) With --extents,
+the output of `filefrag -v` for a file of the volume, TARGET is that file. A snapshot is read by its store, which lies
+on these disks, too; --fresh takes snapshots as new, with the sectors of their origins alone.
 
 If a disk has errors, read it into an image with ddrescue first, and give its map. To mount a file system in OUT, use
-`mount -o ro,loop`, with `noload` for ext3 and ext4 and `norecovery` for XFS; to take a file, `debugfs -R 'dump /FILE OUT' OUT`.
+`mount -o ro,loop`, with `noload` for ext3 and ext4 and `norecovery` for XFS; to take a file,
+`debugfs -R 'dump /FILE OUT' OUT`.
 """
 
 import tempfile
@@ -56,7 +59,8 @@ def add_words(parser: ArgumentParser) -> None:
 def run(words: Namespace) -> Optional[int]:
     form, *others = words.images
     if not all("=" in word for word in words.map):
-        raise WrongWords("--map IMAGE=MAP is the map of ddrescue of an image: give the one that save writes as --resume", USAGE)
+        raise WrongWords("--map IMAGE=MAP is the map of ddrescue of an image: "
+                         "give the one that save writes as --resume", USAGE)
     if form in given.FORMATS and 1 <= len(others) <= 2:
         words.form, words.file, words.disks = form, others[0], others[1] if len(others) == 2 else None
         with tempfile.TemporaryDirectory(prefix="dmremap-tools-") as folder:

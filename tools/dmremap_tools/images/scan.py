@@ -1,22 +1,22 @@
 """Lists what a pile of images holds: partition tables, md arrays, LUKS containers, volume groups and their volumes.
 
-Takes images, files or block devices, in any order. Nothing is written to them. Prints a tree. Each image is read where labels
-and superblocks lie, and as a whole if nothing sound is there. Something foreign or damaged gets a line, and hides nothing else.
-To copy a volume, run `save GROUP/VOLUME OUT IMAGE..`. dmremap is asked where volumes lie. Without it, `?` stands for the file
-system, and the status is 4. For a LUKS container, two ways into it are printed. The one without root reads version 2 only if its
-sectors have 512 bytes.
+Takes images, files or block devices, in any order. Nothing is written to them. Prints a tree. Each image is read where
+labels and superblocks lie, and as a whole if nothing sound is there. Something foreign or damaged gets a line, and
+hides nothing else. To copy a volume, run `save GROUP/VOLUME OUT IMAGE..`. dmremap is asked where volumes lie. Without
+it, `?` stands for the file system, and the status is 4. For a LUKS container, two ways into it are printed. The one
+without root reads version 2 only if its sectors have 512 bytes.
 
 With --json, prints one object instead, in which `why` is null if nothing is wrong:
 
-    images   image, bytes, table (kind, copy, sector, why; or null), holds: a list of partition (0: the whole image), what, why
+    images   image, bytes, table (kind, copy, sector, why; or null), holds: a list of partition (0: all), what, why
     arrays   name, id, level, members, missing (how many), stale, sectors, why
     luks     name, image, partition, version, id, start, sectors, why, ways
     groups   name, id, seqno, state, images, former_names, notes, volumes: a list of
              name, id, sectors, kind, file_system, state, why, origin, chunks_used
 
-A group's state is complete, missing (a disk isn't there, or its metadata can't be read), truncated (an image ends too soon),
-forked (its disks were changed separately; each side is an entry) or removed. A volume's state is whole, incomplete, invalid (a
-snapshot), removed or not followed.
+A group's state is complete, missing (a disk isn't there, or its metadata can't be read), truncated (an image ends too
+soon), forked (its disks were changed separately; each side is an entry) or removed. A volume's state is whole,
+incomplete, invalid (a snapshot), removed or not followed.
 """
 
 import functools
@@ -25,10 +25,8 @@ import shlex
 from argparse import ArgumentParser, Namespace
 from typing import Any, Callable, Dict, Iterator, List, Optional
 
-from dmremap_tools.base import program, quoting, streams
-from dmremap_tools.base.numbers import SECTOR
+from dmremap_tools.base import INCOMPLETE, SECTOR, Refusal, program, quoting, streams
 from dmremap_tools.base.program import NoProgram
-from dmremap_tools.base.refusal import INCOMPLETE, Refusal
 from dmremap_tools.formats import partition_table
 from dmremap_tools.formats.luks_header import Container, container_in
 from dmremap_tools.model import md_superblock
@@ -70,7 +68,8 @@ def run(words: Namespace) -> Optional[int]:
 
 def object_of(pile: Pile) -> JsonObject:
     """All that was found, as `--json` prints it."""
-    return {"images": [image_row(pile, spot.image) for spot in pile.spots() if spot.image and spot.device is spot.image],
+    images = [spot.image for spot in pile.spots() if spot.image and spot.device is spot.image]
+    return {"images": [image_row(pile, image) for image in images],
             "arrays": [array_row(pile, array) for array in pile.arrays],
             "luks": list(luks_rows(pile)),
             "groups": [{"name": group.name, "id": group.identity, "seqno": group.seqno, "state": group.state,

@@ -1,12 +1,12 @@
 """Serves a volume out of images as a disk, by nbdkit, until it is interrupted.
 
-Takes GROUP/VOLUME and images, as `save` does, with their maps of ddrescue. Prints the URI of the disk, and commands that copy it,
-mount its file system if `scan` knows one, and end all of it; for ext2, ext3 and ext4, also those that check it and take a file
-from it. Nothing is ever written, neither to an image nor to the disk. A read of sectors that are missing or can't be read fails;
-every other one is answered. A SOCKET that an ended server left behind is replaced.
+Takes GROUP/VOLUME and images, as `save` does, with their maps of ddrescue. Prints the URI of the disk, and commands
+that copy it, mount its file system if `scan` knows one, and end all of it; for ext2, ext3 and ext4, also those that
+check it and take a file from it. Nothing is ever written, neither to an image nor to the disk. A read of sectors that
+are missing or can't be read fails; every other one is answered. A SOCKET that an ended server left behind is replaced.
 
-Needs nbdkit with its plugin for Python. The commands need libnbd-bin (nbdcopy, nbdfuse), qemu-utils (qemu-img) and e2fsprogs.
-Mounting the file that nbdfuse shows takes root.
+Needs nbdkit with its plugin for Python. The commands need libnbd-bin (nbdcopy, nbdfuse), qemu-utils (qemu-img) and
+e2fsprogs. Mounting the file that nbdfuse shows takes root.
 """
 
 import contextlib
@@ -22,8 +22,7 @@ import time
 from argparse import ArgumentParser, Namespace
 from typing import List, Optional
 
-from dmremap_tools.base import program, quoting, streams
-from dmremap_tools.base.refusal import Refusal
+from dmremap_tools.base import Refusal, program, quoting, streams
 from dmremap_tools.formats import rescue_map
 from dmremap_tools.formats.disk_image import mount_command
 from dmremap_tools.model.groups import file_system_in
@@ -50,14 +49,15 @@ def add_words(parser: ArgumentParser) -> None:
     parser.add_argument("volume", metavar="GROUP/VOLUME", help="the volume, by its name")
     parser.add_argument("images", metavar="IMAGE", nargs="+", help="a file or a block device")
     rescue_map.add_words(parser)
-    parser.add_argument("--socket", metavar="SOCKET", help="where the server listens; else in a folder for temporary files")
+    parser.add_argument("--socket", metavar="SOCKET", help="where the server listens; else in a temporary folder")
     program.add_words(parser)
 
 
 def run(words: Namespace) -> None:
     nbdkit = shutil.which("nbdkit")
     if not nbdkit:
-        raise Refusal("nbdkit", "it isn't here: install nbdkit and its plugin for Python (nbdkit-plugin-python), or use `save`")
+        raise Refusal("nbdkit", "it isn't here: install nbdkit and its plugin for Python (nbdkit-plugin-python), or "
+                      "use `save`")
     # What is refused is refused before the server begins.
     target = Pile(words.images, words.program, rescue_map.unread_in(words, words.images)).target(words.volume)
     why = target.device.lack(0, target.size)
@@ -105,7 +105,8 @@ def make_way(path: str) -> None:
 def serve(command: List[str], path: str, lines: str) -> None:
     """Runs the server, whose Python finds these modules, until it ends, and writes lines once it listens at a path."""
     package = os.path.dirname(os.path.dirname(os.path.dirname(os.path.abspath(__file__))))
-    child, is_listening = subprocess.Popen(command, stdin=subprocess.DEVNULL, env={**os.environ, "PYTHONPATH": package}), False
+    env, is_listening = {**os.environ, "PYTHONPATH": package}, False
+    child = subprocess.Popen(command, stdin=subprocess.DEVNULL, env=env)
     try:
         for _ in range(STEPS):
             if os.path.exists(path) or child.poll() is not None:

@@ -1,12 +1,13 @@
 """Writes PATHS of a group, or FILE, DISKS and PATHS, by which dmremap itself answers for its volumes.
 
-Takes GROUP, a name or an id, images, which are searched as by `scan`, and a folder for the files, none of which may be there
-yet. PATHS lists the images. It is written alone if dmremap takes the whole group from these images. Otherwise FILE is table
-text: the volumes under lvm2's names, snapshots over their origins and stores, and the md arrays below. Prints the command line.
+Takes GROUP, a name or an id, images, which are searched as by `scan`, and a folder for the files, none of which may be
+there yet. PATHS lists the images. It is written alone if dmremap takes the whole group from these images. Otherwise
+FILE is table text: the volumes under lvm2's names, snapshots over their origins and stores, and the md arrays below.
+Prints the command line.
 
-With --map IMAGE=MAP, what a map of ddrescue doesn't list as finished isn't there: of copies one that is whole is taken, and
-what a volume lacks is reported. A volume that a layer computes, such as a thin one or one with parity, has no table. It is
-reported; `save` and `serve` read it.
+With --map IMAGE=MAP, what a map of ddrescue doesn't list as finished isn't there: of copies one that is whole is taken,
+and what a volume lacks is reported. A volume that a layer computes, such as a thin one or one with parity, has no
+table. It is reported; `save` and `serve` read it.
 """
 
 import os
@@ -14,11 +15,9 @@ import shlex
 from argparse import ArgumentParser, Namespace
 from typing import Dict, Optional, Tuple, Union
 
-from dmremap_tools.base import names, program, quoting, streams, tables
+from dmremap_tools.base import SECTOR, Refusal, names, program, quoting, streams, tables
 from dmremap_tools.base.given import put
-from dmremap_tools.base.numbers import SECTOR
 from dmremap_tools.base.program import NoProgram
-from dmremap_tools.base.refusal import Refusal
 from dmremap_tools.formats import rescue_map
 from dmremap_tools.model.device import Copies, Device, Image, Part
 from dmremap_tools.model.physical_volume import path_of, read_by_heads
@@ -40,28 +39,26 @@ def add_words(parser: ArgumentParser) -> None:
 
 def run(words: Namespace) -> None:
     pile = Pile(words.images, words.program, rescue_map.unread_in(words, words.images))
-    groups = pile.groups_named(words.group)
-    if len(groups) > 1:
-        raise Refusal(quoting.shown(words.group), "several groups or sides of one are called so: say the id, or give the images of one side")
-    group = groups[0]
+    shown, (group, *others) = quoting.shown(words.group), pile.groups_named(words.group)
+    if others:
+        raise Refusal(shown, "several groups or sides of one are called so: say the id, or give the images of one side")
     if group.doubt:
-        raise Refusal(quoting.shown(words.group), group.doubt)
+        raise Refusal(shown, group.doubt)
     made = GroupTables(group.side)
     is_whole = not words.map
     for volume in (volume for volume in group.volumes if volume.side is group.side and not volume.is_removed):
         try:
             made.devices.update(made.volume(volume.key))
-            why = volume.why()
-            if why:
-                streams.tell(f"{quoting.shown(volume.name)}: {why}")
-                is_whole = False
+            why, left_out = volume.why(), ""
         except NoProgram:
             raise
         except Refusal as refusal:
-            streams.tell(f"left out: {quoting.shown(volume.name)}: {refusal.why}")
+            why, left_out = refusal.why, "left out: "
+        if why:
+            streams.tell(f"{left_out}{quoting.shown(volume.name)}: {why}")
             is_whole = False
     if not made.devices:
-        raise Refusal(quoting.shown(words.group), "none of its volumes has a table: `save` and `serve` give those that are computed")
+        raise Refusal(shown, "none of its volumes has a table: `save` and `serve` give those that are computed")
     made.put(words.to, program.dmremap(words.program) if is_whole else None)
 
 
@@ -128,8 +125,8 @@ class GroupTables(Tables):
             start += device.start if isinstance(device, Part) else 0
             lower = device.lower if isinstance(device, Part) else device.best()
             if lower is None:
-                raise Refusal(device.name, f"no copy of {device.name} is whole, and no table can say which is read: use `save` "
-                              "or `serve`")
+                raise Refusal(device.name, f"no copy of {device.name} is whole, and no table can say which is read: "
+                              "use `save` or `serve`")
             device = lower
         if isinstance(device, Image):
             name = self._names.setdefault(device, f"disk{len(self.disks)}")
@@ -143,7 +140,8 @@ class GroupTables(Tables):
         return names.MAPPER + called, start // SECTOR
 
     def put(self, folder: str, asked: Optional[str]) -> None:
-        """Writes the three files, or PATHS alone if the dmremap that is asked takes these images, and prints how they are used."""
+        """Writes the three files, or PATHS alone if the dmremap that is asked takes these images, and prints how they
+        are used."""
         try:
             os.makedirs(folder, exist_ok=True)
         except OSError as fault:

@@ -1,8 +1,8 @@
 """Lists where a whole device lies, through all levels.
 
-Takes VOLUME, and FORMAT, FILE and DISKS as `dmremap map` does. Prints a line for each extent: the sector of the device, the
-number of sectors, and the disk with the sector there, `zero` or `error`. For a snapshot it reads the store, on disks at their
-names or where --paths says; --fresh takes it as new.
+Takes VOLUME, and FORMAT, FILE and DISKS as `dmremap map` does. Prints a line for each extent: the sector of the device,
+the number of sectors, and the disk with the sector there, `zero` or `error`. For a snapshot it reads the store, on
+disks at their names or where --paths says; --fresh takes it as new.
 """
 
 import argparse
@@ -10,8 +10,7 @@ import itertools
 import tempfile
 from typing import Optional
 
-from dmremap_tools.base import given, names, pieces, requests, streams
-from dmremap_tools.base.refusal import Refusal
+from dmremap_tools.base import Refusal, given, names, pieces, requests, streams
 from dmremap_tools.model import loaded_stack
 
 EXAMPLE = "dmremap-tools extents home table t d"
@@ -31,7 +30,8 @@ def run(words: argparse.Namespace) -> None:
         begun = loaded_stack.start(words, source, [name], folder)
         end = begun.loaded.length(name, words.file)
         if end > requests.LONGEST:
-            raise Refusal(streams.name_of(words.file), "%s is %s: give `dmremap map` requests for parts of it" % (name, requests.TOO_LONG))
+            why = f"{name} is {requests.TOO_LONG}: give `dmremap map` requests for parts of it"
+            raise Refusal(streams.name_of(words.file), why)
         asked = ("R %s %d %d\n" % (name, at, count) for at, count in requests.parts(0, end))
         last: Optional[pieces.Piece] = None
         at = 0

@@ -1,10 +1,10 @@
 """Draws the disks as SVG: what lies where.
 
-Takes SPANS, the output of `spans`. Draws a bar for each disk, and for each device that others lie on: each range that a line
-uses in the colour of its device, and gaps hatched. Ranges that share sectors stand in rows of their own; those that clash are
-edged in red, as `spans --clashes` prints them. The names are in the ranges that have room for them, in tooltips and in a
-legend. Bars have one length each, or with --scale lengths in proportion. Refuses lines that `spans` doesn't print, and ranges
-past an end.
+Takes SPANS, the output of `spans`. Draws a bar for each disk, and for each device that others lie on: each range that a
+line uses in the colour of its device, and gaps hatched. Ranges that share sectors stand in rows of their own; those
+that clash are edged in red, as `spans --clashes` prints them. The names are in the ranges that have room for them, in
+tooltips and in a legend. Bars have one length each, or with --scale lengths in proportion. Refuses lines that `spans`
+doesn't print, and ranges past an end.
 """
 
 import heapq
@@ -12,25 +12,25 @@ import itertools
 from argparse import ArgumentParser, Namespace
 from typing import Dict, List, Set, Tuple
 
-from dmremap_tools.base import quoting, streams, svg
-from dmremap_tools.base.refusal import Refusal
+from dmremap_tools.base import Refusal, quoting, streams, svg
 from dmremap_tools.layouts.spans import END, MEET, Span, kind_of
 
 EXAMPLE = "dmremap-tools spans stack.disks stack.table | dmremap-tools picture > disks.svg"
 WIDTH, MARGIN, LANE = 900, 20, 26
-GAP = ('<defs><pattern id="gap" width="6" height="6" patternUnits="userSpaceOnUse"><path d="M0 6L6 0" stroke="#bbb"/></pattern>'
-       "</defs>\n")
+GAP = ('<defs><pattern id="gap" width="6" height="6" patternUnits="userSpaceOnUse"><path d="M0 6L6 0" stroke="#bbb"/>'
+       "</pattern></defs>\n")
 
 
 def add_words(parser: ArgumentParser) -> None:
     parser.add_argument("--scale", action="store_true", help="bars in proportion to the longest")
-    parser.add_argument("spans", metavar="SPANS", nargs="?", default="-", help="what spans printed; else standard input")
+    parser.add_argument("spans", metavar="SPANS", nargs="?", default="-", help="output of spans; else standard input")
 
 
 def run(words: Namespace) -> None:
     bars = read_spans(words.spans)
     lanes = [lanes_of(ranges) for ranges, _ in bars.values()]
-    numbers = {name: place for place, name in enumerate(dict.fromkeys(it.device for ranges, _ in bars.values() for it in ranges))}
+    names = dict.fromkeys(it.device for ranges, _ in bars.values() for it in ranges)
+    numbers = {name: place for place, name in enumerate(names)}
     legend, rows = legend_of(numbers)
     longest = max((end for _, end in bars.values()), default=1)
     heights = [LANE * (max(it, default=0) + 1) for it in lanes]
@@ -124,7 +124,8 @@ def legend_of(numbers: Dict[str, int]) -> Tuple[str, int]:
         wide = 26 + svg.LETTER * len(quoting.escaped(name))
         if x > MARGIN and x + wide > WIDTH + MARGIN:
             x, row = float(MARGIN), row + 1
-        found += '<rect x="%.2f" y="%d" width="12" height="12" fill="%s" stroke="#555"/>\n' % (x, 18 * row, svg.colour(number))
-        found += svg.text(x + 16, 18 * row + 11, name)
+        y, colour = 18 * row, svg.colour(number)
+        found += '<rect x="%.2f" y="%d" width="12" height="12" fill="%s" stroke="#555"/>\n' % (x, y, colour)
+        found += svg.text(x + 16, y + 11, name)
         x += wide
     return found, row + 1

@@ -1,29 +1,29 @@
 """Lists what lies where: each range of a disk or a device that a line of a stack uses.
 
-Takes DISKS, and FILE, which is table text or concise text of a stack that dmremap loads. Prints a line for each range, sorted:
-what it lies on, the first sector, the sector after the last, the device whose line it is, where that line begins on the device,
-and as what it is used. A line with `end` is the end of a disk or a device. A snapshot uses all of its origin, as `origin`, and
-all of its store.
+Takes DISKS, and FILE, which is table text or concise text of a stack that dmremap loads. Prints a line for each range,
+sorted: what it lies on, the first sector, the sector after the last, the device whose line it is, where that line
+begins on the device, and as what it is used. A line with `end` is the end of a disk or a device. A snapshot uses all of
+its origin, as `origin`, and all of its store.
 
-With --free, lines `unnamed` stand between: sectors that no line names. They needn't be free: a file system may lie there
-without a device, or a partition table, swap space, or a volume that isn't active or was left out; `owner` asks the images.
---clashes prints, in place of the ranges, every two that have sectors in common; `dmremap check` prints the first two alone. A
-line has what they lie on, the first and the last sector, and both devices. Snapshots may share an origin. --align prints the
-lines of devices that begin at no multiple of 2048 sectors, which is 1 MiB, or of --multiple SECTORS.
+With --free, lines `unnamed` stand between: sectors that no line names. They needn't be free: a file system may lie
+there without a device, or a partition table, swap space, or a volume that isn't active or was left out; `owner` asks
+the images. --clashes prints, in place of the ranges, every two that have sectors in common; `dmremap check` prints the
+first two alone. A line has what they lie on, the first and the last sector, and both devices. Snapshots may share an
+origin. --align prints the lines of devices that begin at no multiple of 2048 sectors, which is 1 MiB, or of --multiple
+SECTORS.
 """
 
 import heapq
 from argparse import ArgumentParser, Namespace
 from typing import Dict, Iterable, Iterator, List, NamedTuple
 
-from dmremap_tools.base import names, numbers, quoting, streams, tables
-from dmremap_tools.base.refusal import Refusal, WrongWords
+from dmremap_tools.base import Refusal, WrongWords, names, numbers, quoting, streams, tables
 from dmremap_tools.layouts.tree import devices_in
 
 EXAMPLE = "dmremap-tools spans stack.disks stack.table > spans"
 
-# The kind of a line that says where a disk or a device ends, and those that may share sectors: snapshots their origin, also
-# with the line `snapshot-origin` that serves them.
+# The kind of a line that says where a disk or a device ends, and those that may share sectors: snapshots their origin,
+# also with the line `snapshot-origin` that serves them.
 END, ORIGIN, SERVES, OTHER = "end", "origin", "snapshot-origin", "other"
 # The kinds that have no sector in common with one of these.
 MEET = {ORIGIN: (OTHER,), SERVES: (SERVES, OTHER), OTHER: (ORIGIN, SERVES, OTHER)}

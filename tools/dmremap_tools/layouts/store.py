@@ -1,36 +1,36 @@
 """Tells whether the stores of snapshots can be full, and which request makes each snapshot invalid.
 
-Takes FORMAT, FILE and DISKS, as `dmremap map` does. Prints a line for each snapshot: how many chunks it has, for how many its
-store has places, and whether that can be too few. A kernel may have one place less, so make a store a chunk larger.
+Takes FORMAT, FILE and DISKS, as `dmremap map` does. Prints a line for each snapshot: how many chunks it has, for how
+many its store has places, and whether that can be too few. A kernel may have one place less, so make a store a chunk
+larger.
 
 With --requests, prints one more for each: the request that makes it invalid, and how full its store was before that, as
-`--status` prints it. A snapshot starts from what its store has, on disks at their names or where --paths says; --fresh takes
-all as new. dmremap is run over the first half of the requests, then over less or more of them, and so on: about twenty times
-for a million requests.
+`--status` prints it. A snapshot starts from what its store has, on disks at their names or where --paths says; --fresh
+takes all as new. dmremap is run over the first half of the requests, then over less or more of them, and so on: about
+twenty times for a million requests.
 
-With --writes in place of FORMAT, FILE and DISKS, prints for each device that is written how much of a store that fills: its name,
-how many chunks a snapshot of it takes, how many sectors of the store are used, and how many of these are the header and the
-chunk numbers. Writes to the snapshot and to its origin take the same chunks. Refuses what dmremap refuses, and a FILE without
-snapshots.
+With --writes in place of FORMAT, FILE and DISKS, prints for each device that is written how much of a store that fills:
+its name, how many chunks a snapshot of it takes, how many sectors of the store are used, and how many of these are the
+header and the chunk numbers. Writes to the snapshot and to its origin take the same chunks. Refuses what dmremap
+refuses, and a FILE without snapshots.
 """
 
 import functools
+import itertools
 import re
 import tempfile
 from argparse import ArgumentParser, Namespace
 from collections import Counter, defaultdict
 from typing import Dict, Iterator, List, Tuple
 
-from dmremap_tools.base import given, names, numbers, pieces, program, requests, streams
-from dmremap_tools.base.refusal import Refusal, WrongWords
+from dmremap_tools.base import Refusal, WrongWords, given, names, numbers, pieces, program, requests, streams
 from dmremap_tools.formats import store_places
 from dmremap_tools.model import loaded_stack
 from dmremap_tools.model.device import blocks_of
 
 EXAMPLE = "dmremap-tools store table snaps.table snaps.disks"
 STATUS = re.compile(r"^([^ \n]+): 0 [0-9]+ snapshot (.*)$", re.M)
-INVALID, CHUNK = "Invalid", 1 << 16
-REQUEST = re.compile("([RW]) (%s) (%s) (%s)" % (names.FORM.pattern, numbers.FORM.pattern, numbers.FORM.pattern))
+INVALID, NEWLINE, CHUNK = "Invalid", b"\n", 1 << 16
 # Chunks are counted in pages, of a byte for each of them.
 PAGE, MOST_PAGES = 1 << 16, 1 << 11
 TOO_FAR = f"the chunks lie too far apart to be counted in {MOST_PAGES * PAGE >> 20} MiB: give a larger --chunk"
@@ -42,9 +42,10 @@ def add_words(parser: ArgumentParser) -> None:
     parser.add_argument("disks", metavar="DISKS", nargs="?", help="with table and concise")
     asked = parser.add_mutually_exclusive_group()
     asked.add_argument("--requests", metavar="REQUESTS", help="requests to the snapshots or their origins")
-    asked.add_argument("--writes", metavar="REQUESTS", help="the writes of a day, say, to devices that have no snapshot yet")
-    parser.add_argument("--chunk", type=numbers.word, default=8, metavar="SECTORS", help="with --writes: the chunk, a power of two; else 8")
-    parser.add_argument("--kind", choices=("P", "N", "K"), default="P", help="with --writes: the kind of the snapshot; else P")
+    asked.add_argument("--writes", metavar="REQUESTS", help="the writes of a day, say, to devices without a snapshot")
+    parser.add_argument("--chunk", type=numbers.word, default=8, metavar="SECTORS",
+                        help="with --writes: the chunk, a power of two; else 8")
+    parser.add_argument("--kind", choices=("P", "N", "K"), default="P", help="with --writes: the kind; else P")
     loaded_stack.add_words(parser)
 
 
@@ -63,15 +64,16 @@ def run(words: Namespace) -> None:
             loaded, ends = loaded_stack.load(program.dmremap(words.program), source, folder), []
         else:
             begun = loaded_stack.start(words, source, None, folder)
-            loaded, ends = begun.loaded, list(Runs(text, [*begun.words, "--status"]).ends())
+            loaded, ends = begun.loaded, list(ends_of(text, [*begun.words, "--status"]))
     streams.out.write("".join([*places_of(loaded, streams.name_of(words.file)), *ends]))
 
 
 def places_of(loaded: loaded_stack.Stack, name: str) -> Iterator[str]:
     """A line for each snapshot: whether its store can be full."""
     lengths = dict(loaded.sizes, **{path: device.end() for path, device in loaded.by_path().items()})
-    served = {line.words[0] for device in loaded.devices for line in device.lines if line.target == "snapshot-origin"}
-    snapshots = [(device, line.words) for device in loaded.devices for line in device.lines if line.target == "snapshot"]
+    lines = [(device, line) for device in loaded.devices for line in device.lines]
+    served = {line.words[0] for _, line in lines if line.target == "snapshot-origin"}
+    snapshots = [(device, line.words) for device, line in lines if line.target == "snapshot"]
     if not snapshots:
         raise Refusal(name, "it has no snapshot: give the tables of one")
     for device, (origin, store, kind, chunk) in snapshots:
@@ -87,34 +89,28 @@ def places_of(loaded: loaded_stack.Stack, name: str) -> Iterator[str]:
         yield f"{device.name}: {chunks} chunks, {places} places in its store: {said}\n"
 
 
-class Runs:
-    """dmremap over the beginnings of a text of requests, in bytes. Each run is made once."""
-
-    def __init__(self, text: bytes, command: List[str]) -> None:
-        self._text, self._command, self._count = text, command, 0
+def ends_of(text: bytes, command: List[str]) -> Iterator[str]:
+    """A line for each snapshot: when it becomes invalid by the requests of a text."""
+    runs = itertools.count(1)
 
     @functools.lru_cache(None)
-    def statuses(self, size: int) -> Dict[str, str]:
+    def statuses(size: int) -> Dict[str, str]:
         """The status of each snapshot after the requests in so many bytes."""
-        self._count += 1
-        streams.show_progress(f"run {self._count}, over {size} of {len(self._text)} bytes")
-        parts = (self._text[at:min(at + CHUNK, size)] for at in range(0, size, CHUNK))
-        with pieces.Mapped(self._command, (it.decode("utf-8", "surrogateescape") for it in parts)) as mapped:
+        streams.show_progress(f"run {next(runs)}, over {size} of {len(text)} bytes")
+        parts = (text[at:min(at + CHUNK, size)].decode("utf-8", "surrogateescape") for at in range(0, size, CHUNK))
+        with pieces.Mapped(command, parts) as mapped:
             return {name: status for block in mapped.answers.blocks() for name, status in STATUS.findall(block)}
 
-    def ends(self) -> Iterator[str]:
-        """A line for each snapshot: when it becomes invalid."""
-        for name, status in self.statuses(len(self._text)).items():
-            if status != INVALID:
-                yield f"{name}: valid to the end, {status}\n"
-                continue
-            # The end of the last request after which it is valid, and that of the next one.
-            low, high = 0, len(self._text)
-            while self._text.find(b"\n", low) + 1 < high:
-                middle = self._text.rfind(b"\n", low, (low + high) // 2) + 1 or self._text.find(b"\n", low) + 1
-                low, high = (middle, high) if self.statuses(middle)[name] != INVALID else (low, middle)
-            number = self._text.count(b"\n", 0, high)
-            yield f"{name}: invalid by request {number}, before it {self.statuses(low)[name]}\n"
+    for name, status in statuses(len(text)).items():
+        if status != INVALID:
+            yield f"{name}: valid to the end, {status}\n"
+            continue
+        # The end of the last request after which it is valid, and that of the next one.
+        low, high = 0, len(text)
+        while text.find(NEWLINE, low) + 1 < high:
+            middle = text.rfind(NEWLINE, low, (low + high) // 2) + 1 or text.find(NEWLINE, low) + 1
+            low, high = (middle, high) if statuses(middle)[name] != INVALID else (low, middle)
+        yield f"{name}: invalid by request {text.count(NEWLINE, 0, high)}, before it {statuses(low)[name]}\n"
 
 
 def write_sizes(path: str, chunk: int, kind: str) -> None:
@@ -123,17 +119,12 @@ def write_sizes(path: str, chunk: int, kind: str) -> None:
         raise WrongWords(f"--chunk: give a power of two, and not {chunk}")
     source = streams.Lines(path)
     pages: Dict[Tuple[str, int], bytearray] = defaultdict(lambda: bytearray(PAGE))
-    for line in source:
-        match = REQUEST.fullmatch(line)
-        if not match:
-            source.refuse_line(requests.NO_REQUEST)
-        if match[1] == "W" and match[4] != "0":
-            start, count = source.whole(match[3]), source.whole(match[4])
-            first, last = start // chunk, (start + count - 1) // chunk
-            for number, begin, times in blocks_of(first, last + 1 - first, PAGE):
-                pages[match[2], number][begin:begin + times] = b"\1" * times
-                if len(pages) > MOST_PAGES:
-                    source.refuse(TOO_FAR)
+    for operation, name, start, count in requests.read(source, names.Names().device, requests.NO_REQUEST):
+        first, end = start // chunk, -(-(start + count) // chunk)
+        for number, begin, times in blocks_of(first, end - first, PAGE) if operation == "W" and count else ():
+            pages[name, number][begin:begin + times] = b"\1" * times
+            if len(pages) > MOST_PAGES:
+                source.refuse(TOO_FAR)
     source.tell_if_none()
     counts: "Counter[str]" = Counter()
     for (name, _), page in pages.items():

@@ -1,15 +1,14 @@
 """Shows a stack as a tree: each device that nothing lies on, and what is below it.
 
-Takes FILE, table text or concise text. What was shown is not shown again. --dot prints a graph for Graphviz: devices, and disks
-in boxes, with an edge for each line from its device to what it lies on; `dot -Tsvg` draws it. Refuses devices that stand on
-themselves, or lie on each other more than 32 deep; dmremap loads neither.
+Takes FILE, table text or concise text. What was shown is not shown again. --dot prints a graph for Graphviz: devices,
+and disks in boxes, with an edge for each line from its device to what it lies on; `dot -Tsvg` draws it. Refuses devices
+that stand on themselves, or lie on each other more than 32 deep; dmremap loads neither.
 """
 
 import argparse
 from typing import Dict, List, Set
 
-from dmremap_tools.base import names, quoting, streams, tables
-from dmremap_tools.base.refusal import Refusal
+from dmremap_tools.base import Refusal, names, quoting, streams, tables
 
 EXAMPLE = "dmremap-tools tree stack.table"
 DEEPEST = 32

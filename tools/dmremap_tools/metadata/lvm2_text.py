@@ -31,8 +31,7 @@ import re
 import tempfile
 from typing import Dict, Iterator, List, Optional, Set, Tuple
 
-from dmremap_tools.base import program, quoting, streams
-from dmremap_tools.base.refusal import Refusal
+from dmremap_tools.base import Refusal, program, quoting, streams
 from dmremap_tools.model.config_text import ANEW, Document, Item, Node, shown
 from dmremap_tools.model.volume_group import LINEAR, NOT_ASKED, STRIPED, GroupText, VolumeText
 
@@ -65,9 +64,9 @@ class Copy:
         self.left_out.add(node)
         self.say(node.start, f"left out: {shown(node.key)}: {why}")
 
-    def change_value(self, node: Node, value: bytes, why: str) -> None:
-        """Gives a field this value, as it is written, and says why."""
-        node.items = [Item(value, node.start)]
+    def change(self, node: Node, value: bytes, why: str, *before: Item) -> None:
+        """Gives a field this value, as it is written, behind others, and says why."""
+        node.items = [*before, Item(value, node.start)]
         self.say(node.start, f"changed: {shown(node.key)}: {why}")
 
     def tell(self) -> None:
@@ -207,7 +206,7 @@ def _leave_physicals(copy: Copy, group: GroupText) -> None:
     needed = {name for volume in staying for segment in volume.segments for name, _ in segment.stripes}
     path_of = {key: tuple(node.values(b"device")) for key, node in group.physicals.items()}
     paths = {path for key, path in path_of.items() if key in needed}
-    kept = {key: node for key, node in group.physicals.items() if key in needed or path_of[key] in paths}
+    kept = {key: node for key, node in group.physicals.items() if path_of[key] in paths}
     if kept:
         copy.left_out |= {node for key, node in group.physicals.items() if key not in kept}
         group.physicals = kept
@@ -233,10 +232,8 @@ def _mend_part(copy: Copy, volume: VolumeText) -> None:
     """lvm2 loads all parts of raid volumes as writable, whatever their status is."""
     status, words = volume.node.child(b"status"), [*volume.node.values(b"status"), *volume.node.values(b"flags")]
     if status and status.children is None and b"WRITE" not in words and b"WRITE_LOCKED" not in words:
-        before = status.items
         why = f"{shown(volume.name)} is part of a raid volume, which lvm2 loads as writable"
-        copy.change_value(status, b'"WRITE"', why)
-        status.items = before + status.items
+        copy.change(status, b'"WRITE"', why, *status.items)
 
 
 def _mend_physical(copy: Copy, group: GroupText, node: Node) -> None:
@@ -255,7 +252,7 @@ def _mend_physical(copy: Copy, group: GroupText, node: Node) -> None:
         if node.child(key) is None:
             added = Node(key, node.value_at, node.value_at, node.level + 1)
             node.add(added)
-            copy.change_value(added, value, f"{name} has none, {why}")
+            copy.change(added, value, f"{name} has none, {why}")
     field = node.child(b"dev_size")
     if field and size is not None and size < least:
-        copy.change_value(field, b"%d" % least, f"{name} {long}, and not {size}")
+        copy.change(field, b"%d" % least, f"{name} {long}, and not {size}")

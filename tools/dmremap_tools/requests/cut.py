@@ -1,8 +1,8 @@
 """Cuts requests that are longer than dmremap takes.
 
-Takes requests of any length, `R DEVICE START LEN` or `W ..`, in sectors, or with --bytes in bytes. Prints the same requests in
-sectors, with all that the bytes touch, cut after 1,048,576 sectors (512 MiB). Refuses lines that aren't requests. The other
-commands that make requests cut by themselves.
+Takes requests of any length, `R DEVICE START LEN` or `W ..`, in sectors, or with --bytes in bytes. Prints the same
+requests in sectors, with all that the bytes touch, cut after 1,048,576 sectors (512 MiB). Refuses lines that aren't
+requests. The other commands that make requests cut by themselves.
 """
 
 from argparse import ArgumentParser, Namespace

@@ -1,30 +1,30 @@
 """Makes requests for the sectors of files, from what `filefrag -s -v -b512 FILE` prints, or `debugfs`.
 
 Takes the extents of one file or of several, in blocks of any size. Prints requests that read them, in the file's order.
-Unwritten extents are reported and left out: they read as zeros. Refuses file systems other than ext2, ext3, ext4 and XFS. The
-extents of btrfs are no places on its device: with --addresses, VOLUME is the device that `btrfs` makes of it. Refuses extents
-without a place, such as `delalloc`, `inline` and `encoded`, and a text that isn't whole. The option -s of filefrag has the file
-written out first: before that, new blocks have no place, and preallocated ones count as unwritten.
+Unwritten extents are reported and left out: they read as zeros. Refuses file systems other than ext2, ext3, ext4 and
+XFS. The extents of btrfs are no places on its device: with --addresses, VOLUME is the device that `btrfs` makes of it.
+Refuses extents without a place, such as `delalloc`, `inline` and `encoded`, and a text that isn't whole. The option -s
+of filefrag has the file written out first: before that, new blocks have no place, and preallocated ones count as
+unwritten.
 
-With --debugfs SUPER, FILE is what `debugfs -R 'ex /FILE' IMAGE` prints of an ext4 file system that isn't mounted. SUPER is what
-`dumpe2fs -h IMAGE` prints; it gives the size of a block. Files without a list of extents are refused: those of ext2 and ext3,
-and small ones that are kept in their inode.
+With --debugfs SUPER, FILE is what `debugfs -R 'ex /FILE' IMAGE` prints of an ext4 file system that isn't mounted. SUPER
+is what `dumpe2fs -h IMAGE` prints; it gives the size of a block. Files without a list of extents are refused: those of
+ext2 and ext3, and small ones that are kept in their inode.
 
-With --name, prints the file as a device of that name, such as an image on a volume as a disk: table text, whose lines lie on
-VOLUME, or on the disk that --on names. Where the file has no place, the line is `zero`. The last sector is whole. With
---debugfs, --size gives the bytes of the file, as `debugfs -R 'stat /FILE' IMAGE` prints. A file of more lines than dmremap
-takes is refused, unless --part names the sectors that are wanted.
+With --name, prints the file as a device of that name, such as an image on a volume as a disk: table text, whose lines
+lie on VOLUME, or on the disk that --on names. Where the file has no place, the line is `zero`. The last sector is
+whole. With --debugfs, --size gives the bytes of the file, as `debugfs -R 'stat /FILE' IMAGE` prints. A file of more
+lines than dmremap takes is refused, unless --part names the sectors that are wanted.
 
-Two things don't show in the text: the numbers of `filefrag -X` are hexadecimal and may look decimal, and a file in the realtime
-part of XFS has its extents on another device.
+Two things don't show in the text: the numbers of `filefrag -X` are hexadecimal and may look decimal, and a file in the
+realtime part of XFS has its extents on another device.
 """
 
 import re
 from argparse import ArgumentParser, Namespace
 from typing import Dict, Iterable, Iterator, Set, Tuple
 
-from dmremap_tools.base import made_device, names, numbers, quoting, requests, streams, tables
-from dmremap_tools.base.refusal import WrongWords
+from dmremap_tools.base import WrongWords, made_device, names, numbers, quoting, requests, streams, tables
 
 EXAMPLE = "filefrag -s -v -b512 /mnt/report.odt | dmremap-tools filefrag vg0-lv0 | dmremap map lvm vg0.backup"
 
@@ -55,12 +55,13 @@ ENDED = (-1, 0)
 
 def add_words(parser: ArgumentParser) -> None:
     parser.add_argument("volume", metavar="VOLUME", help="the device that the file system lies on, by its name or path")
-    parser.add_argument("file", metavar="FILE", nargs="?", default="-", help="what filefrag or debugfs printed; else standard input")
+    parser.add_argument("file", metavar="FILE", nargs="?", default="-",
+                        help="what filefrag or debugfs printed; else standard input")
     kinds = parser.add_mutually_exclusive_group()
-    kinds.add_argument("--addresses", action="store_true", help="for files of btrfs; VOLUME is the device of its addresses")
+    kinds.add_argument("--addresses", action="store_true", help="files of btrfs; VOLUME is the device of its addresses")
     kinds.add_argument("--debugfs", metavar="SUPER", help="what dumpe2fs -h printed; FILE is what debugfs printed")
     parser.add_argument("--name", metavar="NAME", help="the file as a device of this name")
-    parser.add_argument("--on", metavar="DISK", help="with --name: what the file system lies on, a disk or /dev/mapper/NAME")
+    parser.add_argument("--on", metavar="DISK", help="with --name: the disk or /dev/mapper/NAME it is on")
     parser.add_argument("--size", metavar="BYTES", help="with --name and --debugfs: how many bytes the file has")
     made_device.add_words(parser)
     names.add_words(parser)

@@ -1,17 +1,18 @@
 """Makes requests from a trace of device-mapper devices.
 
-Takes what `dmsetup ls` prints (LS), the tables that will be asked (TABLES, table text or concise text), and a trace: that of
-`blkparse` or `btrace`, or the event block_bio_queue as trace_pipe, `trace-cmd report` and `perf script` print it. Prints the
-reads and writes as they come; --write-times writes the time of each to a file. Discards, flushes, requests to devices that the tables
-don't have, and lines without a request are left out and counted. Refuses a trace that says that events were lost, and zone
-appends and other requests whose sectors aren't those of the trace.
+Takes what `dmsetup ls` prints (LS), the tables that will be asked (TABLES, table text or concise text), and a trace:
+that of `blkparse` or `btrace`, or the event block_bio_queue as trace_pipe, `trace-cmd report` and `perf script` print
+it. Prints the reads and writes as they come; --write-times writes the time of each to a file. Discards, flushes,
+requests to devices that the tables don't have, and lines without a request are left out and counted. Refuses a trace
+that says that events were lost, and zone appends and other requests whose sectors aren't those of the trace.
 
-Trace top devices only: a request to a device on another one shows up at both, and would count twice. With --lower, the trace is
-one of the disks below them: LS is what `lsblk -brno MAJ:MIN,SIZE,KNAME,PKNAME` prints, and TABLES is DISKS. `report --compare`
-takes that.
+Trace top devices only: a request to a device on another one shows up at both, and would count twice. With --lower, the
+trace is one of the disks below them: LS is what `lsblk -brno MAJ:MIN,SIZE,KNAME,PKNAME` prints, and TABLES is DISKS.
+`report --compare` takes that.
 
-With --fio, TRACE is a log that fio wrote (`write_iolog=FILE`), of version 2 or 3. Prints requests for all sectors that its
-bytes touch. The files of the log are devices; LS is read only if they are given as /dev/dm-N. Trims are left out and counted.
+With --fio, TRACE is a log that fio wrote (`write_iolog=FILE`), of version 2 or 3. Prints requests for all sectors that
+its bytes touch. The files of the log are devices; LS is read only if they are given as /dev/dm-N. Trims are left out
+and counted.
 """
 
 import functools
@@ -20,8 +21,7 @@ from argparse import ArgumentParser, Namespace
 from collections import Counter
 from typing import Dict, Optional, Sequence
 
-from dmremap_tools.base import names, numbers, quoting, requests, streams, tables
-from dmremap_tools.base.refusal import Refusal, WrongWords
+from dmremap_tools.base import Refusal, WrongWords, names, numbers, quoting, requests, streams, tables
 
 EXAMPLE = "btrace /dev/dm-0 | dmremap-tools trace ls.txt vg0.table | dmremap map lvm vg0.backup | dmremap-tools report"
 
@@ -43,7 +43,8 @@ BEFORE = re.compile(r"(?:.*\s)?([0-9.]+):?(?:\s+\S*:)?\s*")
 AFTER = re.compile(fr"\s*([0-9]+,[0-9]+)\s{ASKED}")
 LOST = re.compile(r"CPU:? ?[0-9]+ \[.*(?:LOST|DROPPED).*| *Skips: +0*[1-9].*")
 # What stands beside the lines of a trace: empty lines, comments, and the sums of blkparse.
-BESIDE = re.compile(r"\s*(?:#.*)?|(?:CPU|Total \(|Throughput|Events \(|Skips:|Input file|cpus=).*| +[A-Z][A-Za-z ]*: +[0-9].*")
+BESIDE = re.compile(r"\s*(?:#.*)?|(?:CPU|Total \(|Throughput|Events \(|Skips:|Input file|cpus=).*"
+                    r"| +[A-Z][A-Za-z ]*: +[0-9].*")
 # Discards and flushes alone, reads, and writes, with what else a kernel says of them.
 KINDS = [("", re.compile(r"F?[DN][A-Z]*")), ("R", re.compile(r"F?R[FASM]*")), ("W", re.compile(r"F?W[FASM]*"))]
 NO_FORM = "not a form of the event, trace with `blkparse`"
@@ -51,7 +52,8 @@ NO_FORM = "not a form of the event, trace with `blkparse`"
 LOG_FIRST = re.compile(r"fio version ([23]) iolog")
 LOG_OPERATIONS = {"read": "R", "write": "W"}
 # What makes no request, and how many words a line of it has, without the time.
-LOG_OTHERS = {"add": (2,), "open": (2,), "close": (2,), "sync": (2, 4), "datasync": (2, 4), "wait": (2, 4), "trim": (4,)}
+LOG_OTHERS = {"add": (2,), "open": (2,), "close": (2,), "sync": (2, 4), "datasync": (2, 4), "wait": (2, 4),
+              "trim": (4,)}
 
 
 def add_words(parser: ArgumentParser) -> None:
@@ -60,7 +62,8 @@ def add_words(parser: ArgumentParser) -> None:
     parser.add_argument("file", metavar="TRACE", nargs="?", default="-", help="the trace; else standard input")
     parser.add_argument("--write-times", metavar="TIMES", help="a file to write: line N is the time of request N")
     kinds = parser.add_mutually_exclusive_group()
-    kinds.add_argument("--lower", action="store_true", help="a trace of disks; LS is what lsblk prints, and TABLES is DISKS")
+    kinds.add_argument("--lower", action="store_true",
+                       help="a trace of disks; LS is what lsblk prints, and TABLES is DISKS")
     kinds.add_argument("--fio", action="store_true", help="TRACE is a log that fio wrote")
 
 
@@ -84,20 +87,21 @@ class Kept:
         self.names = set(tables.read_disks(path)) if are_disks else {it.name for it in tables.read(path)[0]}
         self._left: Dict[str, int] = Counter()
         if not self.names:
-            why = "no disk in it: give lines NAME SECTORS" if are_disks else "no device in it: give what `dmremap table` prints"
-            raise Refusal(streams.name_of(path), why)
+            what, give = ("disk", "lines NAME SECTORS") if are_disks else ("device", "what `dmremap table` prints")
+            raise Refusal(streams.name_of(path), f"no {what} in it: give {give}")
 
     def leave(self, to: str, is_known: bool = True) -> None:
         """Counts a request that is left out, as the list of numbers or else the tables lack what it goes to."""
-        lacking = ("DISKS has" if is_known else "lsblk has") if self.are_disks else "the tables have" if is_known else "dmsetup ls has"
-        self._left[f"requests to {quoting.shown(f'{to}, which {lacking} not')}"] += 1
+        lacking = ("lsblk has", "DISKS has") if self.are_disks else ("dmsetup ls has", "the tables have")
+        self._left[f"requests to {quoting.shown(f'{to}, which {lacking[is_known]} not')}"] += 1
 
     def tell(self, others: str, hint: str = "") -> None:
         """Tells what was left out, these others, too, and if no request was made."""
         left = [*self._left.items(), (others, self.others)]
         streams.tell(*(f"left out: {times} {what}" for what, times in left if times))
         if not self.made:
-            streams.tell("no request came to a " + ("disk of DISKS" if self.are_disks else f"device of the tables{hint}"))
+            what = "disk of DISKS" if self.are_disks else f"device of the tables{hint}"
+            streams.tell(f"no request came to a {what}")
 
 
 def read_log(source: streams.Lines, kept: Kept, known: names.Names) -> None:

@@ -1,20 +1,20 @@
 """Makes a device of the addresses of a btrfs file system, from its tree of chunks.
 
-Takes what `btrfs inspect-internal dump-tree -t chunk DEVICE` prints, and for each device of the file system its number and a
-disk. Prints table text of a device on which each address is a sector. The file system counts the extents of its files in these
-addresses, which `filefrag --addresses` takes. Chunks are `single`, `dup`, `raid0`, `raid1` and its like, and `raid10`. If they
-have copies, it is the first, or --copy, counted from 0. Those of raid5 and raid6 are reported, and become `error`, as does what
-no chunk has. A write goes to all copies, and never to where the file was before, so ask for reads.
+Takes what `btrfs inspect-internal dump-tree -t chunk DEVICE` prints, and for each device of the file system its number
+and a disk. Prints table text of a device on which each address is a sector. The file system counts the extents of its
+files in these addresses, which `filefrag --addresses` takes. Chunks are `single`, `dup`, `raid0`, `raid1` and its like,
+and `raid10`. If they have copies, it is the first, or --copy, counted from 0. Those of raid5 and raid6 are reported,
+and become `error`, as does what no chunk has. A write goes to all copies, and never to where the file was before, so
+ask for reads.
 
 Refuses a text without chunks, one that isn't whole, a device that isn't given, and chunks that aren't whole sectors.
 """
 
 import re
 from argparse import ArgumentParser, Namespace
-from typing import Dict, Iterator, List, NoReturn, Set
+from typing import Dict, Iterator, List, NoReturn, Set, Tuple
 
-from dmremap_tools.base import made_device, numbers, streams, tables
-from dmremap_tools.base.refusal import Refusal
+from dmremap_tools.base import SECTOR, Refusal, made_device, numbers, streams, tables
 
 EXAMPLE = "dmremap-tools btrfs --name btrfs --disk 1 /dev/sda chunks.txt > btrfs.table"
 BLOCK = re.compile(r"(?:leaf|node) (\d{1,20}) (?:level \d+ )?items (\d{1,5}) free.* owner (\S+)")
@@ -35,14 +35,15 @@ class Chunk:
         self.where, self.start = where, start
         self.length = self.size = self.count = self.each = 0
         self.profile = ""
-        self.stripes: List["tuple[str, int]"] = []
+        self.stripes: List[Tuple[str, int]] = []
 
     def refuse(self, why: str) -> NoReturn:
         raise Refusal(self.where, why)
 
     def sectors(self, count: int) -> int:
         """So many bytes in sectors, which are refused if they are no whole ones."""
-        return count // numbers.SECTOR if count % numbers.SECTOR == 0 else self.refuse("no whole sectors (%d bytes): %s" % (count, ANEW))
+        sectors, rest = divmod(count, SECTOR)
+        return self.refuse(f"no whole sectors ({count} bytes): {ANEW}") if rest else sectors
 
     def take_row(self, row: str) -> None:
         """Takes what a line of the text says of the chunk."""
@@ -97,13 +98,14 @@ def run(words: Namespace) -> None:
         raise Refusal(streams.name_of(words.chunks), "no chunks of a btrfs file system: " + ANEW)
     device = made_device.device_of(words.name, "", lines_of(chunks, disks, words.copy), made_device.part_of(words))
     if words.copy >= max(1, *(it.copies() for it in chunks)):
-        raise Refusal(streams.name_of(words.chunks), "no chunk has a copy %d, counted from 0: give a lower --copy" % words.copy)
+        why = f"no chunk has a copy {words.copy}, counted from 0: give a lower --copy"
+        raise Refusal(streams.name_of(words.chunks), why)
     streams.out.write(tables.text_of([device], False))
 
 
 def read_chunks(path: str) -> List[Chunk]:
-    """The chunks that a text has. Each block of their tree says how many items or pointers it has, and a pointer names a block, so that a
-    text without its end, or with a block that couldn't be read, is told from a whole one."""
+    """The chunks that a text has. Each block of their tree says how many items or pointers it has, and a pointer names
+    a block, so that a text without its end, or with a block that couldn't be read, is told from a whole one."""
     chunks: List[Chunk] = []
     awaited: Set[str] = set()
     # What each block of the tree lacks.

@@ -1,14 +1,14 @@
 """Prints text for `dmsetup create --concise` on a machine where the disks have other paths, with all devices read-only.
 
-Takes PATHS, lines NAME PATH for each disk, and FILE, the output of `dmremap concise`. Prints the devices on these paths.
---prefix puts letters before each name, for a machine that has such a device already. --missing puts a device of `error` or
-`zero` in the place of a disk that PATHS doesn't have. --losetup prints a command for each device that is one linear line on a
-disk, and nothing else, because that needs no device-mapper. FILE may be table text then; without PATHS, replace IMAGE by the
-image of the disk after `#`.
+Takes PATHS, lines NAME PATH for each disk, and FILE, the output of `dmremap concise`. Prints the devices on these
+paths. --prefix puts letters before each name, for a machine that has such a device already. --missing puts a device of
+`error` or `zero` in the place of a disk that PATHS doesn't have. --losetup prints a command for each device that is one
+linear line on a disk, and nothing else, because that needs no device-mapper. FILE may be table text then; without
+PATHS, replace IMAGE by the image of the disk after `#`.
 
-`losetup -r` makes a disk of an image that nothing writes to, and with -P also its partitions. A kernel reads from a snapshot's
-store which chunks it has, so such a snapshot shows its copies. Mount with `-o ro`, and `noload` for ext3 and ext4 or
-`norecovery` for XFS, so that no journal is replayed.
+`losetup -r` makes a disk of an image that nothing writes to, and with -P also its partitions. A kernel reads from a
+snapshot's store which chunks it has, so such a snapshot shows its copies. Mount with `-o ro`, and `noload` for ext3 and
+ext4 or `norecovery` for XFS, so that no journal is replayed.
 
 Refuses a disk that has no path here, unless --missing is given, and a disk with a store if it would read as zeros.
 """
@@ -18,8 +18,7 @@ import itertools
 import re
 from typing import Dict, List, Optional
 
-from dmremap_tools.base import names, numbers, paths, quoting, streams, tables
-from dmremap_tools.base.refusal import Refusal, WrongWords
+from dmremap_tools.base import SECTOR, Refusal, WrongWords, names, paths, quoting, streams, tables
 from dmremap_tools.model.loaded_stack import Stack
 from dmremap_tools.model.placed import check_places, pile_at
 
@@ -49,8 +48,9 @@ def run(words: argparse.Namespace) -> None:
     if not is_concise and not words.losetup:
         raise Refusal(name + ":1", "not what `dmremap concise` prints: give that")
     for device in devices:
-        if not names.FORM.fullmatch(words.prefix + device.name):
-            raise Refusal(name, f"no name of a device, give another --prefix: {quoting.shown(words.prefix + device.name)}")
+        called = words.prefix + device.name
+        if not names.FORM.fullmatch(called):
+            raise Refusal(name, f"no name of a device, give another --prefix: {quoting.shown(called)}")
     if words.losetup:
         streams.out.write("".join(losetup(name, device, path_of) for device in devices))
         return
@@ -64,8 +64,8 @@ def run(words: argparse.Namespace) -> None:
 
 def devices_elsewhere(source: str, devices: List[tables.TableDevice], path_of: Dict[str, str], prefix: str,
                       target: Optional[str]) -> List[tables.TableDevice]:
-    """Devices with other names and paths, after those of one line that stand for disks that are missing, as long as they are used.
-    `source` is the text that names the disks."""
+    """Devices with other names and paths, after those of one line that stand for disks that are missing, as long as
+    they are used. `source` is the text that names the disks."""
     taken = {prefix + device.name for device in devices}
     free = (name for name in (f"{prefix}missing{number}" for number in itertools.count()) if name not in taken)
     for device in devices if target == "zero" else ():
@@ -110,5 +110,5 @@ def losetup(source: str, device: tables.TableDevice, path_of: Optional[Dict[str,
         raise Refusal(source + ":1", "no path of the disk %s: add it to PATHS" % quoting.shown(disk))
     place = paths.place_of("IMAGE" if path_of is None else path_of[disk])
     image = "IMAGE" if path_of is None else quoting.for_shell(place.path)
-    return "losetup -r -o %d --sizelimit %d -f --show %s # %s: %s\n" % (
-        place.start + int(line.words[1]) * numbers.SECTOR, line.length * numbers.SECTOR, image, device.name, disk)
+    start, size = place.start + int(line.words[1]) * SECTOR, line.length * SECTOR
+    return f"losetup -r -o {start} --sizelimit {size} -f --show {image} # {device.name}: {disk}\n"

@@ -1,10 +1,9 @@
 """Superblocks of members of md arrays, as `mdadm --examine` prints them."""
 
 import re
-from typing import Dict, List, NoReturn, Optional, Tuple
+from typing import Dict, List, NoReturn, Optional, Pattern, Tuple
 
-from dmremap_tools.base import quoting, streams
-from dmremap_tools.base.refusal import Refusal
+from dmremap_tools.base import Refusal, quoting, streams
 from dmremap_tools.model.device import Device
 from dmremap_tools.model.md_array import START
 from dmremap_tools.model.md_chunks import LAYOUTS
@@ -45,17 +44,18 @@ class Printed:
 
     def field(self, *keys: str) -> str:
         """The field that has the first of these keys; it is refused if there is none."""
-        for key in keys:
-            if key in self.fields:
-                return self.fields[key]
-        self.refuse("nothing is said of '%s' of %s: %s" % (keys[0], quoting.shown(self.path), ANEW))
+        key = next((key for key in keys if key in self.fields), None)
+        return self.fields[key] if key else self.refuse(
+            f"nothing is said of '{keys[0]}' of {quoting.shown(self.path)}: {ANEW}")
+
+    def figures(self, form: Pattern[str], *keys: str) -> "re.Match[str]":
+        """What such a field has of a form, which is refused if it isn't of that."""
+        said = self.field(*keys)
+        return form.fullmatch(said) or self.refuse(f"no number, {ANEW}: {keys[0]} : {quoting.shown(said)}")
 
     def number(self, *keys: str) -> int:
         """The number that such a field has, of sectors or of KiB."""
-        match = AMOUNT.fullmatch(self.field(*keys))
-        if not match:
-            self.refuse("no number, %s: %s : %s" % (ANEW, keys[0], quoting.shown(self.field(*keys))))
-        return int(match[1])
+        return int(self.figures(AMOUNT, *keys)[1])
 
     def superblock(self, number: int, sizes: Dict[str, int]) -> Superblock:
         """The superblock of the member that is printed as the one of this number; `sizes` has the sectors of paths."""
@@ -68,10 +68,7 @@ class Printed:
             self.refuse(f"an md array of {quoting.shown(text)}, which nothing here follows: {START}")
         if not 0 < count <= MOST_DEVICES:
             self.refuse(f"no array has {count} devices: {ANEW}")
-        events = EVENTS.fullmatch(self.field("Events"))
-        if not events:
-            self.refuse("no number, %s: Events : %s" % (ANEW, quoting.shown(self.field("Events"))))
-        features, (role, roles) = self._features(), self._roles(is_old, count)
+        events, features, (role, roles) = self.figures(EVENTS, "Events"), self._features(), self._roles(is_old, count)
         start = self.number("Data Offset") if "Data Offset" in self.fields else 0
         length, used = UNSAID if is_old else self.number("Avail Dev Size"), 0
         if is_old and self.path in sizes:

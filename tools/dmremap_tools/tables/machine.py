@@ -7,22 +7,23 @@ Takes four texts, which root can make on that machine:
     lsblk -brno MAJ:MIN,SIZE,KNAME,PKNAME > lsblk.txt
     dmsetup table --concise > concise.txt
 
-Without LSBLK, the lengths are those of the disks or images in PATHS, whose lines begin with numbers: `8:1 sda1.img`, or `8:1
-sda.img?offset=1048576` for a partition that begins there in the image of a whole disk, whose partition table gives its length.
+Without LSBLK, the lengths are those of the disks or images in PATHS, whose lines begin with numbers: `8:1 sda1.img`, or
+`8:1 sda.img?offset=1048576` for a partition that begins there in the image of a whole disk, whose partition table gives
+its length.
 
-Prints FILE in the form of the last text, which may be the output of `dmsetup table` instead, and writes DISKS with the disks
-that FILE names. Numbers of devices become their names, and numbers of disks their paths. Lines of `crypt` become linear: what
-lies there is encrypted, so compare nothing with it. `dmsetup table` doesn't say which devices are read-only, so all count as
-writable then. For one device alone: `dmsetup table NAME | sed 's/^/NAME: /'`.
+Prints FILE in the form of the last text, which may be the output of `dmsetup table` instead, and writes DISKS with the
+disks that FILE names. Numbers of devices become their names, and numbers of disks their paths. Lines of `crypt` become
+linear: what lies there is encrypted, so compare nothing with it. `dmsetup table` doesn't say which devices are
+read-only, so all count as writable then. For one device alone: `dmsetup table NAME | sed 's/^/NAME: /'`.
 
-A device that dmremap can't follow is reported and left out. To the devices above it, it is a disk, by the kernel's path, at
-which answers end. These are
+A device that dmremap can't follow is reported and left out. To the devices above it, it is a disk, by the kernel's
+path, at which answers end. These are
 
     devices of other targets, such as thin, raid, mirror, cache, multipath, verity, integrity and snapshot-merge;
     those without a table, or with a name that dmremap doesn't take (`dmsetup rename` gives another);
-    those that aren't as long as in lsblk's output, or go past the end of what lies below, or lie on a disk without a length;
-    snapshots whose status isn't as `16/1048576 16`, with two equal figures, so that their stores have copies, unless --store
-    names them: `dmremap map --paths` reads these stores;
+    those that aren't as long as lsblk says, or go past the end of what lies below, or lie on a disk without a length;
+    snapshots whose status isn't as `16/1048576 16`, with two equal figures, so that their stores have copies, unless
+    --store names them: `dmremap map --paths` reads these stores;
     those of kind PO or with features, not as long as their origin, or with a store that is read-only or not plain.
 
 If a snapshot is left out, its origin stays, and a message warns that answers lack copies for this snapshot.
@@ -36,8 +37,7 @@ import argparse
 import re
 from typing import Dict, Iterable, List, Optional, Set, Tuple
 
-from dmremap_tools.base import names, numbers, paths, quoting, streams, tables
-from dmremap_tools.base.refusal import Refusal, WrongWords
+from dmremap_tools.base import Refusal, WrongWords, names, numbers, paths, quoting, streams, tables
 from dmremap_tools.formats.partition_table import Partition, backup_of, table_of
 from dmremap_tools.formats.store_places import MOST, is_chunk, places
 from dmremap_tools.model.device import Image, Lenient
@@ -199,15 +199,15 @@ class Machine:
 
 def add_words(parser: argparse.ArgumentParser) -> None:
     parser.add_argument("--disks", metavar="DISKS", required=True, help="the file to write DISKS to")
-    parser.add_argument("--only", metavar="NAME", action="append", default=[], help="a device to keep, with all that it stands on")
-    parser.add_argument("--store", metavar="SNAPSHOT=IMAGE", action="append", default=[], help="a snapshot whose store `map --paths` reads")
+    for option, value, said in (("--only", "NAME", "a device to keep, with all that it stands on"),
+                                ("--store", "SNAPSHOT=IMAGE", "a snapshot whose store `map --paths` reads")):
+        parser.add_argument(option, metavar=value, action="append", default=[], help=said)
     paths.add_words(parser)
     numbers.add_sector_size(parser, "with --paths, the bytes of a sector of images with an MBR, which doesn't say so")
-    for name, command in (("ls", "dmsetup ls"), ("status", "dmsetup status"), ("lsblk", names.LSBLK_COMMAND),
-                          ("table", "dmsetup table --concise")):
-        nargs = "?" if name == "lsblk" else None
-        parser.add_argument(name, metavar=name.upper(), nargs=nargs,  # type: ignore[arg-type]
-                            help=f"what `{command}` prints")
+    parser.add_argument("ls", metavar="LS", help="what `dmsetup ls` prints")
+    parser.add_argument("status", metavar="STATUS", help="what `dmsetup status` prints")
+    parser.add_argument("lsblk", metavar="LSBLK", nargs="?", help=f"what `{names.LSBLK_COMMAND}` prints")
+    parser.add_argument("table", metavar="TABLE", help="what `dmsetup table --concise` prints")
 
 
 def run(words: argparse.Namespace) -> None:
@@ -215,10 +215,10 @@ def run(words: argparse.Namespace) -> None:
     beside = streams.beside(words.disks)
     devices = {number: MachineDevice(name, number) for name, number in names.read_ls(words.ls)}
     stored = [it.partition("=")[0] for it in words.store]
-    statuses = names.rows_of(words.status, streams.rows(words.status), ROW, "dmsetup status")
+    rows = names.rows_of(words.status, streams.rows(words.status), ROW, "dmsetup status")
+    statuses = {name: line.split() for name, line in rows if line and line.split()[2] == "snapshot"}
     # Of each snapshot, whether nothing was copied to its store yet, or that is read.
-    is_known = {name: len(status) == 5 and status[3].split("/")[0] == status[4]
-                for name, status in ((name, line.split()) for name, line in statuses if line) if status[2] == "snapshot"}
+    is_known = {name: len(it) == 5 and it[3].split("/")[0] == it[4] for name, it in statuses.items()}
     is_known.update(dict.fromkeys(stored, True))
     stack = Machine(devices, *lengths_of(words))
     is_concise = read_tables(words.table, devices)
@@ -240,7 +240,8 @@ def run(words: argparse.Namespace) -> None:
     disks = {stack.lower(it): stack.sectors_of(it) for it in lowers}
     say_left_out(stack, kept, disks)
     if not kept:
-        raise Refusal(streams.name_of(words.table), "no device is left that dmremap can follow: see above what was left out")
+        why = "no device is left that dmremap can follow: see above what was left out"
+        raise Refusal(streams.name_of(words.table), why)
     beside.write("".join(f"{disk} {sectors}\n" for disk, sectors in disks.items()))
     for device in kept:
         device.lines = [line.with_lowers(stack.lower) for line in device.lines]
@@ -273,9 +274,9 @@ def read_tables(path: str, devices: Dict[str, MachineDevice]) -> bool:
 
 
 def lengths_of(words: argparse.Namespace) -> Tuple[Dict[str, Optional[int]], Dict[str, str]]:
-    """By number, the length of each device and disk, and its path. What PATHS has is as long as it is there. The image of a
-    whole disk is refused where its number is that of a partition, or lsblk says nothing of it, unless one of its partitions
-    is as long as lsblk says."""
+    """By number, the length of each device and disk, and its path. What PATHS has is as long as it is there. The image
+    of a whole disk is refused where its number is that of a partition, or lsblk says nothing of it, unless one of its
+    partitions is as long as lsblk says."""
     if words.lsblk is None and words.paths is None:
         raise WrongWords("give LSBLK or --paths PATHS")
     sizes, of = names.read_lsblk(words.lsblk) if words.lsblk is not None else ({}, {})
@@ -287,8 +288,8 @@ def lengths_of(words: argparse.Namespace) -> Tuple[Dict[str, Optional[int]], Dic
         known, length = sizes.get(number), sectors_at(place, image, partitions)
         sizes[number] = length
         if place.is_said and known not in (None, length):
-            raise Refusal(quoting.shown(path), f"lsblk says that {quoting.shown(number)} has {known} sectors, and there it has "
-                          f"{length}: give its own image")
+            raise Refusal(quoting.shown(path), f"lsblk says that {quoting.shown(number)} has {known} sectors, and "
+                          f"there it has {length}: give its own image")
         if place.is_said or length == known:
             continue
         major, _, minor = number.partition(":")
@@ -342,5 +343,6 @@ def say_left_out(stack: Machine, kept: List[MachineDevice], disks: Dict[str, Opt
         origin = device.lowers()[0] if device.has_only("snapshot-origin") else ""
         of_it = [it for it in left_out if origin in it.origins] + [it for it in left_out if not it.is_described]
         for other in of_it if origin else ():
-            streams.tell(f"kept: {device.name}, without {quoting.shown(other.name)}, which {'is' if other.origins else 'may be'} a snapshot "
-                         "of it: on the machine, a write to it also copies what it overwrites, which the answers don't show")
+            what = f"{quoting.shown(other.name)}, which {'is' if other.origins else 'may be'} a snapshot of it"
+            streams.tell(f"kept: {device.name}, without {what}: on the machine, a write to it also copies what it "
+                         "overwrites, which the answers don't show")

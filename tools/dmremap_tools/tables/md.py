@@ -12,10 +12,10 @@ raid4, raid5 and raid6 in all their layouts, and of raid10 of all kinds. A read 
 one if that one is missing; a write is of each copy that is there.
 
 --path names a member's disk in the table, if that isn't its path. Metadata 0.90 of linear and raid0 doesn't say how
-long the members are: --sectors does. A member that is a spare, was away, or was dropped is left out. Refuses members that
-differ in what they say of the array, that ran apart from each other, that are being reshaped or rebuilt, that have a
-journal or a wrong checksum, and what needs one that is missing. In answers it refuses writes beside parity, copies and
-fills, and what lies past the end.
+long the members are: --sectors does. A member that is a spare, was away, or was dropped is left out. Refuses members
+that differ in what they say of the array, that ran apart from each other, that are being reshaped or rebuilt, that have
+a journal or a wrong checksum, and what needs one that is missing. In answers it refuses writes beside parity, copies
+and fills, and what lies past the end.
 """
 
 import argparse
@@ -23,8 +23,7 @@ import functools
 import itertools
 from typing import Dict, Iterator, List, Optional, Sequence, Tuple
 
-from dmremap_tools.base import names, numbers, pieces, quoting, requests, streams, tables
-from dmremap_tools.base.refusal import Refusal, WrongWords
+from dmremap_tools.base import Refusal, WrongWords, names, numbers, pieces, quoting, requests, streams, tables
 from dmremap_tools.model.device import Device, Image, blocks_of
 from dmremap_tools.model.md_array import Array, apart, sides_of
 from dmremap_tools.model.md_chunks import PARITY

@@ -17,9 +17,7 @@ metadata that is damaged, a device that it doesn't have, and blocks past the end
 from argparse import ArgumentParser, Namespace
 from typing import Iterator, List
 
-from dmremap_tools.base import made_device, numbers, quoting, streams, tables
-from dmremap_tools.base.numbers import SECTOR
-from dmremap_tools.base.refusal import Refusal, WrongWords
+from dmremap_tools.base import SECTOR, Refusal, WrongWords, made_device, numbers, quoting, streams, tables
 from dmremap_tools.model.device import ZEROS, Device, Image, Missing, joined
 from dmremap_tools.model.pools import CACHE, THIN, cached_device, superblock_of, thin_device
 
@@ -58,7 +56,7 @@ def thin_devices(words: Namespace) -> List[Device]:
     """The devices of a pool that are asked for."""
     wanted = [(streams.whole("--device", number), name, streams.whole("--device", sectors))
               for number, name, sectors in words.device]
-    below = {streams.whole("--external", number): made_device.disk_in(disk, "--external") for number, disk in words.external}
+    below = {streams.whole("--external", it): made_device.disk_in(disk, "--external") for it, disk in words.external}
     sizes = [numbers.check_length("--device", sectors) * SECTOR for _, _, sectors in wanted]
     data, meta = made_device.disk_in(words.data, "--data"), Image(words.metadata)
     superblock = superblock_of(meta, THIN)
@@ -73,7 +71,7 @@ def thin_devices(words: Namespace) -> List[Device]:
 
 def cached(words: Namespace) -> Device:
     """The device over its cache."""
-    cache, origin = Device(made_device.disk_in(words.cache, "--cache")), Device(made_device.disk_in(words.origin, "--origin"))
+    cache, origin = (Device(made_device.disk_in(getattr(words, it), "--" + it)) for it in ("cache", "origin"))
     meta, size = Image(words.metadata), numbers.check_length("--sectors", words.sectors) * SECTOR
     return cached_device(words.name, meta, superblock_of(meta, CACHE), origin, cache, size)
 
