@@ -1,5 +1,5 @@
-"""A file that is put together, and how far it is, as a map of ddrescue, by which a later run goes on. The map says first of
-which volume it is, so that no other one goes on by it, and is locked while a run goes on, so that no other run does."""
+"""A file that is put together, and how far it is, as a map of ddrescue, by which a later run goes on. The map says
+first of which volume it is, so that no other one goes on by it, and is locked while a run goes on by it."""
 
 import contextlib
 import fcntl
@@ -66,59 +66,62 @@ def merged(one: str, other: str) -> Optional[str]:
 
 
 class SavedMap:
-    """The areas of a file of so many bytes, of which only some, given by begin and end, have to be put together; of the map
-    at `path`, if there is one, which has to be of the same source. It is locked as long as this run goes on."""
+    """The areas of a file of so many bytes, of which only some, given by begin and end, have to be put together; of the
+    map at `path`, if there is one, which has to be of the same source. It is locked as long as this run goes on."""
 
     def __init__(self, path: Optional[str], source: Source, size: int, wanted: Sequence[Run]) -> None:
         self.size, self.is_begun, self.is_made = size, path is not None and os.path.lexists(path), False
         self.place = None if path is None else written.Place(path)
+        self._shown = self.place.shown if self.place else ""
         self._source, self._lock, self.has_more_maps = source, -1, False
         # What isn't wanted reads as zeros.
         self._areas = joined(Area(begin, end, UNTRIED if run else FINISHED) for begin, end, run in cut(wanted, 0, size))
         self._marks: List[Area] = []
-        if self.is_begun:
-            self._lock = self._locked(path)
+        if self.place and path is not None and self.is_begun:
+            self._lock = self._locked(self.place, path)
             self._areas = rescue_map.read(path, is_written=True)
             self._check(path)
 
-    def _locked(self, path: str) -> int:
+    def _locked(self, place: written.Place, path: str) -> int:
         """The descriptor of the map that is there, by which it is locked."""
-        with self.place.failing():
+        with place.failing():
             descriptor = os.open(path, os.O_RDONLY)
-            lock(descriptor, self.place.shown)
+            lock(descriptor, self._shown)
             if not os.path.samestat(os.fstat(descriptor), os.stat(path)):
-                raise Refusal(self.place.shown, TAKEN)
+                raise Refusal(self._shown, TAKEN)
         return descriptor
 
     def _check(self, path: str) -> None:
         """Refuses a map of something else, and takes from it which disk had which id."""
-        said, own = OF.fullmatch(next(iter(streams.Lines(path, True)), "")), self._said()
-        if not said:
-            raise Refusal(self.place.shown, f"it doesn't say of which volume it is, as those do that save writes: {NEW}")
+        said, own = map(OF.fullmatch, (next(iter(streams.Lines(path, True)), ""), self._said()))
+        if not said or not own:
+            raise Refusal(self._shown, f"it doesn't say of which volume it is, as those do that save writes: {NEW}")
         ids = said[3].split(" ")
         known = [merged(one, other) for one, other in zip(ids, own[3].split(" "))]
         is_same = len(ids) == len(self._source.ids) and None not in known
         if said[1] != own[1] or said[2] != own[2] or not is_same:
             what = f"{said[1]} of {said[2]} sectors" + ", from other images" * (said[1] == own[1] and said[2] == own[2])
-            raise Refusal(self.place.shown, f"it is the map of {quoting.shown(what)}, and this is {own[1]} of {own[2]}: {NEW}")
+            this = f"{own[1]} of {own[2]}"
+            raise Refusal(self._shown, f"it is the map of {quoting.shown(what)}, and this is {this}: {NEW}")
         maps = int(said[4] or 0)
         if self._source.maps < maps:
-            raise Refusal(self.place.shown, f"it was begun with {maps} maps of images: give them again as --map IMAGE=MAP")
-        self._source, self.has_more_maps = self._source._replace(ids=known), self._source.maps > maps
+            raise Refusal(self._shown, f"it was begun with {maps} maps of images: give them again as --map IMAGE=MAP")
+        self.has_more_maps = self._source.maps > maps
+        self._source = self._source._replace(ids=[it for it in known if it is not None])
         if (self._areas[0].begin, self._areas[-1].end) != (0, self.size) if self._areas else self.size:
-            raise Refusal(self.place.shown, f"a map of another file than one of {self.size} bytes: {NEW}")
+            raise Refusal(self._shown, f"a map of another file than one of {self.size} bytes: {NEW}")
 
-    def _said(self) -> "re.Match[str]":
+    def _said(self) -> str:
         """The line that says what it is the map of."""
         sectors, ids, maps = -(-self.size // SECTOR), " ".join(self._source.ids), self._source.maps
         with_maps = f", with {maps} maps" if maps else ""
-        return OF.fullmatch(quoting.escaped(f"# Of {self._source.name} of {sectors} sectors, from {ids}{with_maps}"))
+        return quoting.escaped(f"# Of {self._source.name} of {sectors} sectors, from {ids}{with_maps}")
 
     def check_finished(self, lost: Sequence[Run]) -> None:
         """Refuses to go on where bytes are finished that are lost by a map which is new to this run."""
         found = (area for run in lost for *_, area in cut(self._areas, *run))
         if any(area and area.status == FINISHED for area in found):
-            raise Refusal(self.place.shown, f"{LATER}: {NEW}")
+            raise Refusal(self._shown, f"{LATER}: {NEW}")
 
     def left(self, begin: int, end: int) -> Iterator[Run]:
         """The parts of an area that were not finished when the run began, in whole sectors."""
@@ -133,24 +136,26 @@ class SavedMap:
         self._marks = append(self._marks, Area(begin, min(end, self.size), status))
 
     def write(self) -> None:
-        """Writes the map, in place of the one that was there."""
+        """Writes the map, if one is asked for, in place of the one that was there."""
+        if not self.place:
+            return
         areas = joined(Area(begin, end, mark.status if mark and area.status != FINISHED else area.status)
                        for area in self._areas for begin, end, mark in cut(self._marks, area.begin, area.end))
         left = next((area for area in areas if area.status != FINISHED), None)
         now, status = (left.begin, UNTRIED) if left else (self.size, FINISHED)
         rows = "".join(f"0x{area.begin:08X}  0x{area.end - area.begin:08X}  {area.status}\n" for area in areas)
-        text = f"{self._said()[0]}\n{HEAD}0x{now:08X}     {status}               1\n#      pos        size  status\n{rows}"
+        head = f"{self._said()}\n{HEAD}0x{now:08X}     {status}               1\n#      pos        size  status\n"
         with self.place.failing():
             descriptor = self.place.begin()
             held = os.dup(descriptor)
-            lock(held, self.place.shown)
+            lock(held, self._shown)
             with open(descriptor, "wb", closefd=False) as file:
-                file.write(text.encode("utf-8", "backslashreplace"))
+                file.write((head + rows).encode("utf-8", "backslashreplace"))
         self.place.close()
         try:
             self.place.put(is_new=not self.is_begun and not self.is_made)
         except Refusal:
-            raise Refusal(self.place.shown, TAKEN)
+            raise Refusal(self._shown, TAKEN)
         self._lock, released, self.is_made = held, self._lock, True
         if released >= 0:
             os.close(released)
@@ -259,14 +264,14 @@ def put_together(path: str, saved: SavedMap, extents: Iterator[Transfer]) -> boo
 
 
 def put_begun(target: Target, saved: SavedMap) -> None:
-    """Puts a file in its place, once its map is there: without that it would look whole. A map of this run alone is removed
-    where that fails."""
+    """Puts a file in its place, once its map is there: without that it would look whole. A map of this run alone is
+    removed where that fails."""
     try:
         saved.write()
         if not saved.is_begun:
             target.place.put(is_new=True)
     except BaseException:
-        if not saved.is_begun and saved.is_made:
+        if saved.place and not saved.is_begun and saved.is_made:
             saved.place.remove()
         raise
 

@@ -3,21 +3,23 @@
 Takes HEAD, the physical volume, or an image of its beginning, such as its first MiB, or of the whole disk, which is
 searched as by `scan`: each physical volume in it is taken, in a partition, in a member of an md array, or anywhere if
 nothing else is found. HEAD?offset=BYTES is what begins there in it. Several physical volumes have to agree. `dd
-if=/dev/sda1 of=head.img bs=1M count=1` makes an image of the beginning; with lvm2, `pvck --dump metadata -f TEXT head.img`
-does the same as this command.
+if=/dev/sda1 of=head.img bs=1M count=1` makes an image of the beginning; with lvm2, `pvck --dump metadata -f TEXT
+head.img` does the same as this command.
 
-Prints the valid text. The label says where the metadata areas are, and the header of an area which of its texts is valid. Each
-of the three has a checksum. If the first area is damaged, the second is taken, if there is one. If both are sound, the text
-with the higher seqno is taken; two groups, or two texts with one number, are refused. If all are damaged, take another physical
-volume of the group, or a text in /etc/lvm/backup. --list prints what is left of older texts: the place of each in HEAD, its
-group, the group's id, the seqno and the time; `cut` is a text whose end isn't there. --seqno and --at print one of these.
+Prints the valid text. The label says where the metadata areas are, and the header of an area which of its texts is
+valid. Each of the three has a checksum. If the first area is damaged, the second is taken, if there is one. If both are
+sound, the text with the higher seqno is taken; two groups, or two texts with one number, are refused. If all are
+damaged, take another physical volume of the group, or a text in /etc/lvm/backup. --list prints what is left of older
+texts: the place of each in HEAD, its group, the group's id, the seqno and the time; `cut` is a text whose end isn't
+there. --seqno and --at print one of these.
 
 Without a sound label, areas are looked for in the first and the last 4 MiB, and then labels in the whole image.
 
 Refuses whatever no checksum confirms, and a volume that belongs to no group. If texts differ, each is reported with its
 volumes. A text that lvm2 was about to make the valid one isn't taken; lvm2 doesn't take it either. Older texts have no
-checksum: choose one by the group's id and the time, because a group that was removed may have had the same name, and higher
-numbers. No checksum tells whether another physical volume has a later text, or whether the disks still hold what it says.
+checksum: choose one by the group's id and the time, because a group that was removed may have had the same name, and
+higher numbers. No checksum tells whether another physical volume has a later text, or whether the disks still hold what
+it says.
 """
 
 import argparse
@@ -77,7 +79,8 @@ def run(words: argparse.Namespace) -> None:
     if words.list:
         for text in texts_in(images[0], volumes):
             time = (text.said_time() or b"cut").decode("utf-8", "surrogateescape")
-            streams.out.write(quoting.escaped(f"{text.at} {text.group} {text.identity} seqno {text.seqno} - {time}") + "\n")
+            row = f"{text.at} {text.group} {text.identity} seqno {text.seqno} - {time}"
+            streams.out.write(quoting.escaped(row) + "\n")
         return
     content = older_text(images[0], volumes, words.seqno, words.at) if is_of_one else first_if_equal(volumes)
     streams.out.write(content.decode("utf-8", "surrogateescape"))
@@ -101,7 +104,8 @@ def volume_of(device: Device) -> Optional[PhysicalVolume]:
 def first_if_equal(volumes: List[PhysicalVolume]) -> bytes:
     """The text that dmremap reads in these volumes, if it is there and takes them; else the first of their valid texts.
     Refuses texts that differ in more than their times."""
-    read = None if any(volume.faults for volume in volumes) else text_by_heads(None, [volume.device for volume in volumes])
+    is_sound = not any(volume.faults for volume in volumes)
+    read = text_by_heads(None, [volume.device for volume in volumes]) if is_sound else None
     if read:
         return read
     texts = [valid_text(volume) for volume in volumes]
@@ -124,26 +128,28 @@ def valid_text(volume: PhysicalVolume) -> Text:
                      f"{SEARCHED >> 20} MiB")
     if label.is_used is False and all(it.fault in (EMPTY, MISSING) for it in areas):
         raise Refusal(volume.place, f"the physical volume belongs to no group: {OLDER}")
-    sound = [it for it in areas if it.text]
+    sound = [(it, it.text) for it in areas if it.text]
     if not sound:
         why = "; ".join(f"{areas_in_words([it])}: {it.fault}" for it in areas)
         is_cut = any(it.fault == MISSING for it in areas)
         raise Refusal(volume.place, f"{why}: " + ("take more of the disk" if is_cut else f"{OTHER}, or {OLDER}"))
-    newest = [it for it in sound if it.text.seqno == max(each.text.seqno for each in sound)]
-    are_of_one = len(sound) == 1 or sound[0].text.group and len({it.text.identity for it in sound}) == 1
-    if not are_of_one or len({it.text.body() for it in newest}) > 1:
-        for area in sound:
-            streams.tell(f"{volume.place}: {areas_in_words([area])}: {area.text.summary()}")
+    texts = [text for _, text in sound]
+    newest = max(text.seqno for text in texts)
+    are_of_one = len(texts) == 1 or texts[0].group and len({text.identity for text in texts}) == 1
+    if not are_of_one or len({text.body() for text in texts if text.seqno == newest}) > 1:
+        for area, text in sound:
+            streams.tell(f"{volume.place}: {areas_in_words([area])}: {text.summary()}")
         why = "have different texts with one seqno" if are_of_one else "have texts of different groups"
-        raise Refusal(volume.place, f"{areas_in_words(sound)} {why}: {OTHER}")
+        raise Refusal(volume.place, f"{areas_in_words([area for area, _ in sound])} {why}: {OTHER}")
+    taken, valid = next(each for each in sound if each[1].seqno == newest)
     for area in areas:
         if area.fault:
             streams.tell(f"{volume.place}: passed over: {areas_in_words([area])}: {area.fault}")
-        elif area not in newest:
+        elif area.text and area.text.seqno < newest:
             older = area.text.summary()
             streams.tell(f"{volume.place}: passed over: {areas_in_words([area])}: its text is older: {older}")
-            streams.tell(f"{volume.place}: taken: {areas_in_words(newest[:1])}: {newest[0].text.summary()}")
-    return newest[0].text
+            streams.tell(f"{volume.place}: taken: {areas_in_words([taken])}: {valid.summary()}")
+    return valid
 
 
 def areas_in_words(areas: List[MetadataArea]) -> str:
