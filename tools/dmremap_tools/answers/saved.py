@@ -9,7 +9,7 @@ import os
 import re
 import stat
 import time
-from typing import Dict, Iterable, Iterator, List, NamedTuple, Optional, Sequence, Tuple
+from typing import Dict, Generator, Iterable, Iterator, List, NamedTuple, Optional, Sequence, Tuple
 
 from dmremap_tools.base import quoting, streams, written
 from dmremap_tools.base.numbers import SECTOR
@@ -225,7 +225,7 @@ class Target:
             os.fdatasync(self._descriptor)
 
 
-def put_together(path: str, saved: SavedMap, extents: Iterator[Transfer]) -> bool:
+def put_together(path: str, saved: SavedMap, extents: Generator[Transfer, None, None]) -> bool:
     """Makes a file of its parts, which come in their order, each with its first byte, or goes on with it. Tells what is
     missing, and says whether something is. Without a map the file gets to its place once it is whole."""
     target = Target(path, saved.size, saved.is_begun)

@@ -26,7 +26,7 @@ If a disk has errors, read it into an image with ddrescue first, and give its ma
 
 import tempfile
 from argparse import ArgumentParser, Namespace
-from typing import Iterator, Optional, Tuple
+from typing import Generator, Optional, Tuple
 
 from dmremap_tools.answers.saved import PARTLY, SavedMap, Source, head_of, put_together
 from dmremap_tools.base import given, names, quoting, streams
@@ -93,7 +93,7 @@ def sectors_of(target: NamedDevice) -> int:
     return -(-target.size // SECTOR) * SECTOR
 
 
-def extents_of(target: NamedDevice, saved: SavedMap) -> Iterator[Tuple[int, Extent]]:
+def extents_of(target: NamedDevice, saved: SavedMap) -> Generator[Tuple[int, Extent], None, None]:
     """Where what is left to do lies, each part with its first byte."""
     for begin, end in saved.left(0, target.size):
         for start in range(begin, end, WINDOW):
