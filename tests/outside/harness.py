@@ -135,6 +135,12 @@ class Case(unittest.TestCase):
                  for what, wanted, was in found if was != wanted]
         self.holds(name, not wrong, "; ".join(wrong))
 
+    def tells(self, name, got, status=0, out=None, err=None):
+        """Counts a case: the status, and what is part of each stream, where "" is an empty one, and None any."""
+        parts = [(as_bytes(part), stream) for part, stream in ((out, got.out), (err, got.err)) if part is not None]
+        is_so = got.status == status and all(part in stream if part else not stream for part, stream in parts)
+        return self.holds(name, is_so, "status %s, %s, %s" % (got.status, short(got.out), short(got.err)))
+
     def skip(self, name, why):
         """Tells a case that this system can't make; it is counted nowhere."""
         with self.subTest(name=name):

@@ -104,9 +104,7 @@ def mapped(program, table, disks, earlier, requests, *more):
 
 def test_words(tally, program):
     for line, told in WRONG:
-        got = program.run(line.split())
-        is_told = got.status == 2 and got.out == b"" and told.encode() in got.err
-        tally.holds("the words %r" % line, is_told, "status %s, on standard error %r" % (got.status, got.err))
+        tally.tells("the words %r" % line, program.run(line.split()), 2, "", told)
     table, disks, earlier = (program.file(it, text) for it, text in
                              (("table", SNAPSHOT[0]), ("disks", SNAPSHOT[1]), ("earlier", "W s 9 1\n")))
     for words in (["map", "table", table, disks, "--before", earlier], ["map", "--before=" + earlier, "table", table, disks]):

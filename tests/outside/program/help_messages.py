@@ -64,15 +64,13 @@ def help_of(program, word):
 def test_command(tally, program):
     """A command is meant where it has the name of a word."""
     tally.same("help on a command", program.run(["help", COMMAND]), 0, program.run([COMMAND, "--help"]).out)
-    got = program.run(["help", "no: such: word"])
-    is_refused = got.status == 2 and got.out == b"" and b"\n  again, " in got.err
-    tally.holds("help on no word", is_refused, "status %s, %r" % (got.status, got.err))
+    tally.tells("help on no word", program.run(["help", "no: such: word"]), 2, "", "\n  again, ")
 
 
 def test_itself(tally, program):
     """How to ask for help."""
     wanted = program.run(["help", "help"])
-    tally.holds("help help", (wanted.status, wanted.err) == (0, b"") and b"WORD" in wanted.out, "status %s, %r" % (wanted.status, wanted.err))
+    tally.tells("help help", wanted, out="WORD", err="")
     for word in "--help", "-h":
         tally.same("help " + word, program.run(["help", word]), 0, wanted.out)
 

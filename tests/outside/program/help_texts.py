@@ -187,8 +187,7 @@ def test_lines(tally, program, parts):
     tally.holds("the lines of FILE", forms and forms == in_manual, "help has %s, and the manual %s" % (forms, in_manual))
     for form in forms:
         line = " ".join(PARTS.get(it, it) for it in form.replace(" ..", "").split())
-        got = program.map(line + "\n", "sda 8\nbase 8\ncow 64\n", "R a 0 1\n")
-        tally.holds("the line %s" % form, got.status == 0 and got.err == b"", "%s: %r" % (line, got.err))
+        tally.tells("the line %s" % form, program.map(line + "\n", "sda 8\nbase 8\ncow 64\n", "R a 0 1\n"), err="")
     kinds = {*re.search(r"KIND is (\w), (\w) or (\w)\.", text).groups()}
     taken = {it for it in string.ascii_letters if program.map("a: 0 8 snapshot base cow %s 8\n" % it, "base 8\ncow 64\n").status == 0}
     shown = {it for it in re.findall(r"^\.BR? (\w)\b", parts["FORMATS"], re.M)}

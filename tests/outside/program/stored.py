@@ -135,9 +135,7 @@ def told(word):
 
 def test_words(tally, program):
     for line, part in WRONG:
-        got = program.run(line.split())
-        is_told = got.status == 2 and got.out == b"" and part.encode() in got.err
-        tally.holds("the words %r" % line, is_told, "status %s, on standard error %r" % (got.status, got.err))
+        tally.tells("the words %r" % line, program.run(line.split()), 2, "", part)
     put(program, "c.img", 8, [(1, 2)])
     table, disks, paths, earlier = (program.file(name, text) for name, text in (
         ("table", TABLE % (800, 8)), ("disks", DISKS % (800, 4000)), ("paths", "cow c.img\n"), ("earlier", "W s 16 1\n")))

@@ -98,8 +98,7 @@ def test_words(tally, program):
         tally.holds("words %s" % words, is_refused, "status %s, on standard output %r, on standard error %r"
                     % (got.status, got.out, got.err))
     for words, tip in (["tabel", "lvm", "TABLE"], b"'table'"), (["table", "lvn", "TABLE"], b"'lvm'"):
-        got = program.run(real(words))
-        tally.holds("a tip for %s" % words, got.status == 2 and tip in got.err, "on standard error %r" % got.err)
+        tally.tells("a tip for %s" % words, program.run(real(words)), 2, err=tip)
     tally.same("no DISKS", program.run(real(["map", "table", "TABLE"])), 2, "", "dmremap: words: disks\n")
     tally.same("no DISKS, before FILE is opened", program.run(["map", "table", "missing"]), 2, "",
                "dmremap: words: disks\n")
@@ -116,9 +115,7 @@ def test_words(tally, program):
 
 def test_told(tally, program):
     for line, told in TOLD:
-        got = program.run(line.split())
-        is_told = got.status == 2 and got.out == b"" and told.encode() in got.err
-        tally.holds("the words %r" % line, is_told, "status %s, on standard error %r" % (got.status, got.err))
+        tally.tells("the words %r" % line, program.run(line.split()), 2, "", told)
     for line, told in HELPED:
         got = program.run(line.split())
         is_told = got.status == 0 and told.encode() in got.out and b"Exit status\n  0  " in got.out and got.err == b""

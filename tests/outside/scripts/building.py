@@ -75,8 +75,7 @@ def test_faults(tally, tree):
         os.rename(tree.path(lost), tree.path("lost"))
         tree.remove()
         got = tree.run(["splitname", "a-b"])
-        is_told = got.status == 70 and got.out == b"" and b"dmremap: the program can't be built: " in got.err
-        tally.holds("./dmremap with " + name, is_told, "%s, %r" % (got.status, got.err))
+        tally.tells("./dmremap with " + name, got, 70, "", "dmremap: the program can't be built: ")
         os.rename(tree.path("lost"), tree.path(lost))
     check_rights(tally, tree)
 
@@ -123,8 +122,7 @@ def test_full_disks(tally, tree):
         if b"unshare" in got.err or b"mount" in got.err:
             tally.skip("./dmremap on a disk that is full", "no disk can be made here")
             break
-        is_told = got.status == 70 and got.out == b"" and b"dmremap: the " in got.err
-        tally.holds("./dmremap on a full disk of %s" % size, is_told, "%s, %r" % (got.status, got.err))
+        tally.tells("./dmremap on a full disk of %s" % size, got, 70, "", "dmremap: the ")
     tree.remove()
     tally.same("./dmremap after that", tree.run(words), 0, "a b\n", BUILDING + told())
 

@@ -111,8 +111,7 @@ def check_works(tally, program, folder, name):
     else:
         got = run(["man", "-M", os.path.join(folder, "share", "man"), "-w", "dmremap"])
         tally.same("the manual of " + name, got, 0, os.path.join(folder, "share", "man", "man1", "dmremap.1") + "\n")
-    got = run([os.path.join(folder, TOOL), "--help"])
-    tally.holds("the tool of " + name, got.status == 0 and b"dmremap-tools" in got.out, "%s, %r" % (got.status, got.err))
+    tally.tells("the tool of " + name, run([os.path.join(folder, TOOL), "--help"]), out="dmremap-tools")
 
 
 def test_installed(tally, program, tree):
@@ -298,7 +297,7 @@ def check_refused(tally, program, tree, release, env):
         got = run([release, program.folder], env=dict(env, PATH=few))
         tally.same("./release without " + missing, got, 1, "", "release: %s\n" % told)
     got = run([release, os.path.join(program.folder, "no folder")], env=env)
-    tally.holds("./release into no folder", got.status == 1 and b"no folder" in got.err, "%s, %r" % (got.status, got.err))
+    tally.tells("./release into no folder", got, 1, err="no folder")
 
 
 def check_static(tally, path, name):

@@ -69,7 +69,7 @@ def test_unbuilt(tally, tools, tree, program):
     tools.finds(tally, "one of other sources", "?", NOT_BUILT)
     shutil.copy(program.path, os.path.join(elsewhere, "another"))
     got, _ = tools.call(tools.ways[0], "scan", "--program", os.path.join(elsewhere, "another"), *tools.samples)
-    tally.holds("a program that is given", got.status == 0 and not got.err and b" ext2\n" in got.out, "status %s, %r" % (got.status, got.err))
+    tally.tells("a program that is given", got, out=" ext2\n", err="")
     got, called = tools.call(tools.ways[0], "scan", "--program", tree.script, *tools.samples)
     tally.holds("the script that is given", got.status == 4 and got.err.decode() == NOT_BUILT and not called, "status %s, %r" % (got.status, got.err))
 

@@ -235,8 +235,7 @@ def test_stores(tally, explain, program):
     for listed, why in (("", "A part of the store lies on a disk that PATHS doesn't name. Add the disk."),
                         ("/dev/sda1 tables\n", "can't be opened or read"), ("/dev/sdb sda1.img\n", "The stack has no disk of that name")):
         program.file("explained/paths", listed)
-        got = explain.run([*words, "--paths", "paths"])
-        tally.holds("a store by the paths %r" % listed, got.status == 0 and why in got.out.decode(), "status %s, %r, %r" % (got.status, got.err, got.out))
+        tally.tells("a store by the paths %r" % listed, explain.run([*words, "--paths", "paths"]), out=why)
     with open(os.path.join(explain.folder, "sda1.img"), "r+b") as image:
         image.seek(STORE * 512 + 4)
         image.write(bytes(4))
@@ -244,8 +243,7 @@ def test_stores(tally, explain, program):
     got = explain.run([*words, "--paths", "paths"])
     why = b"the header of vg0-snap's store says that it is invalid: it was full once, so all of the snapshot fails\n"
     tally.holds("a store whose header says that it is invalid", got.status == 0 and got.out.count(why) == 2 and b"no place" not in got.out, "status %s, %r, %r" % (got.status, got.err, got.out))
-    got = explain.run([*words, "--paths", "nowhere"])
-    tally.holds("a store without paths", got.status == 0 and b"nowhere" in got.out, "status %s, %r, %r" % (got.status, got.err, got.out))
+    tally.tells("a store without paths", explain.run([*words, "--paths", "nowhere"]), out="nowhere")
 
 
 def test_ends(tally, explain, program):
@@ -259,7 +257,7 @@ def test_ends(tally, explain, program):
     os.chmod(wrong, 0o755)
     got = explain.run(["map", "lvm", "vg0.backup", "R vg0-lv0 8000 16"], asked=wrong)
     why = b"explain: R vg0-lv0 8000 16: the levels don't make dmremap's answer together"
-    tally.holds("levels that don't make the answer", got.status == 1 and why in got.err and not got.out, "status %s, %r" % (got.status, got.err))
+    tally.tells("levels that don't make the answer", got, 1, "", why)
     got = explain.run(["map", "lvm", "vgm.backup"], stdout=FULL_OUTPUT.fileno())
     tally.same("an explanation to a full output", got, 5, "", TOOL + " explain: standard output: No space left on device\n")
     got = explain.run(["map", "table", "esc.table", "disks"])

@@ -762,9 +762,10 @@ def test_areas(tally, pile):
         for volume_name in ("home", "other"):
             pile.refuses(tally, "two areas, of which the newer one is damaged", "vg0/" + volume_name, "disk has " + name)
         got = pile.call("tables", "vg0", "disk", "--to", "made")
-        tally.holds("tables by them", got.status == 1 and b"disk has " + name.encode() in got.err, f"{got.status}, {got.err!r}")
+        tally.tells("tables by them", got, 1, err=b"disk has " + name.encode())
         got = tool_calls.call(pile.top, ["owner", "--program", pile.program.path, "disk"], given="disk %d\n" % (DATA + 60 * EXTENT), folder=pile.folder)
-        tally.holds("what no volume has by them", got.status == 0 and b"unknown: no volume of vg0 has it, but disk has " + name.encode() in got.out, f"{got.out!r}, {got.err!r}")
+        tally.tells("what no volume has by them", got,
+                    out=b"unknown: no volume of vg0 has it, but disk has " + name.encode())
     os.unlink(os.path.join(pile.folder, "disk"))
 
 
@@ -790,7 +791,7 @@ def test_saving(tally, pile):
     tally.holds("a run that goes on", got.status == 0 and pile.read("out") == wanted, got.err)
     os.unlink(os.path.join(pile.folder, "out"))
     got = pile.call("save", "vg0/home", "out", "one", "--resume", "map")
-    tally.holds("a map without its file", got.status == 1 and b"the map says that it was begun, and it isn't there" in got.err, got.err)
+    tally.tells("a map without its file", got, 1, err="the map says that it was begun, and it isn't there")
     os.unlink(os.path.join(pile.folder, "map"))
     halves = text("vg1", "v", 4, "cd", volume("both", "h", linear(0, 5, ("pv0", 3)), linear(5, 5, ("pv1", 3))))
     pile.put("c", disk("c", A, halves))
@@ -809,9 +810,8 @@ def test_saving(tally, pile):
     os.rename(os.path.join(pile.folder, "one"), os.path.join(pile.folder, "table"))
     pile.holds(tally, "an image that is called as a format", "vg0/home", wanted, "./table")
     got = pile.call("save", "vg0/home", "out", "./table", "--extents", "table")
-    tally.holds("a word of the other form", got.status == 2 and b"--extents is for FORMAT FILE" in got.err, got.err)
-    got = pile.call("scan", "nowhere")
-    tally.holds("an image that isn't there", got.status == 1 and b"nowhere: No such file or directory" in got.err, got.err)
+    tally.tells("a word of the other form", got, 2, err="--extents is for FORMAT FILE")
+    tally.tells("an image that isn't there", pile.call("scan", "nowhere"), 1, err="nowhere: No such file or directory")
 
 
 def test_files(tally, pile):
@@ -835,7 +835,7 @@ def test_files(tally, pile):
             read[int(number)] += image.read(int(count) * SECTOR)
     tally.holds("what is read by them", read == {1: HOME, 2: WIDE}, answers.err)
     got = pile.call("tables", "vg-0", "one", "two", "--to", "made")
-    tally.holds("tables that are there", got.status == 1 and b"it is there already: give another folder, or remove it first" in got.err, got.err)
+    tally.tells("tables that are there", got, 1, err="it is there already: give another folder, or remove it first")
     shutil.rmtree(made)
     whole = len(disk("a", A, known))
     bad = (DATA + 5 * EXTENT) * SECTOR
@@ -863,8 +863,7 @@ def test_served(tally, pile):
     if not shutil.which("nbdkit"):
         tally.skip("serving a volume", "there is no nbdkit")
         return
-    got = pile.call("serve", "vg0/nothing", "one")
-    tally.holds("serving nothing", got.status == 1 and b"no such volume" in got.err, got.err)
+    tally.tells("serving nothing", pile.call("serve", "vg0/nothing", "one"), 1, err="no such volume")
     if not shutil.which("nbdcopy") or subprocess.run(["nbdkit", "python", "--version"], capture_output=True).returncode:
         tally.skip("reading from a server", "there is no nbdcopy, or no plugin of nbdkit for Python")
         return
@@ -875,7 +874,8 @@ def test_served(tally, pile):
     server = subprocess.Popen(words, stdout=subprocess.PIPE, cwd=pile.folder)
     uri = server.stdout.readline().decode().strip().strip("'")
     got = pile.call(*words[1:2], *words[4:])
-    tally.holds("a socket on which a server listens", got.status == 1 and b"another server listens there: end it, or give another --socket" in got.err, got.err)
+    tally.tells("a socket on which a server listens", got, 1,
+                err="another server listens there: end it, or give another --socket")
     subprocess.run(["nbdcopy", uri, "out"], cwd=pile.folder, check=False)
     server.terminate()
     status = server.wait(30)
@@ -986,8 +986,7 @@ def test_hostile(tally, pile):
             for _ in range(4):
                 image[dice.randrange(16 * SECTOR)] = dice.randrange(256)
         pile.put("one", bytes(image))
-        got = pile.call("scan", "--json", "one")
-        tally.holds("scanning changed images", got.status == 0 and not got.err, "number %d: status %s, %r" % (number, got.status, got.err[-300:]))
+        tally.tells("scanning changed images %d" % number, pile.call("scan", "--json", "one"), err="")
         got, content = pile.save("vg0/home", "one", "two")
         is_so = got.status in (0, 1) and (content is not None) == (got.status == 0) and (number % 2 or content in (None, HOME))
         tally.holds("saving from changed images", is_so, "number %d: status %s, %r" % (number, got.status, got.err[-300:]))

@@ -193,7 +193,7 @@ def test_ladder(tally, pile):
     steps = [mirror("%s%d" % (name, number), *(["x%d" % (number - 1), "y%d" % (number - 1)] if number else ["pv0"])) for number in range(30) for name in "xy"]
     pile.put("disk", disk("a", A, text("vg0", "g", 4, "a", *steps)))
     got = asked(pile, "disk %d 1\n" % DATA)
-    tally.holds("too many ways up", got.status == 1 and b"sector %d: too many ways lead up from there" % DATA in got.err, got.err)
+    tally.tells("too many ways up", got, 1, err=b"sector %d: too many ways lead up from there" % DATA)
 
 
 def test_layers(tally, pile):

@@ -40,7 +40,7 @@ def drawn(tally, program, top, words, given):
         return "", None
     path = os.path.join(program.folder, "plot.svg") if words[0] == "report" else program.file("drawn.svg", got.out)
     made = run(["rsvg-convert", "-f", "png", path])
-    tally.holds("drawing " + " ".join(words), made.status == 0 and made.err == b"", made.err)
+    tally.tells("drawing " + " ".join(words), made, err="")
     text = picture_in(path)
     tree.fromstring(text)
     return text, Pixels(made.out)

@@ -51,7 +51,8 @@ def test_copies(tally, pile):
         tally.holds("a mirror of two halves with gaps, %s" % order, got.status == 0 and saved == HOME, "status %s, %r" % (got.status, got.err))
         tally.same("what it lost", pile.call("lost", "vg0/home", *order, *words), 0, "0 sectors lost of 40\n")
         got = pile.call("tables", "vg0", *order, "--to", "out.made", *words)
-        tally.holds("tables of it", got.status == 1 and b"no copy of md:array is whole, and no table can say which is read: use `save` or `serve`" in got.err, got.err)
+        tally.tells("tables of it", got, 1,
+                    err="no copy of md:array is whole, and no table can say which is read: use `save` or `serve`")
         got = pile.call("tables", "vg0", *order, "--to", "out.made", *words[:2])
         with open(os.path.join(pile.folder, "out.made", "PATHS"), encoding="utf-8") as listed:
             tally.holds("tables of it, of which a half is whole", got.status == 0 and listed.read().endswith("/m1\n"), "%s, %r" % (got.status, got.err))
@@ -81,7 +82,7 @@ def test_gaps(tally, pile):
     tally.same("what it lost", pile.call("lost", "vg0/home", "one", *words), 0, "3 sectors: no file system\n3 sectors lost of 40\n")
     tally.same("what it lost without a map", pile.call("lost", "vg0/home", "one"), 0, "0 sectors lost of 40; no map was given: only sectors that the images lack\n")
     got = pile.call("tables", "vg0", "one", "--to", "out.made", *words)
-    tally.holds("tables of it", got.status == 0 and b"home: one lacks its bytes" in got.err, got.err)
+    tally.tells("tables of it", got, err="home: one lacks its bytes")
     found, said = models.served(pile, "vg0/home", "one", lambda plugin: [models.taken(plugin, at * SECTOR, SECTOR) for at in (6, 7, 9, 10)], [("map", words[1])])
     tally.holds("a server of it", found == [HOME[6 * SECTOR:7 * SECTOR], None, None, HOME[10 * SECTOR:11 * SECTOR]], said)
     os.link(os.path.join(pile.folder, "one"), os.path.join(pile.folder, "again"))
@@ -110,7 +111,7 @@ def test_lengths(tally, pile):
             tally.same("a map %s that is meant" % name, got, 0, ("%d sectors: no file system\n" % lost) * bool(lost) + "%d sectors lost of 40\n" % lost)
         else:
             # The label wasn't read either.
-            tally.holds("a map %s that is meant" % name, got.status == 1 and b"no group is called vg0" in got.err, got.err)
+            tally.tells("a map %s that is meant" % name, got, 1, err="no group is called vg0")
 
 
 def test_rows(tally, pile):
@@ -140,7 +141,7 @@ def test_owners(tally, pile):
     # The list of the store wasn't read: nobody knows which chunks it has.
     words = put(pile, "one", bytes(content), (store // SECTOR + 4, 4), (at, 1))
     got = tool_calls.call(pile.top, ["owner", "--program", pile.program.path, "one", *words], folder=pile.folder)
-    tally.holds("who has it if the store's list wasn't read", got.status == 0 and b"unknown: whether vg0/snap has it: " in got.out, "%r, %r" % (got.out, got.err))
+    tally.tells("who has it if the store's list wasn't read", got, out="unknown: whether vg0/snap has it: ")
     pile.refuses(tally, "such a snapshot", "vg0/snap", "one lacks its bytes", "one", more=words)
 
 
@@ -160,7 +161,8 @@ def test_tables(tally, pile):
     tally.same("a volume beside the gap", pile.call("save", "w", "out", *words), 0)
     os.unlink(os.path.join(pile.folder, "out"))
     got = pile.call("save", "s", "out", *words)
-    tally.holds("a store on it", got.status == 1 and b"sda: a store lies on it, which dmremap reads without its map: give GROUP/VOLUME and images" in got.err, got.err)
+    tally.tells("a store on it", got, 1,
+                err="sda: a store lies on it, which dmremap reads without its map: give GROUP/VOLUME and images")
 
 
 def test_sources(tally, pile):
@@ -185,7 +187,8 @@ def test_sources(tally, pile):
     tally.same("an image", pile.call("save", "one", "out", "one", "--resume", "out.map"), 0)
     os.rename(os.path.join(pile.folder, "two"), os.path.join(pile.folder, "one"))
     got = pile.call("save", "one", "out", "one", "--resume", "out.map")
-    tally.holds("another image of that name", got.status == 1 and b"it is the map of one of 40 sectors, from other images, and this is one of 40" in got.err, got.err)
+    tally.tells("another image of that name", got, 1,
+                err="it is the map of one of 40 sectors, from other images, and this is one of 40")
 
 
 @contextlib.contextmanager

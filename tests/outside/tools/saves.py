@@ -313,7 +313,7 @@ def test_refusals(tally, program, top):
     program.file("save/path", "a %s\n" % packed)
     program.file("save/table", TABLE.replace("error", "zero"))
     got = tool_calls.call(top, ["save", "--program", program.path, "--paths", disks.target("path"), "v", disks.target("new"), *disks.source])
-    tally.holds("an image that is compressed", got.status == 1 and b"packed: it is compressed (xz): unpack it; or give --resume" in got.err, "status %s, %r" % (got.status, got.err))
+    tally.tells("an image that is compressed", got, 1, err="packed: it is compressed (xz): unpack it; or give --resume")
     listed = program.file("save/path", "a x\n/dev/b y\n")
     got = tool_calls.call(top, ["save", "--program", program.path, "--paths", listed, "v", disks.target("new"), *disks.source])
     tally.same("a path of no disk", got, 1, "", said % "%s: no disk is called /dev/b: give a name that the tables have" % listed)

@@ -213,7 +213,7 @@ def test_elsewhere(case):
     case.tally.same("a store of zeros elsewhere", got, 1, "refused\n", TOOL + " elsewhere: concise:1: the store of s1 lies on e, and would read as one that has "
                     "nothing in it: give --missing error\n")
     got = call(case.top, ["elsewhere", "--paths", "some", "--missing", "error", "concise"], folder=case.folder)
-    case.tally.holds("a store that fails elsewhere", got.status == 0 and b"missing0,,,ro,0 144 error;" in got.out, "%s, %r" % (got.status, got.err))
+    case.tally.tells("a store that fails elsewhere", got, out="missing0,,,ro,0 144 error;")
     case.put("some", "e /e\n")
     got = call(case.top, ["elsewhere", "--paths", "some", "--missing", "zero", "concise"], folder=case.folder)
     case.tally.holds("an origin of zeros elsewhere", got.status == 0, "%s, %r" % (got.status, got.err))

@@ -151,7 +151,7 @@ def test_costs(tally, program, top):
     path = program.file("costs/pieces", "".join(f"{it} R a {3 * it} 1\n" for it in range(1, rows + 1)))
     lower = program.file("costs/lower", "".join(f"R a {3 * it} 1\n" for it in range(1, rows + 1)))
     got = call(top, ["report", "--compare", lower, path], memory=SMALL)
-    tally.holds("a long trace that is equal", got.status == 0 and f"total a R {rows} {rows} ".encode() in got.out, "status %s, %r" % (got.status, got.err))
+    tally.tells("a long trace that is equal", got, out=f"total a R {rows} {rows} ")
 
 
 DD_TABLE = ("v: 0 3 linear it's 2\nv: 3 4 zero\nv: 7 3 error\nw: 0 8 linear a 3\nw: 8 8 linear it's 0\nw: 16 4 linear a 11\n")

@@ -477,8 +477,7 @@ def test_words(tally, top):
         is_so = (got.status, got.out) == (2, b"refused\n" * (words[0] == "cut")) and got.err.decode().endswith("\n%s %s: %s\n" % (TOOL, words[0], reason))
         tally.holds(" ".join(words), is_so, "%s, %r, %r" % (got.status, got.out, got.err))
     tally.same("two files from one input", call(top, ["report", "--times", "-", "-"]), 2, "", TOOL + " report: standard input can't be two files: give the path of one\n")
-    got = run(tool(top) + ["--help"])
-    tally.holds("--help", got.status == 0 and b"\nanswers:\n" in got.out and got.err == b"", "%s, %r" % (got.status, got.err))
+    tally.tells("--help", run(tool(top) + ["--help"]), out="\nanswers:\n", err="")
 
 
 class ToolStreams(Case):

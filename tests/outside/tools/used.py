@@ -215,8 +215,7 @@ def test_words(case):
     for words, why in ((["--fresh", "s", "s", "table", "table", "disks"], "argument FORMAT: invalid choice: 's'"), (["--store", "s=image", "s", "table", "table", "disks"],
                         "argument FORMAT: invalid choice: 's'")):
         got = call(case.top, ["extents", *words], folder=case.folder)
-        is_so = got.status == 2 and got.out == b"" and "%s extents: %s" % (TOOL, why) in got.err.decode()
-        case.tally.holds("used: the words " + " ".join(words), is_so, "%s, %r" % (got.status, got.err))
+        case.tally.tells("used: the words " + " ".join(words), got, 2, "", "%s extents: %s" % (TOOL, why))
     piped = ["bash", "-c", '"$@" s table <(cat table) <(cat disks)', "bash", os.path.join(case.top, TOOL), "extents", "--program", case.program.path, *PATHS]
     case.tally.same("used: over pipes", run(piped, folder=case.folder), 0, USED, TOLD)
     dies = case.program.file("used/dies", '#!/bin/sh\ncase "$*" in *--status) kill -9 $$;; esac\nexec %s "$@"\n' % case.program.path)
