@@ -6,7 +6,7 @@ import os
 import physical_volumes
 import tool_calls
 from harness import Case
-from physical_volumes import SECTOR, dashed, md_end_member, md_member, md_old_member, one_volume
+from physical_volumes import SECTOR, damaged, dashed, md_end_member, md_member, md_old_member, one_volume, patched
 from tool_calls import TOOL, read
 
 # The physical volumes of the group here, of which the first has the only volume.
@@ -14,9 +14,8 @@ NAME, OTHER, IDENTITY = "/dev/sda1", "/dev/sdb1", b"theonly".ljust(32, b"x")
 BEGIN, COUNT = 128, 8
 TEXT = one_volume(*(("pv%d" % number, name, 256, BEGIN, dashed(it.ljust(32, "x"))) for number, (name, it) in enumerate(((NAME, "theonly"), (OTHER, "theother")))))
 CONTENT = b"".join((b"sector %d\n" % number * 512)[:512] for number in range(COUNT))
-VOLUME = bytearray(physical_volumes.volume((4096, physical_volumes.area(b"x {\n}\n\0")), length=1 << 17, identity=IDENTITY, size=1 << 17))
-VOLUME[BEGIN * SECTOR:(BEGIN + COUNT) * SECTOR] = CONTENT
-VOLUME = bytes(VOLUME)
+VOLUME = patched(physical_volumes.volume((4096, physical_volumes.area(b"x {\n}\n\0")), length=1 << 17,
+                                         identity=IDENTITY, size=1 << 17), (BEGIN * SECTOR, CONTENT))
 PARTS = "a member of an md array that isn't raid1, so that no member has all of a physical volume: give the images of all members to " \
         "`save GROUP/VOLUME OUT IMAGE..`, which puts it together"
 CHANGING = "a member of an md array that is a spare, or is being filled or reshaped, so that it doesn't have the array's bytes: take another member"
@@ -85,20 +84,16 @@ class ArrayMembers(Case):
     def check_damaged(self):
         """A superblock that isn't sound says nothing: a label at the beginning does, if the volume has no more than is here."""
         for version, made, start in VERSIONS:
-            member = made(VOLUME, level=1)
             at = {"0.90": 1 << 17, "1.0": (1 << 17) + 4096, "1.1": 0, "1.2": 4096}[version]
-            changed = bytearray(member)
-            changed[at + (28 if version == "0.90" else 72)] ^= 4
+            changed = damaged(made(VOLUME, level=1), at + (28 if version == "0.90" else 72))
             wanted = "a: " + DAMAGED % at if start else None
-            self.found("a member whose superblock is damaged, version " + version, wanted, ("a", bytes(changed)))
+            self.found("a member whose superblock is damaged, version " + version, wanted, ("a", changed))
         for version, made, start, at, other in (("1.0", *VERSIONS[1][1:], (1 << 17) + 4096, (8, 16)), ("1.2", *VERSIONS[3][1:], 4096, (0, 2048))):
-            moved = bytearray(made(VOLUME, level=1))
-            moved[at:at + 264] = physical_volumes.md_superblock(other[0], 1, other[1], 16)
+            moved = patched(made(VOLUME, level=1), (at, physical_volumes.md_superblock(other[0], 1, other[1], 16)))
             wanted = "a: " + DAMAGED % at if start else None
-            self.found("a member whose superblock says another place, version " + version, wanted, ("a", bytes(moved)))
-        stale = bytearray(VOLUME.ljust(1 << 18, b"\0"))
-        stale[4096:4096 + 264] = physical_volumes.md_superblock(8, 5, 300, 100)
-        self.found("a volume on what was a member", None, ("a", bytes(stale)))
+            self.found("a member whose superblock says another place, version " + version, wanted, ("a", moved))
+        stale = patched(VOLUME.ljust(1 << 18, b"\0"), (4096, physical_volumes.md_superblock(8, 5, 300, 100)))
+        self.found("a volume on what was a member", None, ("a", stale))
 
     def test_halves(self):
         """Of two halves of an array that differ in their counts, the older is refused by name; halves of other arrays don't matter."""

@@ -2,6 +2,7 @@
 
 import models
 import tool_calls
+from physical_volumes import damaged
 
 
 def good(command, words, inputs, output, message=""):
@@ -26,10 +27,6 @@ def pool(blocks=1000, **held):
     parts = [models.pool_superblock(128, blocks, **held), models.node(1, [(1, 3), (2, 4)]), models.node(2, []), models.node(3, FIRST), models.node(4, SECOND),
              models.pool_superblock(128, blocks, number=5, root=6), models.node(6, [(1, 4), (2, 3)])]
     return b"".join(parts)
-
-
-def damaged(content, at):
-    return content[:at] + bytes([content[at] ^ 1]) + content[at + 1:]
 
 
 def thin(words, output, metadata=None):

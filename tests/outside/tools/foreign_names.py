@@ -48,7 +48,7 @@ def calls(pile, images, name):
         yield pile.call("lost", asked, *images)
         yield pile.call("save", asked, "out", *images)
         if os.path.exists(os.path.join(pile.folder, "out")):
-            os.unlink(os.path.join(pile.folder, "out"))
+            pile.remove("out")
     yield pile.call("tables", "vg0", *images, "--to", "made")
     shutil.rmtree(os.path.join(pile.folder, "made"), ignore_errors=True)
     for words in [], ["--list"]:
@@ -62,10 +62,7 @@ def test_fields(tally, pile):
     for where, images in FIELDS:
         lines = {}
         for name in [PLAIN, *ODD]:
-            for old in pile.images():
-                os.unlink(os.path.join(pile.folder, old))
-            for path, content in images(name).items():
-                pile.put(path, content)
+            pile.hold(images(name))
             for number, got in enumerate(calls(pile, pile.images(), name)):
                 said = (got.out + got.err).decode("utf-8", "surrogateescape")
                 odd = [letter for letter in said if letter != "\n" and not letter.isprintable()]
@@ -86,11 +83,7 @@ def test_paths(tally, pile):
     image[store:store + 16] = b"SnAp" + (1).to_bytes(4, "little") * 2 + (4).to_bytes(4, "little")
     image[store + 2048:store + 4096] = (1).to_bytes(8, "little") + (2).to_bytes(8, "little") + bytes(2032)
     for name in ["image", "image?offset=0", "image?offset=512", "image?offset=0?offset=0", "two\nlines", os.fsdecode(b"\xff"), "sp ace ", "?offset=0"]:
-        for old in pile.images():
-            os.unlink(os.path.join(pile.folder, old))
-        pile.put("image", bytes(len(image)))
-        pile.put("image?offset=0", bytes(len(image)))
-        pile.put(name, image)
+        pile.hold({"image": bytes(len(image)), "image?offset=0": bytes(len(image)), name: image})
         got = pile.call("tables", "vg0", name, "--to", "made")
         made = os.path.join(pile.folder, "made")
         is_said = "\n" not in name and "\udcff" not in name

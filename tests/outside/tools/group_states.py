@@ -105,7 +105,7 @@ def test_ways(tally, pile):
     pile.put("two", disk("a", A, older))
     for order in (("one", "two"), ("two", "one")):
         pile.refuses(tally, "two copies of a disk", "vg0/home", "one and two both are the physical volume %s: give one of them (one has the newest text, with the seqno 4)" % dashed("a"), *order)
-    os.unlink(os.path.join(pile.folder, "two"))
+    pile.remove("two")
 
 
 def test_unlabelled(tally, pile):
@@ -129,10 +129,7 @@ def test_unlabelled(tally, pile):
             ("of a longer disk", {"one": damaged(sound[:-SECTOR], (LABEL + 40, 1))}, "one: the label in sector 1 has a wrong sum: `metadata` prints"),
             ("beside a copy of it", {"one": damaged(sound, (LABEL + 40, 1)), "two": sound}, "one and two both are the physical volume"),
             ("that is a copy of one of two disks", {"one": disk("a", A, two), "two": other, "three": damaged(disk("a", A, two), (LABEL + 40, 1))}, "three is of this group, too")):
-        for image in pile.images():
-            os.unlink(os.path.join(pile.folder, image))
-        for image, content in images.items():
-            pile.put(image, content)
+        pile.hold(images)
         pile.refuses(tally, "a disk without a label, " + name, "vg0/home", why)
 
 

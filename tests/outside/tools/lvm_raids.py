@@ -114,8 +114,7 @@ def test_missing(tally, pile):
                 why, is_given = device.lack(0, len(raid.content)), may_lack({leg for leg in gone if leg < raid.count})
                 is_right = why is None and device.read(0, len(raid.content)) == raid.content if is_given else why is not None
                 tally.holds("%s of %d without legs %s" % (raid.name, raid.count, sorted(gone)), is_right, why)
-        for image in images:
-            os.unlink(os.path.join(pile.folder, image))
+        pile.remove(*images)
 
 
 FAILED, RECOVERED = {"failed": 2}, {"recovered": 24}
@@ -143,8 +142,7 @@ def test_states(tally, pile):
         for order in (images, images[::-1]):
             got = read(pile, "home", order)
             tally.holds(name, got == wants if isinstance(wants, bytes) else isinstance(got, str) and wants in got, got[:200])
-        for image in pile.images():
-            os.unlink(os.path.join(pile.folder, image))
+        pile.remove(*pile.images())
 
     both, fresh = [wanted, wanted], [wanted, older]
     mirror("a mirror", wanted, both, {})
@@ -225,8 +223,7 @@ def test_owners(tally, pile):
         rows = got.out.decode().splitlines()
         odd = [(row, want) for row, want in zip(rows, wanted) if not row.endswith(want)]
         tally.holds("who has the sectors of raids", got.status == 0 and len(rows) == len(wanted) and not odd, f"{got.status}, {len(rows)} of {len(wanted)}, {odd[:3]}, {got.err[-200:]!r}")
-        for image in images:
-            os.unlink(os.path.join(pile.folder, image))
+        pile.remove(*images)
 
 
 def test_damaged(tally, pile):

@@ -8,7 +8,8 @@ import os
 import images
 import tool_calls
 from harness import FULL_OUTPUT, NOBODY, Case, run
-from physical_volumes import FIRST, MAGIC, SECTOR, area, gpt, label, mbr, md_member, text_of_area, volume, with_backup
+from physical_volumes import (FIRST, MAGIC, SECTOR, area, gpt, label, mbr, md_member, patched, text_of_area, volume,
+                              with_backup)
 from tool_calls import read
 
 # Where the sample has the text of a group that was removed, and where the valid one, which goes round the ring.
@@ -259,10 +260,7 @@ def test_disks(command):
 
 def disk_of(head, *parts):
     """The image of a disk: its first sectors, and parts from other sectors on."""
-    disk = bytearray(head.ljust(max(at * SECTOR + len(content) for at, content in parts), b"\0"))
-    for at, content in parts:
-        disk[at * SECTOR:at * SECTOR + len(content)] = content
-    return bytes(disk)
+    return patched(head.ljust(max(at * SECTOR + len(it) for at, it in parts), b"\0"), *parts, unit=SECTOR)
 
 
 MBR_DISK = disk_of(mbr((0x83, 64, 8), (0x8E, 128, 256)), (128, ONE_AREA))

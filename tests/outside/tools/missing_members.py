@@ -1,28 +1,21 @@
 """What `save` gives of arrays and of raid volumes of LVM, of which members are missing, were dropped or have bad sectors."""
 
 import itertools
-import os
 
 import models
 from models import EXTENT, HIDDEN, SECTOR, content_of, disk, leg_bitmap, leg_superblock, linear, member, pile, segment, text, volume
+from physical_volumes import patched
 from plain_comparison import changed
 from plain_model import parity_legs
 
 DROPPED, CHUNK = 0xFFFE, 8
 
 
-def put_all(pile, images):
-    for name in pile.images():
-        os.unlink(os.path.join(pile.folder, name))
-    for name, image in images.items():
-        pile.put(name, image)
-
-
 def test_pairs(tally, pile):
     """raid6 without each pair of its members, and without three of them."""
     data = content_of("raid6", 3 * 5 * CHUNK)
     legs = parity_legs(data, 6, 2, 5, CHUNK)
-    put_all(pile, {"m%d" % role: member(leg, 6, role, range(5), 7, layout=2, size=5 * CHUNK) for role, leg in enumerate(legs)})
+    pile.hold({"m%d" % role: member(leg, 6, role, range(5), 7, layout=2, size=5 * CHUNK) for role, leg in enumerate(legs)})
     for pair in itertools.combinations(range(5), 2):
         others = ["m%d" % role for role in range(5) if role not in pair]
         pile.holds(tally, "raid6 without the members %d and %d" % pair, "md:array", data, *others)
@@ -38,7 +31,7 @@ def test_dropped(tally, pile):
                                          ("dropped, one event behind", other, 6, (0, DROPPED, 2))):
         images = {"m%d" % role: member(legs[role], 5, role, roles, 7, layout=2, size=3 * CHUNK) for role in (0, 2)}
         # Its own superblock doesn't know that it was dropped.
-        put_all(pile, {**images, "m1": member(content, 5, 1, (0, 1, 2), events, layout=2, size=3 * CHUNK)})
+        pile.hold({**images, "m1": member(content, 5, 1, (0, 1, 2), events, layout=2, size=3 * CHUNK)})
         pile.holds(tally, "raid5 with a member " + name, "md:array", data)
         if content is other:
             pile.refuses(tally, "raid5 with a member %s, and without another" % name, "md:array", "is missing", "m0", "m1")
@@ -51,7 +44,7 @@ def test_bad(tally, pile):
     data = content_of("mirror", 64)
     for shift, logged, runs in ((0, [(70, 3)], [(6, 9)]), (3, [(9, 2)], [(8, 24)])):
         legs = [member(changed(data, runs), 1, 0, (0, 1), 7, bad=logged, shift=shift), member(data, 1, 1, (0, 1), 7)]
-        put_all(pile, {"m%d" % role: leg for role, leg in enumerate(legs)})
+        pile.hold({"m%d" % role: leg for role, leg in enumerate(legs)})
         name = "bad sectors in units of %d" % (1 << shift)
         pile.holds(tally, "a mirror with " + name, "md:array", data)
         pile.refuses(tally, "the half with " + name, "md:array", "as its log of bad blocks says", "m0")
@@ -63,7 +56,7 @@ def test_bad(tally, pile):
             pile.put("m%d" % role, member(leg, level, role, range(len(legs)), 7, layout=layout, size=size, **bad))
         pile.holds(tally, "raid%d, of which a member has bad sectors" % level, "md:array", data)
     for version, tail_sectors in ((0, 3), (0, 7), (1, 0)):
-        put_all(pile, {"m1": member(data, 1, 1, (0, 1), 7, version=version, tail_sectors=tail_sectors)})
+        pile.hold({"m1": member(data, 1, 1, (0, 1), 7, version=version, tail_sectors=tail_sectors)})
         pile.holds(tally, "metadata 1.%d with %d sectors more" % (version, tail_sectors), "md:array", data)
 
 
@@ -87,7 +80,7 @@ def test_volumes(tally, pile):
             meta = head + leg_bitmap(length, region, () if is_out else dirty)
             content = meta.ljust(2 * EXTENT * SECTOR, b"\0") + (content_of("older", length) if is_out else leg)
             images["leg%d" % role] = disk("abc"[role], content.ljust(64 * EXTENT * SECTOR, b"\0"), known)
-        put_all(pile, images)
+        pile.hold(images)
     put()
     pile.holds(tally, "raid5 of LVM", "vg0/home", data)
     for role in range(3):
@@ -117,14 +110,11 @@ def test_trees(tally, pile):
     leaves = models.node(4, [(0, 1 << 24), (2, 0)]) + models.node(5, [(85, 2 << 24)])
     tree = models.node(3, [(0, 4), (85, 5)], is_leaf=False) + leaves
     meta = models.pool_superblock(chunk) + models.node(1, [(1, 3)]) + models.node(2, []) + tree
-    data = bytearray(content)
-    data[:len(meta)] = meta
     pool = segment(0, 144, "thin-pool", 'metadata = "meta"', 'pool = "data"', "transaction_id = 1", "chunk_size = %d" % chunk)
     thin = segment(0, 5000, "thin", 'thin_pool = "pool"', "transaction_id = 0", "device_id = 1")
     known = text("vg0", "g", 9, "a", volume("pool", "p", pool), volume("meta", "m", linear(0, 6, ("pv0", 0)), status=HIDDEN),
                  volume("data", "d", linear(0, 144, ("pv0", 10)), status=HIDDEN), volume("home", "h", thin), extents=extents)
-    wanted = bytearray(5000 * EXTENT * SECTOR)
-    for key, number in ((0, 1), (2, 0), (85, 2)):
-        wanted[key * chunk * SECTOR:(key + 1) * chunk * SECTOR] = blocks[number]
-    put_all(pile, {"disk": disk("a", bytes(data), known)})
-    pile.holds(tally, "a thin volume by a tree of two levels", "vg0/home", bytes(wanted))
+    held = [(key, blocks[number]) for key, number in ((0, 1), (2, 0), (85, 2))]
+    pile.hold({"disk": disk("a", patched(content, (0, meta)), known)})
+    wanted = patched(5000 * EXTENT * SECTOR, *held, unit=chunk * SECTOR)
+    pile.holds(tally, "a thin volume by a tree of two levels", "vg0/home", wanted)

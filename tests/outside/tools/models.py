@@ -19,7 +19,7 @@ import types
 import physical_volumes
 import tool_calls
 import used
-from physical_volumes import section
+from physical_volumes import damaged, patched, section
 from plain_model import parity_legs
 
 SECTOR = 512
@@ -38,6 +38,16 @@ class Pile:
     def put(self, name, content):
         with open(os.path.join(self.folder, name), "wb") as image:
             image.write(content)
+
+    def remove(self, *names):
+        for name in names:
+            os.unlink(os.path.join(self.folder, name))
+
+    def hold(self, images):
+        """Has these images, by their names, and no others."""
+        self.remove(*self.images())
+        for name, content in images.items():
+            self.put(name, content)
 
     def read(self, name):
         return tool_calls.read(os.path.join(self.folder, name))
@@ -181,7 +191,7 @@ def test_groups(tally, pile):
     tally.holds("a group without a disk", group.get("state") == "missing" and all(row["why"] for row in group["volumes"]), found)
     pile.refuses(tally, "a volume on a missing disk", "vg0/home", "the physical volume %s isn't in these images" % dashed("b"), "one")
     got, saved = pile.save("vg0/home", "one", more=["--resume", "out.map"])
-    os.unlink(os.path.join(pile.folder, "out.map"))
+    pile.remove("out.map")
     tally.holds("the rest of one, with a map", got.status == 4 and saved == extents_of(A, 3, 5) + bytes(2 * EXTENT * SECTOR), "status %s, %r" % (got.status, got.err))
     pile.put("two", disk("b", B, known)[:(DATA + EXTENT) * SECTOR + 100])
     found = pile.scan()
@@ -241,9 +251,8 @@ def store(origin_sectors, pairs, is_valid=1):
 def test_layers(tally, pile):
     """Snapshots, one that is invalid, one that is being merged; pvmove in progress; mirrors; what isn't followed."""
     new = [(number, content_of("new %d" % number, CHUNK)) for number in (7, 0, 19)]
-    data = bytearray(A)
-    for place, content in ((20, store(40, new)), (30, store(40, new, 0)), (40, store(40, new[:2]))):
-        data[place * EXTENT * SECTOR:place * EXTENT * SECTOR + len(content)] = content
+    stores = (20, store(40, new)), (30, store(40, new, 0)), (40, store(40, new[:2]))
+    data = patched(A, *stores, unit=EXTENT * SECTOR)
     def record(number, origin, of, key="cow_store"):
         return volume("snapshot%d" % number, str(number), segment(0, 5, "snapshot", "chunk_size = %d" % CHUNK, 'origin = "%s"' % origin, '%s = "%s"' % (key, of)),
                       status='"READ", "WRITE", "VISIBLE"' if key == "cow_store" else HIDDEN)
@@ -261,12 +270,7 @@ def test_layers(tally, pile):
     tally.holds("the volumes with layers", sorted(rows) == ["back", "full", "home", "moving", "odd", "old"], sorted(rows))
     told = {name: (row["kind"], row["state"], row["origin"], row["chunks_used"]) for name, row in rows.items()}
     tally.holds("what is told of snapshots", (told.get("old"), told.get("full")) == (("snapshot", "whole", "home", 3), ("snapshot", "invalid", "home", None)), told)
-
-    def over(base, pairs):
-        made = bytearray(base)
-        for old, content in pairs:
-            made[old * CHUNK * SECTOR:(old + 1) * CHUNK * SECTOR] = content
-        return bytes(made)
+    over = lambda base, pairs: patched(base, *pairs, unit=CHUNK * SECTOR)
     pile.holds(tally, "an origin", "vg0/home", extents_of(data, 0, 5))
     pile.holds(tally, "a snapshot", "vg0/old", over(extents_of(data, 0, 5), new))
     pile.holds(tally, "an origin that is being merged into", "vg0/back", over(extents_of(data, 10, 5), new[:2]))
@@ -323,11 +327,11 @@ def test_stores(tally, pile):
             pile.holds(tally, "a store of %d chunks on a disk that is cut" % count, "vg0/old", wanted, "cut", "two")
         else:
             pile.refuses(tally, "a store of %d chunks on a disk that is cut" % count, "vg0/old", "cut ends at byte", "cut", "two")
-        os.unlink(os.path.join(pile.folder, "cut"))
+        pile.remove("cut")
     one, wanted = made(20, 2)
     pile.put("cut", one[:start + 3 * SECTOR])
     pile.refuses(tally, "a store whose chunks are cut", "vg0/old", "cut ends at byte", "cut", "two")
-    os.unlink(os.path.join(pile.folder, "cut"))
+    pile.remove("cut")
     for name, why, head in (("no header", "neither as a store nor with zeros", {"magic": 7}), ("another version", "it isn't of version 1", {"version": 2}),
                             ("other chunks", "its chunks have another length", {"said": 2}), ("another order", "in another order", {"pairs": [(1, 3)]}),
                             ("a chunk past the end", "past the end", {"pairs": [(80, 2)]}), ("a chunk twice", "a chunk twice", {"pairs": [(1, 2), (1, 3)]}),
@@ -360,9 +364,7 @@ def test_stores(tally, pile):
 
 def test_levels(tally, pile):
     """Volumes on each other in many levels, as lines of tables and as mirrors, beside one that lies on a disk."""
-    data = bytearray(A)
-    for number in range(2):
-        data[number * EXTENT * SECTOR:number * EXTENT * SECTOR + 4096] = leg_superblock(number)
+    data = patched(A, *enumerate(map(leg_superblock, range(2))), unit=EXTENT * SECTOR)
     for kind, count, is_given in (("linear", 20, True), ("linear", 150, False), ("raid1", 20, True), ("raid1", 200, False)):
         lower = ["level%d" % number for number in range(1, count)] + ["lowest"]
         levels = [linear(0, 1, (name, 0)) if kind == "linear" else segment(0, 1, kind, "device_count = 2", 'raids = ["meta0", "%s", "meta1", "%s"]' % (name, name))
@@ -421,9 +423,7 @@ def test_legs(tally, pile):
     """A mirror of LVM over dm-integrity, whose journal has newer blocks; damaged journals and superblocks."""
     held = [(3, content_of("held", 1)), (17, content_of("kept", 1))]
     data = extents_of(A, 0, 5)
-    wanted = bytearray(data)
-    for number, content in held:
-        wanted[number * SECTOR:(number + 1) * SECTOR] = content
+    wanted = patched(data, *held, unit=SECTOR)
     def leg(number):
         return [volume("image%d" % number, "ij"[number], segment(0, 5, "integrity", 'origin = "data%d"' % number, 'meta_dev = "tags%d"' % number, 'mode = "J"',
                                                                  "tag_size = %d" % TAG, "block_size = 512", 'internal_hash = "crc32c"'), status=HIDDEN),
@@ -434,27 +434,25 @@ def test_legs(tally, pile):
     known = text("vg0", "g", 9, "ab", mirror, *leg(0), *leg(1))
     size = EXTENT * SECTOR
     def legged(number, change=None, superblock=None, base=A):
-        content = bytearray(base)
-        for place, part in ((0, data), (10, journal(held)), (20, leg_superblock(number) if superblock is None else superblock)):
-            content[place * size:place * size + len(part)] = part
-        if change is not None:
-            content[10 * size + change] ^= 1
-        pile.put("leg%d" % number, disk("ab"[number], bytes(content), known))
+        head = leg_superblock(number) if superblock is None else superblock
+        content = patched(base, (0, data), (10, journal(held)), (20, head), unit=size)
+        content = content if change is None else damaged(content, 10 * size + change)
+        pile.put("leg%d" % number, disk("ab"[number], content, known))
     block = 4096 + (SECTION + 9) * SECTOR
     legged(0)
     legged(1)
-    pile.holds(tally, "a mirror over a journal", "vg0/home", bytes(wanted))
+    pile.holds(tally, "a mirror over a journal", "vg0/home", wanted)
     for name, change, why in (("a block of a journal", block + 5, "of sector 17 is damaged"), ("a commit of a journal", block + 510, "section 1 of its journal is damaged"),
                               ("the counts of a journal", 10, "other sizes than the text")):
         legged(0, change)
         legged(1)
-        pile.holds(tally, name + " damaged on a leg", "vg0/home", bytes(wanted))
+        pile.holds(tally, name + " damaged on a leg", "vg0/home", wanted)
         legged(1, change)
         pile.refuses(tally, name + " damaged on both", "vg0/home", why)
     legged(0)
     legged(1, superblock=bytes(4096))
     pile.refuses(tally, "a leg whose superblock is gone", "vg0/home", "leave its disk out to take the other one")
-    pile.holds(tally, "the other leg", "vg0/home", bytes(wanted), "leg0")
+    pile.holds(tally, "the other leg", "vg0/home", wanted, "leg0")
 
 
 def member(data, level, number, roles, events, layout=0, chunk=8, size=64, disks=None, version=2, resync=CLEAN, name=b"array",
@@ -496,8 +494,7 @@ def test_arrays(tally, pile):
         pile.put("map%d" % number, b"0x0 ?\n0x0 0x%x +\n0x%x 0x200 -\n0x%x 0x%x +\n" % (at, at, at + SECTOR, 0x10000 - at - SECTOR))
     got = pile.call("lost", "md:array", "m0", "m1", "m2", "--map", "m0=map0", "--map", "m1=map1")
     tally.same("sectors that two members lack in one row", got, 0, "0 sectors lost of 128\n")
-    for name in ("map0", "map1"):
-        os.unlink(os.path.join(pile.folder, name))
+    pile.remove("map0", "map1")
     pile.put("m1", member(b"\xff" * len(legs[1]), 5, 1, (0, 1, 2), 3, layout=2))
     found = pile.scan()
     row = found["arrays"][0] if found["arrays"] else {}
@@ -506,8 +503,7 @@ def test_arrays(tally, pile):
     pile.put("m0", member(legs[0], 5, 0, (0, 1, 2), 7, layout=2, resync=0))
     pile.put("m2", member(legs[2], 5, 2, (0, 1, 2), 7, layout=2, resync=0))
     pile.refuses(tally, "raid5 with a member missing that wasn't shut down", "md:array", "wasn't shut down cleanly", "m0", "m2")
-    for name in ("m0", "m1", "m2"):
-        os.unlink(os.path.join(pile.folder, name))
+    pile.remove("m0", "m1", "m2")
     lone = text("vg0", "g", 4, "a", volume("home", "h", linear(0, 5, ("pv0", 3))))
     inside = disk("a", A, lone)
     count = len(inside) // SECTOR
@@ -516,16 +512,14 @@ def test_arrays(tally, pile):
     found = pile.scan()
     tally.holds("a group on a mirror whose superblocks are at the end", len(found["groups"]) == 1 and found["groups"][0]["images"] == ["md:array"], found)
     pile.holds(tally, "a volume on a mirror", "vg0/home", extents_of(A, 3, 5), "end1")
-    for number in range(2):
-        os.unlink(os.path.join(pile.folder, "end%d" % number))
+    pile.remove(*("end%d" % number for number in range(2)))
     halves = [content_of("zone %d" % number, 24 + 16 * number) for number in range(2)]
     copies = [content_of("copy %d" % number, 64) for number in range(2)]
     for number in (0, 3):
         pile.put("c%d" % number, member(copies[number // 2], 10, number, (0, 1, 2, 3), 7, layout=258))
     pile.holds(tally, "raid10 without two members", "md:array", striped(copies, 8))
     pile.refuses(tally, "raid10 without three", "md:array", "is missing", "c0")
-    for number in (0, 3):
-        os.unlink(os.path.join(pile.folder, "c%d" % number))
+    pile.remove(*("c%d" % number for number in (0, 3)))
     for number, half in enumerate(halves):
         pile.put("z%d" % number, member(half, 0, number, (0, 1), 0, layout=2, size=0))
     pile.holds(tally, "raid0 of unequal members", "md:array", striped([half[:24 * SECTOR] for half in halves], 8) + halves[1][24 * SECTOR:])
@@ -548,7 +542,7 @@ def test_nested(tally, pile):
             pile.holds(tally, "the innermost of 8", "md:array0", wanted)
         else:
             pile.refuses(tally, "the innermost of 9", "md:array0", "in 8 levels")
-    os.unlink(os.path.join(pile.folder, "disk"))
+    pile.remove("disk")
 
 
 def test_lost_superblocks(tally, pile):
@@ -556,11 +550,6 @@ def test_lost_superblocks(tally, pile):
     base = text("vg0", "g", 4, "a", volume("home", "h", linear(0, 5, ("pv0", 3)))).replace(b"/dev/a", b"/dev/md0")
     inside, older = disk("a", A, base), disk("a", B, base)
     count = len(inside) // SECTOR
-    def damaged(image, *places):
-        made = bytearray(image)
-        for place in places:
-            made[place] ^= 1
-        return bytes(made)
     new, old = member(inside, 1, 0, (0, 1), 9, size=count), member(older, 1, 1, (0, 1), 4, size=count)
     pile.put("new", new)
     pile.put("old", old)
@@ -572,9 +561,9 @@ def test_lost_superblocks(tally, pile):
     pile.holds(tally, "the half with the damaged superblock alone", "vg0/home", extents_of(A, 3, 5), "new")
     pile.put("new", bytes(64 * SECTOR) + new[64 * SECTOR:])
     pile.refuses(tally, "a mirror whose newer half has no superblock", "vg0/home", "both are the physical volume")
-    os.unlink(os.path.join(pile.folder, "old"))
+    pile.remove("old")
     pile.holds(tally, "that half", "vg0/home", extents_of(A, 3, 5))
-    os.unlink(os.path.join(pile.folder, "new"))
+    pile.remove("new")
     half = b"".join(inside[at:at + 256 * SECTOR] for at in range(0, len(inside), 512 * SECTOR))
     found = member(half, 0, 0, (0, 1), 0, layout=2, size=0, chunk=256)
     pile.put("half", bytes(64 * SECTOR) + found[64 * SECTOR:])
@@ -583,7 +572,7 @@ def test_lost_superblocks(tally, pile):
     pile.refuses(tally, "a member of raid0 with a damaged one", "vg0/home", "one member of an array whose md superblock is lost")
     pile.put("half", half)
     pile.refuses(tally, "a member of raid0 whose end is cut off", "vg0/home", "one member of an array whose md superblock is lost")
-    os.unlink(os.path.join(pile.folder, "half"))
+    pile.remove("half")
 
 
 def shifted(value):
@@ -706,7 +695,7 @@ def test_names(tally, pile):
     newer[bytes(newer).rindex(b"extent_count")] ^= 1
     pile.put("one", bytes(newer))
     pile.refuses(tally, "a disk that is behind, where the newer text is damaged", "vg0/home", "has a later text, with the seqno 5, that isn't confirmed")
-    os.unlink(os.path.join(pile.folder, "two"))
+    pile.remove("two")
     first, second = lone("old", "g", 1, "a", home, other), lone("vg0", "g", 2, "a", home, other)
     third, fourth = lone("vg0", "g", 3, "a", other), lone("vg0", "g", 4, "a", other, volume("new", "n", linear(0, 1, ("pv0", 5))))
     pile.put("one", disk("a", A, first, second, third))
@@ -766,7 +755,7 @@ def test_areas(tally, pile):
         got = tool_calls.call(pile.top, ["owner", "--program", pile.program.path, "disk"], given="disk %d\n" % (DATA + 60 * EXTENT), folder=pile.folder)
         tally.tells("what no volume has by them", got,
                     out=b"unknown: no volume of vg0 has it, but disk has " + name.encode())
-    os.unlink(os.path.join(pile.folder, "disk"))
+    pile.remove("disk")
 
 
 def test_saving(tally, pile):
@@ -776,7 +765,7 @@ def test_saving(tally, pile):
     pile.put("out", b"mine")
     got = pile.call("save", "vg0/home", "out", "one")
     tally.holds("a file that is there", got.status == 1 and pile.read("out") == b"mine" and b"it is there already: give another name, or remove it first" in got.err, got.err)
-    os.unlink(os.path.join(pile.folder, "out"))
+    pile.remove("out")
     size = len(wanted)
     before = pile.read("one")
     for name, words in (("as OUT", ["one"]), ("as MAP", ["out", "--resume", "one"])):
@@ -789,10 +778,10 @@ def test_saving(tally, pile):
     pile.put("map", own + b"0x0 ?\n0x0 0x1000 ?\n0x1000 0x1000 +\n0x2000 0x%x ?\n" % (size - 0x2000))
     got = pile.call("save", "vg0/home", "out", "one", "--resume", "map")
     tally.holds("a run that goes on", got.status == 0 and pile.read("out") == wanted, got.err)
-    os.unlink(os.path.join(pile.folder, "out"))
+    pile.remove("out")
     got = pile.call("save", "vg0/home", "out", "one", "--resume", "map")
     tally.tells("a map without its file", got, 1, err="the map says that it was begun, and it isn't there")
-    os.unlink(os.path.join(pile.folder, "map"))
+    pile.remove("map")
     halves = text("vg1", "v", 4, "cd", volume("both", "h", linear(0, 5, ("pv0", 3)), linear(5, 5, ("pv1", 3))))
     pile.put("c", disk("c", A, halves))
     pile.put("d", disk("d", A, halves))
@@ -800,8 +789,7 @@ def test_saving(tally, pile):
     got = pile.call("save", "vg1/both", "out", "c", "--resume", "map")
     is_so = (begun.status, got.status) == (4, 0) and pile.read("out") == wanted * 2
     tally.holds("a run that goes on without the disk of what is there", is_so, got.err)
-    for name in ("c", "d", "out", "map"):
-        os.unlink(os.path.join(pile.folder, name))
+    pile.remove("c", "d", "out", "map")
     got = pile.call("save", "vg0/home", "out", "one", "--map", "map")
     is_kept = not any(os.path.exists(os.path.join(pile.folder, name)) for name in ("out", "map", "one=map"))
     tally.holds("a map of no image", got.status == 2 and b"give the one that save writes as --resume" in got.err and is_kept, got.err)

@@ -14,6 +14,7 @@ import tool_calls
 from dmremap_tools.formats import disk_image, signatures
 from dmremap_tools.model.device import Image, Lenient
 from models import A, B, DATA, EXTENT, MIB, SECTOR, content_of, disk, empty_pile, extents_of, linear, member, named, pile, text, volume
+from physical_volumes import damaged, patched
 from plain_model import parity_legs
 
 HOME = [volume("home", "h", linear(0, 5, ("pv0", 3)))]
@@ -33,14 +34,9 @@ def sectors(content):
 
 def with_mbr(content, *parts):
     """A disk with an MBR over what it has: partitions, each with its first sector."""
-    made = bytearray(content)
-    for first, part in parts:
-        end = first * SECTOR + len(part)
-        made = made.ljust(end, b"\0")
-        made[first * SECTOR:end] = part
+    end = max(first * SECTOR + len(part) for first, part in parts)
     table = physical_volumes.mbr(*((0x8E, first, sectors(part)) for first, part in parts))
-    made[440:SECTOR] = table[440:]
-    return bytes(made)
+    return patched(patched(content.ljust(end, b"\0"), *parts, unit=SECTOR), (440, table[440:]))
 
 
 def orders(names):
@@ -54,8 +50,7 @@ def in_any_order(tally, pile, label, images, volume_name, wanted, why=""):
     outcomes = set()
     for turn, order in enumerate(orders(sorted(images))):
         names = {name: name if turn == 0 else "%d-%s" % (len(order) - place, "x" * turn) for place, name in enumerate(order)}
-        for name in os.listdir(pile.folder):
-            os.unlink(os.path.join(pile.folder, name))
+        pile.remove(*os.listdir(pile.folder))
         for name, content in images.items():
             pile.put(names[name], content)
         got, saved = pile.save(volume_name, *[names[name] for name in order])
@@ -176,13 +171,10 @@ def test_left_over(tally, pile):
     raid5 = {"m%d" % number: member(room, 5, number, (0, 1, 2), 7, layout=2, size=len(room) // SECTOR) for number in range(3)}
     in_any_order(tally, pile, "a partition of what was a member", dict(raid5, m0=with_mbr(raid5["m0"], (2048, NEW))), "new/root", NEW_BYTES)
     tally.holds("an array without it, in which is nothing", pile.scan()["arrays"] == [], pile.scan()["arrays"])
-    torn = bytearray(with_mbr(raid5["m0"], (2048, NEW)))
-    torn[8 * SECTOR + 100] ^= 1
-    in_any_order(tally, pile, "a partition behind a damaged superblock", {"sda": bytes(torn)}, "new/root", NEW_BYTES)
-    container = containers.version_2()
-    second = bytearray(OLD)
-    second[16384:32768] = container[16384:32768]
-    in_any_order(tally, pile, "a physical volume over an old container", {"sda": bytes(second)}, "old/home", OLD_BYTES)
+    torn = damaged(with_mbr(raid5["m0"], (2048, NEW)), 8 * SECTOR + 100)
+    in_any_order(tally, pile, "a partition behind a damaged superblock", {"sda": torn}, "new/root", NEW_BYTES)
+    second = patched(OLD, (16384, containers.version_2()[16384:32768]))
+    in_any_order(tally, pile, "a physical volume over an old container", {"sda": second}, "old/home", OLD_BYTES)
 
 
 def test_nested(tally, pile):
@@ -207,16 +199,13 @@ def test_signatures(tally, pile):
             if label == "bcache" and not where:
                 # It would lie on a metadata area.
                 continue
-            made = bytearray(content)
-            if where and 0 <= place < SECTOR:
-                made[:440] = bytes(440)
-            at = place % len(made)
-            made[at:at + len(magic)] = magic
-            in_any_order(tally, pile, label + where, {"sda": bytes(made)}, "old/home", None, "a signature of")
+            cleared = 440 if where and 0 <= place < SECTOR else 0
+            made = patched(content, (0, bytes(cleared)), (place % len(content), magic))
+            in_any_order(tally, pile, label + where, {"sda": made}, "old/home", None, "a signature of")
             found = pile.scan()
             tally.holds(label + where + ", told", [row["name"] for row in found["groups"]] == ["old"], found)
-    inside = bytearray(disk("a", A[:-SECTOR] + b"\xde\x11\xde\x11".ljust(SECTOR, b"\0"), text("old", "g", 4, "a", *HOME)))
-    in_any_order(tally, pile, "a signature within a volume", {"sda": bytes(inside)}, "old/home", OLD_BYTES)
+    inside = disk("a", A[:-SECTOR] + b"\xde\x11\xde\x11".ljust(SECTOR, b"\0"), text("old", "g", 4, "a", *HOME))
+    in_any_order(tally, pile, "a signature within a volume", {"sda": inside}, "old/home", OLD_BYTES)
 
 
 def test_own_signatures(tally, pile):
@@ -228,19 +217,17 @@ def test_own_signatures(tally, pile):
             ("drbdmanage_control_volume", 0, b"$DRBDmgr=q", False), ("VMFS_volume_member", MIB, b"\x0d\xd0\x01\xc0", False),
             ("via_raid_member", -SECTOR, VIA, True), ("jmicron_raid_member", -SECTOR, JMICRON, True),
             ("silicon_medley_raid_member", -SECTOR, SILICON, True)):
-        image = bytearray(2 * MIB)
-        at = place % len(image)
-        image[at:at + len(magic)] = magic
+        at = place % (2 * MIB)
+        image = patched(2 * MIB, (at, magic))
         told = kinds_in(pile, image)
         tally.holds(kind, told == [kind], told)
-        image[at + 2] ^= 4
-        told = kinds_in(pile, image) if is_summed else []
+        told = kinds_in(pile, damaged(image, at + 3)) if is_summed else []
         tally.holds(kind + " with another sum", told == [], told)
 
 
 def kinds_in(pile, image):
     """What the signatures are of that are looked for in an image without wipefs."""
-    pile.put("sda", bytes(image))
+    pile.put("sda", image)
     return [each.kind for each in signatures.signatures_in(Lenient(Image(os.path.join(pile.folder, "sda"))))]
 
 
@@ -316,27 +303,19 @@ def test_kinds(tally, pile):
             ("the memory of a machine that sleeps", "swsuspend", [(4086, b"S1SUSPEND")]),
             ("the same before a swap area", "swsuspend", [(0, bytes.fromhex("edc302e99856e50c")), (4086, b"SWAPSPACE2")]),
             ("squashfs 3", "squashfs3", [(0, b"hsqs"), (28, b"\3\0")])):
-        image = bytearray(MIB)
-        for at, content in places:
-            image[at:at + len(content)] = content
-        pile.put("sda", bytes(image))
+        pile.put("sda", patched(MIB, *places))
         found = disk_image.file_system_of(Lenient(Image(os.path.join(pile.folder, "sda"))))
         tally.holds(name, found == wanted, found)
     for name, at, content in (("Sun", 508, b"\xda\xbe"), ("SGI", 0, b"\x0b\xe5\xa9\x41"), ("Apple", 512, b"PM\0\0"), ("BSD", 512, b"WEV\x82")):
-        image = bytearray(MIB)
-        image[at:at + len(content)] = content
-        pile.put("sda", bytes(image))
+        pile.put("sda", patched(MIB, (at, content)))
         whys = [row["why"] for row in pile.scan("sda")["images"][0]["holds"]]
         tally.holds("a table of " + name, "partition table (%s) that isn't followed" % name in whys[0], whys)
 
 
 def test_tables_within(tally, pile):
     """A table of another kind in a partition of an MBR, while what begins the disk looks like a file system: both are told."""
-    part = bytearray(MIB)
-    part[512:516] = b"WEV\x82"
-    image = bytearray(with_mbr(b"", (2048, bytes(part))))
-    image[0x400:0x480] = struct.pack("<2L48x2s42xL", 16, 64, b"\x53\xef", 0).ljust(0x80, b"\0")
-    pile.put("sda", bytes(image))
+    image = with_mbr(b"", (2048, patched(MIB, (512, b"WEV\x82"))))
+    pile.put("sda", patched(image, (0x400, struct.pack("<2L48x2s42xL", 16, 64, b"\x53\xef", 0).ljust(0x80, b"\0"))))
     row = pile.scan("sda")["images"][0]
     whys = [each["why"] for each in row["holds"] if each["partition"] == 1]
     tally.holds("BSD in a partition", row["table"] and "partition table (BSD) that isn't followed" in whys[0], row)

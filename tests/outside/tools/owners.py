@@ -8,7 +8,7 @@ import containers
 import models
 import physical_volumes
 from models import A, DATA, EXTENT, HIDDEN, SECTOR, content_of, disk, extents_of, linear, member, pile, segment, text, volume
-from physical_volumes import gpt, mbr
+from physical_volumes import damaged, gpt, mbr, patched
 from plain_model import parity_legs
 
 UNMAPPED = b"no map was given: only what the images lack counts as missing\n"
@@ -58,10 +58,7 @@ def agrees(tally, title, pile, name, contents, *images):
 
 def laid(size, *parts):
     """The image of a disk of so many sectors, with parts from other sectors on."""
-    made = bytearray(size * SECTOR)
-    for at, content in parts:
-        made[at * SECTOR:at * SECTOR + len(content)] = content
-    return bytes(made)
+    return patched(size * SECTOR, *parts, unit=SECTOR)
 
 
 PARTED = [
@@ -167,12 +164,11 @@ def test_groups(tally, pile):
     later = text("vg0", "g", 5, "a", volume("other", "o", linear(0, 1, ("pv0", 40))))
     pile.put("one", disk("a", A, text("vg0", "g", 4, "a", models.PLAIN[0].replace('"pv1", 0', '"pv0", 30')), later))
     tally.same("what was once taken", asked(pile, "one %d 2\n" % place, "one"), 0, "one %d 2 = free in vg0\none %d 2 = vg0/home, removed\n" % (place, place))
-    damaged = bytearray(disk("a", A, known))
-    damaged[bytes(damaged).rindex(b"seqno = 4")] ^= 1
+    sound = disk("a", A, known)
     odd = text("vg0", "g", 4, "a", volume("odd", "o", segment(0, 1, "newer", 'there = ["pv0", 3]')))
     nowhere = text("vg0", "g", 4, "a", volume("odd", "o", linear(0, 1, ("pv7", 3))))
     for name, image, why in (
-            ("a text that is damaged", bytes(damaged), "unknown: the metadata area at byte 4096: the sum of its text is wrong"),
+            ("a text that is damaged", damaged(sound, sound.rindex(b"seqno = 4")), "unknown: the metadata area at byte 4096: the sum of its text is wrong"),
             ("a type that isn't known", disk("a", A, odd), "unknown: no volume of vg0 has it, but nothing is known of the type newer of odd"),
             ("a segment that lies nowhere", disk("a", A, nowhere), "unknown: no volume of vg0 has it, but segment1 of odd names no place"),
             ("a text that doesn't name its disk", disk("c", A, known), "unknown: the current text of vg0 doesn't name this physical volume"),
@@ -199,9 +195,7 @@ def test_ladder(tally, pile):
 def test_layers(tally, pile):
     """Snapshots with what their stores have, one that is being merged, pvmove, raid of LVM."""
     new = [(number, content_of("new %d" % number, models.CHUNK)) for number in (7, 0, 19)]
-    data = bytearray(A)
-    for place, content in ((20, models.store(40, new)), (30, models.store(40, new[:2]))):
-        data[place * EXTENT * SECTOR:place * EXTENT * SECTOR + len(content)] = content
+    data = patched(A, (20, models.store(40, new)), (30, models.store(40, new[:2])), unit=EXTENT * SECTOR)
 
     def record(number, origin, of, key):
         return volume("snapshot%d" % number, str(number), segment(0, 5, "snapshot", "chunk_size = %d" % models.CHUNK, 'origin = "%s"' % origin, '%s = "%s"' % (key, of)), status=HIDDEN)
@@ -214,15 +208,11 @@ def test_layers(tally, pile):
                  volume("back", "b", linear(0, 5, ("pv0", 10))), volume("into", "i", linear(0, 5, ("pv0", 30)), status=HIDDEN), record(2, "back", "into", "merging_store"),
                  moved, volume("moving", "m", linear(0, 5, ("pvmove0", 0))), volume("odd", "d", segment(0, 2, "vdo", 'vdo_pool = "hidden"')),
                  volume("hidden", "q", linear(0, 1, ("pv0", 60)), status=HIDDEN), raid, *legs)
-    pile.put("disk", disk("a", bytes(data), known))
-
-    def over(base, pairs):
-        made = bytearray(base)
-        for old, content in pairs:
-            made[old * models.CHUNK * SECTOR:(old + 1) * models.CHUNK * SECTOR] = content
-        return bytes(made)
-    home, back = extents_of(data, 0, 5), over(extents_of(data, 10, 5), new[:2])
-    contents = {"vg0/home": home, "vg0/old": over(home, new), "store of vg0/old": extents_of(data, 20, 5)}
+    pile.put("disk", disk("a", data, known))
+    size, home = models.CHUNK * SECTOR, extents_of(data, 0, 5)
+    back = patched(extents_of(data, 10, 5), *new[:2], unit=size)
+    old = patched(home, *new, unit=size)
+    contents = {"vg0/home": home, "vg0/old": old, "store of vg0/old": extents_of(data, 20, 5)}
     found, _ = agrees(tally, "a snapshot and its origin", pile, "disk", contents)
     tally.holds("all sectors of both", all(found.get(what) == set(range(40)) for what in contents), found)
     at = (DATA + 30 * EXTENT) * SECTOR
@@ -265,8 +255,7 @@ def test_arrays(tally, pile):
             found |= here.get("md:array", set())
             tally.holds("what it keeps", "superblock of md:array, with what it keeps free" in besides, besides)
         tally.holds("all sectors of " + name, found == set(range(count)), sorted(set(range(count)) - found)[:5])
-        for number in roles:
-            os.unlink(os.path.join(pile.folder, "m%d" % number))
+        pile.remove(*("m%d" % number for number in roles))
     for number, leg in enumerate(five):
         pile.put("m%d" % number, member(leg, 5, number, (0, 1, 2), 7 - 4 * (number == 1), layout=2))
     got = asked(pile, "m1 70\n")

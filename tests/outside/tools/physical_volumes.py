@@ -17,6 +17,19 @@ def checksum(content):
     return zlib.crc32(content, 0xF597A6CF ^ 0xFFFFFFFF) ^ 0xFFFFFFFF
 
 
+def patched(content, *parts, unit=1):
+    """Some bytes, or so many zeros, with others at places, which count units of so many bytes."""
+    made = bytearray(content)
+    for at, part in parts:
+        made[at * unit:at * unit + len(part)] = part
+    return bytes(made)
+
+
+def damaged(content, *places):
+    """Some bytes, of which those at some places are others."""
+    return patched(content, *((at, bytes([content[at] ^ 1])) for at in places))
+
+
 def text_of_area(group, identity, number):
     """What lvm2 writes into an area: the group first, and a NUL at the end."""
     head, body = group.replace(b"segment_count", b"creation_time = 1700000001\n      segment_count").split(b"vg0 {\n")
@@ -68,11 +81,8 @@ def area(text, offset=SECTOR, start=FIRST, size=4096, others=(), flags=0, versio
 def volume(*areas, length=0, **label_fields):
     """A physical volume with metadata areas, which are pairs of a start and the bytes, from its first byte on."""
     places = [(start, len(content)) for start, content in areas]
-    image = bytearray(max([length, FIRST] + [sum(it) for it in places]))
-    image[SECTOR:2 * SECTOR] = label(places, **label_fields)
-    for start, content in areas:
-        image[start:start + len(content)] = content
-    return bytes(image)
+    end = max([length, FIRST] + [sum(it) for it in places])
+    return patched(end, (SECTOR, label(places, **label_fields)), *areas)
 
 
 def mbr(*entries):
@@ -86,10 +96,8 @@ def gpt(*entries, sector=SECTOR, damage=None, last=99, entry=128):
     `damage` is a byte that isn't what it was, `last` the last sector of the disk, `entry` the bytes of an entry."""
     table = gpt_table(entries, entry)
     head = gpt_header(table, 1, last, 2, entry).ljust(sector, b"\0")
-    disk = bytearray(mbr((0xEE, 1, last)).ljust(sector, b"\0") + head + table)
-    if damage is not None:
-        disk[damage] ^= 1
-    return bytes(disk)
+    disk = mbr((0xEE, 1, last)).ljust(sector, b"\0") + head + table
+    return disk if damage is None else damaged(disk, damage)
 
 
 def gpt_table(entries, size=128):

@@ -9,6 +9,7 @@ import shutil
 import models
 import tool_calls
 from models import A, DATA, EXTENT, SECTOR, content_of, disk, extents_of, linear, member, pile, text, volume
+from physical_volumes import patched
 from plain_model import parity_legs
 
 OTHER = "--map-of-other-length"
@@ -27,10 +28,7 @@ def rescue(size, *lost):
 
 def without(content, *lost):
     """The same with zeros where sectors are lost, as ddrescue leaves them."""
-    made = bytearray(content)
-    for first, count in lost:
-        made[first * SECTOR:(first + count) * SECTOR] = bytes(count * SECTOR)
-    return bytes(made)
+    return patched(content, *((first, bytes(count * SECTOR)) for first, count in lost), unit=SECTOR)
 
 
 def put(pile, name, content, *lost):
@@ -157,9 +155,9 @@ def test_tables(tally, pile):
                "then what is missing\n")
     got = pile.call("save", "v", "out", *words, "--allow-missing")
     tally.holds("the rest of it", pile.read("out") == without(content_of("a", 64)[8 * SECTOR:24 * SECTOR], (2, 2)), got.err)
-    os.unlink(os.path.join(pile.folder, "out"))
+    pile.remove("out")
     tally.same("a volume beside the gap", pile.call("save", "w", "out", *words), 0)
-    os.unlink(os.path.join(pile.folder, "out"))
+    pile.remove("out")
     got = pile.call("save", "s", "out", *words)
     tally.tells("a store on it", got, 1,
                 err="sda: a store lies on it, which dmremap reads without its map: give GROUP/VOLUME and images")
@@ -182,8 +180,7 @@ def test_sources(tally, pile):
         tally.same("the same as " + asked, pile.call("save", asked, "out", "one", "--resume", "out.map"), 0)
     for number, name in enumerate(("one", "two")):
         pile.put(name, content_of("volume of %d" % number, 40))
-    os.unlink(os.path.join(pile.folder, "out"))
-    os.unlink(os.path.join(pile.folder, "out.map"))
+    pile.remove("out", "out.map")
     tally.same("an image", pile.call("save", "one", "out", "one", "--resume", "out.map"), 0)
     os.rename(os.path.join(pile.folder, "two"), os.path.join(pile.folder, "one"))
     got = pile.call("save", "one", "out", "one", "--resume", "out.map")
@@ -217,11 +214,11 @@ def test_turns(tally, pile):
         got = pile.call("save", "vg0/home", "out", "one", "--resume", "out.map")
     tally.same("a map that another run began", got, 1, "", "dmremap-tools save: " + told)
     tally.holds("what that leaves", pile.read("out.map") == b"of another run" and sorted(os.listdir(pile.folder)) == ["one", "out.map"], os.listdir(pile.folder))
-    os.unlink(os.path.join(pile.folder, "out.map"))
+    pile.remove("out.map")
     pile.put("out", b"mine")
     got = pile.call("save", "vg0/home", "out", "one", "--resume", "out.map")
     tally.holds("a file that is there", got.status == 1 and not os.path.exists(os.path.join(pile.folder, "out.map")) and pile.read("out") == b"mine", got.err)
-    os.unlink(os.path.join(pile.folder, "out"))
+    pile.remove("out")
     tally.same("a map of this run", pile.call("save", "vg0/home", "out", "one", "--resume", "out.map"), 0)
     kept = [pile.read(name) for name in ("out", "out.map")]
     with open(os.path.join(pile.folder, "out.map"), "rb") as held:
@@ -245,8 +242,7 @@ def test_again(tally, pile):
     tally.holds("going on with it", pile.call(*again, *words).status == 4 and pile.read("out") == without(HOME, (8, 1)), "it ends otherwise")
     put(pile, "one", content)
     tally.holds("going on with all", pile.call(*again, *words).status == 0 and pile.read("out") == HOME, "it ends otherwise")
-    for name in ("out", "out.map"):
-        os.unlink(os.path.join(pile.folder, name))
+    pile.remove("out", "out.map")
     put(pile, "one", content, (first + 7, 2))
     tally.same("a run without a map", pile.call(*again), 0)
     got = pile.call(*again, *words)

@@ -7,7 +7,7 @@ import shutil
 
 import tool_calls
 from harness import run
-from physical_volumes import FIRST, SECTOR, TIME, area, dashed, gpt, md_member, volume, with_backup
+from physical_volumes import FIRST, SECTOR, TIME, area, dashed, gpt, md_member, patched, volume, with_backup
 from tool_calls import read
 
 # Sectors of an extent, those before the first, and the bytes of a metadata area, which ends there.
@@ -189,15 +189,12 @@ def check_walk(tally, program, top, dice):
     text = tool("metadata", "a.img?offset=%d" % (PARTITION * SECTOR))
     tally.holds("the text of the partition", text.encode() == read(os.path.join(folder, "vg.backup")), "it is another")
     tool("save", "vg/home", "saved", *NAMES)
-    wanted = bytearray(content)
-    for sector in gone:
-        at = (sector - BEFORE + linear) * SECTOR
-        wanted[at:at + 2 * SECTOR] = bytes(2 * SECTOR)
-    tally.holds("a volume that was saved", read(os.path.join(folder, "saved")) == bytes(wanted), "it is another")
+    wanted = patched(content, *((it - BEFORE + linear, bytes(2 * SECTOR)) for it in gone), unit=SECTOR)
+    tally.holds("a volume that was saved", read(os.path.join(folder, "saved")) == wanted, "it is another")
     # By the ids in the labels, a whole disk will do for its partition, and another's will not.
     program.file("walk/paths", "".join("%s %s\n" % it for it in zip(HINTS, NAMES)))
     tool("save", "--paths", "paths", "vg-home", "again", "lvm", "vg.backup")
-    tally.holds("a volume out of its group", read(os.path.join(folder, "again")) == bytes(wanted), "it is another")
+    tally.holds("a volume out of its group", read(os.path.join(folder, "again")) == wanted, "it is another")
     # Nor will a member of an array, unless it has all of it.
     for level, status, told in ((1, 0, ""),
                                 (5, 1, "dmremap-tools save: member: a member of an md array that isn't raid1, so that no member has all of a physical volume: "
@@ -207,7 +204,7 @@ def check_walk(tally, program, top, dice):
         program.file("walk/a.part", a[PARTITION * SECTOR:])
         got = tool_calls.call(top, ["save", "--program", program.path, "--paths", "members", "vg-home", "of%d" % level, "lvm", "vg.backup"], folder=folder)
         tally.same("a volume of a member of raid%d" % level, got, status, "", told)
-    tally.holds("what it has", read(os.path.join(folder, "of1")) == bytes(wanted), "it is another")
+    tally.holds("what it has", read(os.path.join(folder, "of1")) == wanted, "it is another")
     # An image without anything says nothing.
     program.file("walk/empty", "")
     program.file("walk/lacking", "".join("%s %s\n" % it for it in zip(HINTS, ("a.img", "empty", "c.img"))))
