@@ -31,9 +31,9 @@ from dmremap_tools.base import program, streams
 from dmremap_tools.base.numbers import SECTOR
 from dmremap_tools.base.paths import DiskPlace
 from dmremap_tools.formats import rescue_map
-from dmremap_tools.model.device import Image, blocks_of, joined, lacking, read_blocks
+from dmremap_tools.model.device import Image, NamedDevice, blocks_of, joined, lacking, read_blocks
 from dmremap_tools.model.file_systems import NoSystem, SectorRun, system_in
-from dmremap_tools.model.pile import Pile, NamedDevice
+from dmremap_tools.model.pile import Pile
 
 EXAMPLE = "dmremap-tools lost vg0/home sda.img sdb.img --map sda.img=sda.map"
 TABLE = "inode table: "

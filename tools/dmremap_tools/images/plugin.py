@@ -13,8 +13,8 @@ from dmremap_tools.base import streams
 from dmremap_tools.base.numbers import SECTOR
 from dmremap_tools.base.refusal import Refusal
 from dmremap_tools.formats import rescue_map
-from dmremap_tools.model.device import ZEROS, joined
-from dmremap_tools.model.pile import Pile, NamedDevice
+from dmremap_tools.model.device import ZEROS, NamedDevice, joined
+from dmremap_tools.model.pile import Pile
 
 API_VERSION = 2
 # Of how many bytes a client is told at once what reads as zeros, and in how many extents: it goes on asking.

@@ -35,8 +35,7 @@ from dmremap_tools.base.refusal import INCOMPLETE, Refusal, WrongWords
 from dmremap_tools.images.save_by_tables import target_of
 from dmremap_tools.model import loaded_stack
 from dmremap_tools.formats import rescue_map
-from dmremap_tools.model.device import Extent, joined, lacking
-from dmremap_tools.model.pile import NamedDevice, Pile
+from dmremap_tools.model.device import Extent, NamedDevice, joined, lacking
 
 EXAMPLE = "dmremap-tools save vg0/home home.img sda.img sdb.img --resume home.map"
 USAGE = "usage: GROUP/VOLUME OUT IMAGE.., or VOLUME TARGET FORMAT FILE [DISKS]"
@@ -69,6 +68,8 @@ def run(words: Namespace) -> Optional[int]:
         for option in ("extents", "paths", "ls", "fresh"):
             if getattr(words, option):
                 raise WrongWords(f"--{option} is for FORMAT FILE [DISKS]: leave it out", USAGE)
+        # What is long to load, and of no use where tables are given.
+        from dmremap_tools.model.pile import Pile
         unread = rescue_map.unread_in(words, words.images)
         is_partly = copy(words, Pile(words.images, words.program, unread).target(words.volume))
     return INCOMPLETE if is_partly and not words.allow_missing else None

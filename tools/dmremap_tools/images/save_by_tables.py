@@ -13,9 +13,8 @@ from dmremap_tools.base.paths import DiskPlace
 from dmremap_tools.base.refusal import Refusal
 from dmremap_tools.model import loaded_stack
 from dmremap_tools.formats import rescue_map
-from dmremap_tools.model.device import ZEROS, Device, Entry, Image, Overlaid, Part, Run
+from dmremap_tools.model.device import ZEROS, Device, Entry, Image, NamedDevice, Overlaid, Part, Run
 from dmremap_tools.model.mapping import LoadedTables, MappedDevice
-from dmremap_tools.model.pile import NamedDevice
 from dmremap_tools.requests import filefrag
 from dmremap_tools.requests.filefrag import FileExtent
 

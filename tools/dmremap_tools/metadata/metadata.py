@@ -30,11 +30,10 @@ from dmremap_tools.base import numbers, paths, quoting, streams
 from dmremap_tools.base.numbers import SECTOR
 from dmremap_tools.base.refusal import Refusal, WrongWords
 from dmremap_tools.model import md_superblock
-from dmremap_tools.model.device import Device, Image, Lenient, Part
+from dmremap_tools.model.device import Device, Image, Lenient, Part, image_of
 from dmremap_tools.model.physical_volume import (EMPTY, MISSING, SEARCHED, MetadataArea, PhysicalVolume, Text,
                                                  leftover_in, text_by_heads, texts_of_ring, volume_in)
 from dmremap_tools.model.pile import Pile, place_of
-from dmremap_tools.model.placed import image_of
 
 EXAMPLE = "dmremap-tools metadata vg0-head.img > vg0.backup && dmremap table lvm vg0.backup"
 OTHER = "try another physical volume of the group, or a file in /etc/lvm/backup"

@@ -83,6 +83,10 @@ class Device:
         yield Extent(self, start, size)
 
 
+# What is meant by a name: what it is called, its bytes, and the ids of what it lies on, if that has some.
+NamedDevice = NamedTuple("NamedDevice", [("name", str), ("device", Device), ("size", int), ("ids", List[str])])
+
+
 class Missing(Device):
     """Bytes that aren't there; the name says why."""
 
@@ -313,6 +317,14 @@ class Image(Device):
                 return
             yield begin // SECTOR * SECTOR, min(-(-stop // SECTOR) * SECTOR, end)
             start = stop
+
+
+def image_of(path: str) -> Image:
+    """The image at a path, which has the bytes of a disk in their order."""
+    image = Image(path)
+    if image.other_form or not image.bytes:
+        raise Refusal(image.name, image.other_form or "it is empty: give the image of a disk")
+    return image
 
 
 class Lenient:

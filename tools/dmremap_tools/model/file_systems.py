@@ -16,8 +16,7 @@ from typing import Callable, Collection, Dict, Iterable, Iterator, List, Optiona
 
 from dmremap_tools.base import SECTOR, Refusal, paths, program, quoting, streams
 from dmremap_tools.formats.disk_image import EXT_AT, EXT_MAGIC
-from dmremap_tools.model.device import Lenient, blocks_of
-from dmremap_tools.model.placed import image_of
+from dmremap_tools.model.device import Lenient, blocks_of, image_of
 
 MOST_BLOCKS = MOST_INODES = 1000000
 MOST_COMPLAINTS = 3

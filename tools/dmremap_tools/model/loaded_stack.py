@@ -10,7 +10,7 @@ from typing import Dict, Iterable, Iterator, List, NamedTuple, Optional, Set, Tu
 from dmremap_tools.base import Refusal, names, paths, program, quoting, streams, tables
 from dmremap_tools.base.given import Given, put
 from dmremap_tools.formats import store_places
-from dmremap_tools.model.placed import by_ids, image_of
+from dmremap_tools.model.device import image_of
 from dmremap_tools.model.volume_group import disks_of
 
 NEXT = "--paths says where disks are, and --fresh takes every snapshot as new"
@@ -97,7 +97,10 @@ def start(words: argparse.Namespace, source: Given, devices: Optional[Iterable[s
         # The disk that was meant would be read at its own name.
         why = f"no disk is called {quoting.shown(unknown)}: give a name that the tables have"
         raise Refusal(streams.name_of(words.paths), why)
-    places = by_ids(loaded.ids, places, loaded.sizes, asked)
+    if places:
+        # What looks at images is long to load, and mostly of no use.
+        from dmremap_tools.model.placed import by_ids
+        places = by_ids(loaded.ids, places, loaded.sizes, asked)
     part = loaded if devices is None else loaded.part(devices)
     command = [asked, "map", *part.write(folder)]
     snapshots = [] if words.fresh else [it for it in part.devices if it.lines[0].target == "snapshot"]

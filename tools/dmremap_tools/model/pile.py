@@ -8,7 +8,7 @@ from dmremap_tools.formats import disk_image, signatures
 from dmremap_tools.formats.luks_header import SECOND_ALONE, Container, container_in
 from dmremap_tools.formats.partition_table import Table, backup_of, table_of
 from dmremap_tools.model import mapping, md_superblock, physical_volume
-from dmremap_tools.model.device import Device, Doubt, Image, Lenient, Part, Run
+from dmremap_tools.model.device import Device, Doubt, Image, Lenient, NamedDevice, Part, Run
 from dmremap_tools.model.groups import REMOVED, Group, Texts, Volume, same_id
 from dmremap_tools.model.md_array import Array, put_together
 from dmremap_tools.model.md_superblock import AT_END, MIRRORED, OLD, Member, Superblock
@@ -74,8 +74,6 @@ class Spot(NamedTuple):
         return [self.place, *([self.place.rpartition("/")[2], f"./{self.place}"] if self.image else [])]
 
 
-# What is meant by a name: what it is called, its bytes, and the ids of what it lies on, if that has some.
-NamedDevice = NamedTuple("NamedDevice", [("name", str), ("device", Device), ("size", int), ("ids", List[str])])
 # What a spot is: a word for it, and what is to be said of it.
 Found = NamedTuple("Found", [("spot", Spot), ("what", str), ("note", str)])
 

@@ -56,14 +56,6 @@ def pile_at(paths: Iterable[str], asked: Optional[str] = None) -> Pile:
     return Pile(list(here), asked)
 
 
-def image_of(path: str) -> Image:
-    """The image at a path, which has the bytes of a disk in their order."""
-    image = Image(path)
-    if image.other_form or not image.bytes:
-        raise Refusal(image.name, image.other_form or "it is empty: give the image of a disk")
-    return image
-
-
 def image_at(pile: Pile, path: str) -> Optional[Image]:
     """The image of a pile that is at a path, perhaps under another name; None where there is none."""
     identity = written.identity_at(path)

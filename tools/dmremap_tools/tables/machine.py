@@ -40,9 +40,9 @@ from typing import Dict, Iterable, List, Optional, Set, Tuple
 from dmremap_tools.base import Refusal, WrongWords, names, numbers, paths, quoting, streams, tables
 from dmremap_tools.formats.partition_table import Partition, backup_of, table_of
 from dmremap_tools.formats.store_places import MOST, is_chunk, places
-from dmremap_tools.model.device import Image, Lenient
+from dmremap_tools.model.device import Image, Lenient, image_of
 from dmremap_tools.model.physical_volume import label_of
-from dmremap_tools.model.placed import GIVE, check_places, image_of, label_at, pile_at
+from dmremap_tools.model.placed import GIVE, check_places, label_at, pile_at
 
 EXAMPLE = "dmremap-tools machine --disks disks ls.txt status.txt lsblk.txt concise.txt > tables"
 
