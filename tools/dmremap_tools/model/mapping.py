@@ -5,7 +5,6 @@ import contextlib
 import functools
 import itertools
 import os
-import re
 import struct
 import subprocess
 import tempfile
@@ -26,12 +25,12 @@ from dmremap_tools.model.volume_group import Record
 WINDOW, MOST_WINDOWS = 1 << 15, 20
 # Devices that are loaded together, of which the program takes 1,024 with what they lie on, and programs that run.
 MOST_DEVICES, MOST_CHILDREN = 400, 16
-ANSWER = re.compile(r"^([0-9]+) (?:R ([^ \n]+)|(zero|error)) (?=([0-9]+))(?(2)[0-9]+ )([0-9]+)$", re.M)
 # Bytes of an answer that are taken at a time.
 MOST_READ = 1 << 20
 FILES = ("FILE", "DISKS", "PATHS")
 FAILS = "reads fail there, as the tables say"
-OTHERS = {"zero": (ZEROS, 0, ALL), "error": (Missing(FAILS), 0, ALL)}
+# What else is done, by a name that no disk has.
+OTHERS = {"\0zero": (ZEROS, 0, ALL), "\0error": (Missing(FAILS), 0, ALL)}
 ASKED = "it is asked where volumes lie: build it, put it beside this tool, or give --program"
 # What a snapshot is called in tables of its own, and why one is refused.
 NAME, NEXT, OLDER = "snapshot", "activate it with lvm2, or save the origin", "give an older image of its disk"
@@ -42,8 +41,8 @@ UNKNOWN = f"the store: its header is zeros, and nothing tells whether the merge 
 ODD = f"the store: its header says neither that it is valid nor that it isn't, {store_places.DAMAGED}: {OLDER}"
 BROKEN = f"the store: its list goes on behind a free place, {store_places.DAMAGED}: {OLDER}"
 
-# A disk, or what else is done; the start there, which without a disk means nothing; and how many sectors.
-MappedPiece = Tuple[str, str, int, int]
+# Pieces in columns: disks, or what else is done; starts there, which without a disk mean nothing; and how many sectors.
+MappedPieces = Tuple[List[str], List[int], List[int]]
 
 
 class Tables:
@@ -55,7 +54,8 @@ class Tables:
         # What writes to a file what the program reads of the disk that a store is.
         self.stores: Dict[str, Callable[[str], None]] = {}
         self._names: Dict[Device, str] = {}
-        self._whole_run = functools.lru_cache(None)(lambda name: whole_run(self.disks[name]) or (ZEROS, 0, 0))
+        self._whole_run = functools.lru_cache(None)(
+            lambda name: OTHERS.get(name) or whole_run(self.disks[name]) or (ZEROS, 0, 0))
         # What adds devices that are to be loaded together with those that are there.
         self.waiting: List[Callable[[], object]] = []
 
@@ -108,10 +108,14 @@ class Tables:
             self._child.cache_clear()
             pieces = self.child_of(name).ask(name, start, count)
         found: List[Extent] = []
-        for disk, other, place, length in pieces:
+        runs = {disk: self._whole_run(disk) for disk in set(pieces[0])}
+        for disk, place, length in zip(*pieces):
             at, size = place * SECTOR, length * SECTOR
-            source, begin, most = OTHERS[other] if other else self._whole_run(disk)
-            found += [Extent(source, begin + at, size)] if at + size <= most else self.disks[disk].extents(at, size)
+            source, begin, most = runs[disk]
+            if at + size <= most:
+                found.append(Extent._make((source, begin + at, size)))
+            else:
+                found += self.disks[disk].extents(at, size)
         return found
 
     def child_of(self, name: str) -> "Child":
@@ -197,7 +201,7 @@ class Child:
         weakref.finalize(self, self._child.kill)
         self.ask(name, 0, 1)
 
-    def ask(self, name: str, first: int, count: int) -> List[MappedPiece]:
+    def ask(self, name: str, first: int, count: int) -> MappedPieces:
         """The answer to one request, which has its number."""
         try:
             self._child.stdin.write(f"R {name} {first} {count}\n".encode())
@@ -205,18 +209,18 @@ class Child:
         except OSError:
             self._fail()
         self._number += 1
-        found: List[MappedPiece] = []
+        found: MappedPieces = [], [], []
         text = b""
         while count > 0:
             more = self._child.stdout.read1(MOST_READ)
             whole, newline, text = (text + more).rpartition(b"\n")
-            rows = ANSWER.findall(whole.decode())
-            requests, disks, others, places, lengths = zip(*rows) if rows else [()] * 5
-            if not more or set(requests) - {str(self._number)} or len(rows) != whole.count(b"\n") + len(newline):
+            try:
+                columns = pieces_in((newline + whole).decode(), self._number) if more else self._fail()
+            except ValueError:
                 self._fail()
-            counts = list(map(int, lengths))
-            found += zip(disks, others, map(int, places), counts)
-            count -= sum(counts)
+            for kept, column in zip(found, columns):
+                kept += column
+            count -= sum(columns[2])
         if count or text:
             self._fail()
         return found
@@ -265,13 +269,30 @@ class MappedDevice(Device):
             raise Gap(self.name, "no whole sectors: ask for these")
         end, step = start + size, WINDOW * SECTOR
         for at in range(start // step * step, end, step):
-            for extent in self.source.window(self.key, at // SECTOR):
+            extents = self.source.window(self.key, at // SECTOR)
+            if start <= at and at + step <= end:
+                yield from extents
+                continue
+            for extent in extents:
                 stop = at + extent.size
                 if start <= at and stop <= end:
                     yield extent
                 elif max(start, at) < min(end, stop):
                     yield Extent(extent.source, extent.start + max(start - at, 0), min(end, stop) - max(start, at))
                 at = stop
+
+
+def pieces_in(lines: str, number: int) -> MappedPieces:
+    """The pieces in an answer's lines, each of which comes after its newline. Raises ValueError where one isn't of the request with
+    this number, or isn't a piece."""
+    beginning = f"\n{number} "
+    text = lines.replace(beginning + "R ", " ")
+    for other in OTHERS:
+        text = text.replace(beginning + other[1:], f" {other} 0")
+    words, count = text.split(" ")[1:], lines.count(beginning)
+    if not len(words) == 3 * count == 3 * lines.count("\n"):
+        raise ValueError
+    return words[::3], list(map(int, words[1::3])), list(map(int, words[2::3]))
 
 
 def snapshot_of(layout: Any, record: Record) -> Device:
