@@ -9,14 +9,14 @@ import os
 import re
 import stat
 import time
-from typing import Dict, Generator, Iterable, Iterator, List, NamedTuple, Optional, Sequence, Tuple
+from typing import Dict, Generator, Iterable, Iterator, List, NamedTuple, Optional, Sequence, Set, Tuple
 
 from dmremap_tools.base import quoting, streams, written
 from dmremap_tools.base.numbers import SECTOR
 from dmremap_tools.base.refusal import Refusal
 from dmremap_tools.formats import rescue_map
 from dmremap_tools.formats.rescue_map import BAD, FINISHED, UNTRIED, Area
-from dmremap_tools.model.device import BLOCK, ZEROS, Device, Extent, Image, Lenient, Missing, Run, cut, joint, read_blocks
+from dmremap_tools.model.device import BLOCK, ZEROS, Device, Extent, Image, Lenient, Missing, Run, cut, read_blocks
 
 OF = re.compile(r"# Of (.*) of ([0-9]+) sectors, from (.*?)(?:, with ([0-9]+) maps)?")
 HEAD = "# Mapfile. Created by dmremap-tools save\n# current_pos  current_status  current_pass\n"
@@ -27,13 +27,11 @@ TAKEN = "another save goes on by it, or began it just now: wait until that has e
 LATER = "it was begun without some map of an image, and what that lacks may be in OUT as zeros"
 PARTLY = "give --resume MAP to save the rest: the map says then what is missing"
 NOTHING = bytes(BLOCK)
-# Into how many places one call reads at most.
-MOST_VIEWS = 1024
 UNREADABLE, END = Missing("it can't be read"), Extent(Missing("it ends"), 0, 1)
 # How often a map is written, in seconds.
 STEP = 30
-# Bytes of a file: the first one, and where they come from.
-Transfer = Tuple[int, Extent]
+# Bytes of a file: the first one, and where they and those after it come from.
+Transfer = Tuple[int, Iterable[Extent]]
 
 
 class Absent(Missing):
@@ -225,17 +223,17 @@ class Target:
             os.fdatasync(self._descriptor)
 
 
-def put_together(path: str, saved: SavedMap, extents: Generator[Transfer, None, None]) -> bool:
-    """Makes a file of its parts, which come in their order, each with its first byte, or goes on with it. Tells what is
-    missing, and says whether something is. Without a map the file gets to its place once it is whole."""
+def put_together(path: str, saved: SavedMap, transfers: Generator[Transfer, None, None]) -> bool:
+    """Makes a file of its parts, which come in their order, or goes on with it. Tells what is missing, and says whether
+    something is. Without a map the file gets to its place once it is whole."""
     target = Target(path, saved.size, saved.is_begun)
     if saved.place:
         put_begun(target, saved)
     gap, due, absent, buffer = range(0), time.monotonic() + STEP, {""}, memoryview(bytearray(BLOCK))
     try:
-        with contextlib.closing(extents):
-            for parts in windows(parts_of(extents)):
-                for begin, end, lack in results(parts, buffer, target):
+        with contextlib.closing(transfers):
+            for first, window in (it for start, extents in transfers for it in windows(start, extents)):
+                for begin, end, lack in results(first, window, buffer, target):
                     if lack:
                         told = f"missing: {quoting.shown(lack.disk)}: {lack.name}" if isinstance(lack, Absent) else ""
                         if told not in absent:
@@ -281,52 +279,50 @@ def tell(gap: range) -> None:
         streams.tell(f"{len(gap)} sectors of the file from {gap.start} on can't be read")
 
 
-def parts_of(extents: Iterable[Transfer]) -> Iterator[Transfer]:
+def parts_of(extents: Iterable[Extent]) -> Iterator[Extent]:
     """The same in blocks, of which some are holes: zeros, and what is missing."""
-    for part in extents:
-        at, (source, begin, size) = part
+    for extent in extents:
+        source, begin, size = extent
         why = None if isinstance(source, Image) or source is ZEROS else source.lack(begin, size)
-        if why is not None:
-            yield at, Extent(source if source.is_hole else Missing(why), begin, size)
-        elif size < BLOCK or source.is_hole:
-            yield part
+        if why is None and (size < BLOCK or source.is_hole):
+            yield extent
+        elif why is not None:
+            yield Extent(source if source.is_hole else Missing(why), begin, size)
         else:
             # Holes of an image aren't read.
             runs = list(source.runs(begin, begin + size)) if isinstance(source, Image) else [(begin, begin + size)]
             for first, stop, run in cut(runs, begin, begin + size):
                 step = BLOCK if run else stop - first
                 for start in range(first, stop, step):
-                    yield at + start - begin, Extent(source if run else ZEROS, start, min(step, stop - start))
+                    yield Extent(source if run else ZEROS, start, min(step, stop - start))
 
 
-def windows(parts: Iterable[Transfer]) -> Iterator[List[Transfer]]:
-    """Parts that follow each other, as many as a BLOCK has room for, or a longer one that isn't read: larger windows go
-    through the processor's cache twice."""
-    window: List[Transfer] = []
-    end, most, refused = 0, 0, None
+def windows(first: int, extents: Iterable[Extent]) -> Iterator[Tuple[int, List[Extent]]]:
+    """Parts of a file from a byte on, as many as a BLOCK has room for, or a longer one that isn't read, each time with the first
+    byte: larger windows go through the processor's cache twice."""
+    window: List[Extent] = []
+    length, refused = 0, None
     try:
-        for part in parts:
-            at, (_, _, size) = part
-            if at != end or at + size > most:
-                if window:
-                    yield window
-                window, most = [], at + BLOCK
+        for part in parts_of(extents):
+            if length + part.size > BLOCK and window:
+                yield first, window
+                first, window, length = first + length, [], 0
             window.append(part)
-            end = at + size
+            length += part.size
     except Refusal as refusal:
         # What came before it is saved, and the map says so.
         refused = refusal
     if window:
-        yield window
+        yield first, window
     if refused:
         raise refused
 
 
-def results(parts: List[Transfer], buffer: memoryview, target: Target) -> Iterator[Tuple[int, int, Optional[Missing]]]:
+def results(first: int, window: List[Extent], buffer: memoryview, target: Target) -> Iterator[Tuple[int, int, Optional[Missing]]]:
     """Puts the parts of a window into a file: from where to where, and what lacks there."""
-    first, before = parts[0][0], None  # type: int, Optional[Device]
+    before: Optional[Device] = None
     begin = end = first
-    for _, (source, _, size) in [*read(parts, buffer), (0, END)]:
+    for source, _, size in [*read(window, buffer), END]:
         what = source if source.is_hole else None
         if what is None and not buffer[end - first] and target.has(end, buffer[end - first:end - first + size]):
             what = ZEROS
@@ -339,29 +335,35 @@ def results(parts: List[Transfer], buffer: memoryview, target: Target) -> Iterat
         end += size
 
 
-def read(parts: List[Transfer], buffer: memoryview) -> List[Transfer]:
+def read(window: List[Extent], buffer: memoryview) -> List[Extent]:
     """Reads parts to their places in a window, by one call where they go on in an image. Returns them, with what can't be
     read as missing."""
-    runs: List[List[Transfer]] = []
-    last: Dict[Device, List[Transfer]] = {}
+    runs: List[Tuple[Device, int, List[memoryview]]] = []
+    views: Dict[Device, List[memoryview]] = {}
     ends: Dict[Device, int] = {}
-    for part in parts:
-        source, start, size = part[1]
+    at = 0
+    for source, start, size in window:
         if not source.is_hole:
-            if ends.get(source) != start or len(last[source]) == MOST_VIEWS:
-                last[source] = []
-                runs.append(last[source])
-            last[source].append(part)
+            if ends.get(source) != start:
+                views[source] = []
+                runs.append((source, start, views[source]))
+            views[source].append(buffer[at:at + size])
             ends[source] = start + size
-    first, lost = parts[0][0], []  # type: int, List[Run]
-    for run in runs:
-        views, (_, (source, start, _)) = [buffer[at - first:at - first + extent.size] for at, extent in run], run[0]
-        if isinstance(source, Image) and source.fill(start, views):
+        at += size
+    failed = {source for source, start, places in runs if not (isinstance(source, Image) and source.fill(start, places))}
+    return list(read_singly(window, failed, buffer)) if failed else window
+
+
+def read_singly(window: List[Extent], failed: Set[Device], buffer: memoryview) -> Iterator[Extent]:
+    """The same with those parts that lie in some devices, of which each is read as far as it can be."""
+    at = 0
+    for part in window:
+        source, start, size = part
+        if source not in failed:
+            yield part
+            at += size
             continue
-        for at, (source, start, size) in run:
-            for count, content, is_there in read_blocks(source.load, start, start + size):
-                buffer[at - first:at - first + len(content)] = content
-                lost += [] if is_there else [(at, at + count)]
-                at += count
-    return [(begin, Extent(UNREADABLE if gap else source, 0, end - begin)) for at, (source, _, size) in parts
-            for begin, end, gap in cut(joint(lost), at, at + size)] if lost else parts
+        for count, content, is_there in read_blocks(source.load, start, start + size):
+            buffer[at:at + len(content)] = content
+            yield Extent(source if is_there else UNREADABLE, start, count)
+            at += count

@@ -72,13 +72,10 @@ def place_of(target: NamedDevice) -> Optional[DiskPlace]:
 def copied(target: NamedDevice, path: str) -> DiskPlace:
     """A copy of a volume, with holes where it has zeros or lacks bytes."""
     with open(path, "wb") as file:
-        for at, (source, start, size) in parts_of(joined(target.device, 0, target.size)):
-            streams.show_progress(f"copying {target.name}: {at >> 20} of {target.size >> 20} MiB")
-            for size, content, _ in () if source.is_hole else read_blocks(source.load, start, start + size):
-                if content.strip(b"\0"):
-                    file.seek(at)
-                    file.write(content)
-                at += size
+        for source, start, size in parts_of(target.device.extents(0, target.size)):
+            streams.show_progress(f"copying {target.name}: {file.tell() >> 20} of {target.size >> 20} MiB")
+            for count, content, _ in [(size, b"", False)] if source.is_hole else read_blocks(source.load, start, start + size):
+                file.write(content) if content.strip(b"\0") else file.seek(count, os.SEEK_CUR)
         file.truncate(target.size)
     return DiskPlace(path)
 

@@ -26,7 +26,7 @@ If a disk has errors, read it into an image with ddrescue first, and give its ma
 
 import tempfile
 from argparse import ArgumentParser, Namespace
-from typing import Generator, Optional, Tuple
+from typing import Generator, Iterator, Optional, Tuple
 
 from dmremap_tools.answers.saved import PARTLY, SavedMap, Source, head_of, put_together
 from dmremap_tools.base import given, names, quoting, streams
@@ -35,7 +35,7 @@ from dmremap_tools.base.refusal import INCOMPLETE, Refusal, WrongWords
 from dmremap_tools.images.save_by_tables import target_of
 from dmremap_tools.model import loaded_stack
 from dmremap_tools.formats import rescue_map
-from dmremap_tools.model.device import Extent, NamedDevice, joined, lacking
+from dmremap_tools.model.device import Extent, NamedDevice, lacking
 
 EXAMPLE = "dmremap-tools save vg0/home home.img sda.img sdb.img --resume home.map"
 USAGE = "usage: GROUP/VOLUME OUT IMAGE.., or VOLUME TARGET FORMAT FILE [DISKS]"
@@ -94,8 +94,8 @@ def sectors_of(target: NamedDevice) -> int:
     return -(-target.size // SECTOR) * SECTOR
 
 
-def extents_of(target: NamedDevice, saved: SavedMap) -> Generator[Tuple[int, Extent], None, None]:
+def extents_of(target: NamedDevice, saved: SavedMap) -> Generator[Tuple[int, Iterator[Extent]], None, None]:
     """Where what is left to do lies, each part with its first byte."""
     for begin, end in saved.left(0, target.size):
         for start in range(begin, end, WINDOW):
-            yield from joined(target.device, start, min(end, start + WINDOW) - start)
+            yield start, target.device.extents(start, min(end, start + WINDOW) - start)

@@ -18,8 +18,8 @@ from dmremap_tools.base.refusal import Refusal
 # The first of some bytes, and the one after them; and the end of what goes on without one.
 Run = Tuple[int, int]
 ALL = 1 << 64
-# Bytes that are read at once.
-BLOCK = 1 << 20
+# Bytes that are read at once, and into how many places one call reads at most.
+BLOCK, MOST_VIEWS = 1 << 20, 1024
 
 
 # A block with the one that is read for it; or the blocks up to an end of which nothing is known, and why.
@@ -287,10 +287,16 @@ class Image(Device):
 
     def fill(self, start: int, views: Sequence[memoryview]) -> bool:
         """Reads the bytes from one on into places, and says whether all of them could be read."""
-        try:
-            return os.preadv(self._file.fileno(), views, start) == sum(map(len, views))
-        except OSError:
-            return False
+        for at in range(0, len(views), MOST_VIEWS):
+            places = views[at:at + MOST_VIEWS]
+            size = sum(map(len, places))
+            try:
+                if os.preadv(self._file.fileno(), places, start) != size:
+                    return False
+            except OSError:
+                return False
+            start += size
+        return True
 
     def load(self, start: int, size: int) -> bytes:
         try:
