@@ -4,14 +4,16 @@
 Usage: tests/benches/tools.py [MOST [COMMAND ..]]
 
 Each line tells a command and its input of MOST lines (1000000 if not said), the least seconds of processor time of five
-runs, how much longer they are than those of a tenth, and the greatest memory in MiB of a tenth and of all. Time that is linear
-grows by a factor of up to 10. `physicals` has a physical volume, and `chain` two volumes, for as many lines as the generator says.
-The lines after these are of single inputs, where no COMMAND is named: 3,000 devices of which each stands on the one before, half a
-MiB of what looks like the beginning of a text, 100,000 places on 16 images of a group, and what is saved: a volume of 512 MiB in
-stripes of 4 KiB, and a snapshot of 256 MiB with 50,000 chunks of its own, in any order, each beside dd of as many bytes.
+runs, with what dmremap takes for them, how much longer they are than those of a tenth, and the greatest memory in MiB of a tenth
+and of all. Time that is linear grows by a factor of up to 10. `physicals` has a physical volume, and `chain` two volumes, for as
+many lines as the generator says. The lines after these are of single inputs: 3,000 devices of which each stands on the one before,
+half a MiB of what looks like the beginning of a text, 100,000 places on 16 images of a group, and what is saved: a volume of
+512 MiB in stripes of 4 KiB, and a snapshot of 256 MiB with 50,000 chunks of its own, in any order, each beside dd of as many bytes.
 """
 
 import argparse
+import contextlib
+import ctypes
 import os
 import random
 import struct
@@ -22,6 +24,8 @@ import tempfile
 TOP = os.path.join(os.path.dirname(os.path.realpath(__file__)), "..", "..")
 TOOL = [sys.executable, os.path.join(TOP, "dmremap-tools")]
 RUNS = 5
+# What prctl is asked for, so that this process waits for those that a command leaves, too.
+SET_CHILD_SUBREAPER = 36
 EXTENTS = ("Filesystem type is: ef53\nFile size of /f is %d (%d blocks of 512 bytes)\n"
            " ext:     logical_offset:        physical_offset: length:   expected: flags:\n")
 
@@ -151,6 +155,7 @@ def main():
     parser.add_argument("most", metavar="MOST", type=int, nargs="?", default=1000000)
     parser.add_argument("commands", metavar="COMMAND", nargs="*")
     asked = parser.parse_args()
+    ctypes.CDLL(None).prctl(SET_CHILD_SUBREAPER, 1, 0, 0, 0)
     with tempfile.TemporaryDirectory() as folder:
         for name, parts in SMALL.items():
             write(os.path.join(folder, name), parts)
@@ -158,8 +163,7 @@ def main():
         for words, lines in ROWS:
             if not asked.commands or words[0] in asked.commands:
                 show(words, lines, asked.most, folder)
-        if not asked.commands:
-            show_single(folder)
+        show_single(folder, asked.commands)
 
 
 def show(words, lines, most, folder):
@@ -169,14 +173,19 @@ def show(words, lines, most, folder):
     print("%-38s %-16s %6.2f s %5.1f %5d %5d MiB" % (" ".join(words), lines.__name__, seconds, seconds / tenth, memory_of_tenth, memory), flush=True)
 
 
-def show_single(folder):
-    """Prints the lines of the single inputs."""
+def show_single(folder, commands):
+    """Prints the lines of the single inputs, of all commands or of some."""
     for name, words, files in SINGLE:
+        if commands and words[0] not in commands:
+            continue
         for file, text in files.items():
             write(os.path.join(folder, file), [text])
         ran = [measured(TOOL + words, os.devnull, folder) for _ in range(RUNS)]
         print("%-38s %-16s %6.2f s       %5d MiB" % (" ".join(words[:2]), name, min(it[0] for it in ran), max(it[1] for it in ran)), flush=True)
-    show_least("owner", "%d images" % len(IMAGES), TOOL + ["owner", *make_images(folder)], folder, "asked")
+    if not commands or "owner" in commands:
+        show_least("owner", "%d images" % len(IMAGES), TOOL + ["owner", *make_images(folder)], folder, "asked")
+    if commands and "save" not in commands:
+        return
     make_disks(folder)
     for name, table, disks, size in SAVED:
         write(os.path.join(folder, "volume"), [table])
@@ -245,13 +254,18 @@ def write(path, parts):
 
 
 def measured(words, path, folder):
-    """The seconds of processor time that a run takes, and its memory in MiB."""
+    """The seconds of processor time that a run takes, with the processes that it leaves, and its memory in MiB."""
     with open(path, "rb") as given:
         child = subprocess.Popen(words, stdin=given, stdout=subprocess.DEVNULL, stderr=subprocess.DEVNULL, cwd=folder)
         _, status, used = os.wait4(child.pid, 0)
     if status:
         sys.exit("%s: it ended with %d" % (" ".join(words), status))
-    return used.ru_utime + used.ru_stime, used.ru_maxrss >> 10
+    seconds = used.ru_utime + used.ru_stime
+    with contextlib.suppress(ChildProcessError):
+        while True:
+            left = os.wait4(-1, 0)[2]
+            seconds += left.ru_utime + left.ru_stime
+    return seconds, used.ru_maxrss >> 10
 
 
 if __name__ == "__main__":
