@@ -47,21 +47,21 @@ use listed_images::ListedImages;
 use map_images::map_images;
 use map_stored::map_stored;
 use map_whole::map_whole;
-use next_step::{Shown, Told};
+use next_step::{Asked, Shown, Told};
 use other_whole::other_whole;
 use part_file::{DisksPart, EarlierPart, PartFile, PathsPart, SourcePart};
 use replay_whole::replay_whole;
 use status::STATUS_DONE;
 use std::io;
-use std::io::{Stdin, Stdout};
+use std::io::Stdout;
 use std::process::ExitCode;
 use words::{WordsFault, not_text, read_words};
 
 /// A file of the command, which is of the type of its part.
 type File<'r, P> = Counted<PartFile<'r, HostRuntime, P>>;
 
-/// The requests.
-type Requests = Counted<Stdin>;
+/// The requests, of which the first are kept.
+type Requests<'a> = Counted<&'a mut Asked>;
 
 /// Where answers go.
 type Answers = Gathered<Counted<Stdout>>;
@@ -99,12 +99,12 @@ fn answer(rt: &HostRuntime, told: &mut Told) -> Result<u8, WordsFault> {
         .iter()
         .map(|argument| argument.as_str())
         .collect(rt.alloc())?;
-    let mut shown = Shown::new(rt.stdout());
-    let status = match do_words(rt, told, &mut shown, words.as_slice()) {
+    let (mut asked, mut shown) = (Asked::new(rt.stdin()), Shown::new(rt.stdout()));
+    let status = match do_words(rt, told, &mut asked, &mut shown, words.as_slice()) {
         Ok(status) => status,
         Err(fault) => refuse(rt, told, &fault),
     };
-    told.name_next_step(rt, &shown, status == STATUS_DONE, words.as_slice());
+    told.name_next_step(rt, &asked, &shown, status == STATUS_DONE, words.as_slice());
     Ok(status)
 }
 
@@ -112,6 +112,7 @@ fn answer(rt: &HostRuntime, told: &mut Told) -> Result<u8, WordsFault> {
 fn do_words(
     rt: &HostRuntime,
     told: &mut Told,
+    asked: &mut Asked,
     shown: &mut Shown,
     words: &[&str],
 ) -> Result<u8, WordsFault> {
@@ -121,15 +122,15 @@ fn do_words(
             paths,
             earlier,
             status,
-        } => map_files(rt, told, shown, source, paths, earlier, status),
+        } => map_files(rt, told, asked, shown, source, paths, earlier, status),
         Job::MapImages {
             paths,
             earlier,
             status,
-        } => map_images_of(rt, told, shown, paths, earlier, status),
-        Job::OfImages { paths, task } => do_with_images(rt, told, paths, task),
+        } => map_images_of(rt, told, asked, shown, paths, earlier, status),
+        Job::OfImages { paths, task } => do_with_images(rt, told, asked, paths, task),
         Job::Metadata(paths) => print_text_of(rt, told, paths),
-        Job::Replay { source, paths } => replay_files(rt, told, source, paths),
+        Job::Replay { source, paths } => replay_files(rt, told, asked, source, paths),
         job => Ok(do_other(rt, told, &job)),
     }
 }
@@ -148,6 +149,7 @@ fn arguments_of(rt: &HostRuntime) -> Result<Vec<String>, WordsFault> {
 fn map_files(
     rt: &HostRuntime,
     told: &mut Told,
+    asked: &mut Asked,
     shown: &mut Shown,
     source: Source<'_>,
     paths: Option<&str>,
@@ -159,7 +161,7 @@ fn map_files(
         return Ok(map_whole::<
             File<'_, SourcePart>,
             File<'_, DisksPart>,
-            Requests,
+            Requests<'_>,
             ShownAnswers<'_>,
             Messages<'_>,
         >(
@@ -168,7 +170,7 @@ fn map_files(
             status,
             &mut source_at(rt, source),
             &mut disks,
-            &mut Counted::new(rt.stdin()),
+            &mut Counted::new(&mut *asked),
             &mut Gathered::new(Counted::new(&mut *shown)),
             &mut Counted::new(&mut *told),
         ));
@@ -182,7 +184,7 @@ fn map_files(
         File<'_, PathsPart>,
         FileImages<'_>,
         File<'_, EarlierPart>,
-        Requests,
+        Requests<'_>,
         ShownAnswers<'_>,
         Messages<'_>,
     >(
@@ -194,7 +196,7 @@ fn map_files(
         &mut paths,
         &mut images,
         &mut earlier,
-        &mut Counted::new(rt.stdin()),
+        &mut Counted::new(&mut *asked),
         &mut Gathered::new(Counted::new(&mut *shown)),
         &mut Counted::new(&mut *told),
     ))
@@ -205,6 +207,7 @@ fn map_files(
 fn replay_files(
     rt: &HostRuntime,
     told: &mut Told,
+    asked: &mut Asked,
     source: Source<'_>,
     paths: Option<&str>,
 ) -> Result<u8, WordsFault> {
@@ -216,7 +219,7 @@ fn replay_files(
         File<'_, DisksPart>,
         File<'_, PathsPart>,
         FileImages<'_>,
-        Requests,
+        Requests<'_>,
         Answers,
         Messages<'_>,
     >(
@@ -226,7 +229,7 @@ fn replay_files(
         &mut disks,
         &mut paths,
         &mut images,
-        &mut Counted::new(rt.stdin()),
+        &mut Counted::new(&mut *asked),
         &mut Gathered::new(Counted::new(rt.stdout())),
         &mut Counted::new(&mut *told),
     ))
@@ -237,6 +240,7 @@ fn replay_files(
 fn map_images_of(
     rt: &HostRuntime,
     told: &mut Told,
+    asked: &mut Asked,
     shown: &mut Shown,
     paths: &str,
     earlier: Option<&str>,
@@ -249,7 +253,7 @@ fn map_images_of(
         File<'_, PathsPart>,
         FileImages<'_>,
         File<'_, EarlierPart>,
-        Requests,
+        Requests<'_>,
         ShownAnswers<'_>,
         Messages<'_>,
     >(
@@ -258,7 +262,7 @@ fn map_images_of(
         &mut paths,
         &mut disks,
         &mut earlier,
-        &mut Counted::new(rt.stdin()),
+        &mut Counted::new(&mut *asked),
         &mut Gathered::new(Counted::new(&mut *shown)),
         &mut Counted::new(&mut *told),
     ))
@@ -268,17 +272,18 @@ fn map_images_of(
 fn do_with_images(
     rt: &HostRuntime,
     told: &mut Told,
+    asked: &mut Asked,
     paths: &str,
     task: Task,
 ) -> Result<u8, WordsFault> {
     let mut disks = ListedImages::new(rt.alloc(), FileImages::new(rt.alloc(), rt)?);
     let mut paths: File<'_, PathsPart> = file_at(rt, paths);
-    Ok(images_whole::<File<'_, PathsPart>, FileImages<'_>, Requests, Answers, Messages<'_>>(
+    Ok(images_whole::<File<'_, PathsPart>, FileImages<'_>, Requests<'_>, Answers, Messages<'_>>(
         rt.alloc(),
         task,
         &mut paths,
         &mut disks,
-        &mut Counted::new(rt.stdin()),
+        &mut Counted::new(&mut *asked),
         &mut Gathered::new(Counted::new(rt.stdout())),
         &mut Counted::new(&mut *told),
     ))

@@ -4,13 +4,13 @@
 //! are texts of help. A word of the command line that a shell would read otherwise is quoted.
 
 use crate::explanation::{after, before, explanation, part_in, word_in};
-use std::io::{IsTerminal, Stderr, Stdout, Write};
+use std::io::{IsTerminal, Read, Stderr, Stdin, Stdout, Write};
 use std::{env, fs, io};
 
-/// How much is kept of what is written first: all of the longest message, and some answers.
+/// How much is kept of what is written or read first: all of the longest message, some answers, and a few requests.
 const KEPT: usize = 256;
 
-/// A stream, and what was written to it first.
+/// A stream, and what was written to it or read from it first.
 #[derive(Drop)]
 pub(crate) struct Kept<W> {
     stream: W,
@@ -24,8 +24,11 @@ pub(crate) type Told = Kept<Stderr>;
 /// The standard output, and the first answers.
 pub(crate) type Shown = Kept<Stdout>;
 
+/// The standard input, and the first requests.
+pub(crate) type Asked = Kept<Stdin>;
+
 impl<W> Kept<W> {
-    /// A stream to which nothing was written yet.
+    /// A stream of which nothing is kept yet.
     pub(crate) fn new(stream: W) -> Kept<W> {
         Kept {
             stream,
@@ -34,7 +37,23 @@ impl<W> Kept<W> {
         }
     }
 
-    /// What was written first; nothing where it isn't text.
+    /// Keeps bytes, as far as there is room.
+    fn keep(&mut self, bytes: &[u8]) {
+        for byte in bytes {
+            if self.count >= KEPT {
+                break;
+            }
+            self.bytes[self.count] = *byte;
+            self.count += 1;
+        }
+    }
+
+    /// All that was written or read, or nothing where more was than is kept.
+    fn whole(&self) -> &str {
+        if self.count < KEPT { self.text() } else { "" }
+    }
+
+    /// What is kept; nothing where it isn't text.
     fn text(&self) -> &str {
         let Some(bytes) = self.bytes.get(..self.count) else {
             return "";
@@ -49,14 +68,15 @@ impl Kept<Stderr> {
     pub(crate) fn name_next_step(
         &self,
         rt: &HostRuntime,
+        asked: &Asked,
         shown: &Shown,
         is_done: bool,
         words: &[&str],
     ) {
         if !self.stream.is_terminal() {} else if !is_done {
-            let _ = name_commands(rt, before("\n", self.text()), words);
+            let _ = name_commands(rt, before("\n", self.text()), words, asked.whole());
         } else if has_error(shown.text()) {
-            let _ = name_explain(rt, "why it fails: ", true, asked_of(words));
+            let _ = name_explain(rt, "why it fails: ", Some(asked.whole()), asked_of(words));
         }
     }
 }
@@ -64,18 +84,20 @@ impl Kept<Stderr> {
 impl<W: Write> Write for Kept<W> {
     fn write(&mut self, bytes: &[u8]) -> io::Result<usize> {
         let written = self.stream.write(bytes)?;
-        for byte in &bytes[..written] {
-            if self.count >= KEPT {
-                break;
-            }
-            self.bytes[self.count] = *byte;
-            self.count += 1;
-        }
+        self.keep(&bytes[..written]);
         Ok(written)
     }
 
     fn flush(&mut self) -> io::Result<()> {
         self.stream.flush()
+    }
+}
+
+impl<R: Read> Read for Kept<R> {
+    fn read(&mut self, bytes: &mut [u8]) -> io::Result<usize> {
+        let count = self.stream.read(bytes)?;
+        self.keep(&bytes[..count]);
+        Ok(count)
     }
 }
 
@@ -90,7 +112,12 @@ fn has_error(answers: &str) -> bool {
 }
 
 /// Names `help` for a message that it explains, and `explain` for what that is about. Refused words may have no message.
-fn name_commands(rt: &HostRuntime, message: &str, words: &[&str]) -> io::Result<()> {
+fn name_commands(
+    rt: &HostRuntime,
+    message: &str,
+    words: &[&str],
+    requests: &str,
+) -> io::Result<()> {
     let (part, word) = (part_in(message), word_in(message));
     if explanation(message).is_some() {
         if part == word {
@@ -101,7 +128,12 @@ fn name_commands(rt: &HostRuntime, message: &str, words: &[&str]) -> io::Result<
     }
     let asked = asked_of(words);
     if is_explained(part, asked) {
-        name_explain(rt, "what mends it:", part == "request", asked)?;
+        let requests = if part == "request" {
+            Some(requests)
+        } else {
+            None
+        };
+        name_explain(rt, "what mends it:", requests, asked)?;
     }
     Ok(())
 }
@@ -123,21 +155,54 @@ fn is_explained(part: &str, asked: &[&str]) -> bool {
     }
 }
 
-/// Names `explain` with the words of the command line, and with the requests where these are needed or a file.
+/// Names `explain` with the words of the command line, and with the file that is the standard input; or, where requests are
+/// needed, behind what writes them.
 fn name_explain(
     rt: &HostRuntime,
     lead: &str,
-    needs_requests: bool,
+    requests: Option<&str>,
     asked: &[&str],
 ) -> io::Result<()> {
-    eprint!(rt; "{lead}  dmremap-tools explain")?;
+    eprint!(rt; "{lead} ")?;
+    let is_written = match requests {
+        Some(requests) if !is_input_file(rt) => name_requests(rt, requests)?,
+        _ => false,
+    };
+    eprint!(rt; " dmremap-tools explain")?;
     for word in asked {
         name_word(rt, word)?;
     }
-    if !name_input(rt)? && needs_requests {
+    if !name_input(rt)? && requests.is_some() && !is_written {
         eprint!(rt; " < REQUESTS")?;
     }
     eprintln!(rt;)
+}
+
+/// Names what writes some requests to the command that follows, if they are whole lines that a shell takes; returns whether
+/// they are.
+fn name_requests(rt: &HostRuntime, requests: &str) -> io::Result<bool> {
+    let Some(lines) = requests.strip_suffix('\n') else {
+        return Ok(false);
+    };
+    for line in lines.split('\n') {
+        if line.is_empty() || !is_quotable(line) {
+            return Ok(false);
+        }
+    }
+    eprint!(rt; " printf '%s\\n'")?;
+    for line in lines.split('\n') {
+        name_word(rt, line)?;
+    }
+    eprint!(rt; " |")?;
+    Ok(true)
+}
+
+/// Whether the standard input is a file.
+fn is_input_file(rt: &HostRuntime) -> bool {
+    match fs::read_link(rt, "/proc/self/fd/0") {
+        Ok(path) => path.as_path().is_file(rt),
+        Err(_) => false,
+    }
 }
 
 /// Names the file that is the standard input, from the current folder on; returns whether it is one.

@@ -2,12 +2,13 @@
 
 import os
 import pty
+import re
 import subprocess
 
 from harness import run
 
 TABLE, DISKS = "a: 0 8 linear sda 4\n", "sda 12\n"
-HELP, EXPLAIN, FAILS = "what it means:  dmremap help ", "what mends it:  dmremap-tools explain ", "why it fails:   dmremap-tools explain "
+HELP, MENDS, FAILS, EXPLAIN = "what it means:  dmremap help ", "what mends it:  ", "why it fails:   ", "dmremap-tools explain "
 FILES = {"tables": TABLE, "disks": DISKS, "a b": "a: 0 8 linear sda 5\n", "REQUESTS": "R b 0 1\n", "it's": TABLE + "x\n"}
 # Words, requests, the message, the words of help that are named, and those of explain.
 ROWS = [
@@ -15,8 +16,11 @@ ROWS = [
     (["map", "table", "a b", "disks", "--status"], "", "dmremap: source: range at 1", "'source: range'", "map table 'a b' disks --status"),
     (["map", "table", "it's", "disks"], "", "dmremap: source: syntax at 2", "'source: syntax'", "map table .. disks"),
     (["map", "table", "no\x1bne", "disks"], "", "dmremap: source: read", "'source: read'", "map table .. disks"),
-    (["map", "table", "tables", "disks"], "R a 0 1\nR b 0 1\n", "dmremap: request 2: unknown", "'request: unknown'", "map table tables disks < REQUESTS"),
-    (["replay", "table", "tables", "disks"], "R b 0 1\n", "dmremap: request 1: not top", "'request: not top'", "replay table tables disks < REQUESTS"),
+    (["map", "table", "tables", "disks"], "R a 0 1\nR b 0 1\n", "dmremap: request 2: unknown", "'request: unknown'", "map table tables disks"),
+    (["replay", "table", "tables", "disks"], "R b 0 1\n", "dmremap: request 1: not top", "'request: not top'", "replay table tables disks"),
+    (["map", "table", "tables", "disks"], "R b 0 1\r\n", "dmremap: request 1: number", "'request: number'", "map table tables disks < REQUESTS"),
+    (["map", "table", "tables", "disks"], "R b 0 1", "dmremap: request 1: unended", "'request: unended'", "map table tables disks < REQUESTS"),
+    (["map", "table", "tables", "disks"], "R a 0 1\n" * 31 + "R b 0 1\n", "dmremap: request 32: unknown", "'request: unknown'", "map table tables disks < REQUESTS"),
     (["map", "table", "tables", "disks", "--before", "REQUESTS"], "", "dmremap: before: unknown at 1", "'before: unknown'",
      "map table tables disks --before REQUESTS"),
     (["map", "table", "tables", "disks", "--paths", "no"], "", "dmremap: paths: read", "'paths: read'", "map table tables disks --paths no"),
@@ -30,7 +34,7 @@ ROWS = [
     (["help", "nothing"], "", None, None, None),
     ([], "", None, None, None),
     (["map", "table", "tables", "disks"], "R a 0 1\n", "", None, None),
-    (["map", "table", "tables", "disks"], "R a 0 1\nR a 8 1\n", "", None, "map table tables disks < REQUESTS"),
+    (["map", "table", "tables", "disks"], "R a 0 1\nR a 8 1\n", "", None, "map table tables disks"),
     (["replay", "table", "tables", "disks"], "R a 8 1\n", "", None, None),
 ]
 
@@ -60,7 +64,11 @@ def test_told(tally, program, top):
     environment = dict(os.environ, PATH=folder + os.pathsep + os.environ["PATH"])
     for words, given, message, asked, typed in ROWS:
         piped = program.run(words, given=given, folder=folder).err
-        named = [lead + it for lead, it in ((HELP, asked), (FAILS if message == "" else EXPLAIN, typed)) if it is not None]
+        is_asked = message is not None and re.match("dmremap: request |$", message) and "REQUESTS" not in (typed or "")
+        rows = given.splitlines() if is_asked else []
+        fed = "printf '%s\\n' " + "".join("'%s' " % it for it in rows) + "| " if rows else ""
+        lead = (FAILS if message == "" else MENDS) + fed + EXPLAIN
+        named = [lead + it for lead, it in ((HELP, asked), (lead, typed)) if it is not None]
         wanted = piped.decode() + "".join(it + "\n" for it in named)
         shown = told([program.path, *words], given, folder)
         tally.holds("on a terminal, %s" % words, shown == wanted, "it shows %r, and not %r" % (shown, wanted))
