@@ -78,7 +78,11 @@ def test_gaps(tally, pile):
     with open(os.path.join(pile.folder, "out.map"), encoding="utf-8") as rows:
         tally.holds("its map", [row.split() for row in rows][-3:] == [["0x00000000", "0x00000E00", "+"], ["0x00000E00", "0x00000600", "-"], ["0x00001400", "0x00003C00", "+"]], "it is another")
     tally.same("what it lost", pile.call("lost", "vg0/home", "one", *words), 0, "3 sectors: no file system\n3 sectors lost of 40\n")
-    tally.same("what it lost without a map", pile.call("lost", "vg0/home", "one"), 0, "0 sectors lost of 40; no map was given: only sectors that the images lack\n")
+    tally.same("what it lost without a map", pile.call("lost", "vg0/home", "one"), 0, "0 sectors lost of 40; no map was given (--map IMAGE=MAP): only sectors that the images lack\n")
+    os.link(os.path.join(pile.folder, words[1].partition("=")[2]), os.path.join(pile.folder, "one.map"))
+    got = pile.call("lost", "vg0/home", "one")
+    tally.holds("the map beside it", got.status == 0 and got.err == b"with the maps that are here: dmremap-tools lost vg0/home one --map one=one.map\n", got.err)
+    os.remove(os.path.join(pile.folder, "one.map"))
     got = pile.call("tables", "vg0", "one", "--to", "out.made", *words)
     tally.tells("tables of it", got, err="home: one lacks its bytes")
     found, said = models.served(pile, "vg0/home", "one", lambda plugin: [models.taken(plugin, at * SECTOR, SECTOR) for at in (6, 7, 9, 10)], [("map", words[1])])

@@ -1,6 +1,7 @@
 """The map in which ddrescue says what it could read: areas of a disk, in bytes, each with a status; and the option
 --map, by which commands that search images take one for each. What a map doesn't have as read isn't there."""
 
+import contextlib
 import os
 import re
 from argparse import ArgumentParser, Namespace
@@ -54,6 +55,16 @@ def images_with_maps(given: Sequence[str], images: Sequence[str]) -> List[Tuple[
             raise WrongWords(f"--map: not IMAGE=MAP of one of the images, or given twice: {quoting.shown(word)}")
         found[key] = image, word[len(image) + 1:]
     return list(found.values())
+
+
+def maps_beside(images: Sequence[str]) -> List[str]:
+    """The words IMAGE=MAP of the maps that lie beside images under their names."""
+    called = [(it, name + end) for it in images for name in (it, os.path.splitext(it)[0]) for end in (".map", ".mapfile", ".log")]
+    found: List[str] = []
+    for image, path in dict.fromkeys(called):
+        with contextlib.suppress(Refusal):
+            found += ["%s=%s" % (image, path)] * bool(os.path.isfile(path) and read(path))
+    return found
 
 
 def unread_in(words: Namespace, images: Sequence[str]) -> Dict[str, List[Tuple[int, int]]]:

@@ -21,6 +21,7 @@ names, which `save` made.
 """
 
 import os
+import shlex
 import tempfile
 from argparse import ArgumentParser, Namespace
 from collections import Counter
@@ -57,8 +58,12 @@ def run(words: Namespace) -> None:
             place = saved or copied(target, os.path.join(folder, "volume.img"))
             for line in lines_of(place, target.name, runs):
                 streams.out.write(line + "\n")
-    unmapped = "" if words.map else "; no map was given: only sectors that the images lack"
+    unmapped = "" if words.map else "; no map was given (--map IMAGE=MAP): only sectors that the images lack"
     streams.out.write(f"{sum(count for _, count in runs)} sectors lost of {target.size // SECTOR}{unmapped}\n")
+    maps = [] if words.map else rescue_map.maps_beside(words.images)
+    if maps:
+        typed = [words.volume, *words.images, *[word for it in maps for word in ("--map", it)]]
+        streams.tell("with the maps that are here: dmremap-tools lost " + " ".join(map(shlex.quote, typed)))
 
 
 def place_of(target: NamedDevice) -> Optional[DiskPlace]:
