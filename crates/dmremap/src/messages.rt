@@ -587,8 +587,8 @@ dmremap: disks: text at NUMBER
   tabs, is of the FORMAT `lvm`. Unpack a compressed file first.
 
 dmremap: paths: text at LINE
-  The line isn't UTF-8, or has a NUL. Give the image another name, or a link
-  with one.
+  The line isn't UTF-8, or has a NUL, as an image has that isn't listed itself:
+  see PATHS. Give an image with such a name another one, or a link.
 
 dmremap: disk NAME: text
   Its metadata has another sum or end: it is damaged, or changed meanwhile.
@@ -606,8 +606,8 @@ dmremap: disks: text at NUMBER
 
 const PATHS_TEXT: &str = "\
 dmremap: paths: text at LINE
-  The line isn't UTF-8, or has a NUL. Give the image another name, or a link
-  with one.
+  The line isn't UTF-8, or has a NUL, as an image has that isn't listed itself:
+  see PATHS. Give an image with such a name another one, or a link.
 ";
 
 const DISK_TEXT: &str = "\
