@@ -1,24 +1,35 @@
-"""What a folder has in place of a file that isn't there."""
+"""What may be meant by a word, and what a folder has in place of a file that isn't there."""
 
 import contextlib
 import difflib
 import os
-from typing import List
+from typing import Iterable, List
 
 from dmremap_tools.base import quoting
 
 
+def closest(word: str, among: Iterable[str], most: int = 3, least: float = 0.6) -> List[str]:
+    """The words among some that are nearest to one, in capitals or not: at most so many, which are at least so like it."""
+    known = {it.lower(): it for it in among}
+    return [known[it] for it in difflib.get_close_matches(word.lower(), known, most, least)]
+
+
 def near_names(path: str) -> List[str]:
-    """The names in the folder of a path that are nearest to its own, at most three; none where there is no folder."""
+    """The names in the folder of a path that begin with its own and a dot, or are nearest to it, at most three; none where there
+    is no folder."""
     folder, name = os.path.split(path)
     with contextlib.suppress(OSError):
-        return difflib.get_close_matches(name, os.listdir(folder or "."), 3)
+        here = sorted(os.listdir(folder or "."))
+        return [*dict.fromkeys([it for it in here if name and it.startswith(name + ".")] + closest(name, here))][:3]
     return []
 
 
 def missing_note(path: str) -> str:
-    """What is said of a path at which there is no file: the names that are near to it, or the folder to make."""
-    folder, near = os.path.dirname(path), near_names(path)
+    """What is said of a path at which there is no file: names that are near to it or, as of a folder, all; or the folder to make."""
+    folder, near = (path, []) if os.path.isdir(path) else (os.path.dirname(path), near_names(path))
     if folder and not os.path.isdir(folder):
         return "there is no folder %s: mend the path, or make the folder" % quoting.shown(folder)
-    return "near are: " + quoting.some(list(map(quoting.shown, near))) if near else "there is no file of such a name: mend the path"
+    with contextlib.suppress(OSError):
+        found = quoting.some(list(map(quoting.shown, near or sorted(os.listdir(folder or ".")))))
+        return ("near are: " if near else "the folder has: ") + found
+    return ""

@@ -7,18 +7,15 @@ is 0 then, too, because that is what was asked for.
 
 If dmremap answers, prints the way of each request, level by level: below a device its line, and then the disks and
 devices below with their sectors, for a snapshot also whether its chunk was taken, and for an error its cause. Each
-level is an answer of dmremap about a stack in which what lies below is disks. Together they have to be its answer about
-the whole: if they aren't, the command fails. Requests of --before come first, and each request is in the state that
-those before it left. With --paths, snapshots start from what their stores hold. With `images`, only the answer is
-printed.
+level is an answer of dmremap; if they don't make its answer about the whole together, the command fails. Requests of
+--before come first, and each request is in the state that those before it left. With --paths, snapshots start from what
+their stores hold. With `images`, only the answer is printed.
 
-With --json, which comes first, prints an object for each refusal or request. Refuses more than 16 requests, and one
-whose way has more than 4096 pieces.
+Refuses more than 16 requests, and one whose way has more than 4096 pieces.
 """
 
 import argparse
 import itertools
-import json
 import os
 import shlex
 import tempfile
@@ -27,19 +24,17 @@ from typing import Iterable, Iterator, List
 from dmremap_tools.base import program, streams
 from dmremap_tools.base.refusal import Refusal, WrongWords
 from dmremap_tools.explaining import remedies, typed_words
-from dmremap_tools.explaining.input_files import Explanation
+from dmremap_tools.explaining.input_files import Explanation, read_input
 from dmremap_tools.explaining.refusals import CopiedCommand, explain_words
 from dmremap_tools.explaining.request_path import LevelQueries, RequestPath
 from dmremap_tools.model import mapping
 
 EXAMPLE = "dmremap-tools explain map lvm vg0.backup 'R vg0-lv0 8000 16'"
-# How many requests are answered, and how many bytes of them are taken.
 MOST_REQUESTS, MOST_BYTES = 16, 1 << 24
 
 
 def add_words(parser: argparse.ArgumentParser) -> None:
     program.add_words(parser)
-    parser.add_argument("--json", action="store_true", help="objects of JSON in place of lines")
     parser.add_argument("words", metavar="WORD", nargs=argparse.REMAINDER, help="the words of dmremap, and requests")
 
 
@@ -48,7 +43,7 @@ def run(words: argparse.Namespace) -> None:
         raise WrongWords("give the words of dmremap", "usage: " + EXAMPLE)
     with tempfile.TemporaryDirectory(prefix="dmremap-tools-") as folder:
         for number, found in enumerate(_explanations(words, folder)):
-            streams.out.write(json.dumps(found.as_json()) + "\n" if words.json else "\n" * bool(number) + str(found))
+            streams.out.write("\n" * bool(number) + str(found))
 
 
 def _explanations(words: argparse.Namespace, folder: str) -> "Iterable[Explanation | RequestPath]":
@@ -64,7 +59,8 @@ def _explanations(words: argparse.Namespace, folder: str) -> "Iterable[Explanati
     requests = "".join(it + "\n" for it in typed.requests).encode("utf-8", "surrogateescape")
     printed, message = copied.answer(b"")
     if not message and not requests and typed.command in typed_words.FED and not os.isatty(0):
-        requests = streams.read_bytes("-", MOST_BYTES)
+        given = read_input(fed or None)
+        requests = given.content if given.is_packed else streams.read_bytes("-", MOST_BYTES)
     if not message:
         printed, message = copied.answer(requests)
     if message:
@@ -76,8 +72,7 @@ def _explanations(words: argparse.Namespace, folder: str) -> "Iterable[Explanati
         why = f"there are {len(rows)}: give at most {MOST_REQUESTS}, and those before them by --before"
         raise Refusal("the requests", why)
     if rows:
-        shown = LevelQueries(copied, copied.stack, folder).request_paths(rows)
-        return shown if words.json else itertools.chain(shown, _notes_on(copied, rows))
+        return itertools.chain(LevelQueries(copied, copied.stack, folder).request_paths(rows), _notes_on(copied, rows))
     device = next((it.name for it in copied.stack.devices), "NAME")
     command = "  dmremap-tools explain map %s 'R %s 0 8'" % (" ".join(map(shlex.quote, typed.given.words())), device)
     return [Explanation("nothing is refused; this shows the path of a request:", command)]

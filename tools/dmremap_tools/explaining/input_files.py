@@ -1,27 +1,22 @@
-"""The files that dmremap was given: read once, to the byte, so that a pipe does; what each really is, by what it
-has; and how a refusal is shown, with the place in one of them."""
+"""The files that dmremap was given, read once, so that a pipe does; what each really is; and how a refusal is shown."""
 
 import errno
-import os
 import re
-from typing import Any, Dict, Iterator, List, NamedTuple, Optional, Sequence, Tuple
+from typing import Iterator, List, NamedTuple, Optional, Sequence
 
 from dmremap_tools.base import near_names, quoting, streams
 from dmremap_tools.formats import disk_image
 from dmremap_tools.base.given import MOST_TEXT
 from dmremap_tools.explaining import remedies
 
-# What of a long line is shown, and how much of that stands before the place.
-WIDTH, BEFORE = 90, 30
-# How many lines of a text are looked at.
-MOST_LINES = 50
+# What of a long line is shown, how much of that stands before the place, and how many lines of a text are looked at.
+WIDTH, BEFORE, MOST_LINES = 90, 30, 50
 # UTF-16 without a mark: every other byte is 0.
 _WIDE = re.compile(rb"((?:[^\0]\0){2,}|(?:\0[^\0]){2,}).?", re.S)
 
 
 class TextPlace(NamedTuple):
-    """Characters of a line, from `first` to `end`: the name of the text, the number of the line, and what stands in it.
-    In concise text it is a device in place of a line. A note says what is wrong with them, if that is known."""
+    """Characters of a line of a text, or of a device of concise text, and a note on them, if it is known what is wrong."""
 
     name: str
     number: int
@@ -46,19 +41,9 @@ class TextPlace(NamedTuple):
         mark = " " * (len(lead) + len(quoting.escaped(before))) + "^" * max(1, len(quoting.escaped(marked)))
         return ["%s%s%d" % (self.name, ", device " if self.is_device else ":", self.number), shown, (mark + " " + self.note).rstrip()]
 
-    def as_json(self) -> Dict[str, Any]:
-        """It as an object of JSON."""
-        number = {"device" if self.is_device else "line": self.number}
-        return {"file": self.name, **number, "text": self.text, "from": self.first, "to": self.end}
-
-
-# A place, and the command that mends what stands there, or nothing.
-Marked = Tuple[TextPlace, str]
-
 
 class Explanation(NamedTuple):
-    """Why something is refused; the command that mends it, or nothing; the place, if there is one; and dmremap's
-    message. The first two may have several lines."""
+    """Why something is refused; the commands that mend it, or nothing; the place, if there is one; and dmremap's message."""
 
     why: str
     remedy: str = ""
@@ -71,15 +56,10 @@ class Explanation(NamedTuple):
             rows += [(" " * len(lead) if place else lead) + it for place, it in enumerate(said)]
         return "".join(quoting.escaped(it) + "\n" for it in rows)
 
-    def as_json(self) -> Dict[str, Any]:
-        """It as an object of JSON."""
-        do, place = [it.strip() for it in self.remedy.splitlines()], self.place.as_json() if self.place else None
-        return {"message": self.message or None, "why": self.why, "do": do, "place": place}
-
 
 class InputText(NamedTuple):
-    """A file by the path that was typed, and what it begins with, of which dmremap takes all but the last byte. One
-    that isn't given is empty, and so is one that can't be read, with the reason."""
+    """A file by its path, and what it begins with, of which dmremap takes all but the last byte. One that isn't given is empty,
+    and so is one that can't be read, with the reason."""
 
     path: str
     content: bytes
@@ -91,9 +71,9 @@ class InputText(NamedTuple):
         return quoting.shown(self.path)
 
     @property
-    def is_denied(self) -> bool:
-        """Whether only somebody else may read it."""
-        return os.path.isfile(self.path) and not os.access(self.path, os.R_OK)
+    def is_packed(self) -> bool:
+        """Whether another program makes a text of it."""
+        return self.kind == remedies.UTF16 or self.kind.startswith(remedies.COMPRESSED)
 
     @property
     def kind(self) -> str:
@@ -137,13 +117,7 @@ def read_input(path: Optional[str]) -> InputText:
         with open(path, "rb") as it:
             return InputText(path, it.read(MOST_TEXT + 1))
     except OSError as fault:
-        why = "%s can't be read: %s (%s)" % (quoting.shown(path), streams.why(fault), errno.errorcode.get(fault.errno or 0, "an error"))
-        return InputText(path, b"", "; ".join(filter(None, (why, _note_on(path, fault.errno)))))
-
-
-def _note_on(path: str, code: Optional[int]) -> str:
-    """What is there in place of a file: names that are near, or all those of the folder."""
-    folder = path if code == errno.EISDIR else os.path.dirname(path) or "."
-    if code == errno.EISDIR or code == errno.ENOENT and os.path.isdir(folder) and not near_names.near_names(path):
-        return "the folder has: " + quoting.some(list(map(quoting.shown, sorted(os.listdir(folder)))))
-    return near_names.missing_note(path) if code == errno.ENOENT else ""
+        code = errno.errorcode.get(fault.errno or 0, "an error")
+        why = "%s can't be read: %s (%s)" % (quoting.shown(path), streams.why(fault), code)
+        note = near_names.missing_note(path) if code in ("ENOENT", "EISDIR") else ""
+        return InputText(path, b"", "; ".join(filter(None, (why, note))))

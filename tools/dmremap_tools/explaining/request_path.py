@@ -1,15 +1,13 @@
-"""The path of a request down a stack, as a tree and as an object of JSON.
+"""The path of a request down a stack, as a tree: each level is an answer of dmremap itself, and together they have to give
+its answer about the whole. A device without a state is asked alone, over disks in place of what lies below it; snapshots
+and their origin all at once and in the order of the whole, so that earlier requests reach them. A request is cut so that
+each answer has one line of the device and, where a snapshot is written, one chunk, to show whether that was taken."""
 
-Each level is an answer of dmremap itself. A device without a state is asked alone, over disks in place of what lies
-below it. Snapshots and their origin are asked in the same stack in which that is disks, all at once and in the order of
-the whole, so that earlier requests reach them as they do there. A request is cut so that each answer has one line of
-the device and, where a snapshot is written, one chunk: the pieces then show whether a chunk was taken, and why an error
-arises. Together the levels have to give what dmremap answers about the whole."""
-
+import contextlib
 import functools
 import itertools
 import os
-from typing import Any, Collection, Dict, Iterator, List, NamedTuple, Optional, Tuple
+from typing import Collection, Dict, Iterator, List, NamedTuple, Optional, Tuple, Union
 
 from dmremap_tools.base import names, paths, quoting, streams, tables
 from dmremap_tools.formats import store_places
@@ -22,28 +20,23 @@ from dmremap_tools.model.loaded_stack import Stack
 from dmremap_tools.model.device import Image, Missing, Part as DiskPart
 from dmremap_tools.model.mapping import MappedDevice, Tables, copy_store
 
-TAKEN, NOT_TAKEN, TAKEN_NOW = "taken", "not taken yet", "taken now"
-SNAPSHOT, ORIGIN = "snapshot", "snapshot-origin"
+TAKEN, NOT_TAKEN, TAKEN_NOW, SNAPSHOT, ORIGIN = "taken", "not taken yet", "taken now", "snapshot", "snapshot-origin"
 SEE = "dmremap-tools store says which request fills a store"
-INVALID = ("%s was lost before this, so all of it fails: its store was full, or its origin failed to be read when it "
-           "had to be copied. " + SEE)
+INVALID = "%s was lost before this, so all of it fails: its store was full, or its origin failed to be read when it had to be copied. " + SEE
 HEADER = "the header of %s's store says that it is invalid: it was full once, so all of the snapshot fails"
 FULL = "no place is left in the store of %s, which is lost by this: " + SEE
 KEPT = "no place is left in the store of %s, which keeps what it has, as its kind is K"
 UNREAD = "%s can't be read in the whole of chunk %d, which had to be copied first, so that %s is lost by this"
-BELOW = "%s fails there: ask for it"
-EITHER = "%s was lost before this, or %s fails there"
-# What the name of a unit begins with that is more than a device, before its origin; no name of a device has a space.
-OVER = "over "
-# A request that is cut into more isn't shown.
-MOST = 4096
+BELOW, EITHER = "%s fails there: ask for it", "%s was lost before this, or %s fails there"
+# What the name of a unit begins with that is more than a device, before its origin; no name of a device has a space. A request
+# that is cut into more pieces isn't shown.
+OVER, MOST = "over ", 4096
 TOO_MANY = "its way has more than %d pieces: ask for fewer sectors" % MOST
 OTHER = "the levels don't make dmremap's answer together, so they aren't shown; that is:\n"
 
 
 class DeviceRequest:
-    """A read or a write of `count` sectors of a device from `start` on, and the pieces that each of its lines makes of
-    them. The line is None for sectors past the end."""
+    """A request for a device, and the pieces that each of its lines makes of it. The line is None for sectors past the end."""
 
     def __init__(self, operation: str, device: str, start: int, count: int) -> None:
         self.operation, self.device, self.start, self.count = operation, device, start, count
@@ -69,16 +62,9 @@ class DeviceRequest:
                         yield inner + str(below)
                     yield from below.tree_rows(inner)
 
-    def as_json(self) -> Dict[str, Any]:
-        """It as an object of JSON, like its tree."""
-        lines = [{"line": line and str(line), "pieces": [it.as_json() for it in parts]}
-                 for line, parts in self.lines.items()]
-        return {"what": self.operation, "device": self.device, "start": self.start, "len": self.count, "lines": lines}
-
 
 class LinePiece:
-    """A piece that a line makes, with paths of devices and disks; a note on it, or nothing; and in `below` the requests
-    that it is for those devices."""
+    """A piece that a line makes, with paths; a note on it, or nothing; and in `below` the requests that it is for devices."""
 
     def __init__(self, piece: Piece, note: str, devices: Dict[str, tables.TableDevice]) -> None:
         self.piece, self.note = piece, note
@@ -86,8 +72,8 @@ class LinePiece:
         if piece.to:
             read = Piece(0, "R", piece.count, piece.disk, piece.start) if piece.disk else Piece(0, "zero", piece.count)
             ends = [read, Piece(0, "W", piece.count, piece.to, piece.to_start)]
-        self._ends = [DeviceRequest(it.what, names.of_path(it.disk), it.start, it.count) if it.disk in devices else it
-                      for it in ends]
+        self._ends: List[Union[DeviceRequest, Piece]] = [
+            DeviceRequest(it.what, names.of_path(it.disk), it.start, it.count) if it.disk in devices else it for it in ends]
         self.below = [it for it in self._ends if isinstance(it, DeviceRequest)]
 
     def final_pieces(self) -> Iterator[Piece]:
@@ -102,14 +88,6 @@ class LinePiece:
             else:
                 what = "fill" if (source.what, target.what) == ("zero", "W") else "error"
                 yield Piece(0, what, source.count, "", 0, target.disk, target.start)
-
-    def as_json(self) -> Dict[str, Any]:
-        """It as an object of JSON."""
-        piece = self.piece
-        read = {"disk": piece.disk, "start": piece.start} if piece.disk else {}
-        written = {"to": piece.to, "to_start": piece.to_start} if piece.to else {}
-        below = [it.as_json() for it in self.below]
-        return {"what": piece.what, "len": piece.count, **read, **written, "note": self.note, "below": below}
 
 
 class RequestPath(NamedTuple):
@@ -128,32 +106,27 @@ class RequestPath(NamedTuple):
         is_as_long = sum(it.count for it in made) == sum(it.count for it in self.answer)
         return is_as_long and all(one[1:] == other[1:] for one, other in _cut_alike(made, self.answer))
 
-    def as_json(self) -> Dict[str, Any]:
-        """It as an object of JSON."""
-        return {"request": str(self.top), "answer": [piece_text(it) for it in self.answer], "way": self.top.as_json()}
-
 
 class LevelQuery(NamedTuple):
-    """A request for sectors that lie in one line of a device; the line is None if they go past the end. `kept` is the
-    path of the origin, if that stays in the level's stack; a write `is_watched` if reads of the snapshot come before
-    and after."""
+    """A request for sectors of one line of a device, or None past its end. `kept` is the path of the origin, if that stays in
+    the level's stack; a write `is_watched` if reads of the snapshot come before and after."""
 
     device: tables.TableDevice
     line: Optional[tables.Line]
     operation: str
     start: int
-    count: int
+    sectors: int
     kept: Optional[str] = None
     is_watched: bool = False
 
     def request_lines(self) -> List[str]:
         """The lines that dmremap gets. The first reads the origin that stays, of a written chunk all."""
-        own = "%s %d %d" % (self.device.name, self.start, self.count)
+        own = "%s %d %d" % (self.device.name, self.start, self.sectors)
         asked = ["R " + own, "W " + own, "R " + own] if self.is_watched else [self.operation + " " + own]
         if self.kept is None:
             return asked
-        first, count = self.start, self.count
-        if self.is_watched:
+        first, count = self.start, self.sectors
+        if self.is_watched and self.line:
             chunk = int(self.line.words[3])
             first -= first % chunk
             count = min(chunk, self.line.length - first)
@@ -161,8 +134,8 @@ class LevelQuery(NamedTuple):
 
     def noted_pieces(self, got: List[List[Piece]], stores: Dict[str, str], invalid: Collection[str]
                ) -> Iterator[Tuple[Piece, str]]:
-        """The pieces of its answer, each with a note. `got` are the answers to its requests, `stores` the snapshots by
-        the disks of their stores, and `invalid` those snapshots whose headers say so."""
+        """The pieces of its answer, each with a note, by the answers to its requests, the snapshots by the disks of their
+        stores, and those snapshots whose headers say that they are invalid."""
         at, origin = self.start, got.pop(0) if self.kept is not None else []
         for piece in got[1] if self.is_watched else got[0]:
             note = self._cause(got, origin, invalid) if piece.what == "error" else self._note(piece, at, got, stores)
@@ -189,7 +162,7 @@ class LevelQuery(NamedTuple):
         """Why the answer is an error; `origin` is what the read of the origin gave."""
         device, line = self.device, self.line
         if line is None:
-            return "it goes on to sector %d, and %s ends at %d" % (self.start + self.count, device.name, device.end())
+            return "it goes on to sector %d, and %s ends at %d" % (self.start + self.sectors, device.name, device.end())
         if self.operation == "W" and device.flags == "ro":
             return "%s is read-only" % device.name
         if line.target == "error":
@@ -257,7 +230,6 @@ class LevelQueries:
         self._listed = streams.rows(copied.listed) if copied.listed else []
         self._earlier = streams.rows(copied.earlier) if copied.earlier else []
         self._before, self._by_path = os.path.join(folder, "earlier"), loaded.by_path()
-        # What devices and stores are called where they are disks, and what is meant by that.
         free = (it for it in map("below%d".__mod__, itertools.count()) if it not in loaded.sizes)
         self._disks = dict(zip([*self._by_path, *loaded.sizes], free))
         self._meant = {disk: path for path, disk in self._disks.items()}
@@ -272,8 +244,7 @@ class LevelQueries:
         return [name for name, count in counts.items() if count is None]
 
     def request_paths(self, requests: List[str]) -> Iterator[RequestPath]:
-        """The path of each request, in the state that those before it left. Raises Refusal for one with too many
-        pieces, or whose levels don't make dmremap's answer."""
+        """The path of each request, in the state that those before it left; refused if it has too many pieces."""
         for number, request in enumerate(requests):
             put(self._before, (it + "\n" for it in [*self._earlier, *requests[:number]]))
             yield self._request_path(request)
@@ -287,7 +258,7 @@ class LevelQueries:
         met = 0
         while waiting:
             unit = max(waiting, key=self._levels_below)
-            for key, step in self._add_pieces(unit, sorted(waiting.pop(unit))):
+            for key, step in self._add_pieces(unit, sorted(waiting.pop(unit), key=lambda it: it[0])):
                 met += 1
                 if met > MOST:
                     raise Refusal(request, TOO_MANY)
@@ -297,8 +268,7 @@ class LevelQueries:
         return path
 
     def _unit_of(self, name: str) -> str:
-        """What has to be asked at once for a device: OVER and the path of the origin, or the name of the device
-        alone."""
+        """What has to be asked at once for a device: OVER and the path of the origin, or the name of the device alone."""
         line = self._by_path[names.MAPPER + name].lines[0]
         return OVER + line.words[0] if line.target in (SNAPSHOT, ORIGIN) else name
 
@@ -338,11 +308,12 @@ class LevelQueries:
         return path if any(it.target in ("error", SNAPSHOT) for it in lines) else None
 
     def _level_stack(self, unit: str, kept: Optional[str]) -> Tuple[List[str], Dict[str, str]]:
-        """The words of a stack in which all below a unit is disks, but for the origin that stays; and the snapshots by
-        their stores. A device alone stands in it alone, as stores of others may lie on it."""
+        """The words of a stack in which all below a unit is disks, but for the origin that stays; and the snapshots by their
+        stores. A device stands in it alone if it has no state, as stores of others may lie on it."""
         has_state = unit.startswith(OVER)
         devices = {it.name: it for it in self._stack.devices} if has_state else {}
-        sizes, stores, copies = dict(self._stack.sizes), {}, {}
+        stores: Dict[str, str] = {}
+        sizes, copies = dict(self._stack.sizes), dict(stores)
         for device in self._devices_of(unit):
             changed = devices[device.name] = tables.TableDevice(device.name, device.flags)
             changed.lines += [self._line_over_disks(it, kept) for it in device.lines]
@@ -353,7 +324,6 @@ class LevelQueries:
                 _, store, kind, chunk = changed.lines[0].words
                 stores[store] = "%s and %s" % (stores[store], device.name) if store in stores else device.name
                 if self._copied.listed and kind != "N":
-                    # What the store says of itself, which is a disk here.
                     path, copy = self._meant[store], os.path.join(self._folder, store)
                     below = self._source.disks.get(path) or MappedDevice(path, self._source, names.of_path(path))
                     copy_store(below, int(chunk), copy)
@@ -388,11 +358,8 @@ def _tables_on_images(loaded: Stack, listed: Optional[str]) -> Tables:
     """The devices of a stack over the images that PATHS names. Disks without one can't be read."""
     source, places = Tables(), paths.places(listed, are_apart=False)
     source.devices = {it.name: it for it in loaded.devices}
-    for disk, size in loaded.sizes.items():
-        source.disks[disk] = Missing(disk, size * SECTOR)
-        if disk in places:
-            try:
-                source.disks[disk] = DiskPart(disk, Image(places[disk].path), places[disk].start, size * SECTOR)
-            except Refusal as refusal:
-                source.disks[disk] = Missing(str(refusal), size * SECTOR)
+    source.disks.update((disk, Missing(disk, size * SECTOR)) for disk, size in loaded.sizes.items())
+    for disk, place in places.items():
+        with contextlib.suppress(Refusal):
+            source.disks[disk] = DiskPart(disk, Image(place.path), place.start, loaded.sizes[disk] * SECTOR)
     return source

@@ -31,7 +31,7 @@ _dmremap_tools() {
             store) offered="--help --requests --writes --chunk --kind --program --paths --fresh" ;;
             picture) offered="--help --scale" ;;
             md) offered="--help --name --follow --member --copy --path --sectors" ;;
-            explain) offered="--help --program --json" ;;
+            explain) offered="--help --program" ;;
         esac
     fi
     mapfile -t COMPREPLY < <(compgen -W "$offered" -- "$word")
