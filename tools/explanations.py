@@ -32,7 +32,7 @@ pub(crate) static ENTRIES: [((&str, &str), &str); %d] = [
 REQUESTS, EARLIER, LATE = "request N: WORD", "before: WORD at N", "not top"
 # What stands for a part in the form of messages about FILE and DISKS, and the words that the second of these has, too.
 PART, OF_DISKS = "PART", ("read", "long", "text", "syntax", "field", "name", "twice", "empty", "limit")
-NO_PLACE = "there is no number"
+NO_PLACE = "has no number"
 # Words that ask for the help of `help`; and the first word of the second table.
 ASKED, MIDDLE = ("help", "--help", "-h"), "not top"
 WIDTH = 80

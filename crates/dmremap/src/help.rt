@@ -14,7 +14,7 @@ statuses. `dmremap help WORD` explains a word of a message, and what to do then.
 Exit status
   0  done, or help or the version was asked for
   1  FILE, DISKS, PATHS, a store, a name or earlier requests were refused
-  2  the words were refused
+  2  the command line was wrong
   3  a request was bad
   4  the requests could not be read
   5  the output could not be written
@@ -108,7 +108,7 @@ Messages, of which `dmremap help WORD` explains each WORD
 Exit status
   0  all requests were answered
   1  FILE, DISKS, PATHS, a disk, a store or earlier requests were refused
-  2  the words were refused
+  2  the command line was wrong
   3  a request was bad
   4  the requests could not be read
   5  the output could not be written
@@ -127,7 +127,7 @@ are read-only.
 Exit status
   0  the tables were printed
   1  FILE or DISKS was refused
-  2  the words were refused
+  2  the command line was wrong
   5  the output could not be written
   6  out of memory
 
@@ -144,7 +144,7 @@ each as `NAME,,,rw,START LEN TYPE ARGS`, or with `ro` if it is read-only.
 Exit status
   0  the tables were printed
   1  FILE or DISKS was refused
-  2  the words were refused
+  2  the command line was wrong
   5  the output could not be written
   6  out of memory
 
@@ -163,7 +163,7 @@ device LOWER, and that at least one of them writes it.
 Exit status
   0  the check was printed, also one with a clash
   1  FILE or DISKS was refused
-  2  the words were refused
+  2  the command line was wrong
   5  the output could not be written
   6  out of memory
 
@@ -185,7 +185,7 @@ each request N, lines tell what its sectors read or store:
 Exit status
   0  all requests were answered
   1  FILE, DISKS, PATHS or a store was refused, or two lines claim one sector
-  2  the words were refused
+  2  the command line was wrong
   3  a request was bad, or of no such device
   4  the requests could not be read
   5  the output could not be written
@@ -205,7 +205,7 @@ and their text is printed byte by byte, without a check of what it says.
 Exit status
   0  the text was printed; it is empty if no head has one
   1  PATHS or a disk was refused
-  2  the words were refused
+  2  the command line was wrong
   5  the output could not be written
   6  out of memory
 
@@ -222,7 +222,7 @@ The name has at most 127 bytes.
 Exit status
   0  the name was printed
   1  a part was refused, or the name is too long
-  2  the words were refused
+  2  the command line was wrong
   5  the output could not be written
   6  out of memory
 
@@ -238,7 +238,7 @@ spaces between them.
 Exit status
   0  the parts were printed
   1  NAME is not the name of a volume
-  2  the words were refused
+  2  the command line was wrong
   5  the output could not be written
   6  out of memory
 

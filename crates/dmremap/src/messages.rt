@@ -112,13 +112,13 @@ pub(crate) static ENTRIES: [((&str, &str), &str); 40] = [
 
 const AGAIN: &str = "\
 dmremap: store NAME: again
-  A chunk is twice in the store's list. See `order`.
+  A chunk occurs twice in the store's list. See `order`.
 ";
 
 const CHUNK: &str = "\
 dmremap: store NAME: chunk
-  The chunks of the store have another size than the table gives. A kernel goes
-  by the store: write its size into the table, if the table isn't the machine's.
+  The table has another chunk size than the store. A kernel uses the store's:
+  write that into the table, unless the machine printed this table.
 ";
 
 const CYCLE: &str = "\
@@ -130,18 +130,19 @@ dmremap: source: cycle at NUMBER
 const DEEP: &str = "\
 dmremap: source: deep at NUMBER
   Devices are stacked more than 32 deep: list one in the middle as a disk, and
-  map in two runs. Or sections of metadata are more than 16 deep.
+  map in two runs. Or sections of metadata are nested more than 16 deep.
 ";
 
 const DIFFER: &str = "\
 dmremap: disk NAME: differ
-  Its metadata isn't that of an earlier area or disk: leave out the older disk.
+  Its metadata differs from that of an earlier area or disk: leave out the disk
+  with the older metadata.
 ";
 
 const DISKS: &str = "\
 dmremap: words: disks
-  DISKS is missing, or is there though the format is `lvm` or `images`; or
-  `--paths` is there with `images`. Give it, or leave it out.
+  DISKS is missing; or there is DISKS with `lvm` or `images`, or `--paths` with
+  `images`. Add DISKS, or remove the argument that is too much.
 ";
 
 const EMPTY: &str = "\
@@ -166,79 +167,77 @@ dmremap: name: empty
 
 const ENDS: &str = "\
 dmremap: disk NAME: ends
-  The image ends before the physical volume: it was cut short, or is one member
-  of an array. Give an image of all of it.
+  The image ends before the physical volume does: it was cut short, or is one
+  member of an array. Give an image of the whole physical volume.
 ";
 
 const EXTENTS: &str = "\
 dmremap: source: extents at NUMBER
-  Only for metadata. At a physical volume, its extents end after its size: after
-  `pvresize` lvm2 writes too small a size, and `dmremap-tools lvm2-text` makes a
-  copy with one that fits. At a segment, the metadata is damaged: there is a
-  gap, the segment is empty, no multiple of its stripes, past the end of a
-  physical volume, or on extents of an earlier one. Take an older copy, or
-  another physical volume's.
+  Only for metadata. At the line of a physical volume, its extents end after its
+  size. lvm2 writes this after `pvresize`; `dmremap-tools lvm2-text` makes a
+  copy with a size that fits. At the line of a segment, the metadata is damaged:
+  there is a gap, or the segment is empty, isn't a multiple of its stripes, goes
+  past the end of a physical volume, or uses extents of an earlier segment. Take
+  an older copy, or the copy on another physical volume.
 ";
 
 const FIELD: &str = "\
 dmremap: source: field at NUMBER
 dmremap: disks: field at NUMBER
-  A value doesn't fit.
+  A value is wrong.
   In a table or a list of disks: a number with a sign, a leading zero, a unit or
   more than 19 digits; an unknown target; too few or too many arguments; a
   snapshot of a kind other than `P`, `N` and `K`. In concise text, also: a MINOR
-  that is no number, or FLAGS other than `ro` and `rw`. Delete devices with
+  that isn't a number, or FLAGS other than `ro` and `rw`. Delete devices with
   other targets, list them in DISKS with their lengths, and name them without
   /dev/mapper/: answers then end at them.
-  In metadata: a field that the section at that line lacks, a value of another
-  kind, a 0 where more is needed, a number from 2^63 on, a second section at the
-  top, or a segment of another type (raid, thin and others).
+  In metadata: a field that the section at that line lacks, a value of the wrong
+  kind, a 0 where more is needed, a number of 2^63 or more, a second section at
+  the top, or a segment of an unknown type (raid, thin and others).
   `dmremap-tools lvm2-text` makes a copy without such volumes and what lies on
-  them. If a snapshot is being merged into its origin, take the text anew after
-  that (`lvs -a`).
+  them. If a snapshot is being merged, save the metadata again after that.
 
 dmremap: paths: field at LINE
-  The offset is no multiple of 512. It counts bytes: multiply a partition's
+  The offset isn't a multiple of 512. It is in bytes: multiply a partition's
   first sector by 512.
 ";
 
 const SOURCE_FIELD: &str = "\
 dmremap: source: field at NUMBER
 dmremap: disks: field at NUMBER
-  A value doesn't fit.
+  A value is wrong.
   In a table or a list of disks: a number with a sign, a leading zero, a unit or
   more than 19 digits; an unknown target; too few or too many arguments; a
   snapshot of a kind other than `P`, `N` and `K`. In concise text, also: a MINOR
-  that is no number, or FLAGS other than `ro` and `rw`. Delete devices with
+  that isn't a number, or FLAGS other than `ro` and `rw`. Delete devices with
   other targets, list them in DISKS with their lengths, and name them without
   /dev/mapper/: answers then end at them.
-  In metadata: a field that the section at that line lacks, a value of another
-  kind, a 0 where more is needed, a number from 2^63 on, a second section at the
-  top, or a segment of another type (raid, thin and others).
+  In metadata: a field that the section at that line lacks, a value of the wrong
+  kind, a 0 where more is needed, a number of 2^63 or more, a second section at
+  the top, or a segment of an unknown type (raid, thin and others).
   `dmremap-tools lvm2-text` makes a copy without such volumes and what lies on
-  them. If a snapshot is being merged into its origin, take the text anew after
-  that (`lvs -a`).
+  them. If a snapshot is being merged, save the metadata again after that.
 ";
 
 const PATHS_FIELD: &str = "\
 dmremap: paths: field at LINE
-  The offset is no multiple of 512. It counts bytes: multiply a partition's
+  The offset isn't a multiple of 512. It is in bytes: multiply a partition's
   first sector by 512.
 ";
 
 const FOREIGN: &str = "\
 dmremap: disk NAME: foreign
-  The metadata doesn't have its id: leave out this disk of another group, or of
-  none.
+  The metadata doesn't have its id: leave out this disk, which belongs to
+  another group or to none.
 ";
 
 const FORM: &str = "\
 dmremap: request N: form
 dmremap: before: form at N
   The line is not four fields with single spaces: R or W, a device, a sector, a
-  number of sectors. Or the device is a path: write NAME for `/dev/mapper/NAME`,
-  and what `dmremap name` VG LV prints for `/dev/VG/LV`. Delete comments and
-  empty lines.
+  number of sectors. Or the device is a path: write NAME instead of
+  `/dev/mapper/NAME`, and instead of `/dev/VG/LV` what `dmremap name` VG LV
+  prints. Delete comments and empty lines.
 ";
 
 const GAP: &str = "\
@@ -259,7 +258,7 @@ dmremap: name: hyphen
 
 const LABEL: &str = "\
 dmremap: disk NAME: label
-  It has no label of a physical volume. Look at the offset: 512 times a
+  It has no label of a physical volume. Check the offset: it is 512 times a
   partition's first sector.
 ";
 
@@ -281,14 +280,14 @@ dmremap: source: limit at NUMBER
 dmremap: disks: limit at NUMBER
   A count or a number is too large: see LIMITS. Leave out devices that the
   requests don't need. For metadata whose stores have too many chunks in all,
-  `dmremap-tools lvm2-text` makes a copy without those that pass the limit.
+  `dmremap-tools lvm2-text` makes a copy without those beyond the limit.
 ";
 
 const LONG: &str = "\
 dmremap: source: long
 dmremap: disks: long
-  The file has more than 1,048,576 bytes; there is no number. Leave out devices
-  that the requests don't need.
+  The file has more than 1,048,576 bytes. This message has no number. Leave out
+  devices that the requests don't need.
 
 dmremap: request N: long
 dmremap: before: long at N
@@ -307,8 +306,8 @@ dmremap: name: long
 const SOURCE_LONG: &str = "\
 dmremap: source: long
 dmremap: disks: long
-  The file has more than 1,048,576 bytes; there is no number. Leave out devices
-  that the requests don't need.
+  The file has more than 1,048,576 bytes. This message has no number. Leave out
+  devices that the requests don't need.
 ";
 
 const REQUEST_LONG: &str = "\
@@ -334,20 +333,20 @@ dmremap: name: long
 
 const MAGIC: &str = "\
 dmremap: store NAME: magic
-  The store begins neither as one nor with zeros. The disk, the offset or the
-  table is wrong, or the store is damaged.
+  The store begins neither like a store nor with zeros. The disk, the offset or
+  the table is wrong, or the store is damaged.
 ";
 
 const MANY: &str = "\
 dmremap: request N: many
 dmremap: before: many at N
-  There are more than 1,000,000,000,000 lines: make several runs of them.
+  There are more than 1,000,000,000,000 lines: make several runs.
 ";
 
 const MEMORY: &str = "\
 dmremap: memory
-  Out of memory. Give it more, or leave devices out. The stack may be too small,
-  too: `ulimit -s` has to print 512 or more.
+  Out of memory. Allow more, or leave out devices. The stack may also be too
+  small: `ulimit -s` has to print 512 or more.
 ";
 
 const MISSING: &str = "\
@@ -358,12 +357,12 @@ dmremap: store NAME: missing
 const NAME: &str = "\
 dmremap: source: name at NUMBER
 dmremap: disks: name at NUMBER
-  A name is empty, too long, or has a character that isn't allowed, such as
-  those that dmsetup writes as `\\x20`. A device has 1 to 127 letters, digits and
-  `#+-.:=@_`, a disk 1 to 255 characters from `!` to `~` without comma,
-  semicolon and backslash, and not below /dev/mapper/. The UUID of concise text
-  is empty, or has up to 128 of the characters of a device. Write another name,
-  everywhere.
+  A name is empty, too long, or has a character that isn't allowed, such as one
+  that dmsetup writes as `\\x20`. The name of a device has 1 to 127 letters,
+  digits and `#+-.:=@_`. The name of a disk has 1 to 255 characters from `!` to
+  `~` except comma, semicolon and backslash, and doesn't begin with
+  /dev/mapper/. A UUID has up to 128 of the characters of a device's name. Write
+  another name, everywhere.
   In metadata, the name of a volume or of its layer would have more than 127
   characters, with hyphens doubled: `dmremap-tools lvm2-text` makes a copy
   without it.
@@ -376,12 +375,12 @@ dmremap: paths: name at LINE
 const SOURCE_NAME: &str = "\
 dmremap: source: name at NUMBER
 dmremap: disks: name at NUMBER
-  A name is empty, too long, or has a character that isn't allowed, such as
-  those that dmsetup writes as `\\x20`. A device has 1 to 127 letters, digits and
-  `#+-.:=@_`, a disk 1 to 255 characters from `!` to `~` without comma,
-  semicolon and backslash, and not below /dev/mapper/. The UUID of concise text
-  is empty, or has up to 128 of the characters of a device. Write another name,
-  everywhere.
+  A name is empty, too long, or has a character that isn't allowed, such as one
+  that dmsetup writes as `\\x20`. The name of a device has 1 to 127 letters,
+  digits and `#+-.:=@_`. The name of a disk has 1 to 255 characters from `!` to
+  `~` except comma, semicolon and backslash, and doesn't begin with
+  /dev/mapper/. A UUID has up to 128 of the characters of a device's name. Write
+  another name, everywhere.
   In metadata, the name of a volume or of its layer would have more than 127
   characters, with hyphens doubled: `dmremap-tools lvm2-text` makes a copy
   without it.
@@ -395,23 +394,24 @@ dmremap: paths: name at LINE
 
 const NOT_TOP: &str = "\
 dmremap: request N: not top
-  Only for `replay`: another device lies on that one, or no device has that
-  name. Ask for a device that no other lies on, or use `map`.
+  Only `replay` prints this: another device lies on the one that was asked for,
+  or no device has its name. Ask for a device that no other lies on, or use
+  `map`.
 ";
 
 const NUMBER: &str = "\
 dmremap: request N: number
 dmremap: before: number at N
-  The sector or the length is no number of 1 to 19 digits, or a carriage return
-  stands at the end of the line. Delete signs, units, commas, leading zeros and
+  The sector or the length isn't a number of 1 to 19 digits, or the line ends
+  with a carriage return. Delete signs, units, commas, leading zeros and
   carriage returns.
 ";
 
 const ORDER: &str = "\
 dmremap: store NAME: order
-  The chunks in the store's list aren't in a kernel's order, or there are more
-  than the store has room for. The store is damaged, was changed meanwhile, or
-  isn't this snapshot's.
+  The chunks in the store's list aren't in the order of a kernel, or there are
+  more than the store has room for. The store is damaged, was just changed, or
+  belongs to another snapshot.
 ";
 
 const OVERLAP: &str = "\
@@ -444,7 +444,7 @@ const READ: &str = "\
 dmremap: source: read
 dmremap: disks: read
   The file can't be opened or read: it isn't there, it is a folder, or you may
-  not read it. `cat FILE > /dev/null` shows the reason; there is no number.
+  not read it. `cat FILE > /dev/null` shows why. This message has no number.
 
 dmremap: requests: read
   The standard input is closed, or can't be read: look at what writes it, or
@@ -454,13 +454,12 @@ dmremap: paths: read
   The list can't be opened or read, or has more than 1,048,576 bytes.
 
 dmremap: disk NAME: read
-  A sector of its head can't be read, or the image ends before it. See that it
-  is a whole file or block device that you may read.
+  A sector of its head can't be read, or the image ends before it. Check that
+  the image is whole, and that you may read it.
 
 dmremap: store NAME: read
   An image of a disk of this store can't be opened or read, or ends too early.
-  FILE names the store's disk, and PATHS its image: see that this is a file or a
-  block device, that you may read it, and that it is whole.
+  Check that the image is whole, and that you may read it.
 
 dmremap: before: read
   The file of `--before` can't be opened or read.
@@ -470,7 +469,7 @@ const SOURCE_READ: &str = "\
 dmremap: source: read
 dmremap: disks: read
   The file can't be opened or read: it isn't there, it is a folder, or you may
-  not read it. `cat FILE > /dev/null` shows the reason; there is no number.
+  not read it. `cat FILE > /dev/null` shows why. This message has no number.
 ";
 
 const REQUESTS_READ: &str = "\
@@ -486,15 +485,14 @@ dmremap: paths: read
 
 const DISK_READ: &str = "\
 dmremap: disk NAME: read
-  A sector of its head can't be read, or the image ends before it. See that it
-  is a whole file or block device that you may read.
+  A sector of its head can't be read, or the image ends before it. Check that
+  the image is whole, and that you may read it.
 ";
 
 const STORE_READ: &str = "\
 dmremap: store NAME: read
   An image of a disk of this store can't be opened or read, or ends too early.
-  FILE names the store's disk, and PATHS its image: see that this is a file or a
-  block device, that you may read it, and that it is whole.
+  Check that the image is whole, and that you may read it.
 ";
 
 const BEFORE_READ: &str = "\
@@ -504,20 +502,20 @@ dmremap: before: read
 
 const SNAPSHOT: &str = "\
 dmremap: source: snapshot at NUMBER
-  The line of a snapshot or an origin is not the only one of its device, or is
-  not as long as the origin, or the chunk is no power of two from 1 to 1024. If
-  there are other lines, give the snapshot its own device, and put a linear line
-  to that in its place. If an origin was extended under its snapshot, make a
-  linear device of the snapshot's length on it, and name that as the origin. In
-  metadata, also: an origin or a store that is itself a snapshot, and a store
-  that is also an origin or the store of another snapshot.
-  `dmremap-tools lvm2-text` makes a copy without the snapshot.
+  A snapshot or snapshot-origin line isn't the only line of its device, or its
+  length differs from the origin's, or the chunk isn't a power of two from 1 to
+  1024. If the device has other lines, give the snapshot its own device, and
+  replace its line by a linear line to that device. If an origin was extended
+  under its snapshot, make a linear device of the snapshot's length on it, and
+  name that device as the origin. In metadata, also: an origin or a store that
+  is itself a snapshot, and a store that is also an origin or the store of
+  another snapshot. `dmremap-tools lvm2-text` makes a copy without the snapshot.
 ";
 
 const SPLIT: &str = "\
 dmremap: name: split
-  No group and volume have that name, as a device that isn't LVM's. Count the
-  hyphens: those of a part are doubled.
+  No group and volume give that name: perhaps the device isn't LVM's. Count the
+  hyphens: each hyphen of a part is doubled.
 ";
 
 const STORE: &str = "\
@@ -530,25 +528,26 @@ dmremap: source: store at NUMBER
 
 const STRIPE: &str = "\
 dmremap: source: stripe at NUMBER
-  The line doesn't divide into stripes. It has 1 to 128 columns; its length is a
-  multiple of their number, and the share of each a multiple of the chunk, which
-  has 1 to 4,294,967,295 sectors. Compare with `dmsetup table`.
+  The line doesn't divide into stripes. It needs 1 to 128 columns, and chunks of
+  1 to 4,294,967,295 sectors. Its length has to be a multiple of the number of
+  columns, and the share of each column a multiple of the chunk.
 ";
 
 const SYNTAX: &str = "\
 dmremap: source: syntax at NUMBER
 dmremap: disks: syntax at NUMBER
-  The form is wrong.
-  At line 1, FORMAT is mostly not that of the file, or FILE and DISKS are
+  The form of the text is wrong.
+  At line 1, mostly FORMAT is wrong for this file, or FILE and DISKS are
   swapped.
   In a table, a line is NAME: START LEN TYPE ARGS, with single spaces and a
   newline at its end. Put NAME: in front of what `dmsetup table DEVICE` printed.
   In a list of disks, a line is a name and a length. In concise text, a device
-  has four commas before its first line, no semicolon follows the last one, and
-  a newline stands only at the end. In metadata, a mark, string or key is
-  missing or too much, or there is a sign or a decimal, as in `read_ahead = -1`:
-  `dmremap-tools lvm2-text` makes a copy of what lvm2 wrote without them. If the
-  number is one more than the file has lines, the end of the text is missing.
+  has four commas before its first line, no semicolon follows the last device,
+  and only the end may have a newline. In metadata, a bracket, comma, string or
+  key is missing or superfluous, or a number has a sign or a decimal point, as
+  in `read_ahead = -1`. `dmremap-tools lvm2-text` makes a copy without such
+  numbers. If NUMBER is the number of lines plus one, the end of the text is
+  missing.
 
 dmremap: paths: syntax at LINE
   The line isn't a disk, a space and a path, or it is empty, or no newline ends
@@ -558,17 +557,18 @@ dmremap: paths: syntax at LINE
 const SOURCE_SYNTAX: &str = "\
 dmremap: source: syntax at NUMBER
 dmremap: disks: syntax at NUMBER
-  The form is wrong.
-  At line 1, FORMAT is mostly not that of the file, or FILE and DISKS are
+  The form of the text is wrong.
+  At line 1, mostly FORMAT is wrong for this file, or FILE and DISKS are
   swapped.
   In a table, a line is NAME: START LEN TYPE ARGS, with single spaces and a
   newline at its end. Put NAME: in front of what `dmsetup table DEVICE` printed.
   In a list of disks, a line is a name and a length. In concise text, a device
-  has four commas before its first line, no semicolon follows the last one, and
-  a newline stands only at the end. In metadata, a mark, string or key is
-  missing or too much, or there is a sign or a decimal, as in `read_ahead = -1`:
-  `dmremap-tools lvm2-text` makes a copy of what lvm2 wrote without them. If the
-  number is one more than the file has lines, the end of the text is missing.
+  has four commas before its first line, no semicolon follows the last device,
+  and only the end may have a newline. In metadata, a bracket, comma, string or
+  key is missing or superfluous, or a number has a sign or a decimal point, as
+  in `read_ahead = -1`. `dmremap-tools lvm2-text` makes a copy without such
+  numbers. If NUMBER is the number of lines plus one, the end of the text is
+  missing.
 ";
 
 const PATHS_SYNTAX: &str = "\
@@ -582,16 +582,16 @@ dmremap: source: text at NUMBER
 dmremap: disks: text at NUMBER
   A byte isn't allowed: in tables a tab, a carriage return or a letter outside
   ASCII; in metadata, anything but UTF-8. In a table, `tr -d '\\r'` removes
-  carriage returns; write spaces for tabs, and other names. For metadata,
-  `dmremap-tools lvm2-text` makes a copy without such bytes. Metadata, which has
-  tabs, is of the FORMAT `lvm`. Unpack a compressed file first.
+  carriage returns; replace tabs by spaces, and rename what isn't ASCII. For
+  metadata, `dmremap-tools lvm2-text` makes a copy without such bytes. Metadata,
+  which has tabs, needs the FORMAT `lvm`. Unpack a compressed file first.
 
 dmremap: paths: text at LINE
-  The line isn't UTF-8, or has a NUL, as an image has that isn't listed itself:
-  see PATHS. Give an image with such a name another one, or a link.
+  The line isn't UTF-8, or has a NUL, as an image has that was given for PATHS.
+  Rename the image, or make a link to it.
 
 dmremap: disk NAME: text
-  Its metadata has another sum or end: it is damaged, or changed meanwhile.
+  Its metadata has a wrong checksum or end: it is damaged, or was just changed.
 ";
 
 const SOURCE_TEXT: &str = "\
@@ -599,44 +599,44 @@ dmremap: source: text at NUMBER
 dmremap: disks: text at NUMBER
   A byte isn't allowed: in tables a tab, a carriage return or a letter outside
   ASCII; in metadata, anything but UTF-8. In a table, `tr -d '\\r'` removes
-  carriage returns; write spaces for tabs, and other names. For metadata,
-  `dmremap-tools lvm2-text` makes a copy without such bytes. Metadata, which has
-  tabs, is of the FORMAT `lvm`. Unpack a compressed file first.
+  carriage returns; replace tabs by spaces, and rename what isn't ASCII. For
+  metadata, `dmremap-tools lvm2-text` makes a copy without such bytes. Metadata,
+  which has tabs, needs the FORMAT `lvm`. Unpack a compressed file first.
 ";
 
 const PATHS_TEXT: &str = "\
 dmremap: paths: text at LINE
-  The line isn't UTF-8, or has a NUL, as an image has that isn't listed itself:
-  see PATHS. Give an image with such a name another one, or a link.
+  The line isn't UTF-8, or has a NUL, as an image has that was given for PATHS.
+  Rename the image, or make a link to it.
 ";
 
 const DISK_TEXT: &str = "\
 dmremap: disk NAME: text
-  Its metadata has another sum or end: it is damaged, or changed meanwhile.
+  Its metadata has a wrong checksum or end: it is damaged, or was just changed.
 ";
 
 const TWICE: &str = "\
 dmremap: source: twice at NUMBER
 dmremap: disks: twice at NUMBER
-  A device, a disk or a key of the metadata is there twice. In a table, keep the
-  lines of a device together, or rename one of two devices; otherwise delete one
-  of the two. For metadata, `dmremap-tools lvm2-text` makes a copy with the one
-  that lvm2 takes.
+  A device, a disk or a key of the metadata occurs twice. In a table, keep the
+  lines of a device together, or rename one of two devices. In other texts,
+  delete one of the two. For metadata, `dmremap-tools lvm2-text` makes a copy
+  with the key that lvm2 uses.
 
 dmremap: paths: twice at LINE
   An earlier line names the same disk. Delete one of them.
 
 dmremap: disk NAME: twice
-  An earlier disk has its id: leave out the copy, or one half of a mirror.
+  An earlier disk has the same id: leave out the copy, or one leg of a mirror.
 ";
 
 const SOURCE_TWICE: &str = "\
 dmremap: source: twice at NUMBER
 dmremap: disks: twice at NUMBER
-  A device, a disk or a key of the metadata is there twice. In a table, keep the
-  lines of a device together, or rename one of two devices; otherwise delete one
-  of the two. For metadata, `dmremap-tools lvm2-text` makes a copy with the one
-  that lvm2 takes.
+  A device, a disk or a key of the metadata occurs twice. In a table, keep the
+  lines of a device together, or rename one of two devices. In other texts,
+  delete one of the two. For metadata, `dmremap-tools lvm2-text` makes a copy
+  with the key that lvm2 uses.
 ";
 
 const PATHS_TWICE: &str = "\
@@ -646,7 +646,7 @@ dmremap: paths: twice at LINE
 
 const DISK_TWICE: &str = "\
 dmremap: disk NAME: twice
-  An earlier disk has its id: leave out the copy, or one half of a mirror.
+  An earlier disk has the same id: leave out the copy, or one leg of a mirror.
 ";
 
 const UNENDED: &str = "\
@@ -658,25 +658,25 @@ dmremap: before: unended at N
 const UNKNOWN: &str = "\
 dmremap: source: unknown at NUMBER
   The line names a disk or device that isn't there. Add the disk to DISKS, or
-  the device to FILE. For the number of a device of FILE write
+  the device to FILE. Replace the number of a device of FILE by
   `/dev/mapper/NAME`; `dmremap-tools machine` does that for a whole machine. In
   metadata, a stripe names a physical volume, or a snapshot names a volume, that
   the group doesn't have: take an older copy.
 
 dmremap: request N: unknown
 dmremap: before: unknown at N
-  No device of FILE has that name. `dmremap table` prints the names; disks can't
-  be asked.
+  No device of FILE has that name. `dmremap table` prints the names. A request
+  can't name a disk.
 
 dmremap: paths: unknown at LINE
-  The stack has no disk of that name. Take a name of DISKS or, with `lvm`, of
-  the metadata.
+  No disk has that name. Take a name from DISKS or, with `lvm`, from the
+  metadata.
 ";
 
 const SOURCE_UNKNOWN: &str = "\
 dmremap: source: unknown at NUMBER
   The line names a disk or device that isn't there. Add the disk to DISKS, or
-  the device to FILE. For the number of a device of FILE write
+  the device to FILE. Replace the number of a device of FILE by
   `/dev/mapper/NAME`; `dmremap-tools machine` does that for a whole machine. In
   metadata, a stripe names a physical volume, or a snapshot names a volume, that
   the group doesn't have: take an older copy.
@@ -685,30 +685,30 @@ dmremap: source: unknown at NUMBER
 const REQUEST_UNKNOWN: &str = "\
 dmremap: request N: unknown
 dmremap: before: unknown at N
-  No device of FILE has that name. `dmremap table` prints the names; disks can't
-  be asked.
+  No device of FILE has that name. `dmremap table` prints the names. A request
+  can't name a disk.
 ";
 
 const PATHS_UNKNOWN: &str = "\
 dmremap: paths: unknown at LINE
-  The stack has no disk of that name. Take a name of DISKS or, with `lvm`, of
-  the metadata.
+  No disk has that name. Take a name from DISKS or, with `lvm`, from the
+  metadata.
 ";
 
 const UNTIDY: &str = "\
 dmremap: replay: untidy
-  Two lines of the tables use the same sectors. `dmremap check` tells which; use
-  `map` if that is meant.
+  Two lines of the tables use the same sectors. `dmremap check` prints such a
+  pair; use `map` if that is intended.
 ";
 
 const VERSION: &str = "\
 dmremap: store NAME: version
-  The version of the store isn't 1, the only one that is known. Look at the
+  The version of the store isn't 1, the only one that dmremap knows. Check the
   disk, the offset and the table.
 ";
 
 const WRITE: &str = "\
 dmremap: output: write
   The output can't be written: the disk is full, or the reader of a pipe has
-  gone. Make room, or look why the reader ended.
+  gone. Make room, or find out why the reader ended.
 ";

@@ -7,7 +7,7 @@ pub const STATUS_DONE: u8 = 0;
 /// refused an untidy stack; nothing was written.
 pub const STATUS_REFUSED: u8 = 1;
 
-/// The words were refused.
+/// The command line was wrong.
 pub const STATUS_WORDS: u8 = 2;
 
 /// A request was refused; those before it were answered.

@@ -20,7 +20,7 @@ CLASH, CLASH_DISKS = "a: 0 8 linear sda 0\nb: 0 8 linear sda 4\n", "sda 16\n"
 MEANT = [
     ("0", r"help (?:or the version )?was asked for"),
     ("1", r"FILE.*DISKS.*PATHS.* a store, a name or earlier requests (?:are|were) refused"),
-    ("2", r"[Tt]he words (?:of the command line )?(?:are|were) refused"),
+    ("2", r"[Tt]he command line (?:is|was) wrong"),
     ("3", r"[Aa] request (?:is|was) bad"),
     ("4", r"[Tt]he requests (?:can't|could not) be read"),
     ("5", r"[Tt]he output (?:can't|could not) be written"),
@@ -45,7 +45,7 @@ WAYS = {
     "PATHS or a disk was refused": ("bad paths", "bad head"),
     "a part was refused, or the name is too long": ("bad name", "long name"),
     "NAME is not the name of a volume": ("bad name",),
-    "the words were refused": ("bad words",),
+    "the command line was wrong": ("bad words",),
     "a request was bad": ("bad request",),
     "a request was bad, or of no such device": ("bad request", "lower device"),
     "the requests could not be read": ("closed input",),
