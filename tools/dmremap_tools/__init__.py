@@ -1,4 +1,4 @@
-"""dmremap-tools: commands that connect dmremap with what other tools print, and make something of its answers.
+"""dmremap-tools: commands that connect dmremap with what other tools print, and evaluate its answers.
 
 The folders, and what each imports, which are folders above it alone:
 
@@ -9,7 +9,7 @@ The folders, and what each imports, which are folders above it alone:
     tables      commands that make FILE and DISKS: base formats model
     metadata    commands about metadata of LVM: base model
     layouts     commands about what lies where: base formats model
-    answers     commands that make something of answers: base formats model
+    answers     commands that evaluate answers: base formats model
     images      commands that find everything in images: base formats model requests answers
     explaining  why something is refused, and how an answer arises: base formats model metadata
 

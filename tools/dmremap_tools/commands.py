@@ -22,11 +22,11 @@ class Command(NamedTuple):
 
 
 COMMANDS: List[Command] = [
-    Command("scan", "images", "what a pile of images holds"),
+    Command("scan", "images", "what images hold"),
     Command("save", "images", "a volume, or a file of one, out of images or disks"),
     Command("serve", "images", "a volume as a disk, by nbdkit"),
-    Command("lost", "images", "the files that missing or unreadable sectors cost"),
-    Command("owner", "images", "whose the sectors of an image are"),
+    Command("lost", "images", "the files that have missing or unreadable sectors"),
+    Command("owner", "images", "the owners of sectors of images"),
     Command("tables", "images", "FILE, DISKS and PATHS of a group, for dmremap itself"),
     Command("filefrag", "requests", "from the extents of files, as filefrag or debugfs prints them", True),
     Command("trace", "requests", "from a trace of blkparse, btrace, ftrace, perf or fio", True),
@@ -38,12 +38,12 @@ COMMANDS: List[Command] = [
     Command("metadata", "metadata", "the text of a group, from the head of a physical volume"),
     Command("lvm2-text", "metadata", "a copy of lvm2's metadata that dmremap reads"),
     Command("report", "answers", "what is done on each disk, how requests were split, a picture"),
-    Command("dd", "answers", "a line for dd for each piece", True),
+    Command("dd", "answers", "a dd command for each piece", True),
     Command("spans", "layouts", "which line uses which sectors, what is free, what clashes", True),
     Command("tree", "layouts", "the stack as a tree, or as a graph for Graphviz"),
     Command("extents", "layouts", "where a whole device lies"),
-    Command("store", "layouts", "whether the stores of snapshots can be full, and what fills them"),
-    Command("picture", "layouts", "the disks and what lies on them, as a picture"),
+    Command("store", "layouts", "whether the stores of snapshots can fill up, and what fills them"),
+    Command("picture", "layouts", "what lies where on the disks, as a picture"),
     Command("md", "tables", "the table of an md array, or answers followed on through one", True),
     Command("explain", "explaining", "why dmremap refuses something, or how an answer arises"),
 ]
@@ -57,7 +57,7 @@ def find(name: str) -> Optional[Command]:
 def overview() -> str:
     """What `dmremap-tools --help` prints."""
     lines = ["usage: dmremap-tools COMMAND ..", "",
-             "Connects dmremap with other tools, and makes something of its answers.",
+             "Connects dmremap with other tools, and evaluates its answers.",
              "`dmremap-tools COMMAND --help` tells more about a command, with an example."]
     for group, title in GROUPS.items():
         lines += ["", title + ":"] + [f"  {it.name:12} {it.summary}" for it in COMMANDS if it.group == group]

@@ -1,9 +1,9 @@
-"""Prints a line for `dd` for each piece of the answers to requests.
+"""Prints a `dd` command for each piece of the answers to requests.
 
 Takes FORMAT, FILE and DISKS, as `dmremap map` does, and requests. Prints commands for a shell. What requests read is
 taken from the disks: it goes to standard output, or with --image into that file, one piece after the other. What
 requests write is taken from that file, in the same way, and goes to the disks. Copies and fills go from disk to disk.
-With --paths a disk has another path here. Snapshots start from what their stores have on these disks; --fresh takes
+With --paths a disk has another path here. Snapshots start from what their stores have on these disks; --fresh treats
 them as new. Refuses `error`, of which there is nothing to read or write, writes without --image, and an IMAGE that is
 one of the disks.
 
@@ -27,8 +27,9 @@ EXAMPLE = "echo 'R vg0-lv0 8000 16' | dmremap-tools dd lvm vg0.backup | sh | cmp
 
 def add_words(parser: ArgumentParser) -> None:
     given.add_words(parser)
-    parser.add_argument("--requests", metavar="REQUESTS", default="-", help="a file of requests; else standard input")
-    parser.add_argument("--image", metavar="IMAGE", help="a file with the sectors of the requests, one after the other")
+    parser.add_argument("--requests", metavar="REQUESTS", default="-",
+                        help="a file of requests; by default standard input")
+    parser.add_argument("--image", metavar="IMAGE", help="the file that reads go to, and that writes come from")
     loaded_stack.add_words(parser)
 
 

@@ -1,4 +1,4 @@
-"""Reports what answers do to each disk: all figures at once, and a picture.
+"""Reports what answers do on each disk, in figures and as a picture.
 
 Takes the output of `dmremap map`. Prints lines that begin with what they say:
 
@@ -45,12 +45,13 @@ Use = Tuple[str, str, List[int], List[int]]
 
 def add_words(parser: ArgumentParser) -> None:
     parser.add_argument("file", metavar="PIECES", nargs="?", default="-",
-                        help="what dmremap map printed; else standard input")
-    parser.add_argument("--lengths", metavar="DISKS", help="the disks with their lengths, for the order")
-    parser.add_argument("--plot", metavar="OUT.svg", help="a picture to write; it needs --lengths")
+                        help="the output of dmremap map; by default standard input")
+    parser.add_argument("--lengths", metavar="DISKS",
+                        help="a list of disks with their lengths, which orders the figures")
+    parser.add_argument("--plot", metavar="OUT.svg", help="draw a picture into this file; this needs --lengths")
     parser.add_argument("--times", metavar="TIMES",
-                        help="what trace --write-times wrote: line N is the time of request N, in seconds")
-    parser.add_argument("--compare", metavar="LOWER", help="requests of a trace of the disks")
+                        help="the file of times that trace --write-times wrote")
+    parser.add_argument("--compare", metavar="LOWER", help="compare the answers with requests that trace --lower made")
 
 
 def run(words: Namespace) -> None:

@@ -10,7 +10,7 @@ MOST_LINES, MOST_TEXT = 1 << 16, 1 << 20
 
 def add_words(parser: ArgumentParser) -> None:
     parser.add_argument("--part", metavar=("START", "SECTORS"), nargs=2, type=numbers.word,
-                        help="only the lines with these sectors; all others become `error`")
+                        help="make only the lines with these sectors; all other sectors become `error`")
 
 
 def part_of(words: Namespace) -> Optional[Tuple[int, int]]:

@@ -63,7 +63,7 @@ def refuse_at(place: NamePlace, reason: str) -> NoReturn:
 
 
 def add_words(parser: ArgumentParser) -> None:
-    parser.add_argument("--ls", metavar="LS", help="what `dmsetup ls` prints, for devices that are given as /dev/dm-N")
+    parser.add_argument("--ls", metavar="LS", help="the output of `dmsetup ls`, if devices are given as /dev/dm-N")
 
 
 def read_ls(path: str) -> List[Tuple[str, str]]:

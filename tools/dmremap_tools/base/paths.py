@@ -42,8 +42,9 @@ def line(name: str, path: str, start: int = 0) -> str:
 
 
 def add_words(parser: ArgumentParser) -> None:
-    parser.add_argument("--paths", metavar="PATHS", help="lines NAME PATH: a disk of the tables, and its path on this "
-                        "machine; PATH?offset=BYTES is a partition of a whole disk, which begins there")
+    parser.add_argument("--paths", metavar="PATHS",
+                        help="a list of lines NAME PATH: a disk of the tables and its path here, or PATH?offset=BYTES "
+                             "if it begins there in PATH")
 
 
 def read(path: str, form: Optional[Pattern[str]] = None, are_apart: bool = True) -> Dict[str, str]:

@@ -27,7 +27,7 @@ class NoProgram(Refusal):
 
 def add_words(parser: ArgumentParser) -> None:
     parser.add_argument("--program", metavar="PROGRAM",
-                        help="the dmremap that is asked; else the one beside this tool, or on the path")
+                        help="the dmremap to run; by default the one beside this tool, or on the path")
 
 
 def dmremap(given: Optional[str]) -> str:

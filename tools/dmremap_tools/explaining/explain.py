@@ -1,4 +1,4 @@
-"""Shows where dmremap refuses something and what mends it, or how an answer comes about.
+"""Shows where dmremap refuses an input and what mends it, or how an answer arises.
 
 Takes the words of dmremap as they were typed, such as `map FORMAT FILE [DISKS]`, with requests as words or on standard
 input, unless that is a terminal. If dmremap refuses them, prints its message, the place as a compiler shows it, what

@@ -39,9 +39,9 @@ def read(path: str, is_written: bool = False) -> List[Area]:
 
 def add_words(parser: ArgumentParser) -> None:
     parser.add_argument("--map", metavar="IMAGE=MAP", action="append", default=[],
-                        help="the map of ddrescue of an image: what it doesn't list as finished isn't there")
+                        help="ddrescue's map of an image; what it doesn't list as finished counts as missing")
     parser.add_argument("--map-of-other-length", action="store_true",
-                        help="take a map that begins or ends elsewhere than its image does")
+                        help="accept a map that doesn't begin and end where its image does")
 
 
 def images_with_maps(given: Sequence[str], images: Sequence[str]) -> List[Tuple[str, str]]:

@@ -1,4 +1,4 @@
-"""Lists the files of a volume that missing or unreadable sectors hit.
+"""Lists the files of a volume that have missing or unreadable sectors.
 
 Takes GROUP/VOLUME and images, as `save` does. With --map IMAGE=MAP, for each image that has one, the areas that a map
 of ddrescue doesn't list as finished are missing, too. Only the length shows whether a map is that of its image: one of
@@ -44,7 +44,7 @@ def add_words(parser: ArgumentParser) -> None:
     parser.add_argument("volume", metavar="GROUP/VOLUME", help="the volume, by its name")
     parser.add_argument("images", metavar="IMAGE", nargs="+", help="a file or a block device")
     rescue_map.add_words(parser)
-    parser.add_argument("--saved", metavar="FILE", help="a copy that `save` made, to read the file system from")
+    parser.add_argument("--saved", metavar="FILE", help="read the file system from this copy, which `save` made")
     program.add_words(parser)
 
 

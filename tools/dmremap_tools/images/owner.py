@@ -1,4 +1,4 @@
-"""Names the owner of sectors of images: is data lost there, and may you write there?
+"""Names the owners of sectors of images, to show what is lost there, and where you may write.
 
 Takes images, which are searched as by `scan`, and standard input: lines IMAGE FIRST or IMAGE FIRST COUNT, in sectors of
 512 bytes unless --bytes or --sector-size says otherwise, or a kernel's log, of which the lines with `dev DISK, sector
@@ -38,9 +38,9 @@ def add_words(parser: ArgumentParser) -> None:
     parser.add_argument("images", metavar="IMAGE", nargs="+", help="a file or a block device")
     rescue_map.add_words(parser)
     group = parser.add_mutually_exclusive_group()
-    group.add_argument("--bytes", action="store_true", help="places and lengths are bytes")
-    numbers.add_sector_size(group, "places and lengths count in sectors or blocks of so many bytes, as smartctl's in "
-                            "those of the disk, and badblocks' in 1024; 512 if nothing is given")
+    group.add_argument("--bytes", action="store_true", help="places and lengths in the input are bytes")
+    numbers.add_sector_size(group, "the bytes of a sector or block of the input: 512 by default, 1024 for badblocks, "
+                                   "what `blockdev --getss` prints for smartctl")
     program.add_words(parser)
 
 

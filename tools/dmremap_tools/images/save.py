@@ -1,4 +1,4 @@
-"""Saves a volume out of images, by its name.
+"""Copies a volume, given by its name, out of images.
 
 Takes GROUP/VOLUME, the file to write, and images, which are searched as by `scan`. GROUP may be the group's id, and may
 be left out if only one group has such a volume. A partition (disk.img:2), an array (md:NAME) or an image can be named
@@ -8,16 +8,16 @@ it is whole.
 Refuses a volume if something of it is missing, and leaves no OUT. With --resume or --allow-missing, these sectors are
 reported and become holes. Sectors that can't be read are reported and become holes in any case. The status is 4 then,
 or 0 with --allow-missing. --resume MAP writes these areas as a map of ddrescue; if MAP is there already, a run that was
-broken off goes on. MAP names its volume, and no other one continues by it. Give the maps of images each time.
+broken off goes on. MAP names its volume, and can't continue another one. Give the maps of images each time.
 
 With --map IMAGE=MAP, for each image that has one, the areas that a map of ddrescue doesn't list as finished aren't
 there. What another member of an array or another leg has is taken from that. Only the length shows whether a map is
 that of its image.
 
 Also takes VOLUME TARGET FORMAT FILE [DISKS], with FORMAT, FILE and DISKS as for `dmremap map`. The disks that they name
-are read at their names, or where --paths says. (If an image is called as a format is, write ./table.) With --extents,
+are read at their names, or where --paths says. (If an image has the name of a format, write ./table.) With --extents,
 the output of `filefrag -v` for a file of the volume, TARGET is that file. A snapshot is read by its store, which lies
-on these disks, too; --fresh takes snapshots as new, with the sectors of their origins alone.
+on these disks, too; --fresh treats snapshots as new, with the sectors of their origins alone.
 
 If a disk has errors, read it into an image with ddrescue first, and give its map. To mount a file system in OUT, use
 `mount -o ro,loop`, with `noload` for ext3 and ext4 and `norecovery` for XFS; to take a file,
@@ -47,10 +47,11 @@ def add_words(parser: ArgumentParser) -> None:
     parser.add_argument("volume", metavar="GROUP/VOLUME", help="the volume, by its name")
     parser.add_argument("target", metavar="OUT")
     parser.add_argument("images", metavar="IMAGE", nargs="+", help="a file or a block device; or FORMAT FILE [DISKS]")
-    parser.add_argument("--resume", metavar="MAP", help="a map of ddrescue to write; a later run reads it, and goes on")
+    parser.add_argument("--resume", metavar="MAP", help="write a map in ddrescue's format; a later run goes on from it")
     rescue_map.add_words(parser)
-    parser.add_argument("--allow-missing", action="store_true", help="save what is there, and end with status 0")
-    parser.add_argument("--extents", metavar="EXTENTS", help="with FORMAT: what filefrag -v printed of a file")
+    parser.add_argument("--allow-missing", action="store_true", help="end with status 0 even if parts are missing")
+    parser.add_argument("--extents", metavar="EXTENTS",
+                        help="with FORMAT: the output of filefrag -v for the file to save")
     names.add_words(parser)
     loaded_stack.add_words(parser)
 

@@ -1,4 +1,4 @@
-"""Lists what a pile of images holds: partition tables, md arrays, LUKS containers, volume groups and their volumes.
+"""Lists what images hold: partition tables, md arrays, LUKS containers, volume groups and their volumes.
 
 Takes images, files or block devices, in any order. Nothing is written to them. Prints a tree. Each image is read where
 labels and superblocks lie, and as a whole if nothing sound is there. Something foreign or damaged gets a line, and
@@ -49,7 +49,7 @@ _unasked: List[str] = []
 
 
 def add_words(parser: ArgumentParser) -> None:
-    parser.add_argument("--json", action="store_true", help="one object, for other programs")
+    parser.add_argument("--json", action="store_true", help="print one JSON object, for other programs")
     parser.add_argument("images", metavar="IMAGE", nargs="+", help="a file or a block device")
     program.add_words(parser)
 

@@ -1,4 +1,4 @@
-"""Serves a volume out of images as a disk, by nbdkit, until it is interrupted.
+"""Serves a volume in images as a disk, by nbdkit, until you interrupt it.
 
 Takes GROUP/VOLUME and images, as `save` does, with their maps of ddrescue. Prints the URI of the disk, and commands
 that copy it, mount its file system if `scan` knows one, and end all of it; for ext2, ext3 and ext4, also those that
@@ -49,7 +49,7 @@ def add_words(parser: ArgumentParser) -> None:
     parser.add_argument("volume", metavar="GROUP/VOLUME", help="the volume, by its name")
     parser.add_argument("images", metavar="IMAGE", nargs="+", help="a file or a block device")
     rescue_map.add_words(parser)
-    parser.add_argument("--socket", metavar="SOCKET", help="where the server listens; else in a temporary folder")
+    parser.add_argument("--socket", metavar="SOCKET", help="the server's socket; by default in a temporary folder")
     program.add_words(parser)
 
 

@@ -1,4 +1,4 @@
-"""Writes PATHS of a group, or FILE, DISKS and PATHS, by which dmremap itself answers for its volumes.
+"""Writes the files with which dmremap itself answers for a group: PATHS, or FILE, DISKS and PATHS.
 
 Takes GROUP, a name or an id, images, which are searched as by `scan`, and a folder for the files, none of which may be
 there yet. PATHS lists the images. It is written alone if dmremap takes the whole group from these images. Otherwise
@@ -33,7 +33,7 @@ def add_words(parser: ArgumentParser) -> None:
     parser.add_argument("group", metavar="GROUP", help="the group, by its name or its id")
     parser.add_argument("images", metavar="IMAGE", nargs="+", help="a file or a block device")
     rescue_map.add_words(parser)
-    parser.add_argument("--to", metavar="FOLDER", required=True, help="where the files are written")
+    parser.add_argument("--to", metavar="FOLDER", required=True, help="the folder for the files")
     program.add_words(parser)
 
 

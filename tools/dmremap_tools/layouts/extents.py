@@ -2,7 +2,7 @@
 
 Takes VOLUME, and FORMAT, FILE and DISKS as `dmremap map` does. Prints a line for each extent: the sector of the device,
 the number of sectors, and the disk with the sector there, `zero` or `error`. For a snapshot it reads the store, on
-disks at their names or where --paths says; --fresh takes it as new.
+disks at their names or where --paths says; --fresh treats it as new.
 """
 
 import argparse

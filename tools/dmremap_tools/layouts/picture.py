@@ -1,10 +1,10 @@
-"""Draws the disks as SVG: what lies where.
+"""Draws what lies where on the disks, as SVG.
 
 Takes SPANS, the output of `spans`. Draws a bar for each disk, and for each device that others lie on: each range that a
 line uses in the colour of its device, and gaps hatched. Ranges that share sectors stand in rows of their own; those
 that clash are edged in red, as `spans --clashes` prints them. The names are in the ranges that have room for them, in
-tooltips and in a legend. Bars have one length each, or with --scale lengths in proportion. Refuses lines that `spans`
-doesn't print, and ranges past an end.
+tooltips and in a legend. All bars have the same length, or with --scale lengths in proportion. Refuses lines that
+`spans` doesn't print, and ranges past an end.
 """
 
 import heapq
@@ -22,8 +22,9 @@ GAP = ('<defs><pattern id="gap" width="6" height="6" patternUnits="userSpaceOnUs
 
 
 def add_words(parser: ArgumentParser) -> None:
-    parser.add_argument("--scale", action="store_true", help="bars in proportion to the longest")
-    parser.add_argument("spans", metavar="SPANS", nargs="?", default="-", help="output of spans; else standard input")
+    parser.add_argument("--scale", action="store_true", help="draw bars in proportion to the disks")
+    parser.add_argument("spans", metavar="SPANS", nargs="?", default="-",
+                        help="the output of spans; by default standard input")
 
 
 def run(words: Namespace) -> None:

@@ -1,15 +1,15 @@
-"""Lists what lies where: each range of a disk or a device that a line of a stack uses.
+"""Lists each range of a disk or device that a line of a stack uses.
 
 Takes DISKS, and FILE, which is table text or concise text of a stack that dmremap loads. Prints a line for each range,
 sorted: what it lies on, the first sector, the sector after the last, the device whose line it is, where that line
-begins on the device, and as what it is used. A line with `end` is the end of a disk or a device. A snapshot uses all of
+begins on the device, and the kind of use. A line with `end` is the end of a disk or a device. A snapshot uses all of
 its origin, as `origin`, and all of its store.
 
-With --free, lines `unnamed` stand between: sectors that no line names. They needn't be free: a file system may lie
-there without a device, or a partition table, swap space, or a volume that isn't active or was left out; `owner` asks
-the images. --clashes prints, in place of the ranges, every two that have sectors in common; `dmremap check` prints the
-first two alone. A line has what they lie on, the first and the last sector, and both devices. Snapshots may share an
-origin. --align prints the lines of devices that begin at no multiple of 2048 sectors, which is 1 MiB, or of --multiple
+With --free, lines `unnamed` list the sectors that no line names. They needn't be free: a file system may lie there
+without a device, or a partition table, swap space, or a volume that isn't active or was left out; `owner` asks the
+images. --clashes prints, in place of the ranges, each pair that shares sectors; `dmremap check` prints only the first
+pair. Each line has what the two lie on, the first and the last sector, and both devices. Snapshots may share an origin.
+--align prints the lines of devices that don't begin at a multiple of 2048 sectors, which is 1 MiB, or of --multiple
 SECTORS.
 """
 
@@ -38,11 +38,12 @@ def add_words(parser: ArgumentParser) -> None:
     parser.add_argument("disks", metavar="DISKS")
     parser.add_argument("file", metavar="FILE")
     shown = parser.add_mutually_exclusive_group()
-    shown.add_argument("--free", action="store_true", help="what no line names, too")
-    shown.add_argument("--clashes", action="store_true", help="every two lines that have sectors in common")
-    shown.add_argument("--align", action="store_true", help="what begins at no multiple of 1 MiB, or of --multiple")
+    shown.add_argument("--free", action="store_true", help="also list the sectors that no line names")
+    shown.add_argument("--clashes", action="store_true", help="list each pair of lines that share sectors")
+    shown.add_argument("--align", action="store_true",
+                       help="list what doesn't begin at a multiple of 1 MiB, or of --multiple")
     parser.add_argument("--multiple", type=numbers.word, default=2048, metavar="SECTORS",
-                        help="with --align: the number whose multiples are meant")
+                        help="with --align: the multiple; by default 1 MiB")
 
 
 def run(words: Namespace) -> None:

@@ -1,18 +1,18 @@
-"""Tells whether the stores of snapshots can be full, and which request makes each snapshot invalid.
+"""Tells whether the stores of snapshots can fill up, and which request makes each snapshot invalid.
 
-Takes FORMAT, FILE and DISKS, as `dmremap map` does. Prints a line for each snapshot: how many chunks it has, for how
-many its store has places, and whether that can be too few. A kernel may have one place less, so make a store a chunk
+Takes FORMAT, FILE and DISKS, as `dmremap map` does. Prints a line for each snapshot: how many chunks it has, how many
+places its store has, and whether these can be too few. A kernel may have one place less, so make a store a chunk
 larger.
 
-With --requests, prints one more for each: the request that makes it invalid, and how full its store was before that, as
-`--status` prints it. A snapshot starts from what its store has, on disks at their names or where --paths says; --fresh
-takes all as new. dmremap is run over the first half of the requests, then over less or more of them, and so on: about
-twenty times for a million requests.
+With --requests, prints another line for each snapshot: the request that makes it invalid, and how full its store was
+before that, as `--status` prints it. A snapshot starts from what its store holds, on disks at their names or where
+--paths says; --fresh treats all as new. It runs dmremap over the first half of the requests, then over fewer or more of
+them: about twenty times for a million requests.
 
-With --writes in place of FORMAT, FILE and DISKS, prints for each device that is written how much of a store that fills:
-its name, how many chunks a snapshot of it takes, how many sectors of the store are used, and how many of these are the
-header and the chunk numbers. Writes to the snapshot and to its origin take the same chunks. Refuses what dmremap
-refuses, and a FILE without snapshots.
+With --writes in place of FORMAT, FILE and DISKS, prints for each device how much of a store its writes fill: its name,
+how many chunks a snapshot of it takes, how many sectors of the store are used, and how many of these are the header and
+the chunk numbers. Writes to the snapshot and to its origin take the same chunks. Refuses what dmremap refuses, and a
+FILE without snapshots.
 """
 
 import functools
@@ -41,11 +41,12 @@ def add_words(parser: ArgumentParser) -> None:
     parser.add_argument("file", metavar="FILE", nargs="?")
     parser.add_argument("disks", metavar="DISKS", nargs="?", help="with table and concise")
     asked = parser.add_mutually_exclusive_group()
-    asked.add_argument("--requests", metavar="REQUESTS", help="requests to the snapshots or their origins")
-    asked.add_argument("--writes", metavar="REQUESTS", help="the writes of a day, say, to devices without a snapshot")
+    asked.add_argument("--requests", metavar="REQUESTS", help="find which of these requests makes a snapshot invalid")
+    asked.add_argument("--writes", metavar="REQUESTS", help="tell how much of a store these writes would fill")
     parser.add_argument("--chunk", type=numbers.word, default=8, metavar="SECTORS",
-                        help="with --writes: the chunk, a power of two; else 8")
-    parser.add_argument("--kind", choices=("P", "N", "K"), default="P", help="with --writes: the kind; else P")
+                        help="with --writes: the snapshot's chunk, a power of two; by default 8")
+    parser.add_argument("--kind", choices=("P", "N", "K"), default="P",
+                        help="with --writes: the snapshot's kind; by default P")
     loaded_stack.add_words(parser)
 
 

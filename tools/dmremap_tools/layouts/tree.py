@@ -1,4 +1,4 @@
-"""Shows a stack as a tree: each device that nothing lies on, and what is below it.
+"""Shows a stack as a tree: each top device, and what lies below it.
 
 Takes FILE, table text or concise text. What was shown is not shown again. --dot prints a graph for Graphviz: devices,
 and disks in boxes, with an edge for each line from its device to what it lies on; `dot -Tsvg` draws it. Refuses devices
@@ -17,7 +17,7 @@ TOO_DEEP = "devices stand on themselves, or on too many others, see `dmremap-too
 
 def add_words(parser: argparse.ArgumentParser) -> None:
     parser.add_argument("file", metavar="FILE")
-    parser.add_argument("--dot", action="store_true", help="a graph for Graphviz in place of the tree")
+    parser.add_argument("--dot", action="store_true", help="print a graph for Graphviz instead of the tree")
 
 
 def run(words: argparse.Namespace) -> None:

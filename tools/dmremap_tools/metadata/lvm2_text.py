@@ -1,4 +1,4 @@
-"""Makes a copy of a group's metadata that dmremap reads, and that means the same to it.
+"""Makes a copy of a group's metadata without what dmremap refuses.
 
 Takes TEXT, as `vgcfgbackup` writes it or a metadata area has it, which dmremap refuses as `field`, `syntax`, `extents`,
 `snapshot`, `store` or `limit`: one raid, mirror, cache or thin volume is enough, or one disk after `pvresize`.
@@ -14,7 +14,7 @@ raid volumes that are made writable, and what is left out:
     snapshots that are being merged, with their origin: it reads as the snapshot does, from what is left in the store;
     fields with negative numbers, fractions, or keys that are no words.
 
-The parts of a volume that is left out stay, under the names that they have in the kernel: `r1_rimage_0` is one half of
+The parts of a volume that is left out stay, under the names that they have in the kernel: `r1_rimage_0` is one leg of
 the mirror `r1`, and `pool_tdata` has the data of a thin pool. For a cached volume, the cache may have newer data than
 `home_corig`. With --only, which may be given several times, the copy has that volume, its origin if it is a snapshot,
 and the disks that they lie on.
@@ -120,7 +120,7 @@ def plain_value(item: Item) -> Optional[bytes]:
 
 def add_words(parser: argparse.ArgumentParser) -> None:
     parser.add_argument("--only", metavar="NAME", action="append", default=[],
-                        help="a volume to keep, with its origin and its disks")
+                        help="keep only this volume, with its origin and its disks")
     program.add_words(parser)
     parser.add_argument("text", metavar="TEXT", help="the metadata, as vgcfgbackup writes it")
 

@@ -45,8 +45,8 @@ HEAD = 1 << 20
 def add_words(parser: argparse.ArgumentParser) -> None:
     which = parser.add_mutually_exclusive_group()
     which.add_argument("--list", action="store_true", help="list the texts that are left in the metadata areas")
-    for option, name, where in ("--seqno", "N", "with this number"), ("--at", "BYTE", "at this place"):
-        said = f"print the text {where}, which is one of the list"
+    for option, name, where in ("--seqno", "N", "with this seqno"), ("--at", "BYTE", "that begins at this byte"):
+        said = f"print the listed text {where}"
         which.add_argument(option, type=numbers.word, metavar=name, help=said)
     parser.add_argument("heads", nargs="+", metavar="HEAD", help="the physical volume, or an image of its beginning")
 

@@ -86,7 +86,7 @@ def load(asked: str, given: Given, folder: str) -> Stack:
 def add_words(parser: argparse.ArgumentParser) -> None:
     program.add_words(parser)
     paths.add_words(parser)
-    parser.add_argument("--fresh", action="store_true", help="take every snapshot as new, with nothing in its store")
+    parser.add_argument("--fresh", action="store_true", help="treat every snapshot as new, with an empty store")
 
 
 def start(words: argparse.Namespace, source: Given, devices: Optional[Iterable[str]], folder: str) -> Started:

@@ -1,4 +1,4 @@
-"""Cuts requests that are longer than dmremap takes.
+"""Cuts requests that are too long for dmremap.
 
 Takes requests of any length, `R DEVICE START LEN` or `W ..`, in sectors, or with --bytes in bytes. Prints the same
 requests in sectors, with all that the bytes touch, cut after 1,048,576 sectors (512 MiB). Refuses lines that aren't
@@ -13,8 +13,8 @@ EXAMPLE = "echo 'R vg0-lv0 8000 2500000' | dmremap-tools cut | dmremap map lvm v
 
 
 def add_words(parser: ArgumentParser) -> None:
-    parser.add_argument("file", metavar="FILE", nargs="?", default="-", help="requests; else standard input")
-    parser.add_argument("--bytes", action="store_true", help="their numbers are an offset and a length in bytes")
+    parser.add_argument("file", metavar="FILE", nargs="?", default="-", help="requests; by default standard input")
+    parser.add_argument("--bytes", action="store_true", help="the requests have an offset and a length in bytes")
     names.add_words(parser)
 
 

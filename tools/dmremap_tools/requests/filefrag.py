@@ -1,4 +1,4 @@
-"""Makes requests for the sectors of files, from what `filefrag -s -v -b512 FILE` prints, or `debugfs`.
+"""Makes requests for the sectors of files, from the output of `filefrag -s -v -b512 FILE` or of `debugfs`.
 
 Takes the extents of one file or of several, in blocks of any size. Prints requests that read them, in the file's order.
 Unwritten extents are reported and left out: they read as zeros. Refuses file systems other than ext2, ext3, ext4 and
@@ -56,13 +56,15 @@ ENDED = (-1, 0)
 def add_words(parser: ArgumentParser) -> None:
     parser.add_argument("volume", metavar="VOLUME", help="the device that the file system lies on, by its name or path")
     parser.add_argument("file", metavar="FILE", nargs="?", default="-",
-                        help="what filefrag or debugfs printed; else standard input")
+                        help="the output of filefrag or debugfs; by default standard input")
     kinds = parser.add_mutually_exclusive_group()
-    kinds.add_argument("--addresses", action="store_true", help="files of btrfs; VOLUME is the device of its addresses")
-    kinds.add_argument("--debugfs", metavar="SUPER", help="what dumpe2fs -h printed; FILE is what debugfs printed")
-    parser.add_argument("--name", metavar="NAME", help="the file as a device of this name")
-    parser.add_argument("--on", metavar="DISK", help="with --name: the disk or /dev/mapper/NAME it is on")
-    parser.add_argument("--size", metavar="BYTES", help="with --name and --debugfs: how many bytes the file has")
+    kinds.add_argument("--addresses", action="store_true",
+                       help="the files are on btrfs; VOLUME is the device of its addresses")
+    kinds.add_argument("--debugfs", metavar="SUPER",
+                       help="the output of dumpe2fs -h; FILE is then the output of debugfs")
+    parser.add_argument("--name", metavar="NAME", help="print the file as a device with this name")
+    parser.add_argument("--on", metavar="DISK", help="with --name: the disk or /dev/mapper/NAME with the file system")
+    parser.add_argument("--size", metavar="BYTES", help="with --name and --debugfs: the length of the file in bytes")
     made_device.add_words(parser)
     names.add_words(parser)
 

@@ -57,14 +57,14 @@ LOG_OTHERS = {"add": (2,), "open": (2,), "close": (2,), "sync": (2, 4), "datasyn
 
 
 def add_words(parser: ArgumentParser) -> None:
-    parser.add_argument("ls", metavar="LS", help="what dmsetup ls printed at the time of the trace")
+    parser.add_argument("ls", metavar="LS", help="the output of dmsetup ls at the time of the trace")
     parser.add_argument("tables", metavar="TABLES", help="table or concise text")
-    parser.add_argument("file", metavar="TRACE", nargs="?", default="-", help="the trace; else standard input")
-    parser.add_argument("--write-times", metavar="TIMES", help="a file to write: line N is the time of request N")
+    parser.add_argument("file", metavar="TRACE", nargs="?", default="-", help="the trace; by default standard input")
+    parser.add_argument("--write-times", metavar="TIMES", help="write a file of times: line N is the time of request N")
     kinds = parser.add_mutually_exclusive_group()
     kinds.add_argument("--lower", action="store_true",
-                       help="a trace of disks; LS is what lsblk prints, and TABLES is DISKS")
-    kinds.add_argument("--fio", action="store_true", help="TRACE is a log that fio wrote")
+                       help="the trace is of disks; LS is then the output of lsblk, TABLES is DISKS")
+    kinds.add_argument("--fio", action="store_true", help="the trace is a log that fio wrote")
 
 
 def run(words: Namespace) -> None:

@@ -1,4 +1,4 @@
-"""Makes a device of the addresses of a btrfs file system, from its tree of chunks.
+"""Makes a device whose sectors are the addresses of a btrfs file system, from its chunk tree.
 
 Takes what `btrfs inspect-internal dump-tree -t chunk DEVICE` prints, and for each device of the file system its number
 and a disk. Prints table text of a device on which each address is a sector. The file system counts the extents of its
@@ -83,12 +83,12 @@ class Chunk:
 
 
 def add_words(parser: ArgumentParser) -> None:
-    parser.add_argument("--name", metavar="NAME", required=True, help="the device of the addresses")
+    parser.add_argument("--name", metavar="NAME", required=True, help="a name for the device of the addresses")
     parser.add_argument("--disk", metavar=("NUMBER", "DISK"), nargs=2, action="append", required=True,
-                        help="a device of the file system")
-    parser.add_argument("--copy", metavar="N", type=numbers.word, default=0, help="which copy, counted from 0")
+                        help="a device of the file system: its number there, and its disk")
+    parser.add_argument("--copy", metavar="N", type=numbers.word, default=0, help="the copy to use, counted from 0")
     made_device.add_words(parser)
-    parser.add_argument("chunks", metavar="CHUNKS", help="what dump-tree printed")
+    parser.add_argument("chunks", metavar="CHUNKS", help="the output of dump-tree")
 
 
 def run(words: Namespace) -> None:

@@ -28,11 +28,13 @@ PATH = re.compile(r"/[^,;\\\s]*")
 
 def add_words(parser: argparse.ArgumentParser) -> None:
     paths.add_words(parser)
-    parser.add_argument("--prefix", metavar="PREFIX", default="", help="what the names of devices begin with here")
+    parser.add_argument("--prefix", metavar="PREFIX", default="", help="put this in front of the names of all devices")
     which = parser.add_mutually_exclusive_group()
-    which.add_argument("--missing", choices=("error", "zero"), help="what a disk that isn't there reads as")
-    which.add_argument("--losetup", action="store_true", help="print commands for losetup, which need no device-mapper")
-    parser.add_argument("file", metavar="FILE", nargs="?", default="-", help="concise text; else standard input")
+    which.add_argument("--missing", choices=("error", "zero"),
+                       help="`error` or `zero`: what to put in place of a disk that PATHS lacks")
+    which.add_argument("--losetup", action="store_true",
+                       help="print commands for losetup instead, which need no device-mapper")
+    parser.add_argument("file", metavar="FILE", nargs="?", default="-", help="concise text; by default standard input")
 
 
 def run(words: argparse.Namespace) -> None:

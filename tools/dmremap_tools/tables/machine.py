@@ -1,4 +1,4 @@
-"""Makes FILE and DISKS of a machine that has device-mapper devices of any kind.
+"""Makes FILE and DISKS of a machine with device-mapper devices of any kind.
 
 Takes four texts, which root can make on that machine:
 
@@ -198,12 +198,13 @@ class Machine:
 
 
 def add_words(parser: argparse.ArgumentParser) -> None:
-    parser.add_argument("--disks", metavar="DISKS", required=True, help="the file to write DISKS to")
-    for option, value, said in (("--only", "NAME", "a device to keep, with all that it stands on"),
-                                ("--store", "SNAPSHOT=IMAGE", "a snapshot whose store `map --paths` reads")):
+    parser.add_argument("--disks", metavar="DISKS", required=True, help="the file to which DISKS is written")
+    for option, value, said in (("--only", "NAME", "keep only this device and what lies below it"),
+                                ("--store", "SNAPSHOT=IMAGE", "keep this used snapshot, whose store `map --paths` "
+                                 "reads")):
         parser.add_argument(option, metavar=value, action="append", default=[], help=said)
     paths.add_words(parser)
-    numbers.add_sector_size(parser, "with --paths, the bytes of a sector of images with an MBR, which doesn't say so")
+    numbers.add_sector_size(parser, "with --paths: the sector size of images with an MBR, which doesn't state it")
     parser.add_argument("ls", metavar="LS", help="what `dmsetup ls` prints")
     parser.add_argument("status", metavar="STATUS", help="what `dmsetup status` prints")
     parser.add_argument("lsblk", metavar="LSBLK", nargs="?", help=f"what `{names.LSBLK_COMMAND}` prints")

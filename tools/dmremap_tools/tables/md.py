@@ -1,10 +1,10 @@
-"""Makes table text of an md array, or follows answers that end at one on to its members.
+"""Makes the table of an md array, or follows answers from an array to its members.
 
 Takes what `mdadm --examine` prints of all members of an array, which may be images, with metadata 0.90 and 1.0 to 1.2;
 or, with --member, the members with metadata 1.x themselves, or images of them. The first MiB of each is enough for 1.1
 and 1.2, and for 1.0 a file of the member's length that has its last MiB. Prints a table of the array, named --name: of
 linear, raid0, raid1 and raid4, and of raid10 whose copies are far, or near and divide the members. If there are copies,
-the table is that of the first that is there, or of --copy, counted from 0. A write goes to all of them, and raid4
+the table leads to the first one that is there, or to --copy, counted from 0. A write goes to all of them, and raid4
 writes parity as well, so ask for reads. A kernel reads any copy.
 
 With --follow DISK, takes answers as well, and prints them with each piece on that disk followed on to the members: of
@@ -13,9 +13,9 @@ one if that one is missing; a write is of each copy that is there.
 
 --path names a member's disk in the table, if that isn't its path. Metadata 0.90 of linear and raid0 doesn't say how
 long the members are: --sectors does. A member that is a spare, was away, or was dropped is left out. Refuses members
-that differ in what they say of the array, that ran apart from each other, that are being reshaped or rebuilt, that have
-a journal or a wrong checksum, and what needs one that is missing. In answers it refuses writes beside parity, copies
-and fills, and what lies past the end.
+that describe the array differently, that have diverged, that are being reshaped or rebuilt, or that have a journal or a
+wrong checksum, and what needs a missing member. In answers it refuses writes beside parity, copies and fills, and what
+lies past the end.
 """
 
 import argparse
@@ -40,15 +40,17 @@ EXAMPLE = "dmremap-tools md --name md0 examine.txt > md0.table"
 
 def add_words(parser: argparse.ArgumentParser) -> None:
     what = parser.add_mutually_exclusive_group(required=True)
-    what.add_argument("--name", metavar="NAME", help="the device of the table")
-    what.add_argument("--follow", metavar="DISK", help="the array, as the answers name it")
-    parser.add_argument("--member", metavar="IMAGE", action="append", default=[], help="a member, in place of EXAMINED")
-    parser.add_argument("--copy", metavar="N", type=numbers.word, help="which copy, counted from 0")
+    what.add_argument("--name", metavar="NAME", help="a name for the device in the printed table")
+    what.add_argument("--follow", metavar="DISK", help="the disk of the answers that is the array")
+    parser.add_argument("--member", metavar="IMAGE", action="append", default=[],
+                        help="an image of a member, in place of EXAMINED")
+    parser.add_argument("--copy", metavar="N", type=numbers.word, help="the copy to use, counted from 0")
     parser.add_argument("--path", metavar="MEMBER=DISK", action="append", default=[],
-                        help="the name of a member's disk")
-    parser.add_argument("--sectors", metavar="MEMBER=SECTORS", action="append", default=[], help="how long a member is")
-    parser.add_argument("examined", metavar="EXAMINED", nargs="?", help="what mdadm --examine printed")
-    parser.add_argument("file", metavar="PIECES", nargs="?", help="with --follow, answers; else standard input")
+                        help="the name of a member's disk in the table")
+    parser.add_argument("--sectors", metavar="MEMBER=SECTORS", action="append", default=[],
+                        help="the length of a member")
+    parser.add_argument("examined", metavar="EXAMINED", nargs="?", help="the output of mdadm --examine")
+    parser.add_argument("file", metavar="PIECES", nargs="?", help="with --follow: answers; by default standard input")
 
 
 def run(words: argparse.Namespace) -> None:

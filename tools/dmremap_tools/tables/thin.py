@@ -7,11 +7,11 @@ or move one that is shared, so dmremap refuses it. Take the metadata of a pool t
 --metadata-snap what an active one holds since `dmsetup message POOL 0 reserve_metadata_snap`. `thin_restore` and
 `cache_restore` make metadata of what thin_dump or cache_dump printed.
 
-With --cache and --origin in place of --data, takes the metadata of a cache, and of one device the name and its sectors.
+With --cache and --origin in place of --data, takes the metadata of a cache, and the name and the length of one device.
 Blocks that are mapped lie on the cache, dirty or not, and the rest on the origin.
 
-A device of more lines than dmremap takes is refused, unless --part names the sectors that are wanted. Refuses
-metadata that is damaged, a device that it doesn't have, and blocks past the end of the data or twice.
+A device of more lines than dmremap takes is refused, unless --part names the sectors that are wanted. Refuses metadata
+that is damaged, a device that it doesn't have, and blocks that lie past the end of the data or occur twice.
 """
 
 from argparse import ArgumentParser, Namespace
@@ -25,16 +25,17 @@ EXAMPLE = "dmremap-tools thin --data tdata --device 1 vg0-thin1 2097152 tmeta.im
 
 
 def add_words(parser: ArgumentParser) -> None:
-    parser.add_argument("--data", metavar="DISK", help="the pool's data: a disk, or /dev/mapper/NAME")
+    parser.add_argument("--data", metavar="DISK", help="the disk or /dev/mapper/NAME with the pool's data")
     parser.add_argument("--device", metavar=("NUMBER", "NAME", "SECTORS"), nargs=3, action="append", default=[],
-                        help="a device: its number in the pool, a name, and its sectors")
+                        help="a thin device: its `device_id` in the metadata, a name for it, its length in sectors")
     parser.add_argument("--external", metavar=("NUMBER", "DISK"), nargs=2, action="append", default=[],
-                        help="the external origin of a device, and just as long")
-    parser.add_argument("--metadata-snap", action="store_true", help="take what an active pool holds for others")
-    parser.add_argument("--cache", metavar="DISK", help="the cache's data: a disk, or /dev/mapper/NAME")
-    parser.add_argument("--origin", metavar="DISK", help="what is cached: the same")
-    parser.add_argument("--name", metavar="NAME", help="the cached device")
-    parser.add_argument("--sectors", metavar="SECTORS", type=numbers.word, help="its length")
+                        help="a device's external origin, which has the same length")
+    parser.add_argument("--metadata-snap", action="store_true",
+                        help="read the metadata snapshot that an active pool holds")
+    parser.add_argument("--cache", metavar="DISK", help="the disk or /dev/mapper/NAME with the cache's data")
+    parser.add_argument("--origin", metavar="DISK", help="the disk or /dev/mapper/NAME that is cached")
+    parser.add_argument("--name", metavar="NAME", help="a name for the cached device")
+    parser.add_argument("--sectors", metavar="SECTORS", type=numbers.word, help="the length of the cached device")
     made_device.add_words(parser)
     parser.add_argument("metadata", metavar="METADATA", help="the metadata of the pool or cache, or an image of it")
 
