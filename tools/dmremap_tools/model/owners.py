@@ -13,7 +13,7 @@ from dmremap_tools.base import SECTOR, Refusal
 from dmremap_tools.formats.luks_header import Container
 from dmremap_tools.formats.partition_table import Table
 from dmremap_tools.model.config_text import shown
-from dmremap_tools.model.device import ALL, ZEROS, Device, Gap, Part, blocks_of, cut, holder, joined, joint
+from dmremap_tools.model.device import ALL, ZEROS, Device, Gap, Part, blocks_of, holder, joined
 from dmremap_tools.model.groups import REMOVED
 from dmremap_tools.model.layout import LOWER, Layout
 from dmremap_tools.model.mapping import INVALID_SNAPSHOT, MappedDevice, NoProgram, Tables
@@ -86,10 +86,15 @@ def ways_at_once(ground: Ground, first: int, end: int, depth: int = 0) -> Iterat
             yield Way(run.first + way.first - start, way.count, (*own, *way.steps))
 
 
-def gaps(runs: Iterable[OwnedRun], first: int, end: int) -> List[Tuple[int, int]]:
+def gaps(runs: Iterable[OwnedRun], first: int, end: int) -> Iterator[Tuple[int, int]]:
     """Those of some sectors that no run has."""
-    parts = cut(joint((run.first, run.end) for run in runs), first, end)
-    return [(begin, stop) for begin, stop, run in parts if not run]
+    for begin, stop, *_ in sorted(runs, key=FIRST):
+        if first < begin and first < end:
+            yield first, min(begin, end)
+        if stop > first:
+            first = stop
+    if first < end:
+        yield first, end
 
 
 def unknown_owner(why: str) -> str:
