@@ -22,7 +22,7 @@ use Rattle.dm_store.specs.Numbers.{four_at}
 use Rattle.dm_store.specs.Pairs.{Sectors, bytes_or_none, old_chunks, pair, pair_in}
 use Rattle.dm_store.specs.Restart.{AreKept, AreListed, Gone, HoldMore, IsGone, Lists, Spelled, Unused, kept_in}
 use Rattle.dm_store.specs.Spelled.{IsFreeAt, Spells}
-use Rattle.dm_store.specs.Start.{start_of, store_at, store_if, store_sectors, stored_state, taken_if, taken_in}
+use Rattle.dm_store.specs.Start.{start_of, store_if, store_sectors, stored_state, taken_if, taken_in}
 use Rattle.dm_store.specs.Stored.{Stored, Fresh, Lost, Holds, Refused, by_header, list_count, list_fault, listed, listed_if, of_list, stored}
 use Rattle.dm_store.proofs.RestartLemmas.{gone_kept, valid_kept}
 use Rattle.dm_store.proofs.SpeltLemmas.{is_spelled}

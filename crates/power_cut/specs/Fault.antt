@@ -45,7 +45,7 @@ fault_message (faults.Unloaded fault) = load_message fault
 fault_message faults.Untidy = codes "dmremap: replay: untidy\n"
 fault_message (faults.Ended ending) = ending_message ending
 fault_message (faults.NotTop number) = refused_request number (codes "not top")
-fault_message faults.Lists = codes "dmremap: lists: other\n"
+fault_message faults.Lists = codes "power_cut: lists: other\n"
 fault_message faults.Memory = memory_message
 
 -- why a request of this number is not played

@@ -41,7 +41,7 @@ impl Fault {
             Fault::Untidy => tell(messages, b"dmremap: replay: untidy\n"),
             Fault::Ended(ending) => tell(messages, message_of(ending).as_slice()),
             Fault::NotTop(number) => tell(messages, refused_request(number, b"not top").as_slice()),
-            Fault::Lists => tell(messages, b"dmremap: lists: other\n"),
+            Fault::Lists => tell(messages, b"power_cut: lists: other\n"),
             Fault::Memory => tell(messages, memory_message()),
         }
         self.status()

@@ -2,7 +2,6 @@
 
 ghost use Rattle.std.specs.Prelude.{◌≡◌, ◌&&◌, ◌==◌, ℕ, List, Err, IfSome, None, Ok};
 ghost use Rattle.dm_stack.specs.Description.{is_same};
-ghost use Rattle.dm_store.specs.Images.{Contents};
 ghost use Rattle.power_cut.specs.Lists.{held_in};
 
 use dm_store::{Images, ReadFault, SECTOR};
