@@ -218,8 +218,9 @@ class Child:
                 columns = pieces_in((newline + whole).decode(), self._number) if more else self._fail()
             except ValueError:
                 self._fail()
-            for kept, column in zip(found, columns):
-                kept += column
+            found[0].extend(columns[0])
+            found[1].extend(columns[1])
+            found[2].extend(columns[2])
             count -= sum(columns[2])
         if count or text:
             self._fail()
