@@ -112,7 +112,8 @@ class DiskFields:
 
     def mark(self, source: pieces.Answers, column: int, disk: str, what: str, starts: List[int], ends: List[int]
              ) -> None:
-        """Marks what is done with sectors of a disk."""
+        """Counts in a column of a disk what, R or W, is done with its sectors from each of `starts` up to the one of
+        `ends`. Refuses, as the fault of a source, more disks than a picture has room for."""
         if disk not in self._fields:
             if len(self._fields) == MOST_FIELDS:
                 raise Refusal(source.name, f"pieces on more than {MOST_FIELDS} disks, too many for a picture: "

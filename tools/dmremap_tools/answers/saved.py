@@ -202,7 +202,8 @@ class Target:
             os.ftruncate(self._descriptor, size)
 
     def has(self, at: int, content: memoryview) -> bool:
-        """Whether bytes are zeros, at most a BLOCK, that are there already, and stay a hole."""
+        """Whether bytes, at most a BLOCK, needn't be written at a place, as they are zeros and the file has zeros there
+        already, which may be a hole. It is false of all other bytes."""
         if not NOTHING.startswith(content):
             return False
         with self.place.failing():

@@ -130,7 +130,7 @@ class Lines:
         self.refuse(f"{reason}: {quoting.shown(self.line)}")
 
     def whole(self, text: str) -> int:
-        """The whole number below 2^64 that a word of the line is."""
+        """The whole number below 2^64 that a word of the line is. Refuses the line where it is none."""
         value = numbers.read(text)
         if value is None:
             self.refuse(numbers.NO_NUMBER % quoting.shown(text))

@@ -100,7 +100,8 @@ def read(path: str) -> Tuple[List[TableDevice], bool]:
 
 
 def line_of(place: str, text: str) -> Line:
-    """A line that dmremap takes, as far as the line alone can tell."""
+    """A line of a table from its text. Refuses one that dmremap doesn't take, as far as the line alone can tell, as a
+    fault of this place."""
     words = text.split(" ")
     start, length = map(numbers.read, words[:2]) if len(words) > 2 else (None, None)
     if start is None or length is None:

@@ -104,13 +104,15 @@ class InputText(NamedTuple):
             yield TextPlace(self.name, number, row, 0, len(row), is_concise)
 
     def place(self, number: int, form: str = "table") -> TextPlace:
-        """One of these, from 1. After the last one nothing stands."""
+        """The line, or the device of concise text, that has this number of those in `places`, from 1. Past the last one
+        it is an empty place."""
         after = TextPlace(self.name, number, "", 0, 0, form == "concise")
         return next((it for it in self.places(form) if it.number == number), after)
 
 
 def read_input(path: Optional[str]) -> InputText:
-    """A file, if one is given."""
+    """The beginning of a file, and nothing where None is given. Raises nothing for one that can't be read: that is
+    empty, with the reason as its `fault`."""
     if path is None:
         return InputText("", b"")
     try:

@@ -149,7 +149,8 @@ def _command_in(plain: List[str]) -> Tuple[str, List[str]]:
 
 
 def _with_disks(loaded: List[str], file: InputText, disks: str, images: List[str]) -> Tuple[remedies.Remedy, List[str]]:
-    """What lists the disks of tables, unless there is a list of them; and FORMAT, FILE and DISKS."""
+    """What makes the list of the disks of tables, or no remedy where one is given or in this folder; and the words
+    FORMAT, FILE and DISKS that load the tables with that list."""
     listed = input_files.read_input(remedies.LISTED)
     if not disks and listed.kind == remedies.DISKS and {it.text.split(" ")[0] for it in listed.places()}.issuperset(table_lines.disks_in(file)):
         disks = remedies.LISTED

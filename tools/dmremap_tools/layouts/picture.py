@@ -53,7 +53,8 @@ def run(words: Namespace) -> None:
 
 
 def read_spans(path: str) -> Dict[str, Tuple[List[Span], int]]:
-    """The ranges of each disk or device, and how long it is."""
+    """Reads what `spans` printed: the ranges of each disk or device, sorted, and how many sectors it has. Refuses other
+    lines, ranges that aren't sorted or go past the end, and what has no end."""
     source = streams.Lines(path)
     ranges: Dict[str, List[Span]] = {}
     ends: Dict[str, int] = {}

@@ -39,7 +39,8 @@ def run(words: argparse.Namespace) -> None:
 
 
 def devices_in(path: str) -> List[tables.TableDevice]:
-    """The devices of a stack, of which none stands on itself, or on more others than dmremap loads."""
+    """The devices of FILE. Refuses it where one stands on itself, or on more others, each on the next, than dmremap
+    loads."""
     devices = tables.read(path)[0]
     left: Dict[str, Set[str]] = {names.MAPPER + it.name: set() for it in devices}
     for device in devices:

@@ -68,7 +68,8 @@ Started = NamedTuple("Started", [("words", List[str]), ("loaded", Stack), ("plac
 
 
 def load(asked: str, given: Given, folder: str) -> Stack:
-    """Loads a stack. What dmremap says of one that it refuses is told."""
+    """The stack that is given, as dmremap reads it, whose path is `asked`; copies for it are left in a folder. Refuses
+    a stack that dmremap refuses, and tells first what that says."""
     copy, text = given.copied(folder), os.path.join(folder, "given.concise")
     printed, said, status = program.ask([asked, "concise", *copy.words()])
     if status:

@@ -188,7 +188,8 @@ class Computed(Device):
         return list(lacks)
 
     def _solved(self, row: int, at: int, count: int) -> bytes:
-        """The bytes of the missing member of this role, where others are missing too."""
+        """So many bytes of the missing member, from one in this row on, computed from the members that are there.
+        Raises Gap where these don't suffice."""
         roles, gone = self._shape.row(row), self._gone(row, at, count)
         have = {role: self._members[role].read(at, count) for role in range(self._shape.count) if role not in gone}
         lost = [role for role in gone if role in roles.data]

@@ -375,7 +375,8 @@ class Owners:
         return lambda first, end: [OwnedRun(first, end, name), *once(first, end)]
 
     def _within(self, start: int, size: int, device: Device) -> OwnedRun:
-        """What has sectors in which a device lies."""
+        """The run of a device in the one that it lies in, by its place there in bytes; above it, who has its own
+        sectors."""
         return OwnedRun(start // SECTOR, (start + size) // SECTOR, device.name, 0, self.on(device))
 
     def _of_other(self, device: Device) -> Ground:

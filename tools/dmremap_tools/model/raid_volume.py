@@ -62,7 +62,8 @@ class Legs:
                 (self._missing if device.lack(0, SECTOR) else self._faults)[leg] = f"{shown(meta)}: {gap.why}"
 
     def device(self, size: int) -> Device:
-        """The bytes of the segment."""
+        """So many bytes of the segment, from the legs that are there and up to date. Refuses it where their superblocks
+        don't tell which these are, and a size that such legs can't have."""
         count = len(self._pairs)
         if not self._found and self._level != "raid0":
             whys = "; ".join([*self._faults.values(), *self._missing.values()])
