@@ -35,9 +35,7 @@ OF_HELP = {
     "dmremap-tools lvm2-text": "dmremap-tools lvm2-text vgm.backup > copy.backup",
     "dmremap-tools machine": "dmsetup ls > ls.txt; dmsetup status > status.txt; dmsetup table --concise > concise.txt; "
                              "dmremap-tools machine --disks new.disks ls.txt status.txt lsblk.txt concise.txt > new.tables",
-    "dmsetup table": "dmsetup table > new.tables",
     "dmsetup table DEVICE": "dmsetup table DEVICE > one",
-    "lvs -a": "lvs -a",
     "tr -d '\\r'": "tr -d '\\r' < FILE > without",
     "ulimit -s": "ulimit -s",
 }
