@@ -225,7 +225,7 @@ def test_stores(tally, explain, program):
     wanted = b"chunk 1001, taken\n", b"chunk 1000, not taken yet\n"
     tally.holds("ways from a store", got.status == 0 and not got.err and all(it in got.out for it in wanted), "status %s, %r, %r" % (got.status, got.err, got.out))
     for listed, why in (("", "A part of the store lies on a disk that PATHS doesn't name. Add the disk."),
-                        ("/dev/sda1 tables\n", "can't be opened or read"), ("/dev/sdb sda1.img\n", "No disk has that name")):
+                        ("/dev/sda1 tables\n", "can't be opened or read"), ("/dev/sda1 s.img\n", "the folder has: "), ("/dev/sdb sda1.img\n", "No disk has that name")):
         program.file("explained/paths", listed)
         tally.tells("a store by the paths %r" % listed, explain.run([*words, "--paths", "paths"]), out=why)
     with open(os.path.join(explain.folder, "sda1.img"), "r+b") as image:

@@ -29,6 +29,7 @@ FILES = {
     "equal.paths": "/dev/sda1=images/sda1.img\n", "dos.paths": "/dev/sda1 images/sda1.img\r\n", "short.paths": "sda1 images/sda1.img\n",
     "sector.paths": "a a.img?offset=40\nb b.img\nc c.img\n", "label.paths": "a a.img?offset=2048\nb b.img\nc c.img\n",
     "wide.requests": "R a 0 8\n".encode("utf-16"), "bare-r.requests": "a 0 8\na 0 4\n",
+    "legs.table": "m_rmeta_0: 0 8 zero\nm_rimage_0: 0 8 linear /dev/sda1 0\n", "legs.requests": "R m 0 8\n",
 }
 # What is typed, a part of what is said, and what the remedy prints.
 ROWS = [
@@ -100,6 +101,7 @@ ROWS = [
     ("dmremap map table tables list < wide.requests", "wide.requests is UTF-16", READ),
     ("dmremap map table tables list < bare-r.requests", "a 0 8\n  ^ no R or W\n", READ + "2 R /dev/sda1 0 4\n"),
     ("dmremap map lvm vg0.backup < upper.requests", "R VG0-LV0 8000 16\n    ^^^^^^^\n", "vg0-lv0\nvg0-lv--1\n" + OF_GROUP),
+    ("dmremap map table legs.table list < legs.requests", "only the legs are devices", "m_rmeta_0\nm_rimage_0\n" + READ),
 ]
 NEXT = "what mends it:  ", "why it fails:   "
 

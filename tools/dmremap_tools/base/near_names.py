@@ -3,6 +3,7 @@
 import contextlib
 import difflib
 import os
+import re
 from typing import Iterable, List
 
 from dmremap_tools.base import quoting
@@ -15,12 +16,14 @@ def closest(word: str, among: Iterable[str], most: int = 3, least: float = 0.6) 
 
 
 def near_names(path: str) -> List[str]:
-    """The names in the folder of a path that begin with its own and a dot, or are nearest to it, at most three; none where there
-    is no folder."""
+    """The names in the folder of a path that begin with its own and a dot, or are nearest to it, and not by what is after the
+    last dot alone; at most three, and none where there is no folder."""
     folder, name = os.path.split(path)
     with contextlib.suppress(OSError):
         here = sorted(os.listdir(folder or "."))
-        return [*dict.fromkeys([it for it in here if name and it.startswith(name + ".")] + closest(name, here))][:3]
+        stem = os.path.splitext(name)[0]
+        near = [it for it in closest(name, here) if stem in re.split("[^A-Za-z0-9]", it) or closest(stem, [os.path.splitext(it)[0]])]
+        return [*dict.fromkeys([it for it in here if name and it.startswith(name + ".")] + near)][:3]
     return []
 
 

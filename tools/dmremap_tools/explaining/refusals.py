@@ -23,6 +23,8 @@ ABOUT = [re.compile("dmremap: " + it) for it in (
     r"(source|disks|paths): (\w+)(?: at ([0-9]+))?", "request ([0-9]+): (.+)", "before: (.+) at ([0-9]+)", "(store|disk) (.+): ([a-z]+)")]
 UNTIDY, NO_DISKS = "dmremap: replay: untidy", "dmremap: words: disks"
 # What requests are called that are no file; how many of these are typed again; and an option in a help.
+# What a leg of a raid volume is called after it, and metadata of a raid, a pool or a cache.
+LEG, OWN = "_rimage_", re.compile("_(?:rmeta_[0-9]+|[tc]meta)$")
 REQUESTS, MOST_TYPED, OPTION = "REQUESTS", 16, re.compile(r"^ {6}(--\w+(?: <\w+>)?)", re.M)
 # What is wrong with a file as a whole, or nothing; the place of what is refused; and the remedy.
 FileFault = Tuple[str, Optional[TextPlace], Remedy]
@@ -268,7 +270,7 @@ class CopiedCommand:
             remedy = Remedy(self.command(meant) if meant and all(meant) else "")
         if word in ("unknown", "not top") or "/" in name and not fixed:
             remedy = remedy._replace(commands="\n".join(filter(None, (listed + remedies.NAMES_ALONE, remedy.commands))))
-        return "", marked, remedy
+        return remedies.OF_LEGS * any(it.startswith(name + LEG) for it in devices), marked, remedy
 
 
 def meant_request(row: str, devices: Sequence[str]) -> str:
@@ -281,7 +283,8 @@ def meant_request(row: str, devices: Sequence[str]) -> str:
     words = ["R" * (words[:1] != [] and words[0].lower() not in typed_words.OPERATIONS), *words, "1" * (len(words) == 3)]
     operation, device, *numbers = [*filter(None, words), "", ""][:4]
     name = names.of_path(device if device.startswith("/") else "/dev/" + device) if "/" in device else device
-    found = [name] if name in devices else near_names.closest(name, devices, 1)
+    legs = [it for it in devices if it.startswith(name + LEG)]
+    found = [name] if name in devices else legs[:1] or near_names.closest(name, [it for it in devices if not OWN.search(it)], 1)
     sectors = [remedies.in_sectors(it) for it in numbers]
     return " ".join([operation[0].upper(), found[0], *sectors]) if found and all(sectors) else ""
 

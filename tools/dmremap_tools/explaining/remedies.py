@@ -68,6 +68,7 @@ HYPHEN = "'-' is no file: a list or a text is given by its path. /dev/stdin is t
 FROM_INPUT = "dmremap reads requests from its standard input"
 OPTIONS, NO_OPTIONS, CAN_BE = "%s has the options %s", "%s has no options of its own", "FILE is missing. In this folder can be it: %s"
 OF_IMAGES = "%s is the image of a disk, and FILE is a list of such: a line for each, NAME PATH, or NAME PATH?offset=BYTES for a partition"
+OF_LEGS = "it is a raid volume, of which only the legs are devices: a read goes to one of them, a write to all"
 OF_DISK = ("%s is a disk, and a request names a device. These lines say which devices lie on it, and from which of its sectors on; with images, "
            "`dmremap-tools owner` names the owner of a sector")
 DISK_TWICE = "%s seems to name a disk twice"
