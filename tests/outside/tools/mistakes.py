@@ -95,7 +95,7 @@ ROWS = [
     ("dmremap map lvm vg0-snapshot.backup --paths short.paths < snap.requests", "No disk has that name", OF_SNAPSHOT),
     ("dmremap map images sector.paths < home.requests", "a a.img?offset=40\n    ^^^^^^^^^^^^^^^ an offset counts bytes\n", "1 R c 32 16\n"),
     ("dmremap map images label.paths < home.requests", "Check the offset", "1 R c 32 16\n"),
-    ("dmremap map table tables list --before < requests", "map has the options", READ),
+    ("dmremap map table tables list --before < requests", "--before is left out below", READ),
     ("dmremap map table tables list --before 'R a 0 8' < requests", "R a 0 8 can't be read", READ),
     ("dmremap map table tables list < tab.requests", "\\ta\\t0\\t8\n   ^^ a tab\n", READ),
     ("dmremap map table tables list < wide.requests", "wide.requests is UTF-16", READ),

@@ -313,6 +313,7 @@ def _notes_on(asked: str, words: List[str], fed: str) -> Iterator[str]:
     elif others and command:
         known = [re.sub("[<>]", "", it) for it in OPTION.findall(program.ask_quietly([asked, command, "--help"])[0])]
         yield remedies.OPTIONS % (command, ", ".join(known)) if known else remedies.NO_OPTIONS % command
+    yield from (remedies.NO_VALUE % it for it in typed_words.VALUED if it in others and it not in options)
     if requests:
         yield remedies.FROM_INPUT
     texts = [input_files.read_input(it) for it in plain if "/" in it or "." in it]

@@ -65,6 +65,7 @@ CUT, CUT_BYTES = "dmremap-tools cut", "dmremap-tools cut --bytes"
 NAMES_ALONE, LINES_ON = " | cut -d: -f1 | uniq", " | grep -F ' %s '"
 # What is said of words that dmremap refuses, and of files.
 HYPHEN = "'-' is no file: a list or a text is given by its path. /dev/stdin is the standard input, from which map and replay read requests"
+NO_VALUE = "%s is left out below, as no file follows it; without --paths, each snapshot counts as new"
 FROM_INPUT = "dmremap reads requests from its standard input"
 OPTIONS, NO_OPTIONS, CAN_BE = "%s has the options %s", "%s has no options of its own", "FILE is missing. In this folder can be it: %s"
 OF_IMAGES = "%s is the image of a disk, and FILE is a list of such: a line for each, NAME PATH, or NAME PATH?offset=BYTES for a partition"
