@@ -24,6 +24,7 @@ If a disk has errors, read it into an image with ddrescue first, and give its ma
 `debugfs -R 'dump /FILE OUT' OUT`.
 """
 
+import os
 import tempfile
 from argparse import ArgumentParser, Namespace
 from typing import Generator, Iterator, Optional, Tuple
@@ -80,7 +81,8 @@ def copy(words: Namespace, target: NamedDevice) -> bool:
     """Copies a volume, and says whether something is missing; which is refused unless words say otherwise."""
     why = target.device.lack(0, sectors_of(target))
     if why and not (words.resume or words.allow_missing):
-        raise Refusal(quoting.shown(target.name), f"{why}; or {PARTLY}")
+        taken = f"{quoting.shown(words.target)} is taken for OUT, and is there already; " * os.path.exists(words.target)
+        raise Refusal(quoting.shown(target.name), f"{taken}{why}; or {PARTLY}")
     if why:
         streams.tell(f"{quoting.shown(target.name)}: {why}")
     source = Source(target.name, target.ids or [head_of(target.device)], len(words.map))
