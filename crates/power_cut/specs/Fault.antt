@@ -68,7 +68,7 @@ pub record StopsAt (fault : Fault) (stack : Description) (requests : List Number
   pub tops : AreOfTops stack first
   pub cause : IsUnplayed fault stack last
 
--- why requests are refused: two claims meet; if none do, a request is bad, or reading them fails; if all are good, the first that is of no top device has this number; what is read of the lists isn't what was written; or memory ran out, which it may at any time
+-- why requests are refused: two claims meet; if none do, a request is bad, or reading them fails; if all are good, the first that is of no top device has this number; or lists weren't read as written, or memory ran out, of which nothing says when
 abbrev pub AreRefused : Fault → Description → Requests → Type 0
 AreRefused faults.Untidy stack requests = (clash : Clash) × IsClash (claims stack) clash
 AreRefused (faults.Ended (endings.BadRequest number word)) stack requests = IsTidy stack × (requests.ending ≡ Some (endings.BadRequest number word))
