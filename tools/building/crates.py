@@ -11,18 +11,20 @@ from sources import BUILT, TOP
 
 
 class Crate:
-    """A crate that is being built in its folder, in a process group of its own."""
+    """A crate that is being built in its folder, in a process group of its own, and not in a session: Linux shares processors
+    out between sessions first, whatever their niceness."""
 
-    def __init__(self, name, jobs, lock):
+    def __init__(self, name, jobs, lock, gives_way):
         self.name = name
         self.folder = os.path.join(folders.FOLDERS, name)
         self.said = os.path.join(self.folder, "said")
         is_program = name == "dmremap"
         self.makes = BUILT if is_program else ["crates/%s/out/rlib" % name]
-        command = ["rt", "run" if is_program else "lib", "--jobs", str(jobs), *["--", "--help"] * is_program]
+        command = [*["nice", "-n", "10"] * gives_way, "rt", "run" if is_program else "lib", "--jobs", str(jobs),
+                   *["--", "--help"] * is_program]
         with open(self.said, "wb") as said:
             self.ran = subprocess.Popen(command, cwd=folders.folder_of(name), stdin=subprocess.DEVNULL, stdout=said,
-                                        stderr=subprocess.STDOUT, start_new_session=True, pass_fds=[lock])
+                                        stderr=subprocess.STDOUT, preexec_fn=os.setpgrp, pass_fds=[lock])
 
     def lines(self):
         """What rt said, of files in its folder as of those that they are copies of."""

@@ -7,6 +7,7 @@ import contextlib
 import os
 import shutil
 import subprocess
+import time
 
 from calls import whole
 
@@ -15,21 +16,40 @@ KEPT, PACKED = ("incremental", "rlib"), "kept.tar.zst"
 ZSTD = "zstd -q -9 --long=29"
 # Folders that are being removed, and packs and folders that are being made.
 GOING, COMING = "going-", "coming-"
+# How often it looks what has ended, in seconds.
+MOMENT = 0.02
 
 
 def pack(outs, at_once):
-    """Packs what is kept in the `out` of each crate, so many crates at a time. What can't be packed stays as it is."""
+    """Packs what is kept in the `out` of each crate, so many crates at a time."""
+    finish(packing(outs, at_once))
+
+
+def finish(packing):
+    """Waits until the rest is packed."""
+    with contextlib.closing(packing):
+        for _ in packing:
+            time.sleep(MOMENT)
+
+
+def packing(outs, at_once):
+    """Packs what is kept in the `out` of each crate, so many crates at a time, and after all else that runs. It gives way to its
+    caller while it waits, and ends what runs where it is closed. What can't be packed stays as it is."""
     if not (shutil.which("tar") and shutil.which("zstd")):
         return
     parts = {it: [name for name in KEPT if os.path.isdir(os.path.join(it, name))] for it in outs}
     parts = {it: names for it, names in parts.items() if names}
-    commands = [["tar", "-I", ZSTD, "-C", it, "-cf", os.path.join(it, COMING + PACKED), *names] for it, names in parts.items()]
-    for it, status in zip(parts, run_all(commands, at_once)):
-        if status == 0:
-            os.replace(os.path.join(it, COMING + PACKED), os.path.join(it, PACKED))
-            for name in parts[it]:
-                os.replace(os.path.join(it, name), os.path.join(it, GOING + name))
-        clear(it)
+    commands = {it: ["nice", "-n", "19", "tar", "-I", ZSTD, "-C", it, "-cf", os.path.join(it, COMING + PACKED), *names]
+                for it, names in parts.items()}
+    with contextlib.closing(run_all(commands, at_once)) as ran:
+        for ended in ran:
+            for it, status in ended.items():
+                if status == 0:
+                    os.replace(os.path.join(it, COMING + PACKED), os.path.join(it, PACKED))
+                    for name in parts[it]:
+                        os.replace(os.path.join(it, name), os.path.join(it, GOING + name))
+                clear(it)
+            yield
 
 
 def packed(outs):
@@ -44,15 +64,18 @@ def unpack(outs, at_once):
     for it in outs:
         clear(it)
         os.mkdir(os.path.join(it, COMING + "kept"))
-    commands = [["tar", "-I", ZSTD, "-C", os.path.join(it, COMING + "kept"), "-xf", os.path.join(it, PACKED)] for it in outs]
-    for it, status in zip(outs, run_all(commands, at_once)):
-        if status == 0:
-            for name in KEPT:
-                # What rt has made since then isn't empty, so that this can't take its place.
-                with contextlib.suppress(OSError):
-                    os.replace(os.path.join(it, COMING + "kept", name), os.path.join(it, name))
-            os.remove(os.path.join(it, PACKED))
-        clear(it)
+    commands = {it: ["tar", "-I", ZSTD, "-C", os.path.join(it, COMING + "kept"), "-xf", os.path.join(it, PACKED)] for it in outs}
+    with contextlib.closing(run_all(commands, at_once)) as ran:
+        for ended in ran:
+            for it, status in ended.items():
+                if status == 0:
+                    for name in KEPT:
+                        # What rt has made since then isn't empty, so that this can't take its place.
+                        with contextlib.suppress(OSError):
+                            os.replace(os.path.join(it, COMING + "kept", name), os.path.join(it, name))
+                    os.remove(os.path.join(it, PACKED))
+                clear(it)
+            time.sleep(MOMENT)
 
 
 def clear(out):
@@ -64,18 +87,22 @@ def clear(out):
 
 
 def run_all(commands, at_once):
-    """Runs commands, so many at a time, and returns their statuses. Where this is stopped, they are told to end."""
-    running, ended = [], []
+    """Runs a command for each folder, so many at a time, and gives the statuses of those that have ended since it was last asked.
+    Where it is closed or stopped, those that run are told to end."""
+    waiting, running = [*commands], {}
     try:
-        for it in commands:
-            if len(running) == at_once:
-                ended.append(running[0].wait())
-                running.pop(0)
-            with whole():
-                running.append(subprocess.Popen(it, stdin=subprocess.DEVNULL, stdout=subprocess.DEVNULL, stderr=subprocess.DEVNULL))
-        return [*ended, *(it.wait() for it in running)]
+        while waiting or running:
+            while waiting and len(running) < at_once:
+                it = waiting.pop(0)
+                with whole():
+                    running[it] = subprocess.Popen(commands[it], stdin=subprocess.DEVNULL, stdout=subprocess.DEVNULL,
+                                                   stderr=subprocess.DEVNULL)
+            ended = {it: ran.returncode for it, ran in running.items() if ran.poll() is not None}
+            for it in ended:
+                del running[it]
+            yield ended
     finally:
-        for it in running:
-            if it.poll() is None:
-                it.terminate()
-                it.wait()
+        for ran in running.values():
+            if ran.poll() is None:
+                ran.terminate()
+                ran.wait()

@@ -13,7 +13,7 @@ from harness import FULL_OUTPUT, Case, Outcome, become_nobody, run, text_of
 from trees import ANEW, BUILD, BUILDING, CRATES, HELD_RT, RT, SLOW_RT, TOOLCHAIN, WAITING, Tree, becomes, runs, told, without_times
 
 # How often the script tells how far it is.
-OFTEN = ("WATCHED, AWAY, MOMENT = 5, 300, 0.02", "WATCHED, AWAY, MOMENT = 1, 1, 0.02")
+OFTEN = ("WATCHED, AWAY = 5, 300", "WATCHED, AWAY = 1, 1")
 # A build that was timed: once all functions were checked, it took five minutes more.
 PACE = """\
 low 7 0 0 0 0 0 0 0 0 0 0 0 0
@@ -33,6 +33,14 @@ def test_calls(tally, tree):
     got = tree.run(["splitname", "a-b"], before=lambda: os.sched_setaffinity(0, [min(os.sched_getaffinity(0))]))
     calls = text_of(tree.calls)
     tally.holds("./dmremap on one processor", got.status == 0 and calls.count("--jobs 1") == 3, "rt was called: %s" % calls)
+    tree.rt(RT.replace("$name $*", "$name $(nice)"))
+    tree.remove()
+    os.remove(tree.calls)
+    tree.run([], tree.build)
+    others = min(19, os.nice(0) + 10)
+    wanted = ["low %d" % others, "middle %d" % others, "dmremap %d" % os.nice(0)]
+    tally.holds("crates that few wait for give way", text_of(tree.calls).splitlines() == wanted, text_of(tree.calls))
+    tree.rt(RT)
 
 
 def test_faults(tally, tree):
@@ -344,7 +352,8 @@ def test_packed(tally, tree):
     for it, text in kept.items():
         tree.write(it, text)
     packs = [tree.path("crates/%s/out/kept.tar.zst" % it) for it in CRATES]
-    tree.run(["splitname", "a-b"])
+    # rt goes on with the program once what was kept of another crate is packed.
+    tree.run(["splitname", "a-b"], variables={"AWAITED": "../../../low/crates/low/out/kept.tar.zst"})
     is_packed = all(map(os.path.exists, packs)) and not any(map(os.path.exists, kept))
     tally.holds("./dmremap packs what rt keeps", is_packed, "%s" % [it for it in kept if os.path.exists(it)])
     # A build is killed that had begun to remove, or to unpack, and a crate was checked meanwhile.
