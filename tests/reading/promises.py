@@ -42,7 +42,7 @@ PROMISES = [
     ("alone", ["tops_are_alone", "play_goes_on", "requests_are_alone", "errors_have_causes", "nothing_is_lost"],
      "each top device alone, and where errors come from"),
     ("restarts", ["lists_are_left", "cuts_are_alone", "restarts", "restarts_go_on"], "what a restart after a power cut finds"),
-    ("power_cut", ["answer_after_cut", "Fault::tell"], "the program `power_cut`"),
+    ("power_cut", ["answer_after_cut", "write_lists", "Fault::tell"], "the program `power_cut`"),
 ]
 
 

@@ -2,14 +2,12 @@
 use Rattle.std.specs.Prelude.{◌≡◌, ◌≤◌, ◌↔◌, ℕ, false, List, Some, Ok, length, nat_eq}
 use Rattle.std.specs.List.{IsDistinct}
 use Rattle.dm_stack.specs.declared.id.Lower.TheVariants.{Device}
-use Rattle.dm_stack.specs.declared.lines.resolved_line.ResolvedSnapshot.{ResolvedSnapshot}
-use Rattle.dm_stack.specs.Description.{Description, device_len}
-use Rattle.dm_map.specs.own.Ample.{AreExact, AreOwnChunks, IsAmple, IsIntact}
+use Rattle.dm_stack.specs.Description.{Description}
+use Rattle.dm_map.specs.own.Ample.{AreExact, IsAmple, IsIntact, TookOwn}
 use Rattle.dm_map.specs.own.Contents.{Values, content}
 use Rattle.dm_map.specs.own.Rows.{AreOwn, Rows}
 use Rattle.dm_map.specs.state.Fitting.{IsFitting}
 use Rattle.dm_map.specs.state.State.{State, taken_at}
-use Rattle.dm_map.specs.state.Tables.{snapshot_at}
 use Rattle.dm_store.specs.declared.store.Store.{Store}
 use Rattle.dm_store.specs.Images.{DiskContents}
 use Rattle.dm_store.specs.Pairs.{Sectors}
@@ -38,7 +36,7 @@ pub record IsStart (stack : Description) (disks : DiskContents) (state : State) 
   -- the stack can be in it
   pub fits : IsFitting stack state
   -- each snapshot took none but its own chunks, and none twice
-  pub chunks : (device : ℕ) (snapshot : ResolvedSnapshot) → snapshot_at stack device ≡ Some snapshot → AreOwnChunks snapshot.chunk (device_len stack device) (taken_at state device).chunks
+  pub chunks : TookOwn stack state
   -- it is lost exactly where its store says so
   pub lost : (device : ℕ) → ((taken_at state device).valid ≡ false) ↔ IsLostInStore stack disks device
   -- so where no store does, no snapshot is lost

@@ -1,5 +1,12 @@
+pub mod ByteLemmas
 pub mod CutLemmas
 pub mod FaultLemmas
+pub mod LayoutLemmas
+pub mod LeftLemmas
 pub mod ListLemmas
+pub mod NameLemmas
+pub mod PartLemmas
 pub mod ReadBackLemmas
 pub mod RestartLemmas
+pub mod StoreHomes
+pub mod WrittenLemmas

@@ -35,7 +35,6 @@ fault_status (faults.Unloaded fault) = load_status fault.kind
 fault_status faults.Untidy = 1
 fault_status (faults.Ended ending) = ending_status ending
 fault_status (faults.NotTop number) = 3
-fault_status faults.Lists = 1
 fault_status faults.Memory = 6
 
 -- the message of a fault
@@ -45,7 +44,6 @@ fault_message (faults.Unloaded fault) = load_message fault
 fault_message faults.Untidy = codes "dmremap: replay: untidy\n"
 fault_message (faults.Ended ending) = ending_message ending
 fault_message (faults.NotTop number) = refused_request number (codes "not top")
-fault_message faults.Lists = codes "power_cut: lists: other\n"
 fault_message faults.Memory = memory_message
 
 -- why a request of this number is not played
@@ -68,12 +66,11 @@ pub record StopsAt (fault : Fault) (stack : Description) (requests : List Number
   pub tops : AreOfTops stack first
   pub cause : IsUnplayed fault stack last
 
--- why requests are refused: two claims meet; if none do, a request is bad, or reading them fails; if all are good, the first that is of no top device has this number; or lists weren't read as written, or memory ran out, of which nothing says when
+-- why requests are refused: two claims meet; if none do, a request is bad, or reading them fails; if all are good, the first that is of no top device has this number; or memory ran out, of which nothing says when
 abbrev pub AreRefused : Fault → Description → Requests → Type 0
 AreRefused faults.Untidy stack requests = (clash : Clash) × IsClash (claims stack) clash
 AreRefused (faults.Ended (endings.BadRequest number word)) stack requests = IsTidy stack × (requests.ending ≡ Some (endings.BadRequest number word))
 AreRefused (faults.Ended endings.ReadFault) stack requests = IsTidy stack × (requests.ending ≡ Some endings.ReadFault)
 AreRefused (faults.NotTop number) stack requests = IsTidy stack × (requests.ending ≡ Some endings.Done) × StopsAt (faults.NotTop number) stack requests.all
-AreRefused faults.Lists stack requests = Unit {0}
 AreRefused faults.Memory stack requests = Unit {0}
 AreRefused fault stack requests = ⊥

@@ -23,8 +23,6 @@ pub(crate) enum Fault {
     Ended(Ending),
     /// The request of this number names no top device.
     NotTop(u64),
-    /// What is read of the lists isn't what was written.
-    Lists,
     /// Memory ran out.
     Memory,
 }
@@ -41,7 +39,6 @@ impl Fault {
             Fault::Untidy => tell(messages, b"dmremap: replay: untidy\n"),
             Fault::Ended(ending) => tell(messages, message_of(ending).as_slice()),
             Fault::NotTop(number) => tell(messages, refused_request(number, b"not top").as_slice()),
-            Fault::Lists => tell(messages, b"power_cut: lists: other\n"),
             Fault::Memory => tell(messages, memory_message()),
         }
         self.status()
@@ -53,7 +50,7 @@ impl Fault {
     {
         match self {
             Fault::Unloaded(fault) => load_status(fault.kind),
-            Fault::Untidy | Fault::Lists => 1,
+            Fault::Untidy => 1,
             Fault::Words => 2,
             Fault::Ended(Ending::BadRequest(_, _)) | Fault::NotTop(_) => 3,
             Fault::Ended(Ending::ReadFault) => 4,

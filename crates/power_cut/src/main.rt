@@ -5,8 +5,7 @@
 //! before the first is played. All but the last are played to their end. Then, for each write of them in order, it
 //! prints the line of a read of its sectors, and a line for each run of what that gives. It does so once more after a
 //! restart from the lists of the stores, where the contents of the disks are the old ones. Each message and each exit
-//! status is one that `dmremap replay` has, but for the line of usage, and that of lists that aren't read as they were
-//! written.
+//! status is one that `dmremap replay` has, but for the line of usage.
 //!
 //! It is short, to show how the libraries are used. `run` opens files and streams, `stack_of` loads what the files
 //! say, and `answer_after_cut` reads the requests, plays them, restarts, and writes what is read back.

@@ -26,12 +26,13 @@ use Rattle.dm_stack.specs.checks.Soundness.{HasGoodChunk, IsSound}
 use Rattle.dm_stack.proofs.SoundLines.{device_sound, found, lines_there, of_device, there}
 use Rattle.dm_stack.proofs.ChunkLemmas.{good_lines}
 use Rattle.dm_stack.proofs.StoreLayoutLemmas.{has_place}
-use Rattle.dm_map.specs.own.Ample.{AreOwnChunks, AreExact, IsAmple, IsAmpleTarget, IsIntact, chunk_count}
+use Rattle.dm_map.specs.own.Ample.{AreOwnChunks, AreExact, IsAmple, IsAmpleTarget, IsIntact, TookOwn, chunk_count}
 use Rattle.dm_map.specs.own.Contents.{Stays, Values, content, played, sector_past, value_read}
 use Rattle.dm_map.specs.own.Errors.{AtError, AtLost, EndsHere}
 use Rattle.dm_map.specs.own.Halts.{halted_state, halted_units, state_past}
 use Rattle.dm_map.specs.own.Losses.{Due, HasError, IsLosing}
 use Rattle.dm_map.specs.own.Rows.{AreOwn, Rows, first_rows, rows_played}
+use Rattle.dm_map.specs.state.Fitting.{IsFitting}
 use Rattle.dm_map.specs.state.Snapshots.{number_in}
 use Rattle.dm_map.specs.state.Snapshots as snapshots
 use Rattle.dm_map.specs.state.State.{State, Taken, lost, put, start_state, taken_at, with_chunk}
@@ -159,30 +160,34 @@ never_losing stack state device one sound ample intact is losing = elim losing.w
     both_ways : true ≡ false → ⊥
     both_ways e = cc
 
--- A chunk that is due leaves all intact
+-- A chunk that is due leaves each snapshot chunks of its own, in any stack
 
-chunks_put : (stack : Description) (state : State) (device other : ℕ) (taken : Taken) (snapshot : ResolvedSnapshot) → device < length state → snapshot_at stack other ≡ Some snapshot → IsIntact stack state
-    → ((over : ResolvedSnapshot) → snapshot_at stack device ≡ Some over → AreOwnChunks over.chunk (device_len stack device) taken.chunks)
-    → AreOwnChunks snapshot.chunk (device_len stack other) (taken_at (put state device taken) other).chunks
-chunks_put stack state device other taken snapshot there over intact new = elim (cases_eq other device) [
+put_own : (stack : Description) (state : State) (device : ℕ) (taken : Taken) → device < length state → TookOwn stack state
+    → ((over : ResolvedSnapshot) → snapshot_at stack device ≡ Some over → AreOwnChunks over.chunk (device_len stack device) taken.chunks) → TookOwn stack (put state device taken)
+put_own stack state device taken there own new = λ other snapshot over. elim (cases_eq other device) [
   | inl same ↦
       let here : taken_at (put state device taken) other ≡ taken = ap (taken_at (put state device taken)) same ∙ taken_same state device taken there in
       rw (here, same) (new snapshot (rw same at over))
-  | inr differ ↦ rw (taken_other state device other taken differ) (intact.chunks other snapshot over)
+  | inr differ ↦ rw (taken_other state device other taken differ) (own other snapshot over)
 ]
 
-outcome_chunks : (stack : Description) (state : State) (one : Due) (step : Step) (other : ℕ) (snapshot : ResolvedSnapshot) → IsSound stack → IsDue stack one → IsIntact stack state → one.device < length state → ChunkOutcome state one.device one.chunk step → snapshot_at stack other ≡ Some snapshot
-    → AreOwnChunks snapshot.chunk (device_len stack other) (taken_at step.state other).chunks
-outcome_chunks stack state one step other snapshot sound is intact there (Settled settled step_is) over = rw step_is (intact.chunks other snapshot over)
-outcome_chunks stack state one step other snapshot sound is intact there (Took valid fresh units step_is) over =
-    rw step_is (chunks_put stack state one.device other (with_chunk (taken_at state one.device) one.chunk) snapshot there over intact (λ held held_at.
-    one_more held.chunk (device_len stack one.device) one.chunk (taken_at state one.device).chunks (intact.chunks one.device held held_at) fresh
+outcome_own : (stack : Description) (state : State) (one : Due) (step : Step) → IsSound stack → IsDue stack one → TookOwn stack state → one.device < length state → ChunkOutcome state one.device one.chunk step → TookOwn stack step.state
+outcome_own stack state one step sound is own there (Settled settled step_is) = rw step_is own
+outcome_own stack state one step sound is own there (Took valid fresh units step_is) =
+    rw step_is (put_own stack state one.device (with_chunk (taken_at state one.device) one.chunk) there own (λ held held_at.
+    one_more held.chunk (device_len stack one.device) one.chunk (taken_at state one.device).chunks (own one.device held held_at) fresh
     (chunk_inside held.chunk (device_len stack one.device) one.chunk (snapshot_sound stack one.device held sound held_at).soundly.chunk_some (inside held held_at))))
   where
     inside : (held : ResolvedSnapshot) → snapshot_at stack one.device ≡ Some held → one.chunk * held.chunk < device_len stack one.device
     inside held held_at = let same : one.snapshot ≡ held = cc in rw (← same) is.inside
-outcome_chunks stack state one step other snapshot sound is intact there (Lost step_is) over =
-    rw step_is (chunks_put stack state one.device other (lost (taken_at state one.device)) snapshot there over intact (λ held held_at. intact.chunks one.device held held_at))
+outcome_own stack state one step sound is own there (Lost step_is) =
+    rw step_is (put_own stack state one.device (lost (taken_at state one.device)) there own (λ held held_at. own one.device held held_at))
+
+due_own : (stack : Description) (state : State) (one : Due) → IsSound stack → IsDue stack one → TookOwn stack state → one.device < length state → TookOwn stack (due_taken stack state one)
+due_own stack state one sound is own there =
+    outcome_own stack state one (take_chunk stack one.snapshot one.device one.chunk state) sound is own there (chunk_outcome stack one.snapshot one.device one.chunk state)
+
+-- and where nothing can be lost, all intact
 
 due_intact : (stack : Description) (state : State) (one : Due) → IsSound stack → IsAmple stack → IsDue stack one → IsIntact stack state → IsIntact stack (due_taken stack state one)
 due_intact stack state one sound ample is intact =
@@ -191,10 +196,21 @@ due_intact stack state one sound ample is intact =
     record {
       fits = due_fits stack state one sound is intact.fits;
       valid = λ device. true_from_ne_false (taken_at step.state device).valid (λ gone. never_losing stack state device one sound ample intact is (losing stack state device one there (intact.valid device) gone));
-      chunks = λ other snapshot over. outcome_chunks stack state one step other snapshot sound is intact there (chunk_outcome stack one.snapshot one.device one.chunk state) over;
+      chunks = due_own stack state one sound is intact.chunks there;
     }
 
 -- So does a request
+
+-- a state that the stack can be in, of which each snapshot took its own chunks
+pub record IsOwn (stack : Description) (state : State) : Type 0 where
+  pub fits : IsFitting stack state
+  pub chunks : TookOwn stack state
+
+pub past_own : (stack : Description) (op : Op) (state : State) (asked start len sectors : ℕ) → IsSound stack → IsOwn stack state → IsOwn stack (state_past stack op asked start len sectors state)
+past_own stack op state asked start len sectors sound own = past_keeps stack (IsOwn stack) op state asked start len sectors sound (λ before one is so. record {
+  fits = due_fits stack before one sound is so.fits;
+  chunks = due_own stack before one sound is so.chunks (due_there stack before one sound so.fits.count is);
+}) own
 
 pub past_intact : (stack : Description) (op : Op) (state : State) (asked start len sectors : ℕ) → IsSound stack → IsAmple stack → IsIntact stack state → IsIntact stack (state_past stack op asked start len sectors state)
 past_intact stack op state asked start len sectors sound ample intact =

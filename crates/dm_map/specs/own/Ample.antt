@@ -43,11 +43,15 @@ pub record AreOwnChunks (chunk len : ℕ) (chunks : List ℕ) : Type 0 where
   pub once : IsDistinct nat_eq chunks
   pub own : AllByRecursion (λ taken. taken < chunk_count chunk len) chunks
 
+-- so did each snapshot
+abbrev pub TookOwn : Description → State → Type 0
+TookOwn stack state = (device : ℕ) (snapshot : ResolvedSnapshot) → snapshot_at stack device ≡ Some snapshot → AreOwnChunks snapshot.chunk (device_len stack device) (taken_at state device).chunks
+
 -- no snapshot is lost
 pub record IsIntact (stack : Description) (state : State) : Type 0 where
   pub fits : IsFitting stack state
   pub valid : (device : ℕ) → (taken_at state device).valid ≡ true
-  pub chunks : (device : ℕ) (snapshot : ResolvedSnapshot) → snapshot_at stack device ≡ Some snapshot → AreOwnChunks snapshot.chunk (device_len stack device) (taken_at state device).chunks
+  pub chunks : TookOwn stack state
 
 -- each sector of a top device has a value, which is that of its row
 pub record AreExact {V : Type 0} (zeros : V) (stack : Description) (state : State) (values : Values V) (rows : Rows V) : Type 0 where

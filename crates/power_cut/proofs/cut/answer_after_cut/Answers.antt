@@ -28,11 +28,6 @@ returns-in_err-requests-clause-ended g c =
     let p = err_from_is_err_and c.from_residual-in_err-requests.result c.from_residual-in_err-requests.ensures.1 in
     rw (p.1, p.2) (refused_unwritten c.in_err-requests.field-0.0 c.args.stack.now c.args.units _ _ _ (c.in_err-requests.ensures.refused _ c.in_ok-replay.ensures.tidy) refl)
 
-pub returns-in_err-later-clause-ended : goal.returns-in_err-later-clause-ended
-returns-in_err-later-clause-ended g c =
-    let p = err_from_is_err_and c.from_residual-in_err-later.result c.from_residual-in_err-later.ensures.1 in
-    rw (p.1, p.2) (refused_unwritten c.in_err-later.field-0.0 c.args.stack.now c.args.units _ _ _ (c.in_err-later.ensures.refused _) refl)
-
 pub returns-in-Ok-clause-ended : goal.returns-in-Ok-clause-ended
 returns-in-Ok-clause-ended g c =
     let stack = c.args.stack.now in let requests = c.in_ok-requests in let backs = c.in_ok-backs.backs.items in let found = c.in_ok-later-2.later.items in (
