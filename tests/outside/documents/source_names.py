@@ -8,7 +8,7 @@ import re
 from harness import text_of
 
 # What these documents have at most, so that each is read at one sitting.
-BYTES = {"ARCHITECTURE.md": 8800, "DECISIONS.md": 4000, "DEVELOPING.md": 8500, "PROMISES.md": 17600}
+BYTES = {"ARCHITECTURE.md": 9200, "DECISIONS.md": 4000, "DEVELOPING.md": 8500, "PROMISES.md": 17700}
 # And all pages together, with their pictures.
 ALL_BYTES = 180000
 SOURCES = ("crates/*/*/**/*.rt", "crates/*/*/**/*.antt", "crates/*/must-fail/*", "crates.txt", "HANDLES", "tools/*/*",

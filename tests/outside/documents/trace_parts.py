@@ -10,14 +10,14 @@ from harness import run, text_of
 from tool_calls import TOOL
 
 SECTION = re.compile(r"\n### A long trace in parts\n(.*?)\n##", re.S)
-SMALLER = (("--block 10M", "--block 20k"), ("1000000", "700"))
+SMALLER = (("--block 10M", "--block 20k"), ("1000000", "700"), ("-a blkparse.txt --block 100M", "-a blkparse.txt --block 500"))
 COUNT = 5000
 
 
 def test_commands(tally, program, top):
     found = SECTION.search(text_of(os.path.join(top, "docs", "RECIPES.md")))
     commands = [smaller("\n".join(lines)) for _, lines in transcripts.blocks(found[1])] if found else []
-    if not tally.holds("the commands for a long trace", len(commands) == 2, "RECIPES has %d" % len(commands)):
+    if not tally.holds("the commands for a long trace", len(commands) == 3, "RECIPES has %d" % len(commands)):
         return
     folder = make_folder(program, top)
     env = dict(os.environ, PATH=folder + os.pathsep + os.environ["PATH"])
@@ -27,9 +27,13 @@ def test_commands(tally, program, top):
     if not shutil.which("parallel"):
         tally.skip("a long trace in parts", "there is no parallel")
         return
-    tally.same("totals by parts", run(["bash", "-c", commands[0]], folder=folder, env=env), 0, totals.out)
-    tally.same("pieces by parts", run(["bash", "-c", commands[1]], folder=folder, env=env))
+    tally.same("totals by parts", run(["bash", "-c", commands[1]], folder=folder, env=env), 0, totals.out)
+    tally.same("pieces by parts", run(["bash", "-c", commands[2]], folder=folder, env=env))
     tally.holds("numbers by parts", bytes_of(folder, "pieces") == pieces.out, "they differ")
+    whole = run(["sh", "-c", "dmremap table lvm vg0.backup > vg0.table; dmremap-tools trace ls.txt vg0.table blkparse.txt"], folder=folder, env=env)
+    got = run(["bash", "-c", commands[0]], folder=folder, env=env)
+    is_same = got.status == whole.status == 0 and whole.out and bytes_of(folder, "requests") == whole.out
+    tally.holds("a trace by parts", is_same, "%s, %s" % (got, whole))
 
 
 def make_folder(program, top):
@@ -39,7 +43,8 @@ def make_folder(program, top):
     folder = os.path.dirname(program.file("parts/requests", "".join(rows)))
     for name, path in (("dmremap", program.path), (TOOL, os.path.join(top, TOOL))):
         os.symlink(path, os.path.join(folder, name))
-    shutil.copy(os.path.join(top, "examples", "vg0.backup"), folder)
+    for name in ("vg0.backup", "samples/ls.txt", "samples/blkparse.txt"):
+        shutil.copy(os.path.join(top, "examples", name), folder)
     return folder
 
 
