@@ -25,10 +25,10 @@ def pack(outs, at_once):
     finish(packing(outs, at_once))
 
 
-def finish(packing):
-    """Waits until the rest is packed."""
-    with contextlib.closing(packing):
-        for _ in packing:
+def finish(begun):
+    """Waits until what was begun to be packed is."""
+    with contextlib.closing(begun):
+        for _ in begun:
             time.sleep(MOMENT)
 
 

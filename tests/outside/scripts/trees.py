@@ -47,7 +47,8 @@ mkdir -p out/rlib || exit 1
 [ ! -f "$SAVED" ] || { cp "$SAVED" "$AT"; rm "$SAVED"; }
 sleep "${PAUSE:-0}"
 [ "$1" = run ] || exit 0
-until [ -e "${AWAITED:-.}" ]; do sleep 0.1; done
+tries=0
+until [ -e "${AWAITED:-.}" ]; do [ $((tries += 1)) -lt 200 ] || exit 1; sleep 0.1; done
 cp "$PROGRAM" out/dmremap && cat ../*/src/* > out/dmremap.o
 """ % VERSION
 
