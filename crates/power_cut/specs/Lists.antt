@@ -31,7 +31,7 @@ lists_alone stack lists = disk_contents (own_images stack) (λ line. held_in lis
 abbrev pub IsHeld : Description → List ListSector → Store → (at : ℕ) → Type 0
 IsHeld stack lists store at = (held : List ℕ) × (store_sectors stack (lists_alone stack lists) store at ≡ Ok held)
 
--- what a sector of a store holds was added, unless the store ends before it, or something lies there; all that was there still is
+-- bytes were written to a sector of a store, unless the store ends before it or something was there already; all that could be read before still can
 pub record IsWritten (stack : Description) (store : Store) (at : ℕ) (bytes : List ℕ) (old new : List ListSector) : Type 0 where
   pub kept : HoldMore (lists_alone stack old) (lists_alone stack new)
   pub there : at < store.len → IsHeld stack new store at
@@ -64,7 +64,7 @@ pub record IsPart (store : Store) (taken : Taken) (at : ℕ) (bytes : List ℕ) 
   pub header : at ≡ 0 → IsHeader store.chunk taken.valid bytes
   pub row : (row : ℕ) → at ≡ row_sector store.chunk row → IsRow store.chunk taken.chunks (32 * row) bytes
 
--- a sector of a disk is one of a store, and says so
+-- a sector of a disk is a sector of a store, and these bytes say its part
 pub record IsOfStore (stack : Description) (state : State) (disk sector : ℕ) (bytes : List ℕ) : Type 0 where
   pub device : ℕ
   pub store : Store
@@ -74,7 +74,7 @@ pub record IsOfStore (stack : Description) (state : State) (disk sector : ℕ) (
   pub home : home stack store.lower at ≡ record { disk = disk; sector = sector }
   pub says : IsPart store (taken_at state device) at bytes
 
--- so are all of these
+-- so are all sectors that can be read
 abbrev pub AreOfStores : Description → State → List ListSector → Type 0
 AreOfStores stack state lists = (disk sector : ℕ) (bytes : List ℕ) → lists_alone stack lists disk sector ≡ Ok bytes → IsOfStore stack state disk sector bytes
 
@@ -85,6 +85,6 @@ pub record AreHeld (stack : Description) (lists : List ListSector) (store : Stor
   pub header : IsHeld stack lists store 0
   pub rows : taken.valid ≡ true → (row : ℕ) → row < length taken.chunks / 32 + 1 → row_sector store.chunk row < store.len → IsHeld stack lists store (row_sector store.chunk row)
 
--- so it is of a device, if its store keeps a list
+-- the same of a device, if its store keeps a list
 abbrev pub IsListHeld : Description → State → List ListSector → (device : ℕ) → Type 0
 IsListHeld stack state lists device = (store : Store) → store_at stack device ≡ Some store → AreHeld stack lists store (taken_at state device)

@@ -23,7 +23,7 @@ use std::alloc::{AllocError, Global};
 ///
 /// # Errors
 ///
-/// `Memory` where it is out of memory.
+/// `Memory` if memory runs out.
 pub(crate) fn restart<'s>(
     alloc: Global,
     stack: &'s Stack,
