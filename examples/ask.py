@@ -1,24 +1,27 @@
-"""Keeps one `map` open, and asks it one request after the other."""
+"""Keeps one `map` open, and asks it one request after the other. The program is the `dmremap` on the path."""
 
+import os
 import subprocess
 
-# Where the length stands in a piece. Copies and fills come before a write, and are no part of its length.
+# In the repository, the first call of dmremap would build and prove the program for half an hour. This forbids it.
+ENVIRONMENT = {**os.environ, "DMREMAP_BUILD": "never"}
+# The word of a piece that is its length. Copies and fills come before a write, and don't count.
 LENGTH = {"R": 4, "W": 4, "zero": 2, "drop": 2, "error": 2}
 
 
 class Mapper:
     def __init__(self, *words):
-        pipe = subprocess.PIPE
-        self.process = subprocess.Popen(["./dmremap", "map", *words], stdin=pipe, stdout=pipe, stderr=pipe, text=True)
+        streams = dict.fromkeys(("stdin", "stdout", "stderr"), subprocess.PIPE)
+        self.process = subprocess.Popen(["dmremap", "map", *words], **streams, env=ENVIRONMENT, text=True)
 
     def ask(self, letter, device, start, length):
         """The pieces of one request, each a list of words that begins with the request's number."""
         try:
             print(letter, device, start, length, file=self.process.stdin, flush=True)
         except BrokenPipeError:
-            pass  # dmremap has ended, as the next line shows
+            pass  # dmremap has ended, and readline returns nothing
         pieces = []
-        while length > 0:
+        while length > 0 or not pieces:
             piece = self.process.stdout.readline().split()
             if not piece:
                 self.close()

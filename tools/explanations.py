@@ -16,16 +16,15 @@ use crate::help::HELP;
 pub(crate) const WORDS: &str = "
 %s";
 
-/// What is said of the first of them in all messages; these rows name no part. A static of more text takes a proof too long.
-pub(crate) static FIRST_WORDS: [((&str, &str), &str); %d] = [
+/// The parts of messages, of which an entry that has one alone has it twice; a word of theirs; and what is said of it.
+pub(crate) type Entry<'a> = ((&'a str, &'a str), &'a str, &'a str);
+
+/// The entries of the first words. A static of more text takes a proof too long.
+pub(crate) static FIRST_ENTRIES: [Entry<'static>; %d] = [
 %s];
 
-/// What is said of the others, and of how to ask.
-pub(crate) static LATER_WORDS: [((&str, &str), &str); %d] = [
-%s];
-
-/// What is said of a word in the messages of a part, where others have it, too.
-pub(crate) static ENTRIES: [((&str, &str), &str); %d] = [
+/// Those of the other words, and of how to ask, which is of no part.
+pub(crate) static LATER_ENTRIES: [Entry<'static>; %d] = [
 %s];
 %s'''
 # The form of messages about requests, and the other one that has their words, save the last of these.
@@ -39,28 +38,27 @@ WIDTH = 80
 
 
 def module_of(path: str) -> str:
-    """The text of the module. A word of several entries has a text of all of them, and one for each."""
+    """The text of the module: for each entry a row, and a text that is named after its part if others have its word."""
     with open(path, encoding="utf-8") as it:
         manual = it.read()
-    said: Dict[str, List[Tuple[str, str]]] = {}
+    said: Dict[str, List[Tuple[List[str], str]]] = {}
     for word, parts, text in _explained(diagnostics.section_of(manual, "DIAGNOSTICS")):
         said.setdefault(word, []).append((parts, text))
-    rows, texts, entries = [], [], []
+    first: List[str] = []
+    later: List[str] = []
+    texts = []
     for word, found in sorted(said.items()):
-        name = word.replace(" ", "_").upper()
-        rows.append(_row("", word, name))
-        texts.append((name, "\n".join(text for _, text in found)))
-        for parts, text in found if len(found) > 1 else []:
-            texts.append(("%s_%s" % (parts[0].upper(), name), text))
-            entries += [_row(it, word, texts[-1][0]) for it in parts]
-    consts = "".join('\nconst %s: &str = "\\\n%s";\n' % (name, _escaped(text)) for name, text in texts)
-    first = sorted(said).index(MIDDLE)
-    tables = (rows[:first], rows[first:] + [_row("", it, "HELP") for it in ASKED], entries)
-    return HEAD % (_wrapped(", ".join(sorted(said))), *(it for rows in tables for it in (len(rows), "".join(rows))), consts)
+        for parts, text in found:
+            name = "_".join([*parts[:len(found) > 1], *word.split()]).upper()
+            (first if word < MIDDLE else later).append(_row(parts[0], parts[-1], word, name))
+            texts.append('\nconst %s: &str = "\\\n%s";\n' % (name, _escaped(text)))
+    later += [_row("", "", it, "HELP") for it in ASKED]
+    tables = [it for rows in (first, later) for it in (len(rows), "".join(rows))]
+    return HEAD % (_wrapped(", ".join(sorted(said))), *tables, "".join(texts))
 
 
-def _row(part: str, word: str, name: str) -> str:
-    return '    (("%s", "%s"), %s),\n' % (part, word, name)
+def _row(first: str, last: str, word: str, name: str) -> str:
+    return '    (("%s", "%s"), "%s", %s),\n' % (first, last, word, name)
 
 
 def _explained(text: str) -> Iterator[Tuple[str, List[str], str]]:

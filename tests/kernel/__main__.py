@@ -29,6 +29,7 @@ sys.path += [os.path.join(TOP, *it) for it in (("tests", "outside"), ("tests", "
 
 import cuts
 import departures
+import heads
 import lvm2_texts
 import mappings
 import names
@@ -47,7 +48,7 @@ VECTORS = os.path.join(HERE, "vectors")
 TOLD = 60
 KINDS = {"mappings": mappings, "snapshots": snapshot_runs, "used snapshots": used_snapshots, "power cuts": cuts,
          "stores": stores, "tables": tables, "volume groups": volume_groups, "names": names, "texts": texts,
-         "states of groups": lvm2_texts}
+         "states of groups": lvm2_texts, "heads": heads}
 
 
 def main():

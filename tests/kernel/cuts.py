@@ -12,20 +12,23 @@ import struct
 import answers
 import snapshot_runs
 import stores
+from contents import SECTOR, check_read, content_of
 from vectors import end_of, in_file
 
-SECTOR, MAGIC = 512, 0x70416E53
+MAGIC = 0x70416E53
 AREA, OTHERS = stores.AREA, "other lists and chunk lengths"
+GAP = "dmremap: store s: gap"
 # Stores that the kernel takes or refuses otherwise, after so many writes: the departure, and what the program says.
 DEPARTING = {
     # A list that fills the last area, behind which there is no room for another. The kernel refuses it.
     ("cut-store-full-area", 2): (AREA, "taken"),
-    # It loads all of these. The first has another chunk length in its header than in the table.
+    # It loads all of these. The first has another chunk length in its header than in the table. The others were written by
+    # hand into the first sector of an area that nobody had cleared.
     ("cut-store-header-chunk", 2): (OTHERS, "dmremap: store s: chunk"),
-    ("cut-store-order", 2): (OTHERS, "dmremap: store s: order"),
-    ("cut-store-past-store", 2): (OTHERS, "dmremap: store s: order"),
-    ("cut-store-range", 2): (OTHERS, "dmremap: store s: range"),
-    ("cut-store-again", 2): (OTHERS, "dmremap: store s: again"),
+    ("cut-store-order", 2): (OTHERS, GAP),
+    ("cut-store-past-store", 2): (OTHERS, GAP),
+    ("cut-store-range", 2): (OTHERS, GAP),
+    ("cut-store-again", 2): (OTHERS, GAP),
 }
 # The same where one disk of a new store's list is cleared, and not yet the other.
 HALF_CLEARED = OTHERS, "dmremap: store s: order"
@@ -49,7 +52,7 @@ def compare(found, program, vector):
             reading = cut.read(program, cut.now)
             check(found, cut, reading)
         elif event[0] == "look":
-            check_look(found, cut, reading)
+            check_look(found, program, cut, reading)
     cut.close()
 
 
@@ -60,8 +63,8 @@ def check(found, cut, reading):
             found.same("devices after a cut", cut.where(top), cut.wrong(top, reading.get(top, [])), [])
 
 
-def check_look(found, cut, reading):
-    """Compares what the program reads with what the kernel read."""
+def check_look(found, program, cut, reading):
+    """Compares what the program reads with what the kernel read, by its map and byte for byte."""
     ours, theirs = ("refused" if "refused" in it else "taken" for it in (reading, cut.seen))
     departing = DEPARTING.get((cut.vector.name, cut.writes))
     if cut.requests and not cut.begun and theirs == "taken" != ours:
@@ -72,10 +75,13 @@ def check_look(found, cut, reading):
     elif found.same("stacks that a kernel loads or refuses", cut.where(""), ours, theirs) and ours == "taken":
         for what, values in cut.seen.items():
             found.same("devices and status lines that a kernel read", cut.where(what), reading[what], values)
+            if what in cut.tops:
+                check_read(found, program, [*cut.words, "--paths", cut.now.paths], cut.where(what), what, 0, values)
 
 
 def check_losses(found, program, cut, dice):
-    """Reads all devices where each sector that wasn't flushed is lost or not. A snapshot that was lost may then be valid."""
+    """Reads all devices where each sector that wasn't flushed is lost or not. A snapshot that was lost may then be valid, and of
+    an area of a list a later sector may be there and an earlier one not."""
     kept = [it for write in cut.pending for it in write if dice.random() < 0.5]
     before = [cut.flushed.get(*it[:2]) for it in kept]
     for it in kept:
@@ -86,6 +92,9 @@ def check_losses(found, program, cut, dice):
     if cut.lost(cut.now) - lost:
         found.aside["cuts that lost the header of a lost snapshot"] += 1
         return
+    if reading.get("refused", "").endswith(": gap"):
+        found.aside["cuts that lost a sector of a list, and not one after it in its area"] += 1
+        return
     for top in cut.tops:
         found.same("devices after a cut with losses", cut.where(top), cut.never(top, reading.get(top, []), lost), [])
 
@@ -93,11 +102,12 @@ def check_losses(found, program, cut, dice):
 class Disks:
     """Disks, as files for the program and as the value of each sector."""
 
-    def __init__(self, program, name, lengths):
+    def __init__(self, program, name, lengths, heads):
+        """`heads` are the first sectors of stores, which begin with zeros."""
         self.played, self.files, paths = answers.Disks(), {}, ""
         for disk, length in lengths.items():
-            # The first sector of a store begins with zeros.
-            content = bytes(SECTOR) + b"".join(content_of(("old", disk, it)) for it in range(1, length))
+            values = [("zero",) if (disk, it) in heads else ("old", disk, it) for it in range(length)]
+            content = b"".join(map(content_of, values))
             path = program.file(os.path.join(name, disk), content)
             self.files[disk] = os.open(path, os.O_RDWR)
             paths += "%s %s\n" % (disk, path)
@@ -127,7 +137,8 @@ class Cut(snapshot_runs.Run):
         named = {word for lines in self.tables.values() for line in lines for word in line}
         self.tops = [it for it in self.tables if "/dev/mapper/" + it not in named]
         self.words, self.begun, self.writes, self.pending = vector.stack(program), not self.requests, 0, []
-        self.now, self.flushed = (Disks(program, it, self.disks) for it in ("now", "flushed"))
+        heads = {self.home(it.store, 0) for it in self.snapshots.values()}
+        self.now, self.flushed = (Disks(program, it, self.disks, heads) for it in ("now", "flushed"))
         self.rows, self.ever, self.open, self.seen = {}, {}, {}, {}
 
     def close(self):
@@ -233,12 +244,3 @@ def values_of(label, count):
     if label[0] in ("old", "wrote"):
         return answers.spread(label, count)
     return [("error",) if label[0] == "error" else tuple(label)] * count
-
-
-def content_of(value):
-    """What a sector holds that has this value; of metadata the part that changed."""
-    if value[0] == "meta":
-        return struct.pack("<%dI" % (len(value) - 2), *map(int, value[2:]))
-    if value[0] == "zero":
-        return bytes(SECTOR)
-    return ("%s\n" % " ".join(map(str, ("OLD" if value[0] == "old" else "NEW", *value[1:])))).encode().ljust(SECTOR, b".")

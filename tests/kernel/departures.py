@@ -47,6 +47,16 @@ PLACES = {
     "the layer `real` of a read-only origin": "FORMATS.md#snapshots",
     "extents past the end of a physical volume": "FORMATS.md#when-it-is-refused",
     "extent sizes of 0, or of no whole chunks": "FORMATS.md#when-it-is-refused",
+    "a label without `LABELONE`": "FORMATS.md#18-heads",
+    "a second label": "FORMATS.md#18-heads",
+    "a header of an older lvm2": "FORMATS.md#18-heads",
+    "a group with a system id": "FORMATS.md#18-heads",
+    "areas and texts that lvm2 doesn't write": "FORMATS.md#18-heads",
+    "a partition table within a partition": "FORMATS.md#18-heads",
+    "a volume in a partition that was made shorter": "FORMATS.md#paths",
+    "a physical volume that was on an array": "FORMATS.md#18-heads",
+    "an array's superblock at the end of a disk": "FORMATS.md#18-heads",
+    "the signature of LVM1 or GFS": "FORMATS.md#18-heads",
 }
 
 # A row of a table. The title of a group of rows follows its bar without a space, and is none.
@@ -75,11 +85,15 @@ def link_of(departure):
 
 
 def check_figures(found, top, passed):
-    """The page has the number of answers of each kind that agree."""
-    rows = rows_of(text_of(os.path.join(top, "docs", "KERNEL.md")), "What was compared")
+    """The page has the number of answers of each kind that agree, and their sum in the last line of a run."""
+    page = text_of(os.path.join(top, "docs", "KERNEL.md"))
+    rows = rows_of(page, "What was compared")
     for kind, count in passed.items():
         figure = rows.get(kind, "|").split("|")[-1].strip()
         found.holds("figures", kind, figure == "{:,}".format(count), "docs/KERNEL.md has %r of %d answers" % (figure, count))
+    answers, checks = sum(passed.values()), found.passed() + 1
+    last = "`%d passed, 0 failed`: the %s answers above, and %d checks" % (answers + checks, "{:,}".format(answers), checks)
+    found.holds("figures", "the sum", last in page, "docs/KERNEL.md doesn't have: %s" % last)
 
 
 def rows_of(text, heading):

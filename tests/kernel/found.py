@@ -31,7 +31,7 @@ class Found:
 
     def same(self, what, where, ours, theirs):
         """Counts an answer of the program that has to be that of the kernel or of lvm2."""
-        return self.holds(what, where, ours == theirs, "%s: the program has %s, and they have %s"
+        return self.holds(what, where, ours == theirs, "%s: the program has %s, and what was recorded is %s"
                           % (what, short(ours), short(theirs)))
 
     def departs(self, departure, where, ours, stated, theirs):

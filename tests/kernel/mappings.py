@@ -1,14 +1,17 @@
-"""Mappings: where the kernel's reads and writes of single sectors landed, against the pieces of `map`."""
+"""Mappings: where the kernel's reads and writes of single sectors landed, against what `map` and `read` answer."""
 
 import random
 
 import answers
+from contents import check_read, content_of
 from vectors import end_of, in_file
 
 # How many random ranges of each run of sectors are asked for as one request, besides the whole run.
 RANGES = 6
 # How many sectors of a device that couldn't be opened for writing are asked for.
 NOT_OPENED = 64
+# The longest disk that is laid as an image.
+LONGEST = 1 << 16
 BELOW = "a read-only device below a writable one"
 
 
@@ -37,6 +40,7 @@ def compare(found, program, vector):
             else:
                 found.same("sectors" if len(units) == 1 else "ranges", at, got.lines[number], theirs)
     check_table(found, program, vector)
+    check_bytes(found, program, vector)
 
 
 def forms(vector):
@@ -73,16 +77,21 @@ def departing(vector):
     return {it for it in tables if it not in read_only and reaches(it)}
 
 
-def ranges(singles, dice):
-    """Some ranges of neighbouring sectors, whose pieces follow from those of each sector alone."""
+def runs_of(singles):
+    """The runs of neighbouring sectors, each with the units of its sectors."""
     runs = []
     for letter, device, sector, units in singles:
         if runs and runs[-1][:2] == [letter, device] and runs[-1][2] + len(runs[-1][3]) == sector:
             runs[-1][3].extend(units)
         else:
             runs.append([letter, device, sector, list(units)])
+    return runs
+
+
+def ranges(singles, dice):
+    """Some ranges of neighbouring sectors, whose pieces follow from those of each sector alone."""
     found = []
-    for letter, device, start, units in runs:
+    for letter, device, start, units in runs_of(singles):
         found.append((letter, device, start, units))
         for _ in range(RANGES):
             first = dice.randrange(len(units))
@@ -101,3 +110,18 @@ def check_table(found, program, vector):
     theirs = [" ".join(it if it.endswith(":") else named(it) for it in line.split()) for line in vector.lines("kernel-table.txt")]
     got = answers.of(program, ["table", "concise", vector.file(program, "concise.txt"), vector.file(program, "disks.txt")])
     found.same("tables", vector.name, sorted(got.others), sorted(theirs))
+
+
+def check_bytes(found, program, vector):
+    """Reads the devices from images whose sectors tell their disks and numbers."""
+    disks, paths = {it.split(" ")[0]: int(it.split(" ")[1]) for it in vector.lines("disks.txt")}, ""
+    if max(disks.values()) > LONGEST:
+        found.aside["stacks whose disks are too long for images"] += 1
+        return
+    for number, (disk, length) in enumerate(disks.items()):
+        image = program.file("images/%d" % number, b"".join(content_of(("old", disk, it)) for it in range(length)))
+        paths += "%s %s\n" % (disk, image)
+    words = [*vector.stack(program), "--paths", program.file("images/paths", paths)]
+    for _, device, start, units in runs_of(single(vector, "R", "reads.tsv")):
+        values = [("old", *it[1:]) if it[0] == "R" else it for it in units]
+        check_read(found, program, words, vector.name, device, start, values)

@@ -1,6 +1,7 @@
 """Reading what was recorded. vectors/README.md says what each section has."""
 
 import functools
+import hashlib
 import json
 import os
 import re
@@ -104,3 +105,16 @@ def put(folder, kind, name, sections):
     texts[name] = joined(sections)
     with open(os.path.join(folder, kind + END), "w", encoding="utf-8", errors="surrogateescape", newline="") as recorded:
         recorded.write("".join("== %s ==\n%s" % each for each in sorted(texts.items())))
+
+
+def body(text):
+    """A group without comments, tabs and devices, which vgcfgbackup names as they are now, and without what is around it."""
+    lines = [re.sub(rb"\t# .*", b"", it).strip(b"\t") for it in text.rstrip(b"\0").split(b"\n")]
+    lines = [it for it in lines if it and not it.startswith(b"device = ")]
+    first = next((at for at, it in enumerate(lines) if it.endswith(b" {")), 0)
+    return b"\n".join(lines[first:len(lines) - lines[::-1].index(b"}")])
+
+
+def digest(text):
+    """What tells texts apart. A NUL at their end isn't told."""
+    return hashlib.sha256(text.rstrip(b"\0")).hexdigest()[:20]

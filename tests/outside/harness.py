@@ -10,7 +10,7 @@ import time
 import traceback
 import unittest
 
-SECONDS = 60
+SECONDS = 180
 # The segments of a program that asks for a loader, and for libraries.
 INTERPRETER, DYNAMIC = 3, 2
 NOBODY = 65534
@@ -171,11 +171,8 @@ def _test(function):
 def run(words, given=b"", stdin=None, stdout=None, stderr=None, before=None, folder=None, env=None):
     """Runs a command to its end. `given` is what its standard input holds, if that is none of the
     caller's; `before` is called in the new process, as a shell sets limits."""
-    ran = subprocess.Popen(
-        words,
-        stdin=subprocess.PIPE if stdin is None else stdin,
-        stdout=subprocess.PIPE if stdout is None else stdout,
-        stderr=subprocess.PIPE if stderr is None else stderr,
+    ran = subprocess.Popen(words, stdin=subprocess.PIPE if stdin is None else stdin,
+        stdout=subprocess.PIPE if stdout is None else stdout, stderr=subprocess.PIPE if stderr is None else stderr,
         preexec_fn=before, cwd=folder, env=env, start_new_session=True)
     try:
         out, err = ran.communicate(as_bytes(given) if stdin is None else None, timeout=SECONDS)

@@ -100,9 +100,9 @@ class DefinitionFile(Scope):
         item = None
         for tokens in statements:
             words = [it.text for it in tokens]
-            if "use" in words[:2]:
+            if "use" in words[:3]:
                 begin, end = tokens[words.index("use")], tokens[-1]
-                self.bring(self.text[begin.start + len("use"):end.start + len(end.text)], words[0] == "pub")
+                self.bring(self.text[begin.start + len("use"):end.start + len(end.text)], "pub" in words)
             elif "mod" in words[:2]:
                 self.imports[words[-1]] = (self.path[:-1] if self.path[-1] == "Lib" else self.path) + (words[-1],)
             else:

@@ -14,9 +14,10 @@ OWN_PROMISE = {"PartsGive": "load", "IsSound": "stack", "AreLevelsEnough": "mapp
 PROMISES = [
     ("map", ["map_whole"], "what `map` reads, writes and tells"),
     ("before", ["map_stored", "play_earlier"], "the same after earlier requests"),
-    ("paths", ["map_stored", "listed_images", "check_paths"], "the same from what stores hold"),
-    ("images", ["map_images", "images_whole", "print_metadata"], "the same of a group in images"),
-    ("other", ["other_whole"], "the same of the other commands"),
+    ("paths", ["map_stored", "Parts", "listed_images", "check_paths"], "the same from what stores hold"),
+    ("images", ["map_stored", "GroupImages", "print_metadata"], "the same of a group in images"),
+    ("read", ["other_whole", "Parts", "GroupImages", "write_sectors", "Stop::message"], "the bytes that `read` writes"),
+    ("other", ["other_whole", "NoSource"], "the same of the other commands"),
     ("load", ["load"], "what a source and a disk list give"),
     ("words", ["read_words"], "the command line"),
     ("streams", ["Counted", "Gathered", "PartFile"], "real files and streams"),
@@ -26,8 +27,7 @@ PROMISES = [
      "texts that are written"),
     ("lvm", ["lvm_text::parse", "one_answer", "end_line", "Section", "text_fault", "VolumeGroup", "parse_metadata",
              "parse_owned"], "LVM2 metadata"),
-    ("heads", ["read_heads", "HeadFault::message", "spelled_heads_are_read", "ring_bytes_are_read", "first_label_is_taken",
-               "sum_of"], "the heads of physical volumes"),
+    ("heads", ["read_heads", "HeadFault::message", "heads_read_back", "sum_of"], "the heads of physical volumes"),
     ("names", ["build_name", "split_name", "undouble", "spaced_parts", "NameFault::message"], "names of LVM2 volumes"),
     ("stack", ["Stack::load", "Stack::depth", "Stack::snapshots", "Stack::into_parts", "Stack::len", "Looker::look", "Looker::len",
                "place_count", "places_are_apart"],
@@ -38,11 +38,10 @@ PROMISES = [
     ("stores", ["read_stores", "StoreRefusal::message", "stores_fit", "reads_back", "is_spelled", "stored_states_fit",
                 "ReadLog", "MemoryImages"], "the state that stores hold"),
     ("run", ["Lines::next", "handle_requests", "Exchange", "Join", "run"], "lines, pieces, and a run"),
-    ("replay", ["replay_whole", "Replay"], "what `replay` writes, and the answers of a replay"),
+    ("replay", ["other_whole", "Replay"], "what `replay` writes, and the answers of a replay"),
     ("alone", ["tops_are_alone", "play_goes_on", "requests_are_alone", "errors_have_causes", "nothing_is_lost"],
      "each top device alone, and where errors come from"),
     ("restarts", ["lists_are_left", "cuts_are_alone", "restarts", "restarts_go_on"], "what a restart after a power cut finds"),
-    ("power_cut", ["answer_after_cut", "write_lists", "Fault::tell"], "the program `power_cut`"),
 ]
 
 

@@ -2,6 +2,7 @@
 fits them, and builds none."""
 
 import contextlib
+import glob
 import hashlib
 import os
 import re
@@ -86,10 +87,25 @@ def fits(built=BUILT, folder=OUT):
         return False
 
 
+def is_seen():
+    """Whether nothing of the proved program has changed since ./dmremap compared its sums, by what it kept of stat then."""
+    try:
+        with open(os.path.join(OUT, "names"), "rb") as names, open(os.path.join(OUT, "seen"), "rb") as seen:
+            parts = ["crates/*/" + part for part in PARTS]
+            found = [sorted(glob.glob(os.path.join(glob.escape(TOP), part))) or [os.path.join(TOP, part)] for part in parts]
+            rows = [os.path.relpath(path, TOP) for paths in found for path in paths]
+            for name in names.read().split(b"\0")[:-1]:
+                it = os.stat(os.path.join(os.fsencode(TOP), name))
+                rows.append("%d %d.%09d" % (it.st_ino, *divmod(it.st_ctime_ns, 10 ** 9)))
+            return seen.read() == b"".join(os.fsencode(row) + b"\n" for row in rows)
+    except OSError:
+        return False
+
+
 def found():
     """Returns the path of the program that fits the sources: the proved one, or else that of ./try, or nothing."""
     kept = ((BUILT, OUT), ([TRIED], os.path.join(TOP, os.path.dirname(TRIED))))
-    return next((os.path.join(TOP, built[0]) for built, folder in kept if fits(built, folder)), "")
+    return next((os.path.join(TOP, built[0]) for built, folder in kept if built is BUILT and is_seen() or fits(built, folder)), "")
 
 
 def look_at_made(before, built=BUILT, folder=OUT):

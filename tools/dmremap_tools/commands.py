@@ -2,6 +2,8 @@
 
 from typing import List, NamedTuple, Optional
 
+# The release that the tools belong to, as `dmremap --version` prints it.
+VERSION = "0.1.0"
 # The folders of the commands, and how `--help` calls what is in them.
 GROUPS = {"images": "images of disks", "requests": "requests", "tables": "FILE and DISKS", "metadata": "metadata",
           "answers": "answers", "layouts": "layouts", "explaining": "refusals and answers, explained"}
@@ -23,28 +25,19 @@ class Command(NamedTuple):
 
 COMMANDS: List[Command] = [
     Command("scan", "images", "what images hold"),
-    Command("save", "images", "a volume, or a file of one, out of images or disks"),
+    Command("save", "images", "a volume out of images or disks"),
     Command("serve", "images", "a volume as a disk, by nbdkit"),
     Command("lost", "images", "the files that have missing or unreadable sectors"),
     Command("owner", "images", "the owners of sectors of images"),
-    Command("tables", "images", "FILE, DISKS and PATHS of a group, for dmremap itself"),
-    Command("filefrag", "requests", "from the extents of files, as filefrag or debugfs prints them", True),
-    Command("trace", "requests", "from a trace of blkparse, btrace, ftrace, perf or fio", True),
-    Command("cut", "requests", "from requests that are too long, or in bytes", True),
+    Command("tables", "images", "FILE, DISKS and PATHS of a group or an array, for dmremap itself"),
+    Command("filefrag", "requests", "from the extents of files, as filefrag prints them", True),
+    Command("trace", "requests", "from traces of blkparse, ftrace or perf, or long requests", True),
     Command("machine", "tables", "of a machine with device-mapper devices", True),
-    Command("elsewhere", "tables", "for dmsetup where disks have other paths, all read-only", True),
-    Command("thin", "tables", "thin or cached devices, from the metadata of their pool or cache", True),
-    Command("btrfs", "tables", "the addresses of a btrfs file system as a device", True),
     Command("metadata", "metadata", "the text of a group, from the head of a physical volume"),
     Command("lvm2-text", "metadata", "a copy of lvm2's metadata that dmremap reads"),
-    Command("report", "answers", "what is done on each disk, how requests were split, a picture"),
-    Command("dd", "answers", "a dd command for each piece", True),
-    Command("spans", "layouts", "which line uses which sectors, what is free, what clashes", True),
-    Command("tree", "layouts", "the stack as a tree, or as a graph for Graphviz"),
-    Command("extents", "layouts", "where a whole device lies"),
+    Command("report", "answers", "what is done on each disk, and how requests were split"),
+    Command("layout", "layouts", "which line uses which sectors, what is free, what clashes"),
     Command("store", "layouts", "whether the stores of snapshots can fill up, and what fills them"),
-    Command("picture", "layouts", "what lies where on the disks, as a picture"),
-    Command("md", "tables", "the table of an md array, or answers followed on through one", True),
     Command("explain", "explaining", "why dmremap refuses something, or how an answer arises"),
 ]
 

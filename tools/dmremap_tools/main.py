@@ -2,7 +2,6 @@
 
 import argparse
 import difflib
-import errno
 import functools
 import gc
 import importlib
@@ -12,18 +11,15 @@ import re
 import signal
 import textwrap
 from types import ModuleType
-from typing import Callable, Dict, List, NoReturn, Sequence, Tuple, Type
+from typing import Callable, Dict, List, NoReturn, Tuple, Type
 
 from dmremap_tools import commands
-from dmremap_tools.base import Refusal, WrongWords, near_names, quoting, streams, written
+from dmremap_tools.base import Refusal, WrongWords, quoting, streams, written
 
 TOOL = "dmremap-tools"
 OUTPUT_FAILED = 5
-# How many columns a help has, and where an example may go on in another line.
-COLUMNS = 80
-JOINTS = re.compile(r"( \||&&) ")
-# What an item of a list explains, up to the explanation.
-ITEM = re.compile(r" +\S.*?  +(?=\S)")
+# How many columns a help has, and what an item of a list explains, up to the explanation.
+COLUMNS, ITEM = 80, re.compile(r" +\S.{,32}?  +(?=\S)")
 # The status of each way to end, and what is said then: {0} is the text of the exception, {1} this itself.
 ENDINGS: Dict[Type[Exception], Tuple[int, str]] = {
     WrongWords: (2, "{0}"), Refusal: (1, "{0}"), MemoryError: (1, "out of memory"),
@@ -91,7 +87,7 @@ def run(words: List[str]) -> int:
         status, said = next(end for kind, end in ENDINGS.items() if isinstance(fault, kind))
         why = said.format(getattr(fault, "strerror", None) or fault, fault)
         message, usage = f"{name}: {why}" if why else "", getattr(fault, "usage", "")
-        return _end(status, message, is_fed, usage, _next_step(words, why))
+        return _end(status, message, is_fed, usage)
 
 
 def _run(command: "commands.Command | None", name: str, words: List[str]) -> int:
@@ -107,8 +103,9 @@ def _run(command: "commands.Command | None", name: str, words: List[str]) -> int
         _heard.extend(it for it in ENDS if signal.getsignal(it) in (signal.SIG_DFL, signal.default_int_handler))
         _answer_signals(_told_to_end)
         return module.run(typed) or 0
-    if words and words[0] in ("-h", "--help"):
-        streams.out.write(commands.overview())
+    told = {"-h": commands.overview(), "--help": commands.overview(), "--version": f"{TOOL} {commands.VERSION}\n"}
+    if words and words[0] in told:
+        streams.out.write(told[words[0]])
         return 0
     if not words:
         raise WrongWords("--help lists the commands", f"usage: {TOOL} COMMAND ..")
@@ -131,7 +128,7 @@ def _answer_signals(action: "signal.Handlers | Callable[[int, object], object]")
 
 def parser_of(command: "commands.Command", module: ModuleType, name: str) -> Parser:
     """The parser of a command, whose help has the module's docstring and its example."""
-    text = "%s\n\nexample:\n%s" % (_wrapped(module.__doc__ or ""), _example(module.EXAMPLE))
+    text = f"{_wrapped(module.__doc__ or '')}\n\nexample:\n  {module.EXAMPLE}"
     # So many columns, however wide the terminal is.
     formatter = functools.partial(argparse.RawDescriptionHelpFormatter, width=COLUMNS - 2)
     parser = Parser(prog=name, description=text, allow_abbrev=False, formatter_class=formatter)
@@ -140,48 +137,26 @@ def parser_of(command: "commands.Command", module: ModuleType, name: str) -> Par
 
 
 def _wrapped(text: str) -> str:
-    """The paragraphs of a text in lines of 80 columns, those of lists each by itself."""
+    """The paragraphs of a text in lines of 80 columns, those of lists each by itself, and on below what explains it."""
     rows: List[str] = []
     for paragraph in text.strip().split("\n\n"):
         for is_list, lines in itertools.groupby(paragraph.split("\n"), lambda it: it.startswith(" ")):
             for line in lines if is_list else [" ".join(lines)]:
-                rows += _folded(line)
+                item = ITEM.match(line)
+                lead = " " * (item.end() if item else 6 * is_list)
+                rows += textwrap.wrap(line, COLUMNS, subsequent_indent=lead, break_long_words=False,
+                                      break_on_hyphens=False)
         rows.append("")
     return "\n".join(rows[:-1])
 
 
-def _folded(line: str) -> List[str]:
-    """A line in pieces, of which the later ones stand below what it explains, or a little to the right."""
-    item = ITEM.match(line)
-    lead = len(line) - len(line.lstrip()) and (item.end() if item and item.end() < COLUMNS // 2 else 6)
-    return textwrap.wrap(line, COLUMNS, subsequent_indent=" " * lead, break_long_words=False, break_on_hyphens=False)
-
-
-def _example(text: str) -> str:
-    """A command, which goes on in another line where it is long: behind a pipe, if it has one."""
-    if len(text) + 2 <= COLUMNS:
-        return "  " + text
-    if JOINTS.search(text):
-        return "  " + JOINTS.sub(lambda it: it[1] + "\n    ", text)
-    return "  " + " \\\n    ".join(textwrap.wrap(text, COLUMNS - 6, break_long_words=False, break_on_hyphens=False))
-
-
-def _next_step(words: List[str], why: str) -> List[str]:
-    """What a terminal shows after a file that isn't there: names that are near to it, or the folder to make."""
-    if not os.isatty(2) or not why.endswith(": " + os.strerror(errno.ENOENT)):
-        return []
-    given = [part for it in words for part in (it, it.partition("=")[2])]
-    path = next((it for it in given if it and why == "%s: %s" % (quoting.shown(it), os.strerror(errno.ENOENT))), "")
-    return [near_names.missing_note(path)]
-
-
-def _end(status: int, message: str, is_fed: bool, usage: str = "", step: Sequence[str] = ()) -> int:
+def _end(status: int, message: str, is_fed: bool, usage: str = "") -> int:
     """Removes what was begun, says why, and spoils the outputs. One that fails only now is told, too, unless messages
     fail."""
     _answer_signals(signal.SIG_IGN)
     written.discard()
     _answer_signals(signal.SIG_DFL)
-    unsaid = message and streams.failure_of(streams.tell, *usage.splitlines(), message, *step)
+    unsaid = message and streams.failure_of(streams.tell, *usage.splitlines(), message)
     failed = streams.spoil(is_fed)
     if failed and status != OUTPUT_FAILED:
         streams.failure_of(streams.tell, f"{message.split(':')[0] or TOOL}: {failed}")

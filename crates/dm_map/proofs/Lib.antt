@@ -1,5 +1,3 @@
-pub mod WorkedRows
-pub mod WorkedSnapshots
 -- what crates above cite: they see no folder of a module that is private
 pub use Rattle.dm_map.proofs.own.ChunkOutcomes
 pub use Rattle.dm_map.proofs.own.CutLemmas
@@ -12,6 +10,7 @@ pub use Rattle.dm_map.proofs.own.OwnRequests
 pub use Rattle.dm_map.proofs.own.StepClaims
 pub use Rattle.dm_map.proofs.own.UniqueSteps
 pub use Rattle.dm_map.proofs.own.WayLemmas
+pub use Rattle.dm_map.proofs.own.WorkedErrors
 pub use Rattle.dm_map.proofs.pieces.LegUnits
 pub use Rattle.dm_map.proofs.state.ResolvedLines
 pub use Rattle.dm_map.proofs.state.Numbers
@@ -20,3 +19,4 @@ pub use Rattle.dm_map.proofs.walk.ChunkTaking
 pub use Rattle.dm_map.proofs.walk.LevelLemmas
 pub use Rattle.dm_map.proofs.walk.ReadSteps
 pub use Rattle.dm_map.proofs.walk.Rows
+pub mod Prelude

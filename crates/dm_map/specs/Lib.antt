@@ -4,3 +4,5 @@ pub mod own
 pub mod pieces
 pub mod state
 pub mod walk
+pub mod Prelude
+pub mod Base

@@ -6,6 +6,7 @@ pub mod Errors
 pub mod Losses
 pub mod Rows
 pub mod Halts
+pub mod Histories
 pub mod Lists
 pub mod Requests
 pub mod Tops

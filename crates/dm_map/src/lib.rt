@@ -37,3 +37,4 @@ pub use state::walker::lower_len;
 pub use walk::home::Home;
 pub use walk::homes::HomeStretch;
 pub use walk::levels::levels_are_enough;
+pub use walk::stretch::{Ground, Stretch};

@@ -4,26 +4,9 @@
 //! `specs/walk/Mapping.antt` defines what becomes of a sector, `walk` cuts a range into pieces, and
 //! `walker` keeps what one request leaves for the next.
 
-ghost use Rattle.std.specs.Prelude.{◌≡◌, ◌+◌, ◌*◌, ◌<◌, ◌≤◌, false, true, is_none, length, nat_lt, IfOk, IfSome, if◌then◌else◌};
-ghost use Rattle.dm_table.specs.declared.requests.request.Op.TheVariants.{Read};
-ghost use Rattle.dm_stack.specs.checks.Snapshots.{snapshots, IsSnapshot};
-ghost use Rattle.dm_stack.specs.checks.Depth.{stack_depth};
-ghost use Rattle.dm_map.specs.walk.Mapping.{request_step};
-ghost use Rattle.dm_map.specs.state.Counts.{no_counts, AreAdded};
-ghost use Rattle.dm_map.specs.state.Fitting.{IsFitting, IsWithinPlaces};
+ghost use Rattle.dm_map.specs.Prelude.{◌≡◌, ◌+◌, ◌*◌, ◌<◌, ◌≤◌, false, true, is_none, length, nat_lt, IfOk, IfSome, if◌then◌else◌, Read, snapshots, IsSnapshot, stack_depth, lower_len, IsStore, request_step, no_counts, AreAdded, IsFitting, IsWithinPlaces, with_looked, HasMapped, read_stretches, lost, put, start_state, taken_at, with_chunk, number_in, device_len, IsFirstHomes, has_room, snapshot_at, usage_of, or_home, HasRoomFor, IsWalked, IsFirstRead, IsGroundNear, Device};
 ghost use Rattle.dm_map.specs.declared.mapper.MapFault.TheVariants.{Sink};
-ghost use Rattle.dm_map.specs.Mapper.{with_looked, HasMapped};
-ghost use Rattle.dm_map.specs.walk.Path.{read_stretches};
-ghost use Rattle.dm_map.specs.state.State.{lost, put, start_state, taken_at, with_chunk};
-ghost use Rattle.dm_map.specs.state.Snapshots.{number_in};
 ghost use Rattle.dm_stack.specs.declared.checks.limits.TheConstants.{MOST_LENGTH};
-ghost use Rattle.dm_stack.specs.Description.{lower_len};
-ghost use Rattle.dm_stack.specs.checks.Store.{IsStore};
-ghost use Rattle.dm_map.specs.walk.Homes.{IsFirstHomes};
-ghost use Rattle.dm_map.specs.state.Tables.{has_room, snapshot_at};
-ghost use Rattle.dm_map.specs.state.Usage.{usage_of};
-ghost use Rattle.dm_map.specs.walk.Home.{or_home};
-ghost use Rattle.dm_map.specs.walk.Range.{HasRoomFor, IsWalked};
 
 use crate::pieces::piece::disk_piece;
 use crate::pieces::sink::Sink;
@@ -34,6 +17,7 @@ use crate::state::walker::Walker;
 use crate::walk::home::{Home, handed};
 use crate::walk::homes::{HomeStretch, first_homes};
 use crate::walk::range::{fail, map_top};
+use crate::walk::stretch::{Stretch, first_read};
 use dm_stack::{DeviceId, Looker, Lower};
 use dm_table::{Op, Request};
 use std::alloc::{AllocError, Global};
@@ -69,7 +53,7 @@ pub struct Mapper<'s, T: Taken> {
 }
 
 impl<'s, T: Taken> Model for Mapper<'s, T> {
-    ghost use Rattle.std.specs.Prelude.{◌-◌, ◌≤◌};
+    ghost use Rattle.dm_map.specs.Base.{◌-◌, ◌≤◌};
     ghost use Rattle.dm_map.specs.Mapper.{MapperView};
 
     ghost Value = { MapperView };
@@ -242,6 +226,25 @@ impl<'s, T: Taken> Mapper<'s, T> {
         let comparisons = self.walker.comparisons();
         self.walker.recall_soundness();
         let stretch = first_homes(&mut self.walker, store, sector, len);
+        self.searches_before += self.walker.searches() - searches;
+        self.comparisons_before += self.walker.comparisons() - comparisons;
+        stretch
+    }
+
+    /// What the first sectors of a range of a device are read from, in the state that the requests left. The
+    /// look-ups belong to no request. No memory is taken. Cost: one look-up for each level.
+    pub fn first_read(&mut self, device: DeviceId, sector: u64, len: u64) -> Stretch
+        requires some { 1 ≤ len }
+        requires device { device < length self.old.stack.devices }
+        requires inside { sector + len ≤ device_len self.old.stack device }
+        ensures is { IsFirstRead self.old.stack self.old.state (Device device) sector len result }
+        ensures near { IsGroundNear result.ground result.len }
+        ensures same { self.new ≡ with_looked self.old self.new.looked }
+        ensures looked { AreAdded self.old.looked self.new.looked }
+    {
+        let searches = self.walker.searches();
+        let comparisons = self.walker.comparisons();
+        let stretch = first_read(&mut self.walker, device, sector, len);
         self.searches_before += self.walker.searches() - searches;
         self.comparisons_before += self.walker.comparisons() - comparisons;
         stretch

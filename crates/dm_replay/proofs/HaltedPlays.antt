@@ -1,16 +1,6 @@
 -- What a halting player has played of a request: the first of its units, or all of them.
-use Rattle.std.proofs.Common.{◌≡◌, ℕ, zero, suc, ◌+◌, ◌<◌, ◌≤◌, true, false, List, [], length, take, refl, sym, ap, subst, ◌∙◌, arith}
-use Rattle.std.proofs.lemmas.List.{take_all, take-append-le}
-use Rattle.dm_stack.specs.Description.{Description}
-use Rattle.dm_map.specs.declared.pieces.piece.Piece.{Piece}
+use Rattle.dm_replay.proofs.Prelude.{◌≡◌, ℕ, zero, suc, ◌+◌, ◌<◌, ◌≤◌, true, false, List, [], length, take, refl, sym, ap, subst, ◌∙◌, arith, take_all, take-append-le, Description, Piece, OfBeginning, BlockUnit, ReadOf, WriteOf, CopyOf, FillOf, IsOnDisk, IsOnDisks, first_unit, next_unit, piece_len, units_in, units_of, Halting, HasHalted, HasTaken, AreUnitsOf, played_nothing, HasPlayed}
 use Rattle.dm_map.specs.declared.pieces.piece.Piece.TheVariants as pieces
-use Rattle.dm_map.specs.pieces.Sink.{OfBeginning}
-use Rattle.dm_map.specs.pieces.Units.{BlockUnit, ReadOf, WriteOf, CopyOf, FillOf, IsOnDisk, IsOnDisks, first_unit, next_unit, piece_len, units_in, units_of}
-use Rattle.dm_replay.specs.declared.halting.Halting.{Halting}
-use Rattle.dm_replay.specs.Halting.{HasHalted, HasTaken}
-use Rattle.dm_replay.specs.OfDisks.{AreUnitsOf}
-use Rattle.dm_replay.specs.laws.Play.{played_nothing}
-use Rattle.dm_replay.specs.Player.{HasPlayed}
 use Rattle.dm_replay.proofs.OfDiskLemmas.{piece_of}
 
 -- Pieces that are cut

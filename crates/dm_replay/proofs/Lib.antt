@@ -11,5 +11,5 @@ pub mod RerunLemmas
 pub mod RunLemmas
 pub mod StoredLemmas
 pub mod UnitPlays
-pub mod WorkedReplays
 pub mod WorldLemmas
+pub mod Prelude

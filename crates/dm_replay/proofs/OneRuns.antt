@@ -1,11 +1,6 @@
 -- Answers are those of one list of maximal runs.
-use Rattle.std.proofs.Common.{◌≡◌, ℕ, zero, suc, ◌<◌, List, [], ◌∷◌, ◌++◌, refl, sym, ap, subst, arith}
-use Rattle.std.specs.List.{AllByRecursion}
-use Rattle.std.proofs.lemmas.List.{append_cancel_left}
-use Rattle.dm_replay.specs.declared.value_run.ValueRun.{ValueRun}
+use Rattle.dm_replay.proofs.Prelude.{◌≡◌, ℕ, zero, suc, ◌<◌, List, [], ◌∷◌, ◌++◌, refl, sym, ap, subst, arith, AllByRecursion, append_cancel_left, ValueRun, NoneJoins, AreMaximal, answers_in, first_answer, flat, further_answer, next_answer, run_answers, run_len, Answer}
 use Rattle.dm_replay.specs.declared.value_run.ValueRun.TheVariants as runs
-use Rattle.dm_replay.specs.Runs.{NoneJoins, AreMaximal, answers_in, first_answer, flat, further_answer, next_answer, run_answers, run_len}
-use Rattle.dm_replay.specs.Values.{Answer}
 use Rattle.dm_replay.proofs.RunLemmas.{answer_next, answer_none}
 
 -- a list's first answer is this one

@@ -1,29 +1,10 @@
 -- What a read of a top device answers, where no claims meet: what the device would hold alone, or an error, and without errors where the stack can lose nothing.
-use Rattle.std.proofs.Common.{◌≡◌, ◌⊎◌, inl, inr, ℕ, zero, suc, ◌+◌, ◌<◌, ◌≤◌, Bool, true, false, cond, List, [], ◌∷◌, Option, Some, None, nat_lt, replicate, refl, ap, arith}
-use Rattle.std.proofs.lemmas.Bool.{le-ltb}
+use Rattle.dm_replay.proofs.Prelude.{◌≡◌, ◌⊎◌, inl, inr, ℕ, zero, suc, ◌+◌, ◌<◌, ◌≤◌, Bool, true, false, cond, List, [], ◌∷◌, Option, Some, None, nat_lt, replicate, refl, ap, arith, le-ltb, Device, IsTidy, IsTop, Description, device_len, AreAlwaysExact, AreNeverLost, IsAmple, IsIntact, Stays, content, value_read, AreAlone, IsOwnAt, Rows, request_step, sector_step, read, IsFitting, State, keep, steps, BlockUnit, Fails, IsRead, Sector, Nothing, Fault, is_read, Value, Asked, World, asked_answers, world_after, AreOfTops, Answer, Gives, Failed, Values, played_answers}
 use Rattle.dm_table.specs.declared.requests.request.Op.TheVariants as ops
 use Rattle.dm_stack.specs.declared.checks.graph.TheConstants.{MOST_DEPTH}
-use Rattle.dm_stack.specs.declared.id.Lower.TheVariants.{Device}
-use Rattle.dm_stack.specs.claims.Claims.{IsTidy, IsTop}
-use Rattle.dm_stack.specs.Description.{Description, device_len}
-use Rattle.dm_map.specs.own.Ample.{AreAlwaysExact, AreNeverLost, IsAmple, IsIntact}
-use Rattle.dm_map.specs.own.Contents.{Stays, content, value_read}
-use Rattle.dm_map.specs.own.Requests.{AreAlone}
-use Rattle.dm_map.specs.own.Rows.{Rows}
-use Rattle.dm_map.specs.walk.Mapping.{request_step, sector_step}
-use Rattle.dm_map.specs.walk.SnapshotWrites.{read}
-use Rattle.dm_map.specs.state.Fitting.{IsFitting}
-use Rattle.dm_map.specs.state.State.{State}
-use Rattle.dm_map.specs.walk.Steps.{keep, steps}
-use Rattle.dm_map.specs.pieces.Units.{BlockUnit, Fails}
-use Rattle.dm_map.proofs.ChunkOutcomes.{IsRead, Sector, Nothing, Fault, is_read}
-use Rattle.dm_replay.specs.declared.value.Value.{Value}
-use Rattle.dm_replay.specs.declared.value.Value.TheVariants as value
-use Rattle.dm_replay.specs.Histories.{Asked, World, asked_answers, world_after}
-use Rattle.dm_replay.specs.Replay.{AreOfTops}
 use Rattle.dm_replay.specs.Rows.{AreExactlyRow, AreOfRow, answer_of, rows_after}
-use Rattle.dm_replay.specs.Values.{Answer, Gives, Failed, Values, played_answers}
-use Rattle.dm_replay.proofs.OwnWorlds.{IsExact, IsOwn, exact_after, own_after}
+use Rattle.dm_replay.specs.declared.value.Value.TheVariants as value
+use Rattle.dm_replay.proofs.OwnWorlds.{IsExact, exact_after, own_after}
 
 -- what the unit of a read answers
 abbrev read_answer : BlockUnit → Values → Answer
@@ -41,9 +22,9 @@ read_of : (row given : Option Value) → Stays row given → (answer_of given �
 read_of row given (inl same) = inl (ap answer_of same)
 read_of row given (inr gone) = inr (ap answer_of gone)
 
-are_read : (stack : Description) (world : World) (rows : Rows Value) (device : ℕ) → IsTop stack device → IsOwn stack world rows → AreRead stack world.state world.values rows device
-are_read stack world rows device top own sector =
-    read_of (rows device sector) (content value.Zero stack world.state world.values (Device device) sector) (own.tops device sector top)
+are_read : (stack : Description) (world : World) (device : ℕ) → IsTop stack device → IsOwnAt value.Zero stack world → AreRead stack world.state world.values world.rows device
+are_read stack world device top own sector =
+    read_of (world.rows device sector) (content value.Zero stack world.state world.values (Device device) sector) (own.tops device sector top)
 
 -- a read's first unit answers what it gives
 first_read : (number sector : ℕ) (unit : BlockUnit) (units : List BlockUnit) (values : Values) → IsRead unit → played_answers number sector (unit ∷ units) values ≡ read_answer unit values ∷ played_answers number (suc sector) units values
@@ -83,8 +64,8 @@ request_of_row stack state number device start len values rows each = by_end (na
 pub own_answers : (stack : Description) (start : State) (all : List Asked) (asked : Asked) → AreAlone Value stack → IsTidy stack → IsFitting stack start → AreOfTops stack all → IsTop stack asked.device → asked.halted_after ≡ None → asked.op ≡ ops.Read
     → AreOfRow (rows_after stack start all) asked.device asked.start (asked_answers stack (world_after stack start all) asked)
 own_answers stack start all asked law tidy fits each top whole reads =
-    let world = world_after stack start all in let rows = rows_after stack start all in
-    rw (whole, reads) (request_of_row stack world.state asked.number asked.device asked.start asked.len world.values rows (are_read stack world rows asked.device top (own_after stack start all law tidy fits each)))
+    let world = world_after stack start all in
+    rw (whole, reads) (request_of_row stack world.state asked.number asked.device asked.start asked.len world.values world.rows (are_read stack world asked.device top (own_after stack start all law tidy fits each)))
 
 -- Without errors, where the stack can lose nothing
 
@@ -96,8 +77,8 @@ IsExactlySector rows device sector answer = (given : Value) × (rows device sect
 abbrev AreReadExactly : Description → State → Values → Rows Value → (device : ℕ) → Type 0
 AreReadExactly stack state values rows device = (sector : ℕ) → sector < device_len stack device → IsExactlySector rows device sector (read_answer (read stack state (Device device) sector) values)
 
-are_exact : (stack : Description) (world : World) (rows : Rows Value) (device : ℕ) → IsTop stack device → IsExact stack world rows → AreReadExactly stack world.state world.values rows device
-are_exact stack world rows device top exact sector inside =
+are_exact : (stack : Description) (world : World) (device : ℕ) → IsTop stack device → IsExact stack world → AreReadExactly stack world.state world.values world.rows device
+are_exact stack world device top exact sector inside =
     let of = exact.tops device sector top inside in
     (of.0, of.2, ap answer_of of.1)
 
@@ -120,5 +101,5 @@ request_exactly stack state number device start len values rows inside each = rw
 pub exact_answers : (stack : Description) (start : State) (all : List Asked) (asked : Asked) → AreNeverLost stack → AreAlwaysExact Value stack → IsAmple stack → IsIntact stack start → IsTidy stack → AreOfTops stack all → IsTop stack asked.device → asked.halted_after ≡ None → asked.op ≡ ops.Read → asked.start + asked.len ≤ device_len stack asked.device
     → AreExactlyRow (rows_after stack start all) asked.device asked.start (asked_answers stack (world_after stack start all) asked)
 exact_answers stack start all asked lost law ample intact tidy each top whole reads inside =
-    let world = world_after stack start all in let rows = rows_after stack start all in
-    rw (whole, reads) (request_exactly stack world.state asked.number asked.device asked.start asked.len world.values rows inside (are_exact stack world rows asked.device top (exact_after stack start all lost law ample intact tidy each)))
+    let world = world_after stack start all in
+    rw (whole, reads) (request_exactly stack world.state asked.number asked.device asked.start asked.len world.values world.rows inside (are_exact stack world asked.device top (exact_after stack start all lost law ample intact tidy each)))

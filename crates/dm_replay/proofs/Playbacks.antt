@@ -1,26 +1,7 @@
 -- The playback of a request whose first sector isn't taken beyond its device.
-use Rattle.std.proofs.Common.{◌≡◌, inl, inr, ℕ, zero, suc, ◌+◌, ◌<◌, ◌≤◌, true, length, min, List, [], take, refl, sym, ap, ◌∙◌, arith}
-use Rattle.std.specs.Prelude.{nat_lt}
-use Rattle.std.proofs.lemmas.Bool.{cases_lt}
-use Rattle.std.proofs.lemmas.Bool.Decides.{nat_tests}
-use Rattle.dm_table.specs.declared.requests.request.Op.{Op}
-use Rattle.dm_table.specs.declared.requests.request.Request.{Request}
-use Rattle.dm_stack.specs.Description.{Description, device_len}
-use Rattle.dm_map.specs.own.Contents.{sector_past}
-use Rattle.dm_map.specs.walk.Mapping.{request_step, step_for}
-use Rattle.dm_map.specs.state.State.{State}
-use Rattle.dm_map.specs.own.Halts.{halted_units}
-use Rattle.dm_map.specs.pieces.Units.{BlockUnit, Fails, units_in}
+use Rattle.dm_replay.proofs.Prelude.{◌≡◌, inl, inr, ℕ, zero, suc, ◌+◌, ◌<◌, ◌≤◌, true, length, min, List, [], take, refl, sym, ap, ◌∙◌, arith, nat_lt, cases_lt, nat_tests, Op, Request, Description, device_len, sector_past, request_step, step_for, State, halted_units, BlockUnit, Fails, units_in, Halting, Playing, ValueRun, AreUnitsOf, AreValuesOf, values_of, HasPlayed, flat, Values, played, played_answers}
 use Rattle.dm_map.proofs.Rows.{step_past_end}
-use Rattle.dm_replay.specs.declared.halting.Halting.{Halting}
 use Rattle.dm_replay.specs.declared.player.Player.{Player}
-use Rattle.dm_replay.specs.declared.playing.Playing.{Playing}
-use Rattle.dm_replay.specs.declared.value_run.ValueRun.{ValueRun}
-use Rattle.dm_replay.specs.OfDisks.{AreUnitsOf, AreValuesOf}
-use Rattle.dm_replay.specs.Stored.{values_of}
-use Rattle.dm_replay.specs.Player.{HasPlayed}
-use Rattle.dm_replay.specs.Runs.{flat}
-use Rattle.dm_replay.specs.Values.{Values, played, played_answers}
 use Rattle.dm_replay.proofs.HaltedPlays.{HasPlayedFront}
 use Rattle.dm_replay.proofs.OfDiskLemmas.{played_of, same_of}
 use Rattle.dm_replay.proofs.UnitPlays.{fails_answer, fails_played}

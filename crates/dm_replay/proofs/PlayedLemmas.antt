@@ -1,19 +1,7 @@
 -- What a player has played.
-use Rattle.std.proofs.Common.{◌≡◌, ℕ, zero, suc, ◌+◌, List, [], ◌++◌, refl, sym, ap, ◌∙◌, arith}
-use Rattle.std.proofs.lemmas.List.{append-nil}
-use Rattle.dm_map.specs.own.Contents.{sector_past}
-use Rattle.dm_map.specs.pieces.Units.{BlockUnit, ReadOf, WriteOf, Zeros, Drops, Fails, CopyOf, FillOf, units_in}
+use Rattle.dm_replay.proofs.Prelude.{◌≡◌, ℕ, zero, suc, ◌+◌, List, [], ◌++◌, refl, sym, ap, ◌∙◌, arith, append-nil, sector_past, BlockUnit, ReadOf, WriteOf, Zeros, Drops, Fails, CopyOf, FillOf, units_in, Playing, Value, ValueRun, values_of, HasPlayed, played_both, CanCopyAtOnce, HoldOn, ranged, answers_in, first_answer, flat, run_answers, run_len, Answer, Gives, Failed, Values, played, played_answers}
 use Rattle.dm_replay.specs.declared.disk_values.DiskValues.{DiskValues}
-use Rattle.dm_replay.specs.declared.playing.Playing.{Playing}
-use Rattle.dm_replay.specs.declared.value.Value.{Value}
 use Rattle.dm_replay.specs.declared.value.Value.TheVariants as value
-use Rattle.dm_replay.specs.declared.value_run.ValueRun.{ValueRun}
-use Rattle.dm_replay.specs.Stored.{values_of}
-use Rattle.dm_replay.specs.Player.{HasPlayed}
-use Rattle.dm_replay.specs.laws.Play.{played_both}
-use Rattle.dm_replay.specs.Ranges.{CanCopyAtOnce, HoldOn, ranged}
-use Rattle.dm_replay.specs.Runs.{answers_in, first_answer, flat, run_answers, run_len}
-use Rattle.dm_replay.specs.Values.{Answer, Gives, Failed, Values, played, played_answers}
 use Rattle.dm_replay.proofs.UnitPlays.{reads_played, reads_answer, reads_past, zeros_played, zeros_answer, zeros_past, drops_played, drops_answer, drops_past, fails_played, fails_answer, fails_past, writes_played, writes_answer, writes_past, fills_played, fills_answer, fills_past, copies_played, copies_answer, copies_past}
 
 abbrev held : Playing → Values

@@ -1,12 +1,6 @@
 -- Ranges of stored values.
-use Rattle.std.proofs.Common.{◌≡◌, ℕ, suc, ◌+◌, ◌-◌, ◌<◌, cond, refl, sym, ap, ◌∙◌, arith}
-use Rattle.std.specs.Prelude.{◌==◌, ◌&&◌, nat_le, nat_lt}
-use Rattle.std.proofs.lemmas.Bool.Decides.{nat_tests}
-use Rattle.dm_map.specs.own.Contents.{stored}
-use Rattle.dm_replay.specs.declared.value.Value.{Value}
+use Rattle.dm_replay.proofs.Prelude.{◌≡◌, ℕ, suc, ◌+◌, ◌-◌, ◌<◌, cond, refl, sym, ap, ◌∙◌, arith, ◌==◌, ◌&&◌, nat_le, nat_lt, nat_tests, stored, Value, HoldOn, ranged, Values, further, next_value}
 use Rattle.dm_replay.specs.declared.value.Value.TheVariants as value
-use Rattle.dm_replay.specs.Ranges.{HoldOn, ranged}
-use Rattle.dm_replay.specs.Values.{Values, further, next_value}
 
 pub further_next : (first : Value) (n : ℕ) → further (next_value first) n ≡ further first (suc n)
 further_next (value.Old disk sector) n = rw (let e : suc sector + n ≡ sector + suc n = omega arith in e)

@@ -1,21 +1,7 @@
 -- The state that a halted request leaves, by mapping its whole sectors once more.
-use Rattle.std.proofs.Common.{◌≡◌, ℕ, zero, suc, ◌+◌, ◌-◌, ◌<◌, ◌≤◌, Bool, true, false, cond, List, [], ◌∷◌, ◌++◌, get_or, length, min, nat_lt, replicate, take, refl, sym, ap, ◌∙◌, arith}
-use Rattle.std.proofs.lemmas.Bool.Decides.{nat_tests}
-use Rattle.std.proofs.lemmas.List.{take_more}
-use Rattle.dm_table.specs.declared.requests.request.Op.{Op}
+use Rattle.dm_replay.proofs.Prelude.{◌≡◌, ℕ, zero, suc, ◌+◌, ◌-◌, ◌<◌, ◌≤◌, Bool, true, false, cond, List, [], ◌∷◌, ◌++◌, get_or, length, min, nat_lt, replicate, take, refl, sym, ap, ◌∙◌, arith, nat_tests, take_more, Op, Device, Description, device_len, answers, sector_after, sector_past, MapperView, request_step, sector_step, State, start_state, keep, steps, halted_state, halted_units, BlockUnit, Fails, KeptWrite, rerun_from, rerun_step, with_request}
 use Rattle.dm_table.specs.declared.requests.request.Op.TheVariants as ops
 use Rattle.dm_stack.specs.declared.checks.graph.TheConstants.{MOST_DEPTH}
-use Rattle.dm_stack.specs.declared.id.Lower.TheVariants.{Device}
-use Rattle.dm_stack.specs.Description.{Description, device_len}
-use Rattle.dm_map.specs.own.Contents.{answers, sector_after, sector_past}
-use Rattle.dm_map.specs.Mapper.{MapperView}
-use Rattle.dm_map.specs.walk.Mapping.{request_step, sector_step}
-use Rattle.dm_map.specs.state.State.{State, start_state}
-use Rattle.dm_map.specs.walk.Steps.{keep, steps}
-use Rattle.dm_map.specs.own.Halts.{halted_state, halted_units}
-use Rattle.dm_map.specs.pieces.Units.{BlockUnit, Fails}
-use Rattle.dm_replay.specs.declared.kept_write.KeptWrite.{KeptWrite}
-use Rattle.dm_replay.specs.Reruns.{rerun_from, rerun_step, with_request}
 
 -- Requests that change no state
 

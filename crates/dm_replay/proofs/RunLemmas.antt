@@ -1,11 +1,5 @@
 -- Runs in a row, and what they answer.
-use Rattle.std.proofs.Common.{◌≡◌, ℕ, zero, suc, ◌+◌, ◌<◌, List, [], ◌∷◌, ◌++◌, append_assoc, refl, sym, ap, ◌∙◌, arith}
-use Rattle.std.specs.List.{AllByRecursion}
-use Rattle.std.proofs.lemmas.Grind.{flat_map-append}
-use Rattle.std.proofs.lemmas.List.{append-nil}
-use Rattle.dm_replay.specs.declared.value_run.ValueRun.{ValueRun}
-use Rattle.dm_replay.specs.Runs.{NoneJoins, AreMaximal, Joins, answers_in, first_answer, flat, further_answer, next_answer, run_answers, run_len}
-use Rattle.dm_replay.specs.Values.{Answer, Gives, Failed}
+use Rattle.dm_replay.proofs.Prelude.{◌≡◌, ℕ, zero, suc, ◌+◌, ◌<◌, List, [], ◌∷◌, ◌++◌, append_assoc, refl, sym, ap, ◌∙◌, arith, AllByRecursion, flat_map-append, append-nil, ValueRun, NoneJoins, AreMaximal, Joins, answers_in, first_answer, flat, further_answer, next_answer, run_answers, run_len, Answer, Gives, Failed}
 use Rattle.dm_replay.proofs.RangeLemmas.{further_next, further_none}
 
 -- What they answer

@@ -1,22 +1,9 @@
 -- Ranges of what was stored on a disk.
-use Rattle.std.proofs.Common.{◌≡◌, ◌⊎◌, ℕ, suc, ◌+◌, ◌-◌, ◌<◌, ◌≤◌, ◌^◌, Bool, true, false, cond, List, [], ◌∷◌, length, Option, Some, None, Less, refl, sym, ap, ◌∙◌, arith, rules, inl, inr}
-use Rattle.std.specs.Prelude.{◌&&◌, nat_le, nat_lt, IsSome}
-use Rattle.std.proofs.lemmas.Bool.{cases_eq, cases_order}
-use Rattle.std.proofs.lemmas.Bool.Decides.{nat_tests}
-use Rattle.std.proofs.lemmas.Grind.{common_steps}
-use Rattle.std.proofs.lemmas.List.{get_or_past}
+use Rattle.dm_replay.proofs.Prelude.{◌≡◌, ◌⊎◌, ℕ, suc, ◌+◌, ◌-◌, ◌<◌, ◌≤◌, ◌^◌, Bool, true, false, cond, List, [], ◌∷◌, length, Option, Some, None, Less, refl, sym, ap, ◌∙◌, arith, rules, inl, inr, ◌&&◌, nat_le, nat_lt, IsSome, cases_eq, cases_order, nat_tests, common_steps, get_or_past, slice_get, is_gt, nat_cmp, BTreeMap, IsOrdered, Updates, get, is_at, RangeValues, Value, AreFirst, HoldOn, AreApart, Has, IsBare, IsCleared, IsCut, IsLastBefore, IsRoomMade, KeepsStored, NoneFrom, Shows, Stored, held, spanned, stored_in, values_of, further}
 use Rattle.std.proofs.lemmas.Map.Entries.{btree_map_get_place}
 use Rattle.std.specs.Cmp.{nat_cmp_total}
-use Rattle.std.specs.List.{slice_get}
 use Rattle.std.specs.Map.{lookup}
-use Rattle.std.specs.Ordering.{is_gt, nat_cmp}
-use Rattle.std.specs.BTreeMap.{BTreeMap, IsOrdered, Updates, get, is_at}
-use Rattle.dm_replay.specs.declared.range_values.RangeValues.{RangeValues}
-use Rattle.dm_replay.specs.declared.value.Value.{Value}
 use Rattle.dm_replay.specs.declared.value.Value.TheVariants as value
-use Rattle.dm_replay.specs.Ranges.{AreFirst, HoldOn}
-use Rattle.dm_replay.specs.Stored.{AreApart, Has, IsBare, IsCleared, IsCut, IsLastBefore, IsRoomMade, KeepsStored, NoneFrom, Shows, Stored, held, spanned, stored_in, values_of}
-use Rattle.dm_replay.specs.Values.{further}
 use Rattle.dm_replay.proofs.RangeLemmas.{further_twice}
 
 -- a map with another value, or none, at a key

@@ -1,13 +1,7 @@
 -- What units in a row do to the values of disks, and answer.
-use Rattle.std.proofs.Common.{◌≡◌, ℕ, zero, suc, ◌+◌, ◌<◌, ◌≤◌, [], refl, sym, ◌∙◌, arith}
-use Rattle.dm_map.specs.own.Contents.{sector_past, stored, played as contents_played}
-use Rattle.dm_map.specs.pieces.Units.{ReadOf, WriteOf, Zeros, Drops, Fails, CopyOf, FillOf, units_in}
-use Rattle.dm_replay.specs.declared.value.Value.{Value}
+use Rattle.dm_replay.proofs.Prelude.{◌≡◌, ℕ, zero, suc, ◌+◌, ◌<◌, ◌≤◌, [], refl, sym, ◌∙◌, arith, sector_past, stored, ReadOf, WriteOf, Zeros, Drops, Fails, CopyOf, FillOf, units_in, Value, CanCopyAtOnce, HoldOn, ranged, AreSame, answers_in, Gives, Failed, Values, next_value, played, played_answers}
+use Rattle.dm_map.specs.own.Contents.{played as contents_played}
 use Rattle.dm_replay.specs.declared.value.Value.TheVariants as value
-use Rattle.dm_replay.specs.Ranges.{CanCopyAtOnce, HoldOn, ranged}
-use Rattle.dm_replay.specs.laws.Play.{AreSame}
-use Rattle.dm_replay.specs.Runs.{answers_in}
-use Rattle.dm_replay.specs.Values.{Gives, Failed, Values, next_value, played, played_answers}
 use Rattle.dm_replay.proofs.RangeLemmas.{hold_here, hold_later, ranged_none, ranged_step, stored_other}
 
 -- Units that change nothing

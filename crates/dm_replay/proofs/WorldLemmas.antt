@@ -1,36 +1,11 @@
 -- Worlds after one request more, played to its end or halted.
-use Rattle.std.proofs.Common.{◌≡◌, ℕ, ◌+◌, ◌-◌, ◌<◌, ◌≤◌, false, cond, List, [], ◌∷◌, ◌++◌, length, min, nat_lt, Option, Some, None, refl, ◌∙◌, arith}
-use Rattle.std.specs.List.{AllByRecursion}
-use Rattle.dm_table.specs.declared.requests.request.Op.{Op}
+use Rattle.dm_replay.proofs.Prelude.{◌≡◌, ℕ, ◌+◌, ◌-◌, ◌<◌, ◌≤◌, false, cond, List, [], ◌∷◌, ◌++◌, length, min, nat_lt, Option, Some, None, refl, ◌∙◌, arith, AllByRecursion, Op, Request, IsTidy, IsTop, Description, device_len, MapperView, left_state, played_of, request_step, step_for, IsFitting, State, sector_past, halted_units, AreAlone, KeptWrite, RangeValues, Value, ValueRun, Asked, World, asked_answers, first_world, next_world, with_values, world_after, world_from, AreValuesOf, values_of, answers_cong, played_cong, AreOfTops, IsGoing, IsKept, whole_request, kept_request, rerun_from, with_request, flat, old_values, played, played_answers, all_append}
 use Rattle.dm_table.specs.declared.requests.request.Op.TheVariants as ops
-use Rattle.dm_table.specs.declared.requests.request.Request.{Request}
-use Rattle.dm_stack.specs.claims.Claims.{IsTidy, IsTop}
-use Rattle.dm_stack.specs.Description.{Description, device_len}
-use Rattle.dm_map.specs.Mapper.{MapperView}
-use Rattle.dm_map.specs.walk.Mapping.{request_step, step_for}
-use Rattle.dm_map.specs.state.Fitting.{IsFitting}
-use Rattle.dm_map.specs.state.State.{State}
-use Rattle.dm_map.specs.own.Contents.{sector_past}
-use Rattle.dm_map.specs.own.Halts.{halted_units}
-use Rattle.dm_map.specs.own.Requests.{AreAlone}
-use Rattle.dm_replay.specs.declared.kept_write.KeptWrite.{KeptWrite}
-use Rattle.dm_replay.specs.declared.range_values.RangeValues.{RangeValues}
-use Rattle.dm_replay.specs.declared.value.Value.{Value}
-use Rattle.dm_replay.specs.declared.value_run.ValueRun.{ValueRun}
-use Rattle.dm_replay.specs.Histories.{Asked, World, asked_answers, first_world, left_state, next_world, played_of, world_after, world_from}
-use Rattle.dm_replay.specs.OfDisks.{AreValuesOf}
-use Rattle.dm_replay.specs.Stored.{values_of}
-use Rattle.dm_replay.specs.laws.Play.{answers_cong, played_cong}
-use Rattle.dm_replay.specs.Replay.{AreOfTops, IsGoing, IsKept, whole_request}
-use Rattle.dm_replay.specs.Reruns.{kept_request, rerun_from, with_request}
-use Rattle.dm_replay.specs.Runs.{flat}
-use Rattle.dm_replay.specs.Values.{old_values, played, played_answers}
 use Rattle.dm_replay.proofs.OfDiskLemmas.{old_of, same_of}
 use Rattle.dm_replay.proofs.OwnWorlds.{own_after}
 use Rattle.dm_replay.proofs.Playbacks.{units_asked}
 use Rattle.dm_replay.proofs.RerunLemmas.{next_inside, rerun_halted, rerun_more, whole_few}
 use Rattle.dm_replay.proofs.StoredLemmas.{nothing_held}
-use Rattle.dm_table.proofs.Lists.{all_append}
 
 from-push : (stack : Description) (world : World) (all : List Asked) (asked : Asked) → world_from stack world (all ++ asked ∷ []) ≡ next_world stack (world_from stack world all) asked
 unfolding world_from
@@ -38,7 +13,7 @@ from-push stack world [] asked = refl
 from-push stack world (first ∷ all) asked = from-push stack (next_world stack world first) all asked
 
 pub world-push : (stack : Description) (start : State) (all : List Asked) (asked : Asked) → world_after stack start (all ++ asked ∷ []) ≡ next_world stack (world_after stack start all) asked
-world-push stack start all asked = from-push stack (first_world start) all asked
+world-push stack start all asked = from-push stack (first_world stack start) all asked
 
 -- at the start
 pub going_first : (stack disks : Description) (start : State) (mapper : MapperView) (ranges : List (List (ℕ × RangeValues))) → mapper.failed ≡ false → mapper.stack ≡ stack → mapper.state ≡ start → disks ≡ stack → ranges ≡ [] → IsGoing stack start mapper disks ranges [] []
@@ -66,10 +41,10 @@ next_values stack mapper ranges newer world request device stop of state_is same
 -- after one request more
 going_next : (stack disks later_disks : Description) (start : State) (mapper later : MapperView) (ranges newer : List (List (ℕ × RangeValues))) (all : List Asked) (writes more : List KeptWrite) (request : Request) (device : ℕ) (stop : Option ℕ)
     → IsTop stack device → AllByRecursion (IsKept stack) more → IsGoing stack start mapper disks ranges all writes
-    → later.failed ≡ false → later.stack ≡ stack → later_disks ≡ disks → later.state ≡ left_state stack stop (kept_request request device stop) (world_after stack start all).state
+    → later.failed ≡ false → later.stack ≡ stack → later_disks ≡ disks → later.state ≡ left_state stack stop (with_values (kept_request request device stop)) (world_after stack start all).state
     → ((disk sector : ℕ) → values_of newer disk sector ≡ played request.number request.start (played_of stop (units_asked mapper.stack request device mapper.state)) (values_of ranges) disk sector)
     → AreValuesOf (length mapper.stack.disks) (values_of newer)
-    → rerun_from stack start more ≡ left_state stack stop (kept_request request device stop) (world_after stack start all).state
+    → rerun_from stack start more ≡ left_state stack stop (with_values (kept_request request device stop)) (world_after stack start all).state
     → IsGoing stack start later later_disks newer (all ++ kept_request request device stop ∷ []) more
 going_next stack disks later_disks start mapper later ranges newer all writes more request device stop top kept was maps same same_disks state_is values_are disks_are again =
     let one = kept_request request device stop in
@@ -124,7 +99,7 @@ few_whole stack start mapper all request device units law tidy fits each top of 
 -- what is known of the whole sectors of a halted request, where the one that is answered next is given
 pub record AreWhole (mapper : MapperView) (request : Request) (device units whole : ℕ) : Type 0 where
   pub few : whole ≤ request.len
-  pub again : (request_step mapper.stack request.op device request.start whole mapper.state).state ≡ left_state mapper.stack (Some units) (kept_request request device (Some units)) mapper.state
+  pub again : (request_step mapper.stack request.op device request.start whole mapper.state).state ≡ left_state mapper.stack (Some units) (with_values (kept_request request device (Some units))) mapper.state
 
 pub are_whole : (stack : Description) (mapper : MapperView) (request : Request) (device units next whole : ℕ) → mapper.stack ≡ stack
     → next ≡ sector_past (halted_units mapper.stack request.op device request.start request.len units mapper.state) (min request.start (device_len mapper.stack device))
@@ -150,7 +125,7 @@ next_start stack mapper request device units next of next_is fits =
 -- after one that was halted, in the state that a rerun gives
 
 pub same_again : (stack : Description) (start : State) (mapper : MapperView) (disks : Description) (ranges : List (List (ℕ × RangeValues))) (all : List Asked) (writes : List KeptWrite) (request : Request) (device units whole : ℕ) → IsGoing stack start mapper disks ranges all writes → AreWhole mapper request device units whole
-    → rerun_from stack start (with_request request.op (write_of request device whole) writes) ≡ left_state stack (Some units) (kept_request request device (Some units)) (world_after stack start all).state
+    → rerun_from stack start (with_request request.op (write_of request device whole) writes) ≡ left_state stack (Some units) (with_values (kept_request request device (Some units))) (world_after stack start all).state
 same_again stack start mapper disks ranges all writes request device units whole was is =
     let before = world_after stack start all in
     rerun_more stack start request.op (write_of request device whole) writes before.state _ was.rerun_is

@@ -1,6 +1,5 @@
 -- What a halting player has played.
-use Rattle.std.specs.Prelude.{◌≡◌, ◌+◌, ◌<◌, List, length, take}
-use Rattle.dm_map.specs.pieces.Units.{BlockUnit}
+use Rattle.dm_replay.specs.Base.{◌≡◌, ◌+◌, ◌<◌, List, length, take, BlockUnit}
 use Rattle.dm_replay.specs.declared.halting.Halting.{Halting}
 use Rattle.dm_replay.specs.OfDisks.{AreUnitsOf}
 use Rattle.dm_replay.specs.Player.{HasPlayed}

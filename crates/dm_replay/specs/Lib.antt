@@ -12,3 +12,5 @@ pub mod Runs
 pub mod Stored
 pub mod Values
 pub mod laws
+pub mod Prelude
+pub mod Base

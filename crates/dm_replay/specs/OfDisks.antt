@@ -1,10 +1,6 @@
 -- Units, values and answers that name only disks of a stack, which has the given number of them.
-use Rattle.std.specs.Prelude.{◌≡◌, ℕ, ◌<◌, List}
-use Rattle.std.specs.List.{AllByRecursion}
-use Rattle.dm_map.specs.pieces.Units.{BlockUnit, ReadOf, CopyOf}
-use Rattle.dm_replay.specs.declared.value.Value.{Value}
+use Rattle.dm_replay.specs.Base.{◌≡◌, ℕ, ◌<◌, List, AllByRecursion, BlockUnit, ReadOf, CopyOf, Value, ValueRun}
 use Rattle.dm_replay.specs.declared.value.Value.TheVariants as value
-use Rattle.dm_replay.specs.declared.value_run.ValueRun.{ValueRun}
 use Rattle.dm_replay.specs.declared.value_run.ValueRun.TheVariants as runs
 use Rattle.dm_replay.specs.Runs.{AreMaximal, flat}
 use Rattle.dm_replay.specs.Values.{Answer, Gives, Failed, Values}
@@ -14,12 +10,12 @@ abbrev pub IsValueOf : (disks : ℕ) → Value → Type 0
 IsValueOf disks (value.Old disk sector) = disk < disks
 IsValueOf disks other = Unit {0}
 
--- the same of an answer
+-- an answer whose value names no disk but those below a count
 abbrev pub IsAnswerOf : (disks : ℕ) → Answer → Type 0
 IsAnswerOf disks (Gives given) = IsValueOf disks given
 IsAnswerOf disks Failed = Unit {0}
 
--- the same of a run of values
+-- a run of values that names no disk but those below a count
 abbrev pub IsRunOf : (disks : ℕ) → ValueRun → Type 0
 IsRunOf disks (runs.Old disk start len) = disk < disks
 IsRunOf disks run = Unit {0}
@@ -30,7 +26,7 @@ IsUnitOf disks (ReadOf disk sector) = disk < disks
 IsUnitOf disks (CopyOf disk sector to to_sector) = disk < disks
 IsUnitOf disks unit = Unit {0}
 
--- the same of units
+-- what units read or copy is on the disks below a count
 abbrev pub AreUnitsOf : (disks : ℕ) → List BlockUnit → Type 0
 AreUnitsOf disks units = AllByRecursion (IsUnitOf disks) units
 

@@ -1,9 +1,5 @@
 -- The playback of a request: who can play it, and what comes of it.
-use Rattle.std.specs.Prelude.{◌≡◌, ℕ, ◌<◌, false, List, length}
-use Rattle.dm_table.specs.declared.requests.request.Request.{Request}
-use Rattle.dm_stack.specs.Description.{Description}
-use Rattle.dm_map.specs.Mapper.{MapperView}
-use Rattle.dm_map.specs.pieces.Units.{BlockUnit}
+use Rattle.dm_replay.specs.Base.{◌≡◌, ℕ, ◌<◌, false, List, length, Request, Description, MapperView, BlockUnit}
 use Rattle.dm_replay.specs.declared.player.Player.{Player}
 use Rattle.dm_replay.specs.OfDisks.{AreValuesOf}
 use Rattle.dm_replay.specs.Stored.{values_of}

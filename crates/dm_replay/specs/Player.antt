@@ -1,7 +1,5 @@
 -- What a player of units has played.
-use Rattle.std.specs.Prelude.{◌≡◌, ℕ, List, ◌++◌}
-use Rattle.dm_map.specs.own.Contents.{sector_past}
-use Rattle.dm_map.specs.pieces.Units.{BlockUnit}
+use Rattle.dm_replay.specs.Base.{◌≡◌, ℕ, List, ◌++◌, sector_past, BlockUnit}
 use Rattle.dm_replay.specs.declared.playing.Playing.{Playing}
 use Rattle.dm_replay.specs.Stored.{values_of}
 use Rattle.dm_replay.specs.Runs.{flat}

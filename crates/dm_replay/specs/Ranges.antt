@@ -1,7 +1,6 @@
 -- Values of ranges of disks.
-use Rattle.std.specs.Prelude.{◌≡◌, ℕ, ◌+◌, ◌-◌, ◌≤◌, ◌<◌, ◌&&◌, ◌==◌, Bool, nat_le, nat_lt, if◌then◌else◌}
+use Rattle.dm_replay.specs.Base.{◌≡◌, ℕ, ◌+◌, ◌-◌, ◌≤◌, ◌<◌, ◌&&◌, ◌==◌, Bool, nat_le, nat_lt, if◌then◌else◌, Value}
 use Rattle.dm_replay.specs.declared.range_values.RangeValues.{RangeValues}
-use Rattle.dm_replay.specs.declared.value.Value.{Value}
 use Rattle.dm_replay.specs.Values.{Values, further}
 
 -- a sector of a disk is one of len sectors from a start on

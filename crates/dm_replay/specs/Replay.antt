@@ -1,21 +1,11 @@
 -- A replay, and what its results say.
-use Rattle.std.specs.Prelude.{◌≡◌, ℕ, ◌+◌, ◌<◌, ◌≤◌, Bool, true, false, List, [], ◌∷◌, ◌++◌, None, Some, length, position}
-use Rattle.std.specs.List.{AllByRecursion}
+use Rattle.dm_replay.specs.Base.{◌≡◌, ℕ, ◌+◌, ◌<◌, ◌≤◌, Bool, true, false, List, [], ◌∷◌, ◌++◌, None, Some, length, position, AllByRecursion, Request, AreTops, IsClash, IsTidy, IsTop, claims, Description, device_id, device_len, is_same, MapperView, IsAmple, IsIntact, IsFitting, State, start_state, KeptWrite, ValueRun}
 use Rattle.dm_table.specs.declared.requests.request.Op.TheVariants.{Read}
-use Rattle.dm_table.specs.declared.requests.request.Request.{Request}
-use Rattle.dm_table.specs.declared.requests.request.TheConstants.{MOST_SECTORS}
 use Rattle.dm_stack.specs.declared.claims.clash.Clash.{Clash}
-use Rattle.dm_stack.specs.claims.Claims.{AreTops, IsClash, IsTidy, IsTop, claims}
-use Rattle.dm_stack.specs.Description.{Description, device_id, device_len, is_same}
-use Rattle.dm_map.specs.Mapper.{MapperView}
-use Rattle.dm_map.specs.own.Ample.{IsAmple, IsIntact}
-use Rattle.dm_map.specs.state.Fitting.{IsFitting}
-use Rattle.dm_map.specs.state.State.{State, start_state}
-use Rattle.dm_replay.specs.declared.kept_write.KeptWrite.{KeptWrite}
+use Rattle.dm_table.specs.declared.requests.request.TheConstants.{MOST_SECTORS}
 use Rattle.dm_replay.specs.declared.range_values.RangeValues.{RangeValues}
 use Rattle.dm_replay.specs.declared.replay_fault.ReplayFault.{ReplayFault}
 use Rattle.dm_replay.specs.declared.replay_fault.ReplayFault.TheVariants as faults
-use Rattle.dm_replay.specs.declared.value_run.ValueRun.{ValueRun}
 use Rattle.dm_replay.specs.Histories.{Asked, asked_answers, world_after}
 use Rattle.dm_replay.specs.OfDisks.{AreRunsOf, AreValuesOf}
 use Rattle.dm_replay.specs.Reruns.{kept_request, rerun_from}
@@ -34,7 +24,7 @@ pub record Replaying : Type 0 where
 abbrev pub replay_from : Description → (start : State) → Replaying
 replay_from of start = record { stack = of; start = start; asked = []; failed = false }
 
--- the same where no chunk was taken
+-- a replay where no chunk was taken, and nothing was asked yet
 abbrev pub new_replay : Description → Replaying
 new_replay of = replay_from of (start_state of)
 
@@ -42,11 +32,11 @@ new_replay of = replay_from of (start_state of)
 abbrev pub whole_request : Request → (id : ℕ) → Asked
 whole_request request id = kept_request request id None
 
--- the same, of the device that it names
+-- a request that is played to its end, of the device that it names
 abbrev pub asked_request : Description → Request → Asked
 asked_request stack request = whole_request request (device_id stack request.device.now)
 
--- and one that is halted after this many units
+-- a request that is halted after this many units
 abbrev pub halted_request : Description → Request → (units : ℕ) → Asked
 halted_request stack request units = kept_request request (device_id stack request.device.now) (Some units)
 
@@ -79,7 +69,7 @@ IsUnanswered faults.Memory IsOfTop old new = (old.failed ≡ false) × IsOfTop �
 IsUnanswered faults.NotTop IsOfTop old new = (old.failed ≡ false) × (IsOfTop → ⊥) × (new ≡ old)
 IsUnanswered faults.Stopped IsOfTop old new = (old.failed ≡ true) × (new ≡ old)
 
--- the same for the device of a name
+-- why a request for the device of a name was not answered, and what the replay is then
 abbrev pub IsNotAnswered : ReplayFault → List ℕ → (old new : Replaying) → Type 0
 IsNotAnswered fault name old new = IsUnanswered fault (HasTop old.stack name) old new
 

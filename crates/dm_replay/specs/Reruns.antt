@@ -1,14 +1,7 @@
 -- The requests that a replay accepted, and the state that its writes leave where they are mapped once more.
-use Rattle.std.specs.Prelude.{ℕ, List, [], ◌∷◌, ◌++◌, Option, map}
-use Rattle.dm_table.specs.declared.requests.request.Op.{Op}
+use Rattle.dm_replay.specs.Base.{ℕ, List, [], ◌∷◌, ◌++◌, Option, map, Op, Request, Description, MapperView, request_step, State, KeptWrite}
 use Rattle.dm_table.specs.declared.requests.request.Op.TheVariants as ops
-use Rattle.dm_table.specs.declared.requests.request.Request.{Request}
-use Rattle.dm_stack.specs.Description.{Description}
-use Rattle.dm_map.specs.Mapper.{MapperView}
-use Rattle.dm_map.specs.walk.Mapping.{request_step}
-use Rattle.dm_map.specs.state.State.{State}
 use Rattle.dm_replay.specs.declared.asked_request.AskedRequest.{AskedRequest}
-use Rattle.dm_replay.specs.declared.kept_write.KeptWrite.{KeptWrite}
 use Rattle.dm_replay.specs.Histories.{Asked}
 
 -- a request of a device, played to its end or halted after this many units
@@ -37,7 +30,7 @@ first_state (mapper ∷ later) = mapper.state
 abbrev pub rerun_step : Description → KeptWrite → State → State
 rerun_step stack kept state = (request_step stack ops.Write kept.device kept.start kept.whole state).state
 
--- and those of writes, one after the other
+-- the sectors of several writes that were whole, mapped once more, one write after the other
 unfoldable pub rerun_from : Description → State → List KeptWrite → State
 rerun_from stack state [] = state
 rerun_from stack state (kept ∷ later) = rerun_from stack (rerun_step stack kept state) later

@@ -1,9 +1,5 @@
 -- How runs are written: a line each, under the number of their request.
-use Rattle.std.specs.Prelude.{ℕ, List, [], ◌∷◌, ◌++◌, codes, decimal}
-use Rattle.std.specs.List.{flat_map}
-use Rattle.dm_table.specs.words.Bytes.{code}
-use Rattle.dm_stack.specs.Description.{Description, disk_name_at}
-use Rattle.dm_replay.specs.declared.value_run.ValueRun.{ValueRun}
+use Rattle.dm_replay.specs.Base.{ℕ, List, [], ◌∷◌, ◌++◌, codes, decimal, flat_map, code, Description, disk_name_at, ValueRun}
 use Rattle.dm_replay.specs.declared.value_run.ValueRun.TheVariants as runs
 
 -- a run, after the number

@@ -1,8 +1,6 @@
 -- Runs of answers: consecutive sectors whose answers go on, as one.
-use Rattle.std.specs.Prelude.{◌≡◌, ℕ, zero, suc, ◌<◌, List, [], ◌∷◌}
-use Rattle.std.specs.List.{AllByRecursion, flat_map}
+use Rattle.dm_replay.specs.Base.{◌≡◌, ℕ, zero, suc, ◌<◌, List, [], ◌∷◌, AllByRecursion, flat_map, ValueRun}
 use Rattle.dm_replay.specs.declared.value.Value.TheVariants as value
-use Rattle.dm_replay.specs.declared.value_run.ValueRun.{ValueRun}
 use Rattle.dm_replay.specs.declared.value_run.ValueRun.TheVariants as runs
 use Rattle.dm_replay.specs.Values.{Answer, Gives, Failed, next_value, further}
 

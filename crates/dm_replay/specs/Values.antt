@@ -1,9 +1,6 @@
 -- What the sectors of disks hold, and what units do to it.
-use Rattle.std.specs.Prelude.{ℕ, suc, ◌+◌, List, [], ◌∷◌, ◌++◌}
+use Rattle.dm_replay.specs.Base.{ℕ, suc, ◌+◌, List, [], ◌∷◌, ◌++◌, sector_after, BlockUnit, ReadOf, WriteOf, Zeros, Drops, Fails, Value}
 use Rattle.dm_map.specs.own.Contents as contents
-use Rattle.dm_map.specs.own.Contents.{sector_after}
-use Rattle.dm_map.specs.pieces.Units.{BlockUnit, ReadOf, WriteOf, Zeros, Drops, Fails}
-use Rattle.dm_replay.specs.declared.value.Value.{Value}
 use Rattle.dm_replay.specs.declared.value.Value.TheVariants as value
 
 -- what each sector of each disk holds

@@ -1,7 +1,6 @@
 //! Requests that a replay accepted.
 
-ghost use Rattle.std.specs.Prelude.{◌≡◌};
-ghost use Rattle.dm_replay.specs.Reruns.{asked_of, kept_request};
+ghost use Rattle.dm_replay.specs.Prelude.{◌≡◌, asked_of, kept_request};
 
 use dm_stack::DeviceId;
 use dm_table::{Op, Request};

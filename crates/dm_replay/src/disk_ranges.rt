@@ -3,9 +3,7 @@
 //! Ranges that have no sector in common are in a map by their first sector. Of those that begin before a
 //! sector only the last can reach it, so a look-up finds it. Ranges that go on from each other are joined.
 
-ghost use Rattle.std.specs.Prelude.{◌≡◌, ℕ, ◌+◌, ◌<◌, ◌≤◌, ◌^◌, None, [], OnOk, IfSome};
-ghost use Rattle.dm_replay.specs.Ranges.{AreFirst};
-ghost use Rattle.dm_replay.specs.Stored.{AreApart, Has, IsBare, IsCleared, IsCut, IsFirstFrom, IsLastBefore, IsRoomMade, KeepsCuts, KeepsStored, NoneFrom, Shows, Stored, held, spanned, stored_in};
+ghost use Rattle.dm_replay.specs.Prelude.{◌≡◌, ℕ, ◌+◌, ◌<◌, ◌≤◌, ◌^◌, None, [], OnOk, IfSome, AreFirst, AreApart, Has, IsBare, IsCleared, IsCut, IsFirstFrom, IsLastBefore, IsRoomMade, KeepsCuts, KeepsStored, NoneFrom, Shows, Stored, held, spanned, stored_in};
 
 use crate::range_values::RangeValues;
 use crate::value::Value;
@@ -21,7 +19,7 @@ pub(crate) struct DiskRanges {
 }
 
 impl Model for DiskRanges {
-    ghost use Rattle.std.specs.Prelude.{ℕ, List};
+    ghost use Rattle.dm_replay.specs.Base.{ℕ, List};
     ghost use Rattle.dm_replay.specs.declared.range_values.RangeValues.{RangeValues};
     ghost use Rattle.dm_replay.specs.Stored.{AreApart};
 
@@ -103,7 +101,7 @@ fn store_in(
     let goes_on = make_room(ranges, start, end, &range)?;
     ranges.insert(start, RangeValues { first, len })?;
     join_front(ranges, start, goes_on)?;
-    join(ranges, end)?;
+    join_at(ranges, end)?;
     Ok(())
 }
 
@@ -229,7 +227,7 @@ fn clear(ranges: &mut BTreeMap<u64, RangeValues>, start: u64, end: u64)
     }
 }
 
-/// Does what `join` does if the range that begins at a sector may go on from the last one before.
+/// Does what `join_at` does if the range that begins at a sector may go on from the last one before.
 fn join_front(
     ranges: &mut BTreeMap<u64, RangeValues>,
     sector: u64,
@@ -240,14 +238,14 @@ fn join_front(
     ensures same { OnOk result (KeepsStored ranges.old ranges.new) }
 {
     if goes_on {
-        join(ranges, sector)
+        join_at(ranges, sector)
     } else {
         Ok(())
     }
 }
 
 /// Joins the range that begins at a sector to the one that ends there, if it goes on from that.
-fn join(ranges: &mut BTreeMap<u64, RangeValues>, sector: u64) -> Result<(), AllocError>
+fn join_at(ranges: &mut BTreeMap<u64, RangeValues>, sector: u64) -> Result<(), AllocError>
     requires { AreApart ranges.old }
     ensures apart { AreApart ranges.new }
     ensures same { OnOk result (KeepsStored ranges.old ranges.new) }

@@ -3,9 +3,7 @@
 //! Each disk has its ranges, up to the last one in which something was stored. So memory grows with
 //! what was stored, however long the disks are.
 
-ghost use Rattle.std.specs.Prelude.{◌≡◌, ℕ, ◌+◌, ◌<◌, ◌≤◌, ◌^◌, [], length, OnOk};
-ghost use Rattle.dm_replay.specs.Ranges.{AreFirst, ranged};
-ghost use Rattle.dm_replay.specs.Stored.{values_of};
+ghost use Rattle.dm_replay.specs.Prelude.{◌≡◌, ℕ, ◌+◌, ◌<◌, ◌≤◌, ◌^◌, [], length, OnOk, AreFirst, ranged, values_of};
 
 use crate::disk_ranges::DiskRanges;
 use crate::range_values::RangeValues;

@@ -1,7 +1,6 @@
 //! The list of requests that a replay accepted, which only proofs read.
 
-ghost use Rattle.std.specs.Prelude.{◌≡◌, ◌++◌, ◌∷◌, []};
-ghost use Rattle.dm_replay.specs.Reruns.{kept_request};
+ghost use Rattle.dm_replay.specs.Prelude.{◌≡◌, ◌++◌, ◌∷◌, [], kept_request};
 
 use crate::asked_request::AskedRequest;
 use dm_stack::DeviceId;
@@ -15,7 +14,7 @@ pub(crate) struct GhostAsked {
 }
 
 impl Model for GhostAsked {
-    ghost use Rattle.std.specs.Prelude.{List};
+    ghost use Rattle.dm_replay.specs.Base.{List};
     ghost use Rattle.dm_replay.specs.Histories.{Asked};
     ghost use Rattle.dm_replay.specs.Reruns.{all_asked};
 

@@ -1,6 +1,6 @@
 //! The state that a replay began from, which only proofs read.
 
-ghost use Rattle.std.specs.Prelude.{◌≡◌};
+ghost use Rattle.dm_replay.specs.Prelude.{◌≡◌};
 
 use dm_map::{Mapper, Taken};
 use dm_table::GhostList;
@@ -14,7 +14,7 @@ pub(crate) struct GhostStart<'s, T: Taken> {
 }
 
 impl<'s, T: Taken> Model for GhostStart<'s, T> {
-    ghost use Rattle.dm_map.specs.state.State.{State};
+    ghost use Rattle.dm_replay.specs.Base.{State};
     ghost use Rattle.dm_replay.specs.Reruns.{first_state};
 
     ghost Value = { State };

@@ -3,9 +3,7 @@
 //! It owns the player while a request is mapped. After a sink failed, nothing but the sink tells what
 //! was played, so what it says then has to speak of the values of its own player.
 
-ghost use Rattle.std.specs.Prelude.{◌≡◌, ◌<◌, ◌≤◌, true, false, OnErr, OnOk};
-ghost use Rattle.dm_map.specs.pieces.Units.{IsOnDisks, piece_len, units_of};
-ghost use Rattle.dm_replay.specs.Halting.{HasHalted, HasTaken};
+ghost use Rattle.dm_replay.specs.Prelude.{◌≡◌, ◌<◌, ◌≤◌, true, false, OnErr, OnOk, IsOnDisks, piece_len, units_of, HasHalted, HasTaken};
 
 use crate::player::Player;
 use dm_map::{Piece, Sink};
@@ -83,8 +81,7 @@ impl<'s> Halting<'s> {
 }
 
 impl Sink for Halting<'_> {
-    ghost use Rattle.std.specs.Prelude.{◌^◌, ◌≡◌, true, false};
-    ghost use Rattle.std.proofs.Common.{◌∙◌};
+    ghost use Rattle.dm_replay.specs.Base.{◌^◌, ◌≡◌, true, false, ◌∙◌};
     ghost use Rattle.dm_replay.specs.Halting.{HasHalted, HasTaken};
     ghost use Rattle.dm_replay.specs.laws.Halt.{taken_both, taken_halted, taken_nothing};
 

@@ -1,7 +1,6 @@
 //! Writes that a replay keeps, to map them once more.
 
-ghost use Rattle.std.specs.Prelude.{◌≡◌, OnOk};
-ghost use Rattle.dm_replay.specs.Reruns.{with_request};
+ghost use Rattle.dm_replay.specs.Prelude.{◌≡◌, OnOk, with_request};
 
 use dm_stack::DeviceId;
 use dm_table::Op;

@@ -1,14 +1,7 @@
 //! The playback of one request: its units, or the first of them, through a mapper, on the values of disks.
 
-ghost use Rattle.std.specs.Prelude.{◌≡◌, false, length, min, IfOk, OnOk};
-ghost use Rattle.dm_stack.specs.Description.{device_len};
-ghost use Rattle.dm_map.specs.own.Contents.{sector_past};
-ghost use Rattle.dm_map.specs.own.Halts.{halted_units};
-ghost use Rattle.dm_map.specs.walk.Mapping.{step_for};
-ghost use Rattle.dm_replay.specs.OfDisks.{AreRunsOf};
+ghost use Rattle.dm_replay.specs.Prelude.{◌≡◌, false, length, min, IfOk, OnOk, device_len, sector_past, halted_units, step_for, AreRunsOf, values_of, played_answers};
 ghost use Rattle.dm_replay.specs.Playback.{CanPlay, HasPlayedOf};
-ghost use Rattle.dm_replay.specs.Stored.{values_of};
-ghost use Rattle.dm_replay.specs.Values.{played_answers};
 
 use crate::halting::Halting;
 use crate::player::Player;

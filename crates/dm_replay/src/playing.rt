@@ -1,10 +1,6 @@
 //! Playing: what the pieces of a request do to the values of disks, and answer.
 
-ghost use Rattle.std.specs.Prelude.{◌≡◌, ◌+◌, ◌<◌, ◌≤◌, ◌^◌, ◌++◌, OnOk};
-ghost use Rattle.dm_map.specs.pieces.Units.{ReadOf, WriteOf, CopyOf, FillOf, units_in};
-ghost use Rattle.dm_replay.specs.Ranges.{CanCopyAtOnce};
-ghost use Rattle.dm_replay.specs.Player.{HasPlayed};
-ghost use Rattle.dm_replay.specs.Runs.{flat, run_answers, run_len};
+ghost use Rattle.dm_replay.specs.Prelude.{◌≡◌, ◌+◌, ◌<◌, ◌≤◌, ◌^◌, ◌++◌, OnOk, ReadOf, WriteOf, CopyOf, FillOf, units_in, CanCopyAtOnce, HasPlayed, flat, run_answers, run_len};
 
 use crate::disk_values::DiskValues;
 use crate::range_values::RangeValues;

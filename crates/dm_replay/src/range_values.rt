@@ -1,7 +1,6 @@
 //! The values of consecutive sectors, which go on from that of the first.
 
-ghost use Rattle.std.specs.Prelude.{◌≡◌, ◌≢◌, ◌+◌, ◌<◌, ◌≤◌, ◌^◌};
-ghost use Rattle.std.specs.Bool.{OnTrue, OnFalse};
+ghost use Rattle.dm_replay.specs.Base.{◌≡◌, ◌≢◌, ◌+◌, ◌<◌, ◌≤◌, ◌^◌, OnTrue, OnFalse};
 ghost use Rattle.dm_replay.specs.Values.{further, value_end};
 
 use crate::value::Value;

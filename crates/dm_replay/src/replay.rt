@@ -3,15 +3,7 @@
 //! `specs/Histories.antt` says what the disks hold after the requests that were accepted, and what a
 //! request answers then; `specs/Rows.antt` says what each device would hold if it were alone.
 
-ghost use Rattle.std.specs.Prelude.{◌≡◌, ◌∷◌, ◌+◌, ◌++◌, ◌-◌, ◌<◌, ◌≤◌, [], IfErr, IfOk, IfSome, None, OnOk, Option, Some, false, if◌then◌else◌, length, nat_lt, position};
-ghost use Rattle.dm_stack.specs.claims.Claims.{AreTops, IsTidy, IsTop};
-ghost use Rattle.dm_stack.specs.Description.{device_len, is_same};
-ghost use Rattle.dm_replay.specs.Histories.{world_after};
-ghost use Rattle.dm_replay.specs.Replay.{AreOfTops, HasTop, IsAnswered, IsNotAnswered, IsNotBegun, IsNotHalted, IsUnanswered};
-ghost use Rattle.dm_map.specs.own.Ample.{IsIntact};
-ghost use Rattle.dm_map.specs.state.Fitting.{IsFitting};
-ghost use Rattle.dm_map.specs.state.State.{start_state};
-ghost use Rattle.dm_replay.specs.Replay.{asked_request, halted_request, new_replay, replay_from, whole_request};
+ghost use Rattle.dm_replay.specs.Prelude.{◌≡◌, ◌∷◌, ◌+◌, ◌++◌, ◌-◌, ◌<◌, ◌≤◌, [], IfErr, IfOk, IfSome, None, OnOk, Option, Some, false, if◌then◌else◌, length, nat_lt, position, AreTops, IsTidy, IsTop, device_len, is_same, world_after, AreOfTops, HasTop, IsAnswered, IsNotAnswered, IsNotBegun, IsNotHalted, IsUnanswered, IsIntact, IsFitting, start_state, asked_request, halted_request, new_replay, replay_from, whole_request};
 
 #[cfg(test)]
 mod tests;

@@ -3,11 +3,7 @@
 //! A mapper whose sink failed maps nothing more. So a new one maps what was whole of each write, to
 //! a sink that takes everything and does nothing.
 
-ghost use Rattle.std.specs.Prelude.{◌≡◌, false, IfOk};
-ghost use Rattle.std.specs.List.{AllByRecursion};
-ghost use Rattle.dm_map.specs.state.State.{start_state};
-ghost use Rattle.dm_replay.specs.Replay.{IsKept};
-ghost use Rattle.dm_replay.specs.Reruns.{rerun_from, rerun_step};
+ghost use Rattle.dm_replay.specs.Prelude.{◌≡◌, false, IfOk, AllByRecursion, start_state, IsKept, rerun_from, rerun_step};
 
 use crate::kept_write::KeptWrite;
 use dm_map::{Discard, MapFault, Mapper, Taken};

@@ -1,12 +1,6 @@
 //! The lines of runs, written to an output.
 
-ghost use Rattle.std.specs.Prelude.{◌++◌, ◌+◌, ◌≤◌, ◌∷◌, length, decimal};
-ghost use Rattle.std.specs.List.{AllByRecursion};
-ghost use Rattle.dm_table.specs.io.Block.{IsPut};
-ghost use Rattle.dm_table.specs.io.Progress.{Wrote};
-ghost use Rattle.dm_table.specs.words.Bytes.{code};
-ghost use Rattle.dm_replay.specs.OfDisks.{IsRunOf};
-ghost use Rattle.dm_replay.specs.RunText.{run_line, run_text, runs_text};
+ghost use Rattle.dm_replay.specs.Prelude.{◌++◌, ◌+◌, ◌≤◌, ◌∷◌, length, decimal, AllByRecursion, IsPut, Wrote, code, IsRunOf, run_line, run_text, runs_text};
 
 use crate::value_run::ValueRun;
 use dm_stack::Stack;
@@ -22,7 +16,7 @@ struct RunLine<'a> {
 }
 
 impl<'a> Model for RunLine<'a> {
-    ghost use Rattle.std.specs.Prelude.{ℕ, List, length};
+    ghost use Rattle.dm_replay.specs.Base.{ℕ, List, length};
     ghost use Rattle.dm_replay.specs.OfDisks.{IsRunOf};
     ghost use Rattle.dm_replay.specs.RunText.{run_line};
 

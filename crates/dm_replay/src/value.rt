@@ -1,8 +1,6 @@
 //! Values: what a sector of a disk holds.
 
-ghost use Rattle.std.specs.Prelude.{◌≡◌, ◌+◌, ◌<◌, ◌^◌};
-ghost use Rattle.dm_replay.specs.Runs.{first_answer, run_len};
-ghost use Rattle.dm_replay.specs.Values.{Gives, further, value_end};
+ghost use Rattle.dm_replay.specs.Prelude.{◌≡◌, ◌+◌, ◌<◌, ◌^◌, first_answer, run_len, Gives, further, value_end};
 
 use crate::value_run::ValueRun;
 use dm_stack::DiskId;

@@ -1,8 +1,6 @@
 //! Runs: the answers of consecutive sectors.
 
-ghost use Rattle.std.specs.Prelude.{◌≡◌, ◌+◌, ◌==◌};
-ghost use Rattle.std.specs.Bool.{OnTrue, OnFalse};
-ghost use Rattle.dm_replay.specs.Runs.{Joins, first_answer, run_len};
+ghost use Rattle.dm_replay.specs.Prelude.{◌≡◌, ◌+◌, ◌==◌, OnTrue, OnFalse, Joins, first_answer, run_len};
 
 use dm_stack::DiskId;
 

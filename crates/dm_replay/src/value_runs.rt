@@ -1,7 +1,6 @@
 //! Runs in a row, as long as can be.
 
-ghost use Rattle.std.specs.Prelude.{◌≡◌, ◌<◌, ◌++◌, [], OnOk};
-ghost use Rattle.dm_replay.specs.Runs.{AreMaximal, flat, run_answers, run_len};
+ghost use Rattle.dm_replay.specs.Prelude.{◌≡◌, ◌<◌, ◌++◌, [], OnOk, AreMaximal, flat, run_answers, run_len};
 
 use crate::value_run::ValueRun;
 use std::alloc::{AllocError, Global};
@@ -14,8 +13,7 @@ pub(crate) struct ValueRuns {
 }
 
 impl Model for ValueRuns {
-    ghost use Rattle.std.specs.Prelude.{List};
-    ghost use Rattle.dm_replay.specs.declared.value_run.ValueRun.{ValueRun};
+    ghost use Rattle.dm_replay.specs.Base.{List, ValueRun};
     ghost use Rattle.dm_replay.specs.Runs.{AreMaximal};
 
     ghost Value = { List ValueRun };

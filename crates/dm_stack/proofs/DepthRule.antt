@@ -1,22 +1,6 @@
 -- In a sound stack a device is one deeper than the deepest of what it names.
-use Rattle.std.proofs.Common.{◌≡◌, ℕ, zero, suc, ◌+◌, ◌<◌, ◌≤◌, Bool, false, List, [], ◌∷◌, ◌++◌, Some, arith, refl, ap, ◌∙◌, length, map, max}
-use Rattle.std.specs.Prelude.{nat_lt, slice_get, option_map}
-use Rattle.std.specs.List.{flat_map}
-use Rattle.std.proofs.lemmas.Bool.{ltb-false}
-use Rattle.std.proofs.lemmas.Grind.{flat_map-append}
-use Rattle.std.proofs.lemmas.Option.{get_or_from_slice_get, slice_get-map}
-use Rattle.dm_table.specs.declared.load.load_fault.LoadKind.{LoadKind}
-use Rattle.dm_table.specs.declared.load.load_fault.LoadKind.TheVariants.{Deep}
-use Rattle.dm_table.specs.declared.tables.table.DevRef.{DevRef}
+use Rattle.dm_stack.proofs.Prelude.{◌≡◌, ℕ, zero, suc, ◌+◌, ◌<◌, ◌≤◌, Bool, false, List, [], ◌∷◌, ◌++◌, Some, arith, refl, ap, ◌∙◌, length, map, max, nat_lt, slice_get, option_map, flat_map, ltb-false, flat_map-append, get_or_from_slice_get, slice_get-map, LoadKind, Deep, DevRef, DeviceSpec, Line, Span, spans, Description, device_links, links, lower_of, ref_link, greatest, links_of, IsDeeperByOne, lower_depth, IsSound, depth_of, faults_by_id, line_links, cond_none}
 use Rattle.dm_table.specs.declared.tables.table.DevRef.TheVariants as refs
-use Rattle.dm_table.specs.declared.tables.table.DeviceSpec.{DeviceSpec}
-use Rattle.dm_table.specs.declared.tables.table.Line.{Line}
-use Rattle.dm_stack.specs.Description.{Description, device_links, line_links, links, lower_of, ref_link}
-use Rattle.dm_stack.specs.checks.Graph.{greatest, links_of}
-use Rattle.dm_stack.specs.checks.Depth.{IsDeeperByOne, lower_depth}
-use Rattle.dm_stack.specs.checks.Soundness.{IsSound, depth_of, faults_by_id}
-use Rattle.dm_table.specs.tables.Span.{Span, spans}
-use Rattle.dm_table.proofs.FaultLemmas.{cond_none}
 use Rattle.dm_stack.proofs.checks.DepthLemmas.{depth_to-deeper}
 use Rattle.dm_stack.proofs.checks.Passes.{passes_all}
 use Rattle.dm_stack.proofs.SoundLines.{lines_there, there}

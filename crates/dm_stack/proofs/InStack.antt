@@ -1,14 +1,7 @@
 -- What has a sector is a device or a disk of the stack, and none is longer than a line may be.
-use Rattle.std.proofs.Common.{◌≡◌, ℕ, ◌^◌, ◌<◌, ◌≤◌, inl, inr, Option, Some, None, length, refl, arith}
-use Rattle.std.specs.Prelude.{slice_get}
-use Rattle.std.proofs.lemmas.Bool.{cases_lt}
-use Rattle.std.specs.Option.{option_map_or}
-use Rattle.std.proofs.lemmas.Option.{slice_get_past}
+use Rattle.dm_stack.proofs.Prelude.{◌≡◌, ℕ, ◌^◌, ◌<◌, ◌≤◌, inl, inr, Option, Some, None, length, refl, arith, slice_get, cases_lt, option_map_or, slice_get_past, Lower, Description, device_len, disk_len, lower_len, IsSound}
 use Rattle.dm_table.specs.declared.tables.disk.Disk.{Disk}
-use Rattle.dm_stack.specs.declared.id.Lower.{Lower}
 use Rattle.dm_stack.specs.declared.id.Lower.TheVariants as lowers
-use Rattle.dm_stack.specs.Description.{Description, device_len, disk_len, lower_len}
-use Rattle.dm_stack.specs.checks.Soundness.{IsSound}
 use Rattle.dm_stack.proofs.SoundLines.{device_small, disk_small}
 
 -- a device that has a sector is one of the stack

@@ -3,7 +3,6 @@ pub mod InStack
 pub mod ReportLemmas
 pub mod SnapshotRule
 pub mod SoundLines
-mod WorkedOrigins
 -- what crates above cite: they see no folder of a module that is private
 pub use Rattle.dm_stack.proofs.checks.ChunkLemmas
 pub use Rattle.dm_stack.proofs.checks.DepthLemmas
@@ -20,3 +19,4 @@ pub use Rattle.dm_stack.proofs.lines.OverLemmas
 pub use Rattle.dm_stack.proofs.lines.SameLine
 pub use Rattle.dm_stack.proofs.lines.StoreLayoutLemmas
 pub use Rattle.dm_stack.proofs.lines.StripeLemmas
+pub mod Prelude

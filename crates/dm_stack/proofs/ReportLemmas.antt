@@ -1,10 +1,5 @@
 -- The lines of a report, put together from their parts.
-use Rattle.std.proofs.Common.{◌≡◌, ℕ, List, [], ◌∷◌, ◌++◌, append_assoc}
-use Rattle.std.specs.Prelude.{Option, codes, decimal, length}
-use Rattle.dm_stack.specs.declared.claims.clash.Clash.{Clash}
-use Rattle.dm_stack.specs.Description.{Description}
-use Rattle.dm_stack.specs.checks.Depth.{stack_depth}
-use Rattle.dm_stack.specs.Report.{report_text, tidiness_text}
+use Rattle.dm_stack.proofs.Prelude.{◌≡◌, ℕ, List, [], ◌∷◌, ◌++◌, append_assoc, Option, codes, decimal, length, Clash, Description, stack_depth, report_text, tidiness_text}
 
 pub clash_line : (front name lower sector first second : List ℕ) → front ++ name ≡ lower
     → codes "clash " ++ lower ++ 32 ∷ sector ++ 32 ∷ first ++ 32 ∷ second ≡ codes "clash " ++ (front ++ (name ++ (32 ∷ (sector ++ (32 ∷ (first ++ (32 ∷ second)))))))

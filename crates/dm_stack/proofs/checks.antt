@@ -1,4 +1,5 @@
 -- Of the checks of a load: what each passes, and the first fault.
+pub mod BadLineLemmas
 pub mod ChunkLemmas
 pub mod CrowdLemmas
 pub mod DepthLemmas

@@ -13,4 +13,3 @@ pub mod SameLine
 pub mod SpanLemmas
 pub mod StoreLayoutLemmas
 pub mod StripeLemmas
-mod WorkedLayouts

@@ -1,27 +1,20 @@
 -- What a stack is, for every definition: its devices with their lines, and its disks, by their indexes in the lists.
-use Rattle.std.specs.Prelude.{ℕ, ◌+◌, ◌==◌, Bool, false, List, [], ◌∷◌, Option, Some, None, map, nat_eq, slice_get}
-use Rattle.std.specs.List.{flat_map, position_or_len}
-use Rattle.std.specs.Option.{option_map_or}
-use Rattle.std.specs.Cmp.Lexicographic.{pointwise}
-use Rattle.dm_table.specs.declared.tables.table.DevRef.{DevRef}
-use Rattle.dm_table.specs.declared.tables.table.DevRef.TheVariants as refs
-use Rattle.dm_table.specs.declared.tables.table.Line.{Line}
-use Rattle.dm_table.specs.declared.tables.table.DeviceSpec.{DeviceSpec}
+use Rattle.dm_stack.specs.Base.{ℕ, ◌+◌, ◌==◌, Bool, false, List, [], ◌∷◌, Option, Some, None, map, nat_eq, slice_get, flat_map, position_or_len, option_map_or, pointwise, DevRef, Line, DeviceSpec, spans}
 use Rattle.dm_table.specs.declared.tables.disk.Disk.{Disk}
+use Rattle.dm_table.specs.declared.tables.table.DevRef.TheVariants as refs
 use Rattle.dm_stack.specs.declared.id.Lower.{Lower}
 use Rattle.dm_stack.specs.declared.id.Lower.TheVariants as lowers
-use Rattle.dm_table.specs.tables.Span.{spans}
 
 -- the devices of one list, and the disks of the other
 pub record Description : Type 0 where
   pub devices : List DeviceSpec
   pub disks : List Disk
 
--- that of these lists
+-- the description that two lists make
 abbrev pub described : List DeviceSpec → List Disk → Description
 described devices disks = record { devices = devices; disks = disks }
 
--- one text
+-- two texts are the same
 abbrev pub is_same : List ℕ → List ℕ → Bool
 is_same = pointwise nat_eq
 
@@ -29,7 +22,7 @@ is_same = pointwise nat_eq
 abbrev pub device_id : Description → List ℕ → ℕ
 device_id stack name = position_or_len (λ device. is_same device.name name) stack.devices
 
--- the same of the name of a disk
+-- the id of the disk of this name, or one past the last
 abbrev pub disk_id : Description → List ℕ → ℕ
 disk_id stack name = position_or_len (λ disk. is_same disk.name name) stack.disks
 
@@ -38,7 +31,7 @@ abbrev pub lower_of : Description → DevRef → Lower
 lower_of stack (refs.Device name) = lowers.Device (device_id stack name)
 lower_of stack (refs.Disk name) = lowers.Disk (disk_id stack name)
 
--- the same device, or the same disk
+-- whether two ids are of the same device, or of the same disk
 abbrev pub is_same_lower : Lower → Lower → Bool
 is_same_lower (lowers.Device one) (lowers.Device other) = one == other
 is_same_lower (lowers.Device one) (lowers.Disk other) = false

@@ -6,3 +6,5 @@ pub mod checks
 pub mod claims
 pub mod lines
 pub mod names
+pub mod Prelude
+pub mod Base

@@ -1,5 +1,5 @@
 -- What a looker is.
-use Rattle.std.specs.Prelude.{ℕ, suc, ◌^◌, nat_lt, if◌then◌else◌}
+use Rattle.dm_stack.specs.Base.{ℕ, suc, ◌^◌, nat_lt, if◌then◌else◌}
 use Rattle.dm_stack.specs.Description.{Description}
 
 -- a looker: its stack, and the counts of its searches and of their comparisons of a start with a sector

@@ -1,6 +1,5 @@
 -- What a stack keeps beside its description.
-use Rattle.std.specs.Prelude.{◌≡◌, ℕ, ◌^◌, ◌≤◌, List, map}
-use Rattle.dm_table.specs.declared.tables.table.DeviceSpec.{DeviceSpec}
+use Rattle.dm_stack.specs.Base.{◌≡◌, ℕ, ◌^◌, ◌≤◌, List, map, DeviceSpec}
 use Rattle.dm_stack.specs.declared.lines.resolved_table.ResolvedDevice.{ResolvedDevice}
 use Rattle.dm_stack.specs.Description.{Description, end_of}
 use Rattle.dm_stack.specs.lines.Below.{resolved_line}

@@ -1,4 +1,5 @@
 -- What the checks of a load pass: `Soundness` has them in their order.
+pub mod BadLines
 pub mod Depth
 pub mod Graph
 pub mod Paths

@@ -5,6 +5,7 @@ pub mod faults;
 pub mod graph;
 pub mod layout;
 pub mod limits;
+pub mod lines;
 pub mod links;
 pub mod load;
 pub mod names;

@@ -3,7 +3,7 @@
 //! A clause sees an id as the number that it is. An id is of the stack that gave it: of another one
 //! it may name nothing.
 
-ghost use Rattle.std.specs.Prelude.{◌≡◌};
+ghost use Rattle.dm_stack.specs.Prelude.{◌≡◌};
 
 use std::marker::Model;
 
@@ -14,7 +14,7 @@ pub struct DeviceId {
 }
 
 impl Model for DeviceId {
-    ghost use Rattle.std.specs.Prelude.{ℕ};
+    ghost use Rattle.dm_stack.specs.Base.{ℕ};
 
     ghost Value = { ℕ };
 
@@ -46,7 +46,7 @@ pub struct DiskId {
 }
 
 impl Model for DiskId {
-    ghost use Rattle.std.specs.Prelude.{ℕ};
+    ghost use Rattle.dm_stack.specs.Base.{ℕ};
 
     ghost Value = { ℕ };
 

@@ -4,15 +4,7 @@
 //! No call hands out the stack, and a looker is not copied: its count is that of all its searches.
 //! Whoever has the line of an origin has its snapshots too (`ResolvedOrigin::over`), without a search.
 
-ghost use Rattle.std.specs.Prelude.{◌≡◌, ◌+◌, ◌-◌, ◌*◌, ◌<◌, ◌≤◌, length};
-ghost use Rattle.dm_stack.specs.lines.Below.{IsLineOf};
-ghost use Rattle.dm_stack.specs.Description.{device_len, disk_len, is_ro_at, lines_at};
-ghost use Rattle.dm_stack.specs.Looker.{next_count};
-ghost use Rattle.dm_stack.specs.checks.Snapshots.{snapshots, AreSnapshots};
-ghost use Rattle.dm_stack.specs.checks.Depth.{stack_depth};
-ghost use Rattle.dm_stack.specs.Stack.{IsLength};
-ghost use Rattle.dm_stack.specs.checks.Soundness.{IsSound};
-ghost use Rattle.dm_stack.specs.lines.LineSearch.{binary_digits};
+ghost use Rattle.dm_stack.specs.Prelude.{◌≡◌, ◌+◌, ◌-◌, ◌*◌, ◌<◌, ◌≤◌, length, IsLineOf, device_len, disk_len, is_ro_at, lines_at, next_count, snapshots, AreSnapshots, stack_depth, IsLength, IsSound, binary_digits};
 
 use crate::id::{DeviceId, DiskId};
 use crate::lines::line_search::LastLine;

@@ -1,9 +1,6 @@
 //! What a check says of a stack, as text.
 
-ghost use Rattle.std.specs.Prelude.{◌≡◌, ◌++◌, IfOk, List, ℕ, string_bytes};
-ghost use Rattle.dm_stack.specs.claims.Claims.{IsLower};
-ghost use Rattle.dm_stack.specs.Description.{Description};
-ghost use Rattle.dm_stack.specs.Report.{IsReport, SaysTidiness, lower_text};
+ghost use Rattle.dm_stack.specs.Prelude.{◌≡◌, ◌++◌, IfOk, List, ℕ, string_bytes, IsLower, Description, IsReport, SaysTidiness, lower_text};
 
 use crate::id::Lower;
 use crate::stack::Stack;

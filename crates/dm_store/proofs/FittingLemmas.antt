@@ -1,23 +1,6 @@
 -- What comes from a store fits it.
-use Rattle.std.proofs.Common.{◌≡◌, ℕ, zero, suc, ◌/◌, ◌<◌, ◌≤◌, Bool, true, false, cond, List, Option, Some, None, Result, Ok, Err, length, nat_eq, refl, sym, subst, arith, length-append}
-use Rattle.std.specs.List.{IsDistinct}
-use Rattle.std.specs.Prelude.{◌==◌, ◌&&◌, ◌||◌, not, is_some, nat_lt}
-use Rattle.std.proofs.lemmas.Bool.{ltb-true, and_parts, or_parts}
-use Rattle.dm_store.specs.declared.fault.SectorFault.{SectorFault}
-use Rattle.dm_store.specs.declared.fault.ListFault.{ListFault}
-use Rattle.dm_store.specs.declared.fault.StoreFault.TheVariants.{Magic, Version, Chunk}
-use Rattle.dm_store.specs.declared.pair.Pair.{Pair}
-use Rattle.dm_store.specs.declared.store.Store.{Store}
-use Rattle.dm_store.specs.Numbers.{four_at}
-use Rattle.dm_store.specs.Pairs.{each, pair, old_chunks}
-use Rattle.dm_table.specs.declared.tables.table.StoreKind.TheVariants.{Persistent}
-use Rattle.dm_stack.specs.lines.StoreLayout.{place}
-use Rattle.dm_store.specs.Layout.{row_sector, pair_count}
-use Rattle.dm_store.specs.Stored.{Stored, Fresh, Lost, Holds, Refused, by_header, list_fault, fault_of, is_any_again, is_near, is_placed, list_count, listed, listed_if, of_list}
+use Rattle.dm_store.proofs.Prelude.{◌≡◌, ℕ, zero, suc, ◌+◌, ◌/◌, ◌<◌, ◌≤◌, Bool, true, false, cond, List, Option, Some, None, Result, Ok, Err, length, nat_eq, refl, sym, subst, arith, length-append, IsDistinct, ◌==◌, not, is_some, nat_lt, ltb-true, and_parts, or_parts, SectorFault, ListFault, StoreFault, Magic, Version, Chunk, Pair, Store, four_at, Sectors, each, pair, old_chunks, row_sector, pair_count, rest_count, Stored, Fresh, Lost, Holds, Refused, by_header, clear_count, list_fault, fault_of, is_any_again, is_near, is_placed, list_count, listed, of_list, rest_fault, AlwaysFit, Persistent, place, number_in, none_of}
 use Rattle.dm_map.proofs.Numbers.{distinct_more}
-use Rattle.dm_store.specs.Fitting.{AlwaysFit}
-use Rattle.dm_map.specs.state.Snapshots.{number_in}
-use Rattle.dm_map.proofs.ChunkTaking.{none_of}
 
 distinct_all : (pairs : ℕ → Pair) (count : ℕ) → is_any_again pairs count ≡ false → IsDistinct nat_eq (old_chunks pairs count)
 unfolding is_any_again old_chunks IsDistinct
@@ -55,21 +38,29 @@ pub header_holds : (used : Stored) (in_table : ℕ) (header : Result (List ℕ) 
 header_holds used in_table (Err fault) chunks e = absurd cc
 header_holds used in_table (Ok h) chunks e = (words_hold (four_at h 0 == 0) (four_at h 0 == 0x70416e53) (four_at h 8 == 1) (four_at h 12 == in_table) (four_at h 4 == 0) used chunks e).4
 
-pub end_holds : (full : Bool) (listed : Stored) (sector : Result (List ℕ) SectorFault) (chunks : List ℕ) → cond full listed (listed_if listed sector) ≡ Holds chunks → listed ≡ Holds chunks
-end_holds false listed (Err fault) chunks e = absurd cc
-end_holds full listed sector chunks e = e
+-- where not all areas are full, the rest of the one in which the list ends is clear
+pub end_holds : (full clear : Bool) (held : Stored) (fault : StoreFault) (chunks : List ℕ) → cond full held (cond clear held (Refused fault)) ≡ Holds chunks → (held ≡ Holds chunks) × (full ≡ false → clear ≡ true)
+end_holds true clear held fault chunks e = (e, λ other. absurd cc)
+end_holds false true held fault chunks e = (e, λ other. refl)
+end_holds false false held fault chunks e = absurd cc
 
 pub list_holds : (f : Option ListFault) (xs chunks : List ℕ) → of_list f xs ≡ Holds chunks → (f ≡ None) × (xs ≡ chunks)
 list_holds None xs chunks e = (refl, cc)
 list_holds (Some x) xs chunks e = absurd cc
+
+pub list_ends : (sectors : Sectors) (store : Store) (chunks : List ℕ) → listed sectors store ≡ Holds chunks
+    → (of_list (list_fault store (pair sectors store.chunk) (list_count sectors store)) (old_chunks (pair sectors store.chunk) (list_count sectors store)) ≡ Holds chunks)
+    × ((list_count sectors store == pair_count store.chunk store.len) ≡ false → (clear_count sectors store.chunk (list_count sectors store) == rest_count store.chunk (list_count sectors store)) ≡ true)
+list_ends sectors store chunks e =
+    let count : ℕ = list_count sectors store in let clear : ℕ = clear_count sectors store.chunk count in
+    end_holds (count == pair_count store.chunk store.len) (clear == rest_count store.chunk count) (of_list (list_fault store (pair sectors store.chunk) count) (old_chunks (pair sectors store.chunk) count)) (rest_fault (sectors (row_sector store.chunk ((count + clear) / 32)))) chunks e
 
 pub always_fits : (store : Store) → AlwaysFit store
 always_fits store = λ sectors chunks is.
     let count : ℕ = list_count sectors store in
     let pairs : ℕ → Pair = pair sectors store.chunk in
     let used : listed sectors store ≡ Holds chunks = header_holds (listed sectors store) store.chunk (sectors 0) chunks is in
-    let held = end_holds (count == pair_count store.chunk store.len) (of_list (list_fault store pairs count) (old_chunks pairs count)) (sectors (row_sector store.chunk (count / 32))) chunks used in
-    let parts = list_holds (list_fault store pairs count) (old_chunks pairs count) chunks held in
+    let parts = list_holds (list_fault store pairs count) (old_chunks pairs count) chunks (list_ends sectors store chunks used).0 in
     let faultless = no_fault (each (λ i. is_placed store i (pairs i)) count) (each (λ i. is_near store (pairs i)) count) (is_any_again pairs count) parts.0 in
     record {
       places = subst (λ (xs : List ℕ). length xs ≤ store.places) parts.1 (subst (λ (n : ℕ). n ≤ store.places) (sym (length_old pairs count)) (placed_all store pairs count faultless.0));

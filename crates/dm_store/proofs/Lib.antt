@@ -13,3 +13,4 @@ pub mod StoreLemmas
 pub mod WalkLemmas
 pub mod WorkedRestart
 pub mod WorkedStore
+pub mod Prelude

@@ -1,14 +1,5 @@
 -- Of lists of pairs: how long they are, and one more pair.
-use Rattle.std.proofs.Common.{◌≡◌, inl, inr, ℕ, zero, suc, ◌+◌, ◌<◌, ◌≤◌, Bool, true, false, cond, [], ◌∷◌, ◌++◌, refl, sym, arith}
-use Rattle.std.specs.Prelude.{◌&&◌, ◌||◌, is_some}
-use Rattle.std.proofs.Math.Nat.{le-suc_iff}
-use Rattle.std.proofs.Math.Bool.{and-false}
-use Rattle.dm_store.specs.declared.pair.Pair.{Pair}
-use Rattle.dm_store.specs.declared.store.Store.{Store}
-use Rattle.dm_store.specs.Pairs.{each, count_of, old_chunks}
-use Rattle.dm_store.specs.Reading.{next_fault}
-use Rattle.dm_store.specs.Stored.{list_fault, fault_of, is_any_again, is_placed, is_near}
-use Rattle.dm_map.specs.state.Snapshots.{number_in}
+use Rattle.dm_store.proofs.Prelude.{◌≡◌, inl, inr, ℕ, zero, suc, ◌+◌, ◌<◌, ◌≤◌, Bool, true, false, cond, [], ◌∷◌, ◌++◌, refl, sym, arith, ◌&&◌, ◌||◌, is_some, le-suc_iff, and-false, Pair, Store, each, count_of, old_chunks, next_fault, list_fault, fault_of, is_any_again, is_placed, is_near, number_in}
 
 -- one more
 pub each_more : (p : ℕ → Bool) (n : ℕ) → each p n ≡ true → p n ≡ true → each p (n + 1) ≡ true

@@ -1,32 +1,8 @@
 -- Lists, by what is read of them.
-use Rattle.std.proofs.Common.{◌≡◌, inl, inr, ℕ, ◌/◌, ◌%◌, ◌<◌, Bool, true, false, cond, List, Option, Some, None, Result, Ok, Err, length, refl, sym, ap, subst, ◌∙◌, arith}
-use Rattle.std.specs.Option.{option_and_then}
-use Rattle.std.specs.Prelude.{◌==◌, ◌⊎◌, not}
-use Rattle.std.proofs.lemmas.Bool.{cases_Bool, eqb-true}
-use Rattle.dm_stack.specs.declared.lines.resolved_line.ResolvedLine.{ResolvedLine}
-use Rattle.dm_stack.specs.Description.{Description}
-use Rattle.dm_stack.specs.lines.Below.{found_at}
-use Rattle.dm_map.specs.state.State.{State, Taken, lost, none_taken, taken_at}
-use Rattle.dm_map.specs.state.Tables.{snapshot_of}
-use Rattle.dm_map.specs.walk.Homes.{home}
-use Rattle.dm_map.proofs.ResolvedLines.{line_there}
-use Rattle.dm_store.specs.declared.fault.ListFault.{ListFault}
-use Rattle.dm_store.specs.declared.fault.SectorFault.{SectorFault}
-use Rattle.dm_store.specs.declared.fault.StoreFault.{StoreFault}
-use Rattle.dm_store.specs.declared.fault.StoreFault.TheVariants.{Magic, Version, Chunk}
-use Rattle.dm_store.specs.declared.pair.Pair.{Pair}
-use Rattle.dm_store.specs.declared.store.Store.{Store}
-use Rattle.dm_store.specs.Images.{DiskContents}
-use Rattle.dm_store.specs.Layout.{pair_count, row_sector}
-use Rattle.dm_store.specs.Numbers.{four_at}
-use Rattle.dm_store.specs.Pairs.{Sectors, bytes_or_none, old_chunks, pair, pair_in}
-use Rattle.dm_store.specs.Restart.{AreKept, AreListed, Gone, HoldMore, IsGone, Lists, Spelled, Unused, kept_in}
-use Rattle.dm_store.specs.Spelled.{IsFreeAt, Spells}
-use Rattle.dm_store.specs.Start.{start_of, store_if, store_sectors, stored_state, taken_if, taken_in}
-use Rattle.dm_store.specs.Stored.{Stored, Fresh, Lost, Holds, Refused, by_header, list_count, list_fault, listed, listed_if, of_list, stored}
+use Rattle.dm_store.proofs.Prelude.{◌≡◌, inl, inr, ℕ, ◌+◌, ◌/◌, ◌%◌, ◌<◌, Bool, true, false, cond, List, Option, Some, None, Result, Ok, Err, length, refl, sym, ap, subst, ◌∙◌, arith, option_and_then, ◌==◌, ◌⊎◌, not, cases_Bool, eqb-true, true≢false, none-some, ResolvedLine, Description, found_at, State, Taken, lost, none_taken, taken_at, snapshot_of, home, line_there, ListFault, SectorFault, StoreFault, Magic, Version, Chunk, Pair, Store, DiskContents, pair_count, rest_count, row_sector, four_at, Sectors, bytes_or_none, old_chunks, pair, pair_in, AreKept, AreListed, Gone, HoldMore, IsGone, Lists, Spelled, Unused, kept_in, AreClearFrom, Spells, start_of, store_if, store_sectors, stored_state, taken_if, taken_in, Stored, Fresh, Lost, Holds, Refused, by_header, clear_count, list_count, list_fault, listed, of_list, rest_fault, stored}
 use Rattle.dm_store.proofs.RestartLemmas.{gone_kept, valid_kept}
 use Rattle.dm_store.proofs.SpeltLemmas.{is_spelled}
-use Rattle.dm_store.proofs.StateLemmas.{are_first, both_ways, none_some, ok_is}
+use Rattle.dm_store.proofs.StateLemmas.{are_first, ok_is}
 use Rattle.dm_store.proofs.WalkLemmas.{pair_known}
 
 -- ---- headers, by what is read of a store
@@ -37,21 +13,20 @@ is_list Fresh = false
 is_list Lost = false
 is_list other = true
 
-list_is : (full : Bool) (f : Option ListFault) (chunks : List ℕ) (sector : Result (List ℕ) SectorFault) → is_list (cond full (of_list f chunks) (listed_if (of_list f chunks) sector)) ≡ true
-list_is true None chunks sector = refl
-list_is true (Some fault) chunks sector = refl
-list_is false None chunks (Ok bytes) = refl
-list_is false (Some fault) chunks (Ok bytes) = refl
-list_is false None chunks (Err fault) = refl
-list_is false (Some other) chunks (Err fault) = refl
+list_is : (full clear : Bool) (f : Option ListFault) (chunks : List ℕ) (fault : StoreFault) → is_list (cond full (of_list f chunks) (cond clear (of_list f chunks) (Refused fault))) ≡ true
+list_is true clear None chunks fault = refl
+list_is true clear (Some other) chunks fault = refl
+list_is false true None chunks fault = refl
+list_is false true (Some other) chunks fault = refl
+list_is false false f chunks fault = refl
 
 listed_is : (sectors : Sectors) (store : Store) → is_list (listed sectors store) ≡ true
 listed_is sectors store =
-    let count : ℕ = list_count sectors store in
-    list_is (count == pair_count store.chunk store.len) (list_fault store (pair sectors store.chunk) count) (old_chunks (pair sectors store.chunk) count) (sectors (row_sector store.chunk (count / 32)))
+    let count : ℕ = list_count sectors store in let clear : ℕ = clear_count sectors store.chunk count in
+    list_is (count == pair_count store.chunk store.len) (clear == rest_count store.chunk count) (list_fault store (pair sectors store.chunk) count) (old_chunks (pair sectors store.chunk) count) (rest_fault (sectors (row_sector store.chunk ((count + clear) / 32))))
 
 no_list : (says : Stored) → is_list says ≡ true → is_list says ≡ false → ⊥
-no_list says is other = both_ways (sym is ∙ other)
+no_list says is other = true≢false (sym is ∙ other)
 
 words_fresh : (fresh magic version chunk invalid : Bool) (used : Stored) → is_list used ≡ true
     → cond fresh Fresh (cond (not magic) (Refused Magic) (cond (not version) (Refused Version) (cond (not chunk) (Refused Chunk) (cond invalid Lost used)))) ≡ Fresh → fresh ≡ true
@@ -88,13 +63,13 @@ by_says sectors store taken Fresh is e =
     let header = fresh_header (listed sectors store) store.chunk (sectors 0) (listed_is sectors store) is in
     elim (cases_Bool taken.valid) [
       | inl valid ↦ Unused header.0 header.1 header.2 (sym (same ∙ valid_kept store taken valid))
-      | inr gone ↦ absurd (both_ways (ap (λ (t : Taken). t.valid) (same ∙ gone_kept store taken gone)))
+      | inr gone ↦ absurd (true≢false (ap (λ (t : Taken). t.valid) (same ∙ gone_kept store taken gone)))
     ]
 by_says sectors store taken Lost is e =
     let same : lost none_taken ≡ kept_in (Some store) taken = ok_is (lost none_taken) (kept_in (Some store) taken) e in
     let header = lost_header (listed sectors store) store.chunk (sectors 0) (listed_is sectors store) is in
     elim (cases_Bool taken.valid) [
-      | inl valid ↦ absurd (both_ways (sym valid ∙ sym (ap (λ (t : Taken). t.valid) (same ∙ valid_kept store taken valid))))
+      | inl valid ↦ absurd (true≢false (sym valid ∙ sym (ap (λ (t : Taken). t.valid) (same ∙ valid_kept store taken valid))))
       | inr gone ↦ Gone header.0 header.1 header.2 gone
     ]
 by_says sectors store taken (Holds chunks) is e =
@@ -102,12 +77,12 @@ by_says sectors store taken (Holds chunks) is e =
     let same : held ≡ kept_in (Some store) taken = ok_is held (kept_in (Some store) taken) e in
     elim (cases_Bool taken.valid) [
       | inl valid ↦ Spelled valid (subst (λ (xs : List ℕ). Spells sectors store xs) (ap (λ (t : Taken). t.chunks) (same ∙ valid_kept store taken valid)) (is_spelled store sectors chunks is))
-      | inr gone ↦ absurd (both_ways (ap (λ (t : Taken). t.valid) (same ∙ gone_kept store taken gone)))
+      | inr gone ↦ absurd (true≢false (ap (λ (t : Taken). t.valid) (same ∙ gone_kept store taken gone)))
     ]
 by_says sectors store taken (Refused fault) is e = absurd cc
 
 pub store_there : (stack : Description) (device : ℕ) (store : Store) (line : Option ResolvedLine) → found_at stack device 0 ≡ line → store_if stack device (option_and_then (λ (l : ResolvedLine). snapshot_of l.target) line) ≡ Some store → device < length stack.devices
-store_there stack device store None is e = absurd (none_some store e)
+store_there stack device store None is e = absurd (none-some store e)
 store_there stack device store (Some line) is e = line_there stack device 0 line is
 
 pub said : (stack : Description) (disks : DiskContents) (left found : State) → stored_state stack disks ≡ Ok found → AreKept stack left found → AreListed stack disks left
@@ -137,13 +112,10 @@ spells_more sectors others store chunks more spells = record {
   begins = more 0 spells.header spells.begins;
   used = spells.used;
   pairs = λ number less. pair_more sectors others store.chunk number _ (sectors (row_sector store.chunk (number / 32))) more (λ zero. omega (arith, zero)) refl (spells.pairs number less);
-  ends = elim spells.ends as (λ _. (length chunks ≡ pair_count store.chunk store.len) ⊎ IsFreeAt others store.chunk store.len (length chunks)) [
+  ends = elim spells.ends as (λ _. (length chunks ≡ pair_count store.chunk store.len) ⊎ AreClearFrom others store.chunk store.len (length chunks)) [
     | inl full ↦ inl full
     | inr free ↦
-        let n : ℕ = length chunks in
-        let read : others (row_sector store.chunk (n / 32)) ≡ Ok free.row = more (row_sector store.chunk (n / 32)) free.row free.read in
-        let same : pair others store.chunk n ≡ pair sectors store.chunk n = pair_known others store.chunk n free.row read ∙ sym (pair_known sectors store.chunk n free.row free.read) in
-        inr (record { inside = free.inside; row = free.row; read = read; free = ap (λ (p : Pair). p.new) same ∙ free.free })
+        inr (record { inside = free.inside; clear = λ i less. let here = free.clear i less in record { row = here.row; read = more (row_sector store.chunk ((length chunks + i) / 32)) here.row here.read; zeros = here.zeros } })
   ];
   fit = spells.fit;
   near = spells.near;

@@ -1,9 +1,5 @@
 -- A log with one more read.
-use Rattle.std.proofs.Common.{◌≡◌, ◌↔◌, ℕ, ◌+◌, ◌≤◌, List, [], ◌∷◌, ◌++◌, drop, length, length-drop, arith}
-use Rattle.std.proofs.lemmas.List.{take-append-le, take_all, drop-append-le}
-use Rattle.dm_store.specs.declared.asked.Asked.{Asked}
-use Rattle.dm_store.specs.Images.{AreRead, Contents}
-use Rattle.dm_store.specs.ReadLog.{Agrees, given_total, path_total}
+use Rattle.dm_store.proofs.Prelude.{◌≡◌, ◌↔◌, ℕ, ◌+◌, ◌≤◌, List, [], ◌∷◌, ◌++◌, drop, length, length-drop, arith, take-append-le, take_all, drop-append-le, Asked, AreRead, Contents, Agrees, given_total, path_total}
 
 pub path_more : (log : List Asked) (asked : Asked) → path_total (log ++ asked ∷ []) ≡ path_total log + asked.path_len
 unfolding path_total

@@ -1,47 +1,14 @@
 -- A restart finds the state that the lists of stores keep, and in it each top device has its row, or errors.
-use Rattle.std.proofs.Common.{◌≡◌, ◌≢◌, inl, inr, ℕ, zero, suc, ◌-◌, ◌<◌, true, false, List, [], ◌∷◌, ◌++◌, Option, Some, None, Result, Ok, length, refl, sym, ap, subst, ◌∙◌, arith}
-use Rattle.std.specs.List.{AllByRecursion}
-use Rattle.std.proofs.lemmas.Bool.{cases_Bool, eq-eqb}
-use Rattle.std.proofs.lemmas.List.{get_or_append_left, length-append}
-use Rattle.std.proofs.Math.Nat.{le-suc_iff}
-use Rattle.std.proofs.Math.Seq.{get_or-append_seam}
-use Rattle.dm_table.specs.declared.tables.table.StoreKind.{StoreKind}
-use Rattle.dm_table.specs.declared.tables.table.StoreKind.TheVariants.{Transient}
-use Rattle.dm_stack.specs.declared.checks.graph.TheConstants.{MOST_DEPTH}
+use Rattle.dm_store.proofs.Prelude.{◌≡◌, ◌≢◌, inl, inr, ℕ, zero, suc, ◌-◌, ◌<◌, true, false, List, [], ◌∷◌, ◌++◌, Option, Some, None, Result, Ok, length, refl, sym, ap, subst, ◌∙◌, arith, AllByRecursion, cases_Bool, eq-eqb, get_or_append_left, length-append, le-suc_iff, get_or-append_seam, StoreKind, Transient, Device, Disk, ResolvedLine, ResolvedSnapshot, ResolvedTarget, IsSound, IsTidy, IsTop, Description, Below, Lies, IsError, below_line, below_target, found_at, AreExact, IsAmple, IsOwnAt, Moment, after_played, Stays, value_read, AreOwn, Rows, BlockUnit, Zeros, Fails, IsFitting, read_over, State, Taken, lost, none_taken, taken_at, snapshot_at, by_below, read_below, read_unit, exact, line_snapshot, line_there, snapshot_sound, StoreFault, Store, IsLostInStore, DiskContents, Sectors, Ahead, AllKeepLists, AreListed, AreRestarts, Event, Gone, Held, IsFound, IsOfTop, IsRestart, Lists, Loses, Plays, Spelled, Unused, after_event, after_events, kept, kept_first, kept_in, if_listing, snapshot_store, start_of, state_of_first, store_at, store_if, store_sectors, stored_state, taken_if, taken_in, Fresh, Lost, listed, stored}
 use Rattle.dm_stack.specs.declared.id.Lower.{Lower}
-use Rattle.dm_stack.specs.declared.id.Lower.TheVariants.{Device, Disk}
-use Rattle.dm_stack.specs.declared.lines.resolved_line.ResolvedLine.{ResolvedLine}
-use Rattle.dm_stack.specs.declared.lines.resolved_line.ResolvedSnapshot.{ResolvedSnapshot}
-use Rattle.dm_stack.specs.declared.lines.resolved_line.ResolvedTarget.{ResolvedTarget}
+use Rattle.dm_stack.specs.declared.checks.graph.TheConstants.{MOST_DEPTH}
 use Rattle.dm_stack.specs.declared.lines.resolved_line.ResolvedTarget.TheVariants as found
-use Rattle.dm_stack.specs.checks.Soundness.{IsSound}
-use Rattle.dm_stack.specs.claims.Claims.{IsTidy}
-use Rattle.dm_stack.specs.Description.{Description}
-use Rattle.dm_stack.specs.lines.Below.{Below, Lies, IsError, below_line, below_target, found_at}
-use Rattle.dm_map.specs.own.Ample.{AreExact, IsAmple}
-use Rattle.dm_map.specs.own.Contents.{Stays, value_read}
-use Rattle.dm_map.specs.own.Rows.{AreOwn, Rows}
-use Rattle.dm_map.specs.pieces.Units.{BlockUnit, Zeros, Fails}
-use Rattle.dm_map.specs.state.Fitting.{IsFitting}
-use Rattle.dm_map.specs.state.Snapshots.{read_over}
-use Rattle.dm_map.specs.state.State.{State, Taken, lost, none_taken, taken_at}
-use Rattle.dm_map.specs.state.Tables.{snapshot_at}
-use Rattle.dm_map.specs.walk.Reads.{by_below, read_below, read_unit}
+use Rattle.dm_map.specs.Prelude.{Asked}
 use Rattle.dm_map.proofs.CutLemmas.{ahead_own, spare_own}
 use Rattle.dm_map.proofs.ChunkOutcomes.{fits_put}
 use Rattle.dm_map.proofs.HaltedRequests.{halted_own}
 use Rattle.dm_map.proofs.Losses.{lost_stays, stays_on}
-use Rattle.dm_map.proofs.NeverLost.{exact}
 use Rattle.dm_map.proofs.OwnRequests.{request_own}
-use Rattle.dm_map.proofs.ResolvedLines.{line_snapshot, line_there, snapshot_sound}
-use Rattle.dm_store.specs.declared.fault.StoreFault.{StoreFault}
-use Rattle.dm_store.specs.declared.store.Store.{Store}
-use Rattle.dm_store.specs.Fitting.{IsLostInStore}
-use Rattle.dm_store.specs.Images.{DiskContents}
-use Rattle.dm_store.specs.Pairs.{Sectors}
-use Rattle.dm_store.specs.Restart.{Ahead, AllKeepLists, AreListed, AreRestarts, Event, Gone, Halted, Held, IsFound, IsOfTop, IsOwnAt, IsRestart, Lists, Loses, Moment, Spelled, Unused, Whole, after_event, after_events, kept, kept_first, kept_in}
-use Rattle.dm_store.specs.Start.{if_listing, snapshot_store, start_of, state_of_first, store_at, store_if, store_sectors, stored_state, taken_if, taken_in}
-use Rattle.dm_store.specs.Stored.{Fresh, Lost, listed, stored}
 use Rattle.dm_store.proofs.SpellingLemmas.{reads_back}
 use Rattle.dm_store.proofs.StateLemmas.{stored_fits}
 use Rattle.dm_store.proofs.StoreLemmas.{taken_valid}
@@ -176,20 +143,23 @@ kept_own zeros stack state disks rows sound keep own = record {
 
 -- ---- the moment of a cut
 
-event_own : (zeros : Held) (stack : Description) (moment : Moment) (event : Event) → IsSound stack → IsTidy stack → IsOfTop stack event → IsOwnAt zeros stack moment → IsOwnAt zeros stack (after_event zeros stack moment event)
-event_own zeros stack moment (Whole asked) sound tidy top own =
-    request_own zeros asked.written stack asked.op moment.state asked.device asked.start asked.len moment.disks moment.rows sound tidy top own
-event_own zeros stack moment (Halted asked units) sound tidy top own =
-    halted_own zeros asked.written stack asked.op moment.state asked.device asked.start asked.len units moment.disks moment.rows sound tidy top own
-event_own zeros stack moment (Ahead chunks) sound tidy each own = ahead_own zeros (λ sector. zeros) stack moment.state 0 chunks moment.disks moment.rows sound tidy each own
+played_own : (zeros : Held) (stack : Description) (moment : Moment Held) (asked : Asked Held) (stop : Option ℕ) → IsSound stack → IsTidy stack → IsTop stack asked.device → IsOwnAt zeros stack moment → IsOwnAt zeros stack (after_played zeros stack stop asked moment)
+played_own zeros stack moment asked None sound tidy top own =
+    request_own zeros asked.written stack asked.op moment.state asked.device asked.start asked.len moment.values moment.rows sound tidy top own
+played_own zeros stack moment asked (Some units) sound tidy top own =
+    halted_own zeros asked.written stack asked.op moment.state asked.device asked.start asked.len units moment.values moment.rows sound tidy top own
+
+event_own : (zeros : Held) (stack : Description) (moment : Moment Held) (event : Event) → IsSound stack → IsTidy stack → IsOfTop stack event → IsOwnAt zeros stack moment → IsOwnAt zeros stack (after_event zeros stack moment event)
+event_own zeros stack moment (Plays asked) sound tidy top own = played_own zeros stack moment asked asked.halted_after sound tidy top own
+event_own zeros stack moment (Ahead chunks) sound tidy each own = ahead_own zeros (λ sector. zeros) stack moment.state 0 chunks moment.values moment.rows sound tidy each own
 event_own zeros stack moment (Loses device) sound tidy there own =
     let inside : device < length moment.state = (let count = own.fits.count in omega (arith, there, count)) in
     record {
       fits = fits_put stack moment.state device (lost (taken_at moment.state device)) own.fits inside (λ number other over below. own.fits.places device number other over below);
-      tops = λ top at is_top. stays_on _ _ _ (own.tops top at is_top) (lost_stays zeros stack moment.state moment.disks device (Device top) at sound inside);
+      tops = λ top at is_top. stays_on _ _ _ (own.tops top at is_top) (lost_stays zeros stack moment.state moment.values device (Device top) at sound inside);
     }
 
-events_own : (zeros : Held) (stack : Description) (moment : Moment) (events : List Event) → IsSound stack → IsTidy stack → AllByRecursion (IsOfTop stack) events → IsOwnAt zeros stack moment → IsOwnAt zeros stack (after_events zeros stack moment events)
+events_own : (zeros : Held) (stack : Description) (moment : Moment Held) (events : List Event) → IsSound stack → IsTidy stack → AllByRecursion (IsOfTop stack) events → IsOwnAt zeros stack moment → IsOwnAt zeros stack (after_events zeros stack moment events)
 unfolding after_events
 events_own zeros stack moment [] sound tidy tops own = own
 events_own zeros stack moment (event ∷ later) sound tidy tops own =
@@ -197,20 +167,20 @@ events_own zeros stack moment (event ∷ later) sound tidy tops own =
 
 -- ---- restarts
 
-pub restart_found : (zeros : Held) (stack : Description) (old new : Moment) → IsSound stack → IsTidy stack → AllKeepLists stack → IsOwnAt zeros stack old → IsRestart zeros stack old new → IsFound zeros stack new
+pub restart_found : (zeros : Held) (stack : Description) (old new : Moment Held) → IsSound stack → IsTidy stack → AllKeepLists stack → IsOwnAt zeros stack old → IsRestart zeros stack old new → IsFound zeros stack new
 restart_found zeros stack old new sound tidy keep own restart =
     let left = after_events zeros stack old restart.events in
-    let kept_there : AreOwn zeros stack new.state left.disks left.rows = rw restart.state (kept_own zeros stack left.state left.disks left.rows sound keep (events_own zeros stack old restart.events sound tidy restart.tops own)) in
+    let kept_there : AreOwn zeros stack new.state left.values left.rows = rw restart.state (kept_own zeros stack left.state left.values left.rows sound keep (events_own zeros stack old restart.events sound tidy restart.tops own)) in
     record {
-      found = rw restart.state (listed_back stack new.disks left.state restart.lists);
-      own = rw restart.rows (spare_own zeros stack new.state left.disks new.disks left.rows sound tidy kept_there restart.data_kept);
+      found = rw restart.state (listed_back stack new.values left.state restart.lists);
+      own = rw restart.rows (spare_own zeros stack new.state left.values new.values left.rows sound tidy kept_there restart.data_kept);
     }
 
-pub found_exact : (zeros : Held) (stack : Description) (moment : Moment) → IsSound stack → IsAmple stack → IsFound zeros stack moment → ((device : ℕ) → IsLostInStore stack moment.disks device → ⊥) → AreExact zeros stack moment.state moment.disks moment.rows
+pub found_exact : (zeros : Held) (stack : Description) (moment : Moment Held) → IsSound stack → IsAmple stack → IsFound zeros stack moment → ((device : ℕ) → IsLostInStore stack moment.values device → ⊥) → AreExact zeros stack moment.state moment.values moment.rows
 found_exact zeros stack moment sound ample found none =
-    exact zeros stack moment.state moment.disks moment.rows sound ample found.own ((stored_fits stack moment.disks moment.state sound found.found).intact none)
+    exact zeros stack moment.state moment.values moment.rows sound ample found.own ((stored_fits stack moment.values moment.state sound found.found).intact none)
 
-pub restarts_found : (zeros : Held) (stack : Description) (old : Moment) (later : List Moment) → IsSound stack → IsTidy stack → AllKeepLists stack → IsOwnAt zeros stack old → AreRestarts zeros stack old later → AllByRecursion (IsFound zeros stack) later
+pub restarts_found : (zeros : Held) (stack : Description) (old : Moment Held) (later : List (Moment Held)) → IsSound stack → IsTidy stack → AllKeepLists stack → IsOwnAt zeros stack old → AreRestarts zeros stack old later → AllByRecursion (IsFound zeros stack) later
 unfolding AreRestarts
 restarts_found zeros stack old [] sound tidy keep own each = tt
 restarts_found zeros stack old (new ∷ later) sound tidy keep own each =

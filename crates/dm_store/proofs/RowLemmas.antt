@@ -1,19 +1,6 @@
 -- Rows of a list: those of an area lie in a row in the store, and inside it.
-use Rattle.std.proofs.Common.{◌≡◌, ℕ, ◌+◌, ◌-◌, ◌*◌, ◌/◌, ◌%◌, ◌<◌, ◌≤◌, List, Result, Ok, length, sym, ap, subst, ◌∙◌, arith}
-use Rattle.std.specs.Prelude.{Err, IfErr, IfOk, OnOk}
-use Rattle.std.proofs.lemmas.Nat.{div-add-mod', div-mul-add, mod-mul-add}
-use Rattle.std.proofs.lemmas.List.{take_all}
-use Rattle.std.proofs.Math.Nat.{mul-le-mul_right}
-use Rattle.dm_stack.specs.Description.{Description}
-use Rattle.dm_map.specs.walk.Homes.{GoOn, Home, home}
-use Rattle.dm_store.specs.declared.fault.SectorFault.{SectorFault}
+use Rattle.dm_store.proofs.Prelude.{◌≡◌, ℕ, ◌+◌, ◌-◌, ◌*◌, ◌/◌, ◌%◌, ◌<◌, ◌≤◌, List, Result, Ok, length, sym, ap, subst, ◌∙◌, arith, Err, IfErr, IfOk, OnOk, div-add-mod', div-mul-add, mod-mul-add, take_all, mul-le-mul_right, Description, GoOn, Home, home, SectorFault, Store, AreRead, DiskContents, sector_in, area_count, row_sector, Sectors, HasRows, IsRowOf, store_sectors}
 use Rattle.dm_store.specs.declared.row_range.RowRange.{RowRange}
-use Rattle.dm_store.specs.declared.store.Store.{Store}
-use Rattle.dm_store.specs.Images.{AreRead, DiskContents, sector_in}
-use Rattle.dm_store.specs.Layout.{area_count, row_sector}
-use Rattle.dm_store.specs.Pairs.{Sectors}
-use Rattle.dm_store.specs.Reading.{HasRows, IsRowOf}
-use Rattle.dm_store.specs.Start.{store_sectors}
 
 -- rows of one area lie one after the other
 pub row_after : (chunk row i : ℕ) → row % chunk + i < chunk → row_sector chunk (row + i) ≡ row_sector chunk row + i

@@ -1,25 +1,8 @@
 -- What is spelled in a store is read back.
-use Rattle.std.proofs.Common.{◌≡◌, inl, inr, ℕ, zero, suc, ◌<◌, ◌≤◌, Bool, true, false, List, [], ◌∷◌, Option, None, get_or, length, nat_eq, take, refl, sym, ap, subst, ◌∙◌, arith}
-use Rattle.std.specs.List.{IsDistinct}
-use Rattle.std.specs.Prelude.{◌==◌, ◌&&◌, nat_lt, not, slice_index}
-use Rattle.std.proofs.lemmas.Bool.{eq-eqb, le-leb, lt-ltb, ne_eqb, and_from}
-use Rattle.std.proofs.lemmas.List.{take_all}
-use Rattle.std.proofs.Math.Seq.{take-suc}
-use Rattle.std.proofs.lemmas.Option.{slice_get-get_or}
-use Rattle.dm_store.specs.declared.fault.ListFault.{ListFault}
-use Rattle.dm_store.specs.declared.pair.Pair.{Pair}
-use Rattle.dm_store.specs.declared.store.Store.{Store}
-use Rattle.dm_store.specs.Numbers.{four_at}
-use Rattle.dm_store.specs.Pairs.{Sectors, each, old_chunks, pair}
-use Rattle.dm_table.specs.declared.tables.table.StoreKind.TheVariants.{Persistent}
+use Rattle.dm_store.proofs.Prelude.{◌≡◌, inl, inr, ℕ, zero, suc, ◌+◌, ◌%◌, ◌<◌, ◌≤◌, Bool, true, false, List, [], ◌∷◌, Option, None, Result, get_or, length, nat_eq, take, refl, sym, ap, subst, ◌∙◌, arith, IsDistinct, ◌==◌, nat_lt, not, slice_index, eq-eqb, le-leb, lt-ltb, ne_eqb, and_from, take_all, take-suc, slice_get-get_or, ListFault, SectorFault, Pair, Store, four_at, Sectors, each, old_chunks, pair, pair_count, rest_count, IsClear, ReadsBack, Spells, Holds, are_zeros, is_clear, is_clear_in, list_fault, fault_of, is_any_again, is_listed, is_near, is_placed, list_count, listed, of_count, of_list, Persistent, place, number_in}
 use Rattle.dm_table.proofs.Lists.{at_index}
-use Rattle.dm_stack.specs.lines.StoreLayout.{place}
-use Rattle.dm_store.specs.Layout.{pair_count}
-use Rattle.dm_store.specs.Spelled.{ReadsBack, Spells}
-use Rattle.dm_store.specs.Stored.{Holds, list_fault, fault_of, is_any_again, is_listed, is_near, is_placed, list_count, listed, listed_if, of_count, of_list}
-use Rattle.dm_map.specs.state.Snapshots.{number_in}
 use Rattle.dm_store.proofs.ListLemmas.{count_full, count_stop}
-use Rattle.dm_store.proofs.WalkLemmas.{count_all, count_less}
+use Rattle.dm_store.proofs.WalkLemmas.{count_all, count_less, pair_known, rest_clear, rest_some}
 
 each_all : (p : ℕ → Bool) (n : ℕ) → ((i : ℕ) → i < n → p i ≡ true) → each p n ≡ true
 unfolding each
@@ -52,6 +35,9 @@ none_again pairs xs (suc n) within distinct are =
 faultless : (placed near again : Bool) → placed ≡ true → near ≡ true → again ≡ false → fault_of placed near again ≡ None
 faultless placed near again p n a = rw (p, n, a) refl
 
+clear_is : (sectors : Sectors) (chunk number : ℕ) → IsClear sectors chunk number → is_clear sectors chunk number ≡ true
+clear_is sectors chunk number clear = ap (λ (r : Result (List ℕ) SectorFault). is_clear_in r (number % 32)) clear.read ∙ ap are_zeros clear.zeros
+
 listed_spelled : (sectors : Sectors) (store : Store) (chunks : List ℕ) → Spells sectors store chunks → listed sectors store ≡ Holds chunks
 listed_spelled sectors store chunks spells =
     let n : ℕ = length chunks in
@@ -74,9 +60,11 @@ listed_spelled sectors store chunks spells =
           let count : list_count sectors store ≡ most = count_full (λ i. is_listed (pairs i)) most (subst (λ (m : ℕ). each (λ i. is_listed (pairs i)) m ≡ true) full going) in
           ap (of_count sectors store) count ∙ count_all sectors store ∙ ap (λ (m : ℕ). of_list (list_fault store pairs m) (old_chunks pairs m)) (sym full) ∙ held
       | inr free ↦
-          let stop : is_listed (pairs n) ≡ false = rw free.free refl in
+          let first : IsClear sectors store.chunk n = subst (λ (m : ℕ). IsClear sectors store.chunk m) (omega arith) (free.clear 0 (rest_some store.chunk store.len n free.inside)) in
+          let stop : is_listed (pairs n) ≡ false = ap is_listed (pair_known sectors store.chunk n first.row first.read ∙ first.zeros) in
           let count : list_count sectors store ≡ n = count_stop (λ i. is_listed (pairs i)) n (pair_count store.chunk store.len) going stop (omega (arith, free.inside)) in
-          ap (of_count sectors store) count ∙ count_less sectors store n free.inside ∙ ap (listed_if (of_list (list_fault store pairs n) (old_chunks pairs n))) free.read ∙ held
+          let rest = each_all (λ i. is_clear sectors store.chunk (n + i)) (rest_count store.chunk n) (λ i less. clear_is sectors store.chunk (n + i) (free.clear i less)) in
+          ap (of_count sectors store) count ∙ count_less sectors store n free.inside ∙ rest_clear sectors store.chunk n (of_list (list_fault store pairs n) (old_chunks pairs n)) rest ∙ held
     ]
 
 pub reads_back : (store : Store) → ReadsBack store

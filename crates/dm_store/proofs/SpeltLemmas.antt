@@ -1,21 +1,6 @@
 -- What is said to be held is spelled.
-use Rattle.std.proofs.Common.{◌≡◌, ◌⊎◌, inl, inr, ℕ, zero, suc, ◌/◌, ◌<◌, ◌≤◌, Bool, true, false, cond, List, [], ◌∷◌, ◌++◌, None, Result, Ok, Err, get_or, length, refl, sym, ap, subst, ◌∙◌, arith}
-use Rattle.std.specs.Prelude.{◌≢◌, ◌==◌, ◌&&◌, not, nat_lt, slice_index}
-use Rattle.std.proofs.lemmas.Bool.{eq-eqb, eqb-true, leb-true, ne_eqb, and_parts, not-false}
-use Rattle.std.proofs.Math.Nat.{le-suc_iff}
-use Rattle.std.proofs.lemmas.List.{get_or_append_left}
-use Rattle.std.proofs.Math.Seq.{get_or-append_seam}
-use Rattle.dm_store.specs.declared.fault.SectorFault.{SectorFault}
-use Rattle.dm_store.specs.declared.pair.Pair.{Pair}
-use Rattle.dm_store.specs.declared.store.Store.{Store}
-use Rattle.dm_store.specs.Numbers.{four_at}
-use Rattle.dm_store.specs.Pairs.{count_of, each, old_chunks, pair}
-use Rattle.dm_table.specs.declared.tables.table.StoreKind.TheVariants.{Persistent}
-use Rattle.dm_stack.specs.lines.StoreLayout.{place}
-use Rattle.dm_store.specs.Layout.{pair_count, row_sector}
-use Rattle.dm_store.specs.Spelled.{IsFreeAt, IsSpelled, IsUsed}
-use Rattle.dm_store.specs.Stored.{Holds, Stored, by_header, list_fault, fault_of, is_any_again, is_listed, is_near, is_placed, list_count, listed, listed_if, of_list}
-use Rattle.dm_store.proofs.FittingLemmas.{always_fits, end_holds, header_holds, length_old, list_holds, words_hold}
+use Rattle.dm_store.proofs.Prelude.{◌≡◌, ◌⊎◌, inl, inr, ℕ, zero, suc, ◌+◌, ◌/◌, ◌%◌, ◌<◌, ◌≤◌, Bool, true, false, cond, List, [], ◌∷◌, ◌++◌, None, Result, Ok, Err, get_or, length, refl, sym, ap, subst, ◌∙◌, arith, ◌≢◌, ◌==◌, ◌&&◌, nat_lt, slice_index, eq-eqb, eqb-true, leb-true, ne_eqb, and_parts, le-suc_iff, get_or_append_left, get_or-append_seam, SectorFault, Pair, Store, four_at, Sectors, count_of, each, old_chunks, pair, pair_in, pair_count, rest_count, row_sector, AreClearFrom, IsClear, IsSpelled, IsUsed, Holds, Stored, by_header, clear_count, fault_of, is_any_again, is_clear, is_clear_in, is_listed, is_near, is_placed, list_count, list_fault, listed, Persistent, place}
+use Rattle.dm_store.proofs.FittingLemmas.{always_fits, header_holds, length_old, list_ends, list_holds, words_hold}
 
 unequal : (n : ℕ) → (n == 0) ≡ false → n ≢ 0
 unequal n e = λ zero. absurd (let t : (n == 0) ≡ true = eq-eqb n 0 zero in cc)
@@ -88,25 +73,32 @@ no_fault_all : (placed near again : Bool) → fault_of placed near again ≡ Non
 no_fault_all true true again e = (refl, refl)
 no_fault_all placed near again e = absurd cc
 
--- where not all areas are full, the sector of the pair after the list could be read
-end_read : (full : Bool) (listed : Stored) (sector : Result (List ℕ) SectorFault) (chunks : List ℕ) → full ≡ false → cond full listed (listed_if listed sector) ≡ Holds chunks → (row : List ℕ) × (sector ≡ Ok row)
-end_read false listed (Ok bytes) chunks e held = (bytes, refl)
-end_read full listed sector chunks e held = absurd cc
+-- a pair of which is known that it is clear
+clear_in : (sectors : Sectors) (chunk number : ℕ) (row : Result (List ℕ) SectorFault) → sectors (row_sector chunk (number / 32)) ≡ row → is_clear_in row (number % 32) ≡ true → IsClear sectors chunk number
+clear_in sectors chunk number (Ok bytes) is clear =
+    let here : Pair = pair_in bytes (number % 32) in
+    let parts = and_parts (here.old == 0) (here.new == 0) clear in
+    let a : here ≡ record { old = 0; new = here.new } = ap (λ (x : ℕ). let y : Pair = record { old = x; new = here.new } in y) (eqb-true here.old 0 parts.0) in
+    record { row = bytes; read = is; zeros = a ∙ ap (λ (x : ℕ). let y : Pair = record { old = 0; new = x } in y) (eqb-true here.new 0 parts.1) }
+clear_in sectors chunk number (Err fault) is clear = absurd cc
 
-not_listed : (n : ℕ) → not (n == 0) ≡ false → n ≡ 0
-not_listed n e = eqb-true n 0 (not-false (n == 0) e)
+-- so is each to the end of its area
+clear_all : (sectors : Sectors) (chunk count : ℕ) → (clear_count sectors chunk count == rest_count chunk count) ≡ true → (i : ℕ) → i < rest_count chunk count → IsClear sectors chunk (count + i)
+clear_all sectors chunk count whole i less =
+    let p : ℕ → Bool = λ n. is_clear sectors chunk (count + n) in
+    let most : ℕ = rest_count chunk count in
+    let all : each p most ≡ true = subst (λ (n : ℕ). each p n ≡ true) (eqb-true (clear_count sectors chunk count) most whole) (count_ends p most).each_so in
+    clear_in sectors chunk (count + i) (sectors (row_sector chunk ((count + i) / 32))) refl (each_at p most i all less)
 
 pub is_spelled : (store : Store) → IsSpelled store
 is_spelled store = λ sectors chunks is.
     let count : ℕ = list_count sectors store in
     let most : ℕ = pair_count store.chunk store.len in
     let pairs : ℕ → Pair = pair sectors store.chunk in
-    let sector : Result (List ℕ) SectorFault = sectors (row_sector store.chunk (count / 32)) in
-    let list : Stored = of_list (list_fault store pairs count) (old_chunks pairs count) in
     let header : Header store.chunk (sectors 0) = header_parts (listed sectors store) store.chunk (sectors 0) chunks is in
     let used : listed sectors store ≡ Holds chunks = header_holds (listed sectors store) store.chunk (sectors 0) chunks is in
-    let held : list ≡ Holds chunks = end_holds (count == most) list sector chunks used in
-    let parts = list_holds (list_fault store pairs count) (old_chunks pairs count) chunks held in
+    let held = list_ends sectors store chunks used in
+    let parts = list_holds (list_fault store pairs count) (old_chunks pairs count) chunks held.0 in
     let all = no_fault_all (each (λ i. is_placed store i (pairs i)) count) (each (λ i. is_near store (pairs i)) count) (is_any_again pairs count) parts.0 in
     let len : length chunks ≡ count = ap (λ (xs : List ℕ). length xs) (sym parts.1) ∙ length_old pairs count in
     let olds : (i : ℕ) → i < count → (pairs i).old ≡ slice_index chunks i = λ i less. sym (old_at pairs count i less) ∙ ap (λ (xs : List ℕ). get_or xs i 0) parts.1 in
@@ -121,13 +113,12 @@ is_spelled store = λ sectors chunks is.
           let new : (pairs i).new ≡ place Persistent store.chunk i = eqb-true (pairs i).new (place Persistent store.chunk i) placed.1 in
           let a : pairs i ≡ record { old = slice_index chunks i; new = (pairs i).new } = ap (λ (x : ℕ). let y : Pair = record { old = x; new = (pairs i).new } in y) (olds i less) in
           a ∙ ap (λ (x : ℕ). let y : Pair = record { old = slice_index chunks i; new = x } in y) new;
-      ends = elim ends.stops as (λ _. (length chunks ≡ most) ⊎ IsFreeAt sectors store.chunk store.len (length chunks)) [
+      ends = elim ends.stops as (λ _. (length chunks ≡ most) ⊎ AreClearFrom sectors store.chunk store.len (length chunks)) [
         | inl full ↦ inl (len ∙ full)
         | inr stop ↦
             let other : (count == most) ≡ false = ne_eqb count most (λ same. omega (arith, same, stop.0)) in
-            let read = end_read (count == most) list sector chunks other used in
-            let at : IsFreeAt sectors store.chunk store.len count = record { inside = stop.0; row = read.0; read = read.1; free = not_listed (pairs count).new stop.1 } in
-            inr (subst (λ (n : ℕ). IsFreeAt sectors store.chunk store.len n) (sym len) at)
+            let at : AreClearFrom sectors store.chunk store.len count = record { inside = stop.0; clear = clear_all sectors store.chunk count (held.1 other) } in
+            inr (subst (λ (n : ℕ). AreClearFrom sectors store.chunk store.len n) (sym len) at)
       ];
       fit = always_fits store sectors chunks is;
       near = λ i below.

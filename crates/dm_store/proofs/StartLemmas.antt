@@ -1,24 +1,6 @@
 -- The state of all devices, from that of each; and which of them are snapshots.
-use Rattle.std.proofs.Common.{◌≡◌, inl, inr, ℕ, zero, suc, ◌+◌, ◌<◌, ◌≤◌, Bool, true, false, cond, List, ◌∷◌, Option, Some, None, Result, Ok, Err, filter, get_or, length, take, refl, sym, ap, subst, ◌∙◌, arith}
-use Rattle.std.specs.Option.{option_and_then}
-use Rattle.std.specs.List.{Contains, range_with_len}
-use Rattle.std.proofs.lemmas.Bool.{cases_lt, cases_order}
-use Rattle.std.proofs.lemmas.List.{get_or-set_other, get_or_default, get_or_past}
-use Rattle.std.proofs.lemmas.List.Elements.{All-get_or}
-use Rattle.std.proofs.Math.Nat.{le-suc_iff}
-use Rattle.std.proofs.Math.Seq.{take-suc}
-use Rattle.dm_stack.specs.declared.lines.resolved_line.ResolvedLine.{ResolvedLine}
-use Rattle.dm_stack.specs.declared.lines.resolved_line.ResolvedSnapshot.{ResolvedSnapshot}
-use Rattle.dm_stack.specs.declared.lines.resolved_line.ResolvedTarget.{ResolvedTarget}
+use Rattle.dm_store.proofs.Prelude.{◌≡◌, inl, inr, ℕ, zero, suc, ◌+◌, ◌<◌, ◌≤◌, Bool, true, false, cond, List, ◌∷◌, Option, Some, None, Result, Ok, Err, filter, get_or, length, take, refl, sym, ap, subst, ◌∙◌, arith, option_and_then, Contains, range_with_len, cases_lt, cases_order, get_or-set_other, get_or_default, get_or_past, All-get_or, le-suc_iff, take-suc, ResolvedLine, ResolvedSnapshot, ResolvedTarget, Description, lines_at, AreSnapshots, IsSnapshot, has_snapshot, snapshots, found_at, State, Taken, none_taken, put, taken_at, snapshot_of, StoreFault, DiskContents, start_of, state_of_first, store_if, taken_if, with_next}
 use Rattle.dm_stack.specs.declared.lines.resolved_line.ResolvedTarget.TheVariants as found
-use Rattle.dm_stack.specs.Description.{Description, lines_at}
-use Rattle.dm_stack.specs.checks.Snapshots.{AreSnapshots, IsSnapshot, has_snapshot, snapshots}
-use Rattle.dm_stack.specs.lines.Below.{found_at}
-use Rattle.dm_map.specs.state.State.{State, Taken, none_taken, put, taken_at}
-use Rattle.dm_map.specs.state.Tables.{snapshot_of}
-use Rattle.dm_store.specs.declared.fault.StoreFault.{StoreFault}
-use Rattle.dm_store.specs.Images.{DiskContents}
-use Rattle.dm_store.specs.Start.{start_of, state_of_first, store_if, taken_if, with_next}
 
 -- ---- the state of the first devices
 

@@ -1,34 +1,6 @@
 -- The state that the stores of a stack hold is one that the stack can be in.
-use Rattle.std.proofs.Common.{◌≡◌, inl, inr, ℕ, zero, suc, ◌+◌, ◌-◌, ◌*◌, ◌/◌, ◌<◌, ◌≤◌, true, false, List, [], ◌∷◌, ◌++◌, Option, Some, None, Result, Ok, get_or, length, refl, sym, ap, subst, ◌∙◌, arith}
-use Rattle.std.specs.Prelude.{◌⊎◌, ◌↔◌, slice_index}
-use Rattle.std.specs.List.{AllByRecursion, IsDistinct}
-use Rattle.std.proofs.lemmas.Bool.{cases_Bool, cases_lt, le-leb}
-use Rattle.std.proofs.lemmas.List.{get_or_append_left, get_or_past, length-append}
-use Rattle.std.proofs.Math.Nat.{le-div_iff_mul-le, le-suc_iff}
-use Rattle.std.proofs.Math.Seq.{get_or-append_seam}
-use Rattle.dm_table.specs.declared.tables.table.StoreKind.{StoreKind}
-use Rattle.dm_table.specs.declared.tables.table.StoreKind.TheVariants.{Transient}
-use Rattle.dm_stack.specs.declared.lines.resolved_line.ResolvedSnapshot.{ResolvedSnapshot}
-use Rattle.dm_stack.specs.checks.Soundness.{IsSound}
-use Rattle.dm_stack.specs.Description.{Description, device_len, lower_len}
-use Rattle.dm_stack.specs.lines.Below.{found_at}
+use Rattle.dm_store.proofs.Prelude.{◌≡◌, inl, inr, ℕ, zero, suc, ◌+◌, ◌-◌, ◌*◌, ◌/◌, ◌<◌, ◌≤◌, true, false, List, [], ◌∷◌, ◌++◌, Option, Some, None, Result, Ok, get_or, length, refl, sym, ap, subst, ◌∙◌, arith, ◌⊎◌, ◌↔◌, slice_index, AllByRecursion, IsDistinct, cases_Bool, cases_lt, le-leb, get_or_append_left, get_or_past, length-append, le-div_iff_mul-le, le-suc_iff, get_or-append_seam, true≢false, none-some, StoreKind, Transient, ResolvedSnapshot, IsSound, Description, device_len, lower_len, found_at, AreExact, AreOwnChunks, IsAmple, chunk_count, Values, AreOwn, IsFitting, State, Taken, none_taken, taken_at, snapshot_at, rows_in, line_there, snapshot_sound, chunk_inside, exact, StoreFault, StoreRefusal, Store, Fit, IsLostInStore, IsStart, DiskContents, Sectors, if_listing, snapshot_store, start_of, state_of_first, store_at, store_if, store_sectors, stored_state, taken_if, taken_in, with_next, Stored, Fresh, Lost, Holds, Refused, stored}
 use Rattle.dm_stack.proofs.StoreLayoutLemmas.{has_place}
-use Rattle.dm_map.specs.own.Ample.{AreExact, AreOwnChunks, IsAmple, chunk_count}
-use Rattle.dm_map.specs.own.Contents.{Values}
-use Rattle.dm_map.specs.own.Rows.{AreOwn}
-use Rattle.dm_map.specs.state.Fitting.{IsFitting}
-use Rattle.dm_map.specs.state.State.{State, Taken, none_taken, taken_at}
-use Rattle.dm_map.specs.state.Tables.{snapshot_at}
-use Rattle.dm_map.proofs.ResolvedLines.{line_there, snapshot_sound}
-use Rattle.dm_map.proofs.NeverLost.{chunk_inside, exact}
-use Rattle.dm_store.specs.declared.fault.StoreFault.{StoreFault}
-use Rattle.dm_store.specs.declared.fault.StoreRefusal.{StoreRefusal}
-use Rattle.dm_store.specs.declared.store.Store.{Store}
-use Rattle.dm_store.specs.Fitting.{Fit, IsLostInStore, IsStart, rows_in}
-use Rattle.dm_store.specs.Images.{DiskContents}
-use Rattle.dm_store.specs.Pairs.{Sectors}
-use Rattle.dm_store.specs.Start.{if_listing, snapshot_store, start_of, state_of_first, store_at, store_if, store_sectors, stored_state, taken_if, taken_in, with_next}
-use Rattle.dm_store.specs.Stored.{Stored, Fresh, Lost, Holds, Refused, stored}
 use Rattle.dm_store.proofs.SpeltLemmas.{is_spelled}
 use Rattle.dm_store.proofs.StartLemmas.{no_snapshot_in}
 
@@ -74,9 +46,6 @@ are_first starts (suc last) state e =
 
 -- ---- what a store says
 
-pub both_ways : true ≡ false → ⊥
-both_ways e = cc
-
 pub ok_is : (a b : Taken) → (let r : Result Taken StoreFault = Ok a in r) ≡ Ok b → a ≡ b
 ok_is a b e = cc
 
@@ -97,14 +66,14 @@ record IsTakenIn (sectors : Sectors) (store : Store) (taken : Taken) : Type 0 wh
 by_store : (sectors : Sectors) (store : Store) (says : Stored) (taken : Taken) → stored sectors store ≡ says → taken_in says ≡ Ok taken → IsTakenIn sectors store taken
 by_store sectors store Fresh taken is e =
     let same = ok_is none_taken taken e in
-    rw (← same) (record { held = none_held store; lost = (λ gone. absurd (both_ways gone), λ lost. absurd (let differ : Fresh ≡ Lost = sym is ∙ lost in cc)) })
+    rw (← same) (record { held = none_held store; lost = (λ gone. absurd (true≢false gone), λ lost. absurd (let differ : Fresh ≡ Lost = sym is ∙ lost in cc)) })
 by_store sectors store Lost taken is e =
     let same = ok_is (record { chunks = []; valid = false }) taken e in
     rw (← same) (record { held = none_held store; lost = (λ gone. is, λ lost. refl) })
 by_store sectors store (Holds chunks) taken is e =
     let same = ok_is (record { chunks = chunks; valid = true }) taken e in
     let spelled = is_spelled store sectors chunks is in
-    rw (← same) (record { held = record { fit = spelled.fit; near = spelled.near }; lost = (λ gone. absurd (both_ways gone), λ lost. absurd (let differ : Holds chunks ≡ Lost = sym is ∙ lost in cc)) })
+    rw (← same) (record { held = record { fit = spelled.fit; near = spelled.near }; lost = (λ gone. absurd (true≢false gone), λ lost. absurd (let differ : Holds chunks ≡ Lost = sym is ∙ lost in cc)) })
 by_store sectors store (Refused fault) taken is e = absurd cc
 
 -- what a device took by the store that is to be read, if there is one
@@ -113,22 +82,19 @@ record IsTakenBy (stack : Description) (disks : DiskContents) (device : ℕ) (ta
   some : (store : Store) → store_at stack device ≡ Some store → AreHeld store taken.chunks
   lost : (taken.valid ≡ false) ↔ IsLostInStore stack disks device
 
-pub none_some : (store : Store) → (let o : Option Store = None in o) ≡ Some store → ⊥
-none_some store e = cc
-
 taken_by : (stack : Description) (disks : DiskContents) (device : ℕ) (kept : Option Store) (taken : Taken) → store_at stack device ≡ kept → taken_if stack disks kept ≡ Ok taken → IsTakenBy stack disks device taken
 taken_by stack disks device None taken is e =
     let same = ok_is none_taken taken e in
     rw (← same) (record {
       none = λ no. refl;
-      some = λ store of. absurd (none_some store (sym is ∙ of));
-      lost = (λ gone. absurd (both_ways gone), λ lost. absurd (none_some lost.store (sym is ∙ lost.of)));
+      some = λ store of. absurd (none-some store (sym is ∙ of));
+      lost = (λ gone. absurd (true≢false gone), λ lost. absurd (none-some lost.store (sym is ∙ lost.of)));
     })
 taken_by stack disks device (Some store) taken is e =
     let by = by_store (store_sectors stack disks store) store (stored (store_sectors stack disks store) store) taken refl e in
     let only : (other : Store) → store_at stack device ≡ Some other → other ≡ store = λ other of. cc in
     record {
-      none = λ no. absurd (none_some store (sym no ∙ is));
+      none = λ no. absurd (none-some store (sym no ∙ is));
       some = λ other of. rw (only other of) by.held;
       lost = (
         λ gone. record { store = store; of = is; says = by.lost.0 gone },

@@ -1,15 +1,14 @@
 -- What is told of a store, by its header and its list.
-use Rattle.std.proofs.Common.{◌≡◌, ℕ, ◌<◌, Bool, true, Result, Ok, length, sym, ap, ◌∙◌, arith}
-use Rattle.std.proofs.lemmas.List.{length-set, set-set}
-use Rattle.dm_map.specs.state.State.{State, Taken, put, taken_at}
-use Rattle.dm_map.proofs.ChunkTaking.{taken_same}
-use Rattle.dm_store.specs.declared.fault.StoreFault.{StoreFault}
-use Rattle.dm_store.specs.Start.{taken_in}
-use Rattle.dm_store.specs.Stored.{Holds}
+use Rattle.dm_store.proofs.Prelude.{◌≡◌, ℕ, ◌<◌, Bool, true, Result, Ok, Err, length, refl, sym, ap, ◌∙◌, arith, OnOk, length-set, set-set, State, Taken, put, taken_at, taken_same, StoreFault, told, told_list, taken_in, Holds}
 
 -- a valid snapshot that took what a list holds
 pub taken_valid : (taken : Taken) → taken.valid ≡ true → Ok taken ≡ taken_in (Holds taken.chunks)
 taken_valid taken valid = ap (λ (b : Bool). let t : Taken = record { chunks = taken.chunks; valid = b } in let r : Result Taken StoreFault = Ok t in r) valid
+
+-- what is told of a store in use, by its list
+pub list_told : (result : Result (Unit {0}) StoreFault) (taken : Taken) → OnOk result (taken.valid ≡ true) → told result taken ≡ taken_in (told_list result (Holds taken.chunks))
+list_told (Ok done) taken valid = taken_valid taken valid
+list_told (Err fault) taken valid = refl
 
 -- one more change of a device of which alone something changed
 pub put_more : (first state new : State) (device : ℕ) (taken : Taken) → device < length first → state ≡ put first device (taken_at state device) → new ≡ put state device taken

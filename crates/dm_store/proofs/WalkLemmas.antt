@@ -1,18 +1,5 @@
 -- What the reader knows of a list where it stops, and after one more pair.
-use Rattle.std.proofs.Common.{◌≡◌, ℕ, ◌+◌, ◌/◌, ◌%◌, ◌<◌, Bool, true, false, List, [], ◌∷◌, ◌++◌, Option, Some, None, Result, Ok, Err, refl, sym, ap, subst, ◌∙◌, arith}
-use Rattle.std.specs.Prelude.{is_some}
-use Rattle.std.proofs.lemmas.Bool.{eq-eqb, ne_eqb}
-use Rattle.dm_store.specs.declared.fault.SectorFault.{SectorFault}
-use Rattle.dm_store.specs.declared.fault.ListFault.{ListFault}
-use Rattle.dm_store.specs.declared.fault.ListFault.TheVariants.{Range}
-use Rattle.dm_store.specs.declared.fault.StoreFault.TheVariants.{Unread}
-use Rattle.dm_store.specs.declared.pair.Pair.{Pair}
-use Rattle.dm_store.specs.declared.store.Store.{Store}
-use Rattle.dm_store.specs.Pairs.{Sectors, each, pair, pair_in, old_chunks, bytes_or_none}
-use Rattle.dm_store.specs.Layout.{row_sector, pair_count}
-use Rattle.dm_store.specs.Reading.{Walked, next_fault}
-use Rattle.dm_store.specs.Stored.{Stored, Refused, is_any_again, list_fault, is_listed, is_near, is_placed, list_count, listed, listed_if, of_count, of_list}
-use Rattle.dm_map.specs.state.Snapshots.{number_in}
+use Rattle.dm_store.proofs.Prelude.{◌≡◌, ℕ, ◌+◌, ◌*◌, ◌/◌, ◌%◌, ◌<◌, ◌≤◌, Bool, true, false, List, [], ◌∷◌, ◌++◌, Option, Some, None, Result, Ok, Err, refl, sym, ap, subst, ◌∙◌, arith, is_some, eq-eqb, ne_eqb, div-add-mod', mul-le-mul_right, SectorFault, ListFault, Range, Unread, Pair, Store, Sectors, each, pair, pair_in, old_chunks, bytes_or_none, area_count, row_sector, pair_count, rest_count, IsPair, Walked, next_fault, Stored, Refused, ended, ended_by, is_any_again, is_clear, is_clear_in, list_fault, is_listed, is_near, is_placed, list_count, listed, of_count, of_list, rest_fault, number_in}
 use Rattle.dm_store.proofs.ListLemmas.{count_full, count_stop, each_more, fault_more, old_more}
 
 -- where a list has a fault, what was taken of it doesn't matter
@@ -32,7 +19,7 @@ pub count_all : (sectors : Sectors) (store : Store) → of_count sectors store (
 count_all sectors store = rw (eq-eqb (pair_count store.chunk store.len) (pair_count store.chunk store.len) refl) refl
 
 pub count_less : (sectors : Sectors) (store : Store) (number : ℕ) → number < pair_count store.chunk store.len → of_count sectors store number
-    ≡ listed_if (of_list (list_fault store (pair sectors store.chunk) number) (old_chunks (pair sectors store.chunk) number)) (sectors (row_sector store.chunk (number / 32)))
+    ≡ ended sectors store.chunk number (of_list (list_fault store (pair sectors store.chunk) number) (old_chunks (pair sectors store.chunk) number))
 count_less sectors store number less =
     let other : number ≡ pair_count store.chunk store.len → ⊥ = λ same. omega (arith, less, same) in
     rw (ne_eqb number (pair_count store.chunk store.len) other) refl
@@ -48,12 +35,12 @@ full_list sectors store number f chunks walked full =
 
 pub stopped_list : (sectors : Sectors) (store : Store) (number : ℕ) (f : Option ListFault) (chunks : List ℕ) → Walked sectors store number f chunks
     → number < pair_count store.chunk store.len → is_listed (pair sectors store.chunk number) ≡ false
-    → listed sectors store ≡ listed_if (of_list f chunks) (sectors (row_sector store.chunk (number / 32)))
+    → listed sectors store ≡ ended sectors store.chunk number (of_list f chunks)
 stopped_list sectors store number f chunks walked less free =
     let stop : list_count sectors store ≡ number = count_stop (λ i. is_listed (pair sectors store.chunk i)) number (pair_count store.chunk store.len) walked.so_far free (omega (arith, less)) in
     ap (of_count sectors store) stop
     ∙ count_less sectors store number less
-    ∙ ap (λ (x : Stored). listed_if x (sectors (row_sector store.chunk (number / 32)))) (sym (of_walked sectors store number f chunks walked))
+    ∙ ap (ended sectors store.chunk number) (sym (of_walked sectors store number f chunks walked))
 
 -- a pair of a sector that is known
 pub pair_known : (sectors : Sectors) (chunk number : ℕ) (block : List ℕ) → sectors (row_sector chunk (number / 32)) ≡ Ok block → pair sectors chunk number ≡ pair_in block (number % 32)
@@ -62,18 +49,53 @@ pair_known sectors chunk number block is = ap (λ (r : Result (List ℕ) SectorF
 pub pair_unread : (sectors : Sectors) (chunk number : ℕ) (fault : SectorFault) → sectors (row_sector chunk (number / 32)) ≡ Err fault → is_listed (pair sectors chunk number) ≡ false
 pair_unread sectors chunk number fault is = ap (λ (r : Result (List ℕ) SectorFault). is_listed (pair_in (bytes_or_none r) (number % 32))) is
 
-pub ended_list : (sectors : Sectors) (store : Store) (number : ℕ) (f : Option ListFault) (block chunks : List ℕ) → Walked sectors store number f chunks
-    → number < pair_count store.chunk store.len → sectors (row_sector store.chunk (number / 32)) ≡ Ok block → (pair_in block (number % 32)).new ≡ 0
-    → of_list f chunks ≡ listed sectors store
-ended_list sectors store number f block chunks walked less is free =
-    let none : is_listed (pair sectors store.chunk number) ≡ false = rw is (rw free refl) in
-    sym (stopped_list sectors store number f chunks walked less none ∙ ap (listed_if (of_list f chunks)) is)
+-- the rest of the area of a list: clear to its end, or up to a pair that isn't
+pub rest_clear : (sectors : Sectors) (chunk number : ℕ) (list : Stored) → each (λ i. is_clear sectors chunk (number + i)) (rest_count chunk number) ≡ true → ended sectors chunk number list ≡ list
+rest_clear sectors chunk number list all =
+    let most : ℕ = rest_count chunk number in
+    ap (λ (n : ℕ). ended_by sectors chunk number n list) (count_full (λ i. is_clear sectors chunk (number + i)) most all) ∙ rw (eq-eqb most most refl) refl
+
+pub rest_stops : (sectors : Sectors) (chunk number next : ℕ) (row : Result (List ℕ) SectorFault) (list : Stored) → each (λ i. is_clear sectors chunk (number + i)) next ≡ true → next < rest_count chunk number
+    → sectors (row_sector chunk ((number + next) / 32)) ≡ row → is_clear_in row ((number + next) % 32) ≡ false → ended sectors chunk number list ≡ Refused (rest_fault row)
+rest_stops sectors chunk number next row list clear less is other =
+    let most : ℕ = rest_count chunk number in
+    let stop : is_clear sectors chunk (number + next) ≡ false = rw is other in
+    let before : next ≡ most → ⊥ = λ same. omega (arith, less, same) in
+    ap (λ (n : ℕ). ended_by sectors chunk number n list) (count_stop (λ i. is_clear sectors chunk (number + i)) next most clear stop (omega (arith, less)))
+    ∙ rw (ne_eqb next most before) (ap (λ (r : Result (List ℕ) SectorFault). Refused (rest_fault r)) is)
+
+-- a list that stops before the last area's end has a rest
+pub rest_some : (chunk store_len number : ℕ) → number < pair_count chunk store_len → 0 < rest_count chunk number
+rest_some chunk store_len number inside =
+    let some : 0 < 32 * chunk = grind (arith, inside) in
+    let less : number % (32 * chunk) < 32 * chunk = grind (arith, some) in
+    omega (arith, less)
+
+-- and its pairs are those of the areas
+pub rest_inside : (chunk store_len number next : ℕ) → number < pair_count chunk store_len → next < rest_count chunk number → number + next < pair_count chunk store_len
+rest_inside chunk store_len number next inside less =
+    let areas : ℕ = area_count chunk store_len in let most : ℕ = 32 * chunk in
+    let whole : number / most * most + number % most ≡ number = div-add-mod' number most in
+    let some : 0 < most = omega (arith, less) in
+    let area : number / most < areas = grind (arith, inside, some) in
+    let wide : (number / most + 1) * most ≤ areas * most = mul-le-mul_right most (omega (arith, area)) in
+    let parts : (number / most + 1) * most ≡ number / most * most + most = grind arith in
+    omega (arith, whole, wide, parts, less)
+
+pub ended_list : (sectors : Sectors) (store : Store) (number : ℕ) (f : Option ListFault) (chunks : List ℕ) (pair : Pair) → Walked sectors store number f chunks
+    → number < pair_count store.chunk store.len → IsPair sectors store.chunk number pair → pair.new ≡ 0 → listed sectors store ≡ ended sectors store.chunk number (of_list f chunks)
+ended_list sectors store number f chunks pair walked less is free =
+    stopped_list sectors store number f chunks walked less (ap is_listed (pair_known sectors store.chunk number is.row is.read ∙ sym is.is) ∙ rw free refl)
 
 pub unread_list : (sectors : Sectors) (store : Store) (number : ℕ) (f : Option ListFault) (chunks : List ℕ) (fault : SectorFault) → Walked sectors store number f chunks
     → number < pair_count store.chunk store.len → sectors (row_sector store.chunk (number / 32)) ≡ Err fault
     → Refused (Unread fault) ≡ listed sectors store
+unfolding each
 unread_list sectors store number f chunks fault walked less is =
-    sym (stopped_list sectors store number f chunks walked less (pair_unread sectors store.chunk number fault is) ∙ ap (listed_if (of_list f chunks)) is)
+    let here : number + 0 ≡ number = omega arith in
+    let unread : sectors (row_sector store.chunk ((number + 0) / 32)) ≡ Err fault = rw here is in
+    sym (stopped_list sectors store number f chunks walked less (pair_unread sectors store.chunk number fault is)
+    ∙ rest_stops sectors store.chunk number 0 (Err fault) (of_list f chunks) refl (rest_some store.chunk store.len number less) unread refl)
 
 -- without a fault now there was none before
 pub no_fault_before : (p n a : Bool) (f : Option ListFault) → next_fault p n a f ≡ None → f ≡ None
@@ -89,18 +111,17 @@ next_same true false a b (Some Range) same = refl
 next_same true true a b (Some Range) same = refl
 next_same p n a b f same = refl
 
-pub one_more : (sectors : Sectors) (store : Store) (number : ℕ) (f after : Option ListFault) (block chunks more : List ℕ) → Walked sectors store number f chunks
-    → sectors (row_sector store.chunk (number / 32)) ≡ Ok block → ((pair_in block (number % 32)).new ≡ 0 → ⊥)
-    → after ≡ next_fault (is_placed store number (pair_in block (number % 32))) (is_near store (pair_in block (number % 32))) (is_some (number_in (pair_in block (number % 32)).old chunks)) f
-    → (after ≡ None → more ≡ chunks ++ (pair_in block (number % 32)).old ∷ [])
+pub one_more : (sectors : Sectors) (store : Store) (number : ℕ) (f after : Option ListFault) (here : Pair) (chunks more : List ℕ) → Walked sectors store number f chunks
+    → IsPair sectors store.chunk number here → (here.new ≡ 0 → ⊥)
+    → after ≡ next_fault (is_placed store number here) (is_near store here) (is_some (number_in here.old chunks)) f
+    → (after ≡ None → more ≡ chunks ++ here.old ∷ [])
     → Walked sectors store (number + 1) after more
-one_more sectors store number f after block chunks more walked is some next taken =
-    let here : Pair = pair_in block (number % 32) in
+one_more sectors store number f after here chunks more walked is some next taken =
     let pairs : ℕ → Pair = pair sectors store.chunk in
     let before : List ℕ = old_chunks pairs number in
-    let known : pairs number ≡ here = pair_known sectors store.chunk number block is in
+    let known : pairs number ≡ here = pair_known sectors store.chunk number is.row is.read ∙ sym is.is in
     record {
-      so_far = each_more (λ i. is_listed (pair sectors store.chunk i)) number walked.so_far (rw is (rw (ne_eqb (pair_in block (number % 32)).new 0 some) refl));
+      so_far = each_more (λ i. is_listed (pairs i)) number walked.so_far (ap is_listed known ∙ rw (ne_eqb here.new 0 some) refl);
       faulty = next
           ∙ next_same (is_placed store number here) (is_near store here) (is_some (number_in here.old chunks)) (is_some (number_in here.old before)) f
           (λ none. ap (λ (xs : List ℕ). is_some (number_in here.old xs)) (walked.taken none))

@@ -1,29 +1,9 @@
 -- A restart worked by hand, against which the definitions are checked.
-use Rattle.std.proofs.Common.{◌≡◌, ℕ, zero, suc, true, false, [], ◌∷◌, ◌++◌, Option, Some, Ok, refl, sym, ap, subst, ◌∙◌, arith}
-use Rattle.std.proofs.lemmas.List.Elements.{All-from_recursion}
+use Rattle.dm_store.proofs.Prelude.{◌≡◌, ℕ, zero, suc, true, false, [], ◌∷◌, ◌++◌, Option, Some, Ok, refl, sym, ap, subst, ◌∙◌, arith, All-from_recursion, Persistent, Device, Disk, ResolvedSnapshot, IsTop, claims, Description, found_at, Moment, content, played, sector_past, HaveSameData, IsSpareSector, first_rows, State, start_state, taken_at, home_to, write_step, read_unit, Store, DiskContents, count_of, each, old_chunks, AreListed, Event, Held, IsRestart, Lists, Plays, Spelled, after_events, kept, kept_first, snapshot_store, store_at, store_sectors, stored_state, Holds, is_any_again, stored}
 use Rattle.dm_table.specs.declared.requests.request.Op.TheVariants.{Write}
 use Rattle.dm_table.specs.declared.tables.table.DevRef.TheVariants as refs
-use Rattle.dm_table.specs.declared.tables.table.StoreKind.TheVariants.{Persistent}
 use Rattle.dm_table.specs.declared.tables.table.Target.TheVariants as targets
-use Rattle.dm_stack.specs.claims.Claims.{IsTop, claims}
-use Rattle.dm_stack.specs.declared.id.Lower.TheVariants.{Device, Disk}
-use Rattle.dm_stack.specs.declared.lines.resolved_line.ResolvedSnapshot.{ResolvedSnapshot}
-use Rattle.dm_stack.specs.Description.{Description}
-use Rattle.dm_stack.specs.lines.Below.{found_at}
-use Rattle.dm_map.specs.own.Contents.{content, played, sector_past}
-use Rattle.dm_map.specs.own.Cuts.{HaveSameData, IsSpareSector}
-use Rattle.dm_map.specs.own.Rows.{first_rows}
-use Rattle.dm_map.specs.state.State.{State, start_state, taken_at}
-use Rattle.dm_map.specs.walk.Homes.{home_to}
-use Rattle.dm_map.specs.walk.Mapping.{write_step}
-use Rattle.dm_map.specs.walk.Reads.{read_unit}
-use Rattle.dm_map.proofs.WorkedRows.{device, disk, line}
-use Rattle.dm_store.specs.declared.store.Store.{Store}
-use Rattle.dm_store.specs.Images.{DiskContents}
-use Rattle.dm_store.specs.Pairs.{count_of, each, old_chunks}
-use Rattle.dm_store.specs.Restart.{AreListed, Event, Halted, Held, IsRestart, Lists, Moment, Spelled, after_events, kept, kept_first}
-use Rattle.dm_store.specs.Start.{snapshot_store, store_at, store_sectors, stored_state}
-use Rattle.dm_store.specs.Stored.{Holds, is_any_again, stored}
+use Rattle.dm_map.proofs.WorkedErrors.{device, disk, line}
 use Rattle.dm_store.proofs.ListedLemmas.{store_there}
 use Rattle.dm_store.proofs.RestartLemmas.{listed_back}
 use Rattle.dm_store.proofs.SpeltLemmas.{is_spelled}
@@ -49,14 +29,14 @@ numbered disk sector = Ok (sector ∷ [])
 abbrev zeros : Held
 zeros = Ok []
 
-abbrev first : Moment
-first = record { disks = numbered; state = start_state sample; rows = first_rows zeros sample numbered }
+abbrev first : Moment Held
+first = record { values = numbered; state = start_state sample; rows = first_rows zeros sample numbered }
 
 -- a write of sectors 7 to 9, each of which is written with 100. Each takes a chunk: it is copied, and then written. The power is cut before the last is written
 abbrev cut : Event
-cut = Halted (record { op = Write; device = 0; start = 7; len = 3; written = λ sector. Ok (100 ∷ []) }) 5
+cut = Plays (record { op = Write; device = 0; start = 7; len = 3; written = λ sector. Ok (100 ∷ []); halted_after = Some 5 })
 
-abbrev left : Moment
+abbrev left : Moment Held
 left = after_events zeros sample first (cut ∷ [])
 
 -- two chunks are taken
@@ -73,8 +53,8 @@ listed disks (suc zero) zero = Ok (header 1)
 listed disks (suc zero) (suc zero) = Ok (entry 7 2 ++ entry 8 3 ++ entry 0 0)
 listed disks disk sector = disks disk sector
 
-abbrev new : Moment
-new = record { disks = listed left.disks; state = taken; rows = left.rows }
+abbrev new : Moment Held
+new = record { values = listed left.values; state = taken; rows = left.rows }
 
 says : (disks : DiskContents) → stored (store_sectors sample (listed disks) store) store ≡ Holds (7 ∷ 8 ∷ [])
 unfolding count_of each is_any_again old_chunks home_to
@@ -126,21 +106,21 @@ restart : IsRestart zeros sample first new
 restart = record {
   events = cut ∷ [];
   tops = (top, tt);
-  data_kept = same_data left.disks;
-  lists = subst (λ (s : State). AreListed sample (listed left.disks) s) (sym left_is) (lists left.disks);
+  data_kept = same_data left.values;
+  lists = subst (λ (s : State). AreListed sample (listed left.values) s) (sym left_is) (lists left.values);
   state = sym kept_taken ∙ ap (kept sample) (sym left_is);
   rows = refl;
 }
 
 -- it is found
-found : stored_state sample new.disks ≡ Ok taken
-found = listed_back sample new.disks taken (lists left.disks) ∙ ap (λ (s : State). Ok s) kept_taken
+found : stored_state sample new.values ≡ Ok taken
+found = listed_back sample new.values taken (lists left.values) ∙ ap (λ (s : State). Ok s) kept_taken
 
 -- what was written is read, and what was only copied as it was
-read_written : content zeros sample new.state new.disks (Device 0) 8 ≡ Some (Ok (100 ∷ []))
+read_written : content zeros sample new.state new.values (Device 0) 8 ≡ Some (Ok (100 ∷ []))
 unfolding after_events played sector_past write_step read_unit home_to lib.Count.ones
 read_written = refl
 
-read_copied : content zeros sample new.state new.disks (Device 0) 9 ≡ Some (Ok (9 ∷ []))
+read_copied : content zeros sample new.state new.values (Device 0) 9 ≡ Some (Ok (9 ∷ []))
 unfolding after_events played sector_past write_step read_unit home_to lib.Count.ones
 read_copied = refl

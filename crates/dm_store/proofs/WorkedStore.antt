@@ -1,14 +1,5 @@
 -- A store worked by hand, against which the definitions are checked.
-use Rattle.std.proofs.Common.{◌≡◌, ℕ, zero, suc, List, [], ◌∷◌, ◌++◌, Result, Ok, Err, refl}
-use Rattle.dm_stack.specs.declared.id.Lower.TheVariants.{Disk}
-use Rattle.dm_store.specs.declared.fault.SectorFault.{SectorFault}
-use Rattle.dm_store.specs.declared.fault.SectorFault.TheVariants.{Missing}
-use Rattle.dm_store.specs.declared.fault.StoreFault.TheVariants.{Unread, Listed}
-use Rattle.dm_store.specs.declared.fault.ListFault.TheVariants.{Order}
-use Rattle.dm_store.specs.declared.store.Store.{Store}
-use Rattle.dm_store.specs.Layout.{area_count, row_sector}
-use Rattle.dm_store.specs.Pairs.{Sectors, count_of, each, old_chunks}
-use Rattle.dm_store.specs.Stored.{Fresh, Lost, Holds, Refused, is_any_again, stored}
+use Rattle.dm_store.proofs.Prelude.{◌≡◌, ℕ, zero, suc, List, [], ◌∷◌, ◌++◌, Result, Ok, Err, refl, Disk, SectorFault, Unread, Gap, Listed, Order, Store, area_count, row_sector, Sectors, count_of, each, old_chunks, Fresh, Lost, Holds, Refused, is_any_again, stored, Missing}
 
 -- chunks of one sector, and room for two areas: the header, area 0, 32 places, area 1, and 29 places
 abbrev store : Store
@@ -61,3 +52,8 @@ unread = refl
 misplaced : stored (of_sectors (header 1) (Ok (entry 7 2 ++ entry 0 4 ++ entry 0 0))) store ≡ Refused (Listed Order)
 unfolding count_of each is_any_again old_chunks
 misplaced = refl
+
+-- an entry behind the end of the list
+gap : stored (of_sectors (header 1) (Ok (entry 7 2 ++ entry 0 0 ++ entry 99 4))) store ≡ Refused Gap
+unfolding count_of each is_any_again old_chunks
+gap = refl

@@ -1,14 +1,5 @@
 -- What a state that comes from stores is like.
-use Rattle.std.specs.Prelude.{◌≡◌, ◌≤◌, ◌↔◌, ℕ, false, List, Some, Ok, length, nat_eq}
-use Rattle.std.specs.List.{IsDistinct}
-use Rattle.dm_stack.specs.declared.id.Lower.TheVariants.{Device}
-use Rattle.dm_stack.specs.Description.{Description}
-use Rattle.dm_map.specs.own.Ample.{AreExact, IsAmple, IsIntact, TookOwn}
-use Rattle.dm_map.specs.own.Contents.{Values, content}
-use Rattle.dm_map.specs.own.Rows.{AreOwn, Rows}
-use Rattle.dm_map.specs.state.Fitting.{IsFitting}
-use Rattle.dm_map.specs.state.State.{State, taken_at}
-use Rattle.dm_store.specs.declared.store.Store.{Store}
+use Rattle.dm_store.specs.Base.{◌≡◌, ◌≤◌, ◌↔◌, ℕ, false, List, Some, Ok, length, nat_eq, IsDistinct, Description, AreExact, IsAmple, IsIntact, TookOwn, Values, AreOwn, rows_in, IsFitting, State, taken_at, Store}
 use Rattle.dm_store.specs.Images.{DiskContents}
 use Rattle.dm_store.specs.Pairs.{Sectors}
 use Rattle.dm_store.specs.Start.{store_at, store_sectors, stored_state}
@@ -47,10 +38,6 @@ abbrev pub AlwaysStart : Description → Type 0
 AlwaysStart stack = (disks : DiskContents) (state : State) → stored_state stack disks ≡ Ok state → IsStart stack disks state
 
 -- ---- the rows of devices from there on
-
--- what the sectors of devices have in a state
-abbrev pub rows_in : {V : Type 0} → (zeros : V) → Description → State → Values V → Rows V
-rows_in zeros stack state values device sector = content zeros stack state values (Device device) sector
 
 -- each top device has its row at such a start, and exactly that where the stack can lose nothing and no store says that its snapshot is lost
 pub record AlwaysHaveRows (V : Type 0) (stack : Description) : Type 0 where

@@ -1,19 +1,12 @@
 -- Which images a list of paths gives the disks of a stack.
-use Rattle.std.specs.Prelude.{ℕ, List, Option, Some, Result, find, map, option_map}
+use Rattle.dm_store.specs.Base.{ℕ, List, Option, Result, find, map, option_map, first_fault, unless, Description, is_same, path_faults}
 use Rattle.dm_table.specs.declared.load.load_fault.LoadFault.{LoadFault}
 use Rattle.dm_table.specs.declared.tables.disk_path.DiskPath.{DiskPath}
-use Rattle.dm_table.specs.load.LoadFault.{first_fault, unless}
-use Rattle.dm_stack.specs.Description.{Description, is_same}
-use Rattle.dm_stack.specs.checks.Paths.{path_faults}
 use Rattle.dm_store.specs.Places.{Place}
 
 -- where a disk of this name lies, if a path is of it
 abbrev pub image_in : List DiskPath → (name : List ℕ) → Option Place
 image_in paths name = option_map (λ path. record { line = path.at.number; path = path.file; start = path.start }) (find (λ path. is_same path.disk name) paths)
-
--- where each disk of a stack lies if it is all of the image that has its name
-abbrev pub own_images : Description → List (Option Place)
-own_images stack = map (λ disk. Some (record { line = 0; path = disk.name; start = 0 })) stack.disks
 
 -- where the disks of a stack lie, by their ids, or the fault of the paths
 abbrev pub images_of : Description → List DiskPath → Result (List (Option Place)) LoadFault

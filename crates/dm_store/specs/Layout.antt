@@ -1,5 +1,5 @@
 -- Where a store keeps its list: in areas of one chunk, each with 32 pairs a sector, of which the first is the second chunk of the store (the kernel's admin guide, device-mapper/snapshot, and its dm-snap-persistent). Where it keeps the chunks themselves says dm_stack's StoreLayout.
-use Rattle.std.specs.Prelude.{ℕ, ◌+◌, ◌-◌, ◌*◌, ◌/◌, ◌%◌}
+use Rattle.dm_store.specs.Base.{ℕ, ◌+◌, ◌-◌, ◌*◌, ◌/◌, ◌%◌}
 
 -- the sector of a row of the list, which has its pairs from 32 * row on: each sector of an area is a row, and an area begins 32 * chunk + 1 chunks after the one before
 abbrev pub row_sector : (chunk row : ℕ) → ℕ
@@ -12,3 +12,7 @@ area_count chunk store_len = (store_len / chunk + 32 * chunk - 1) / (32 * chunk 
 -- how many pairs they have
 abbrev pub pair_count : (chunk store_len : ℕ) → ℕ
 pair_count chunk store_len = area_count chunk store_len * (32 * chunk)
+
+-- how many there are from the pair of a number to the end of its area
+abbrev pub rest_count : (chunk number : ℕ) → ℕ
+rest_count chunk number = 32 * chunk - number % (32 * chunk)

@@ -12,3 +12,5 @@ pub mod Restart
 pub mod Message
 pub mod ReadLog
 pub mod Reading
+pub mod Prelude
+pub mod Base

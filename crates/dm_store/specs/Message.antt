@@ -1,9 +1,5 @@
 -- The message of a refused store.
-use Rattle.std.specs.Prelude.{ℕ, List, ◌++◌, codes}
-use Rattle.dm_store.specs.declared.fault.ListFault.TheVariants.{Order, Range, Again}
-use Rattle.dm_store.specs.declared.fault.SectorFault.TheVariants.{Missing, Read}
-use Rattle.dm_store.specs.declared.fault.StoreFault.{StoreFault}
-use Rattle.dm_store.specs.declared.fault.StoreFault.TheVariants.{Unread, Magic, Version, Chunk, Listed}
+use Rattle.dm_store.specs.Base.{ℕ, List, ◌++◌, codes, Order, Range, Again, Missing, Read, StoreFault, Unread, Magic, Version, Chunk, Gap, Listed}
 
 -- the word of a fault
 abbrev pub fault_word : StoreFault → List ℕ
@@ -12,6 +8,7 @@ fault_word (Unread Read) = codes "read"
 fault_word Magic = codes "magic"
 fault_word Version = codes "version"
 fault_word Chunk = codes "chunk"
+fault_word Gap = codes "gap"
 fault_word (Listed Order) = codes "order"
 fault_word (Listed Range) = codes "range"
 fault_word (Listed Again) = codes "again"

@@ -1,7 +1,5 @@
 -- The list of a store, as a function from numbers to pairs of an old and a new chunk.
-use Rattle.std.specs.Prelude.{ℕ, zero, suc, ◌+◌, ◌*◌, ◌/◌, ◌%◌, ◌&&◌, Bool, true, List, [], ◌∷◌, ◌++◌, Result, Ok, Err, if◌then◌else◌}
-use Rattle.dm_store.specs.declared.fault.SectorFault.{SectorFault}
-use Rattle.dm_store.specs.declared.pair.Pair.{Pair}
+use Rattle.dm_store.specs.Base.{ℕ, zero, suc, ◌+◌, ◌*◌, ◌/◌, ◌%◌, ◌&&◌, Bool, true, List, [], ◌∷◌, ◌++◌, Result, Ok, Err, if◌then◌else◌, SectorFault, Pair}
 use Rattle.dm_store.specs.Numbers.{eight_at}
 use Rattle.dm_store.specs.Layout.{row_sector}
 

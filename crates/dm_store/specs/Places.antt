@@ -1,5 +1,5 @@
 -- Where disks lie.
-use Rattle.std.specs.Prelude.{ℕ, List}
+use Rattle.dm_store.specs.Base.{ℕ, List}
 
 -- an image, and the sector of it from which on it has a disk
 pub record Place : Type 0 where

@@ -1,5 +1,5 @@
 -- What a log of reads says of images.
-use Rattle.std.specs.Prelude.{ℕ, ◌+◌, List, [], ◌∷◌, drop, take}
+use Rattle.dm_store.specs.Base.{ℕ, ◌+◌, List, [], ◌∷◌, drop, take}
 use Rattle.dm_store.specs.declared.asked.Asked.{Asked}
 use Rattle.dm_store.specs.Images.{AreRead, Contents}
 

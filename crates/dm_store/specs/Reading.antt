@@ -1,29 +1,24 @@
 -- What the reader knows on its way.
-use Rattle.std.specs.Prelude.{◌≡◌, ◌+◌, ◌<◌, ◌≤◌, ◌^◌, ℕ, Bool, true, not, List, Option, Some, None, Result, Ok, Err, length, nat_lt, if◌then◌else◌}
-use Rattle.dm_stack.specs.checks.Store.{IsStore}
-use Rattle.dm_stack.specs.Description.{Description, lower_len}
-use Rattle.dm_map.specs.state.Tables.{has_room}
-use Rattle.dm_store.specs.declared.fault.ListFault.{ListFault}
-use Rattle.dm_store.specs.declared.fault.ListFault.TheVariants.{Order, Range, Again}
-use Rattle.dm_store.specs.declared.fault.SectorFault.{SectorFault}
-use Rattle.dm_store.specs.declared.fault.StoreFault.{StoreFault}
-use Rattle.dm_store.specs.declared.fault.StoreFault.TheVariants.{Unread}
+use Rattle.dm_store.specs.Base.{◌≡◌, ◌+◌, ◌/◌, ◌%◌, ◌<◌, ◌≤◌, ◌^◌, ℕ, Bool, true, not, List, Option, Some, None, Result, Ok, Err, length, nat_lt, if◌then◌else◌, IsStore, Description, lower_len, has_room, ListFault, Order, Range, Again, SectorFault, StoreFault, Pair, Store}
 use Rattle.dm_store.specs.declared.header.Header.{Header}
 use Rattle.dm_store.specs.declared.header.Header.TheVariants as headers
 use Rattle.dm_store.specs.declared.row_range.RowRange.{RowRange}
-use Rattle.dm_store.specs.declared.store.Store.{Store}
 use Rattle.dm_store.specs.Images.{sector_in}
 use Rattle.dm_store.specs.Layout.{row_sector}
-use Rattle.dm_store.specs.Pairs.{Sectors, pair, each, old_chunks}
-use Rattle.dm_store.specs.Stored.{Stored, Fresh, Lost, Refused, is_listed, list_fault, of_list}
+use Rattle.dm_store.specs.Pairs.{Sectors, pair, pair_in, each, old_chunks}
+use Rattle.dm_store.specs.Stored.{Stored, Fresh, Lost, Refused, is_listed, list_fault}
 
--- a store of a device of a stack
-pub record IsStoreOf (stack : Description) (device : ℕ) (store : Store) : Type 0 where
-  pub there : device < length stack.devices
+-- a store that lies in a stack
+pub record IsStoreIn (stack : Description) (store : Store) : Type 0 where
   pub lower : IsStore stack store.lower
   pub some : 1 ≤ store.len
   pub len : store.len ≡ lower_len stack store.lower
   pub short : store.len ≤ 2 ^ 50
+
+-- the store of a device of a stack
+pub record IsStoreOf (stack : Description) (device : ℕ) (store : Store) : Type 0 where
+  pub there : device < length stack.devices
+  pub lies : IsStoreIn stack store
   pub room : (number : ℕ) → nat_lt number store.places ≡ has_room stack device number
 
 -- ---- faults, as they are found
@@ -46,16 +41,27 @@ next_fault placed near again fault = if not placed then Some Order else next_nea
 abbrev pub HasRows : Sectors → (chunk : ℕ) → RowRange → (block : List ℕ) → Type 0
 HasRows sectors chunk rows block = (i : ℕ) → i < rows.count → sectors (row_sector chunk (rows.first + i)) ≡ Ok (sector_in block i)
 
+-- the pair of a number, by the row that has it
+pub record IsPair (sectors : Sectors) (chunk number : ℕ) (pair : Pair) : Type 0 where
+  pub row : List ℕ
+  pub read : sectors (row_sector chunk (number / 32)) ≡ Ok row
+  pub is : pair ≡ pair_in row (number % 32)
+
+-- what is known after the pair of a number was to be read, of the rows that a block had and has
+abbrev pub HasRead : Sectors → (chunk number : ℕ) → (old : RowRange) → (had : List ℕ) → Result Pair SectorFault → (new : RowRange) → (has : List ℕ) → Type 0
+HasRead sectors chunk number old had (Ok pair) new has = HasRows sectors chunk old had → HasRows sectors chunk new has × IsPair sectors chunk number pair
+HasRead sectors chunk number old had (Err fault) new has = sectors (row_sector chunk (number / 32)) ≡ Err fault
+
 -- a row is one of them
 abbrev pub IsRowOf : RowRange → (row : ℕ) → Type 0
 IsRowOf rows row = (rows.first ≤ row) × (row < rows.first + rows.count)
 
 -- ---- what was told
 
--- of a list, and the chunks that were taken
-abbrev pub told_list : Result (Option ListFault) SectorFault → (chunks : List ℕ) → Stored
-told_list (Ok fault) chunks = of_list fault chunks
-told_list (Err fault) chunks = Refused (Unread fault)
+-- of a list, where this is what it holds unless it is refused
+abbrev pub told_list : Result (Unit {0}) StoreFault → (held : Stored) → Stored
+told_list (Ok done) held = held
+told_list (Err fault) held = Refused fault
 
 -- of a header: a store in use holds what its list says
 abbrev pub told_header : (used : Stored) → Result Header StoreFault → Stored

@@ -1,23 +1,6 @@
 -- A restart: the power was cut in the midst of requests of top devices, and the stores are read again.
-use Rattle.std.specs.Prelude.{◌≡◌, ◌≢◌, ◌<◌, ℕ, zero, suc, true, false, List, [], ◌∷◌, ◌++◌, Option, Some, None, Result, Ok, length, if◌then◌else◌}
-use Rattle.std.specs.List.{AllByRecursion}
-use Rattle.dm_table.specs.declared.requests.request.Op.{Op}
-use Rattle.dm_table.specs.declared.tables.table.StoreKind.TheVariants.{Transient}
-use Rattle.dm_stack.specs.declared.lines.resolved_line.ResolvedSnapshot.{ResolvedSnapshot}
-use Rattle.dm_stack.specs.claims.Claims.{IsTidy, IsTop}
-use Rattle.dm_stack.specs.Description.{Description}
-use Rattle.dm_map.specs.own.Ample.{AreExact, IsAmple}
-use Rattle.dm_map.specs.own.Contents.{played}
-use Rattle.dm_map.specs.own.Cuts.{HaveSameData, IsOfSnapshot, take_chunks}
-use Rattle.dm_map.specs.own.Halts.{halted_state, halted_units}
-use Rattle.dm_map.specs.own.Losses.{Due}
-use Rattle.dm_map.specs.own.Rows.{AreOwn, Rows, rows_played}
-use Rattle.dm_map.specs.pieces.Units.{BlockUnit}
-use Rattle.dm_map.specs.state.State.{State, Taken, lost, none_taken, put, taken_at}
-use Rattle.dm_map.specs.state.Tables.{snapshot_at}
-use Rattle.dm_map.specs.walk.Mapping.{request_step}
-use Rattle.dm_store.specs.declared.fault.SectorFault.{SectorFault}
-use Rattle.dm_store.specs.declared.store.Store.{Store}
+use Rattle.dm_store.specs.Base.{◌≡◌, ◌≢◌, ◌<◌, ℕ, zero, suc, true, false, List, [], ◌∷◌, ◌++◌, Option, Some, None, Result, Ok, length, if◌then◌else◌, AllByRecursion, Transient, ResolvedSnapshot, IsTidy, IsTop, Description, AreExact, HaveSameData, IsAmple, IsOfSnapshot, IsOwnAt, Moment, after_asked, played, take_chunks, Due, State, Taken, lost, none_taken, put, taken_at, snapshot_at, SectorFault, Store}
+use Rattle.dm_map.specs.Prelude.{Asked}
 use Rattle.dm_store.specs.Fitting.{IsLostInStore}
 use Rattle.dm_store.specs.Images.{DiskContents}
 use Rattle.dm_store.specs.Numbers.{four_at}
@@ -40,7 +23,7 @@ pub data Lists (sectors : Sectors) (store : Store) (taken : Taken) : Type 0 wher
   Unused : (header : List ℕ) → sectors 0 ≡ Ok header → four_at header 0 ≡ 0 → taken ≡ none_taken → Lists sectors store taken
   Gone : (header : List ℕ) → sectors 0 ≡ Ok header → IsGone store.chunk header → taken.valid ≡ false → Lists sectors store taken
 
--- so does each store that keeps a list
+-- each store that keeps a list says what its snapshot took
 abbrev pub AreListed : Description → DiskContents → State → Type 0
 AreListed stack disks state = (device : ℕ) (store : Store) → store_at stack device ≡ Some store → Lists (store_sectors stack disks store) store (taken_at state device)
 
@@ -54,7 +37,7 @@ unfoldable pub kept_first : Description → State → (count : ℕ) → State
 kept_first stack state zero = []
 kept_first stack state (suc device) = kept_first stack state device ++ kept_in (store_at stack device) (taken_at state device) ∷ []
 
--- and of all
+-- what is read of a state, of all devices
 abbrev pub kept : Description → State → State
 kept stack state = kept_first stack state (length stack.devices)
 
@@ -72,78 +55,47 @@ AreKept stack left found = (device : ℕ) (store : Store) → store_at stack dev
 abbrev pub Held : Type 0
 Held = Result (List ℕ) SectorFault
 
--- what there is at a time: on the disks, of the snapshots, and of each device if it were alone
-pub record Moment : Type 0 where
-  pub disks : DiskContents
-  pub state : State
-  pub rows : Rows Held
-
--- each top device has its row, or errors
-abbrev pub IsOwnAt : (zeros : Held) → Description → Moment → Type 0
-IsOwnAt zeros stack moment = AreOwn zeros stack moment.state moment.disks moment.rows
-
--- a request of a device, and what it writes to each sector
-pub record Asked : Type 0 where
-  pub op : Op
-  pub device : ℕ
-  pub start : ℕ
-  pub len : ℕ
-  pub written : ℕ → Held
-
--- after units of a request, which leave this state
-abbrev pub after_units : (zeros : Held) → Asked → List BlockUnit → State → Moment → Moment
-after_units zeros asked units state moment = record {
-  disks = played zeros asked.written asked.start units moment.disks;
-  state = state;
-  rows = rows_played asked.written asked.device asked.start units moment.rows;
-}
-
--- what comes before a cut: a request that is played to its end, the first units of one that isn't, chunks that are taken ahead of the writes that take them, and a snapshot that is lost for whatever reason a kernel has: no place, an error, no memory, no room for the next area
+-- what comes before a cut: a request that is played to its end or halted, chunks that are taken ahead of the writes that take them, and a snapshot that is lost for whatever reason a kernel has: no place, an error, no memory, no room for the next area
 pub data Event : Type 0 where
-  Whole : Asked → Event
-  Halted : Asked → (units : ℕ) → Event
+  Plays : Asked Held → Event
   Ahead : (chunks : List Due) → Event
   Loses : (device : ℕ) → Event
 
 -- after one
-abbrev pub after_event : (zeros : Held) → Description → Moment → Event → Moment
-after_event zeros stack moment (Whole asked) =
-    after_units zeros asked (request_step stack asked.op asked.device asked.start asked.len moment.state).units (request_step stack asked.op asked.device asked.start asked.len moment.state).state moment
-after_event zeros stack moment (Halted asked units) =
-    after_units zeros asked (halted_units stack asked.op asked.device asked.start asked.len units moment.state) (halted_state stack asked.op asked.device asked.start asked.len units moment.state) moment
+abbrev pub after_event : (zeros : Held) → Description → Moment Held → Event → Moment Held
+after_event zeros stack moment (Plays asked) = after_asked zeros stack moment asked
 after_event zeros stack moment (Ahead chunks) = record {
-  disks = played zeros (λ sector. zeros) 0 (take_chunks stack chunks moment.state).units moment.disks;
+  values = played zeros (λ sector. zeros) 0 (take_chunks stack chunks moment.state).units moment.values;
   state = (take_chunks stack chunks moment.state).state;
   rows = moment.rows;
 }
-after_event zeros stack moment (Loses device) = record { disks = moment.disks; state = put moment.state device (lost (taken_at moment.state device)); rows = moment.rows }
+after_event zeros stack moment (Loses device) = record { values = moment.values; state = put moment.state device (lost (taken_at moment.state device)); rows = moment.rows }
 
 -- after some, in their order
-unfoldable pub after_events : (zeros : Held) → Description → Moment → List Event → Moment
+unfoldable pub after_events : (zeros : Held) → Description → Moment Held → List Event → Moment Held
 after_events zeros stack moment [] = moment
 after_events zeros stack moment (event ∷ later) = after_events zeros stack (after_event zeros stack moment event) later
 
 -- a request is for a top device, and a chunk and a loss for a device of the stack
 abbrev pub IsOfTop : Description → Event → Type 0
-IsOfTop stack (Whole asked) = IsTop stack asked.device
-IsOfTop stack (Halted asked units) = IsTop stack asked.device
+IsOfTop stack (Plays asked) = IsTop stack asked.device
 IsOfTop stack (Ahead chunks) = AllByRecursion (IsOfSnapshot stack) chunks
 IsOfTop stack (Loses device) = device < length stack.devices
 
 -- ---- restarts
 
 -- a restart after such events, which took place, and a cut: lists say the state of the cut, what they keep of it is the state from there on, and the disks hold the data of that
-pub record IsRestart (zeros : Held) (stack : Description) (old new : Moment) : Type 0 where
+pub record IsRestart (zeros : Held) (stack : Description) (old new : Moment Held) : Type 0 where
   pub events : List Event
   pub tops : AllByRecursion (IsOfTop stack) events
-  pub data_kept : HaveSameData stack new.state (after_events zeros stack old events).disks new.disks
-  pub lists : AreListed stack new.disks (after_events zeros stack old events).state
+  pub data_kept : HaveSameData stack new.state (after_events zeros stack old events).values new.values
+  pub lists : AreListed stack new.values (after_events zeros stack old events).state
   pub state : new.state ≡ kept stack (after_events zeros stack old events).state
   pub rows : new.rows ≡ (after_events zeros stack old events).rows
 
 -- the stores, read again, hold this state, and in it each top device has its row, or errors
-pub record IsFound (zeros : Held) (stack : Description) (moment : Moment) : Type 0 where
-  pub found : stored_state stack moment.disks ≡ Ok moment.state
+pub record IsFound (zeros : Held) (stack : Description) (moment : Moment Held) : Type 0 where
+  pub found : stored_state stack moment.values ≡ Ok moment.state
   pub own : IsOwnAt zeros stack moment
 
 -- lists that say a state are read as what they keep of it
@@ -158,23 +110,23 @@ AreListsSaid stack = (disks : DiskContents) (left found : State) → stored_stat
 abbrev pub HoldMore : (disks others : DiskContents) → Type 0
 HoldMore disks others = (disk sector : ℕ) (bytes : List ℕ) → disks disk sector ≡ Ok bytes → others disk sector ≡ Ok bytes
 
--- and then they still list it
+-- what disks list, disks that hold more list, too
 abbrev pub AreListsEnough : Description → Type 0
 AreListsEnough stack = (disks others : DiskContents) (state : State) → HoldMore disks others → AreListed stack disks state → AreListed stack others state
 
 -- where no claims meet, a restart finds its state, and in it each top device has its row, or errors
 abbrev pub IsAlwaysFound : Description → Type 0
-IsAlwaysFound stack = (zeros : Held) (old new : Moment) → IsTidy stack → AllKeepLists stack → IsOwnAt zeros stack old → IsRestart zeros stack old new → IsFound zeros stack new
+IsAlwaysFound stack = (zeros : Held) (old new : Moment Held) → IsTidy stack → AllKeepLists stack → IsOwnAt zeros stack old → IsRestart zeros stack old new → IsFound zeros stack new
 
 -- what was found is exact where the stack can lose nothing, and no store says that its snapshot is lost: each top device has its row, without errors
 abbrev pub IsAlwaysExact : Description → Type 0
-IsAlwaysExact stack = (zeros : Held) (moment : Moment) → IsAmple stack → IsFound zeros stack moment → ((device : ℕ) → IsLostInStore stack moment.disks device → ⊥) → AreExact zeros stack moment.state moment.disks moment.rows
+IsAlwaysExact stack = (zeros : Held) (moment : Moment Held) → IsAmple stack → IsFound zeros stack moment → ((device : ℕ) → IsLostInStore stack moment.values device → ⊥) → AreExact zeros stack moment.state moment.values moment.rows
 
 -- restarts one after the other
-unfoldable pub AreRestarts : (zeros : Held) → Description → Moment → List Moment → Type 0
+unfoldable pub AreRestarts : (zeros : Held) → Description → Moment Held → List (Moment Held) → Type 0
 AreRestarts zeros stack old [] = Unit {0}
 AreRestarts zeros stack old (new ∷ later) = IsRestart zeros stack old new × AreRestarts zeros stack new later
 
 -- each of any number of restarts finds its state, and in it each top device has its row, or errors
 abbrev pub AreAllFound : Description → Type 0
-AreAllFound stack = (zeros : Held) (first : Moment) (later : List Moment) → IsTidy stack → AllKeepLists stack → IsOwnAt zeros stack first → AreRestarts zeros stack first later → AllByRecursion (IsFound zeros stack) later
+AreAllFound stack = (zeros : Held) (first : Moment Held) (later : List (Moment Held)) → IsTidy stack → AllKeepLists stack → IsOwnAt zeros stack first → AreRestarts zeros stack first later → AllByRecursion (IsFound zeros stack) later

@@ -1,12 +1,9 @@
 -- A store that spells a list of chunks: the same as a store that holds it, said of the sectors alone.
-use Rattle.std.specs.Prelude.{◌≡◌, ◌≢◌, ◌<◌, ◌≤◌, ◌⊎◌, ℕ, ◌/◌, List, Ok, length, slice_index}
-use Rattle.dm_table.specs.declared.tables.table.StoreKind.TheVariants.{Persistent}
-use Rattle.dm_stack.specs.lines.StoreLayout.{place}
-use Rattle.dm_store.specs.declared.store.Store.{Store}
+use Rattle.dm_store.specs.Base.{◌≡◌, ◌≢◌, ◌<◌, ◌≤◌, ◌⊎◌, ℕ, ◌+◌, ◌/◌, ◌%◌, List, Ok, length, slice_index, Persistent, place, Store}
 use Rattle.dm_store.specs.Numbers.{four_at}
 use Rattle.dm_store.specs.Fitting.{Fit}
-use Rattle.dm_store.specs.Layout.{row_sector, pair_count}
-use Rattle.dm_store.specs.Pairs.{Sectors, pair}
+use Rattle.dm_store.specs.Layout.{row_sector, pair_count, rest_count}
+use Rattle.dm_store.specs.Pairs.{Sectors, pair, pair_in}
 use Rattle.dm_store.specs.Stored.{Holds, stored}
 
 -- the header of a store in use
@@ -16,20 +13,24 @@ pub record IsUsed (chunk : ℕ) (header : List ℕ) : Type 0 where
   pub version : four_at header 8 ≡ 1
   pub chunk_len : four_at header 12 ≡ chunk
 
--- a free pair comes after so many, and can be read
-pub record IsFreeAt (sectors : Sectors) (chunk store_len number : ℕ) : Type 0 where
-  pub inside : number < pair_count chunk store_len
+-- the pair of a number can be read, and has zeros
+pub record IsClear (sectors : Sectors) (chunk number : ℕ) : Type 0 where
   pub row : List ℕ
   pub read : sectors (row_sector chunk (number / 32)) ≡ Ok row
-  pub free : (pair sectors chunk number).new ≡ 0
+  pub zeros : pair_in row (number % 32) ≡ record { old = 0; new = 0 }
 
--- the sectors of a store spell chunks that fit: each with its place, and then a free pair unless all areas are full
+-- after so many pairs, there are others to the end of an area, all of them clear
+pub record AreClearFrom (sectors : Sectors) (chunk store_len count : ℕ) : Type 0 where
+  pub inside : count < pair_count chunk store_len
+  pub clear : (i : ℕ) → i < rest_count chunk count → IsClear sectors chunk (count + i)
+
+-- the sectors of a store spell chunks that fit: each with its place, and then clear pairs to the end of the area, unless all areas are full
 pub record Spells (sectors : Sectors) (store : Store) (chunks : List ℕ) : Type 0 where
   pub header : List ℕ
   pub begins : sectors 0 ≡ Ok header
   pub used : IsUsed store.chunk header
   pub pairs : (number : ℕ) → number < length chunks → pair sectors store.chunk number ≡ record { old = slice_index chunks number; new = place Persistent store.chunk number }
-  pub ends : (length chunks ≡ pair_count store.chunk store.len) ⊎ IsFreeAt sectors store.chunk store.len (length chunks)
+  pub ends : (length chunks ≡ pair_count store.chunk store.len) ⊎ AreClearFrom sectors store.chunk store.len (length chunks)
   pub fit : Fit store chunks
   pub near : (number : ℕ) → number < length chunks → slice_index chunks number ≤ store.last
 

@@ -1,16 +1,7 @@
 -- The state that the stores of a stack hold, from which a run can start.
-use Rattle.std.specs.Prelude.{ℕ, zero, suc, ◌-◌, ◌/◌, true, [], ◌∷◌, ◌++◌, Option, Some, None, Result, Ok, Err, length}
+use Rattle.dm_store.specs.Base.{ℕ, zero, suc, ◌-◌, ◌/◌, true, [], ◌∷◌, ◌++◌, Option, Some, None, Result, Ok, Err, length, Transient, ResolvedSnapshot, Description, device_len, lower_len, place_count, State, Taken, lost, none_taken, snapshot_at, home, StoreFault, Store}
 use Rattle.dm_table.specs.declared.tables.table.StoreKind.{StoreKind}
-use Rattle.dm_table.specs.declared.tables.table.StoreKind.TheVariants.{Transient}
-use Rattle.dm_stack.specs.declared.lines.resolved_line.ResolvedSnapshot.{ResolvedSnapshot}
-use Rattle.dm_stack.specs.Description.{Description, device_len, lower_len}
-use Rattle.dm_stack.specs.lines.StoreLayout.{place_count}
-use Rattle.dm_map.specs.state.State.{State, Taken, lost, none_taken}
-use Rattle.dm_map.specs.state.Tables.{snapshot_at}
-use Rattle.dm_map.specs.walk.Homes.{home}
-use Rattle.dm_store.specs.declared.fault.StoreFault.{StoreFault}
 use Rattle.dm_store.specs.declared.fault.StoreRefusal.{StoreRefusal}
-use Rattle.dm_store.specs.declared.store.Store.{Store}
 use Rattle.dm_store.specs.Images.{DiskContents}
 use Rattle.dm_store.specs.Pairs.{Sectors}
 use Rattle.dm_store.specs.Stored.{Stored, Fresh, Lost, Holds, Refused, stored}

@@ -1,18 +1,8 @@
 -- What a store holds, or why it is refused, by its sectors (the kernel's dm-snap-persistent).
-use Rattle.std.specs.Prelude.{ℕ, zero, suc, ◌/◌, ◌==◌, ◌||◌, ◌&&◌, Bool, false, not, List, Option, Some, None, Result, Ok, Err, is_some, nat_lt, nat_le, if◌then◌else◌}
-use Rattle.dm_table.specs.declared.tables.table.StoreKind.TheVariants.{Persistent}
-use Rattle.dm_stack.specs.lines.StoreLayout.{place}
-use Rattle.dm_map.specs.state.Snapshots.{number_in}
-use Rattle.dm_store.specs.declared.fault.ListFault.{ListFault}
-use Rattle.dm_store.specs.declared.fault.ListFault.TheVariants.{Order, Range, Again}
-use Rattle.dm_store.specs.declared.fault.SectorFault.{SectorFault}
-use Rattle.dm_store.specs.declared.fault.StoreFault.{StoreFault}
-use Rattle.dm_store.specs.declared.fault.StoreFault.TheVariants.{Unread, Magic, Version, Chunk, Listed}
-use Rattle.dm_store.specs.declared.pair.Pair.{Pair}
-use Rattle.dm_store.specs.declared.store.Store.{Store}
+use Rattle.dm_store.specs.Base.{ℕ, zero, suc, ◌+◌, ◌/◌, ◌%◌, ◌==◌, ◌||◌, ◌&&◌, Bool, false, not, List, Option, Some, None, Result, Ok, Err, is_some, nat_lt, nat_le, if◌then◌else◌, Persistent, place, number_in, ListFault, Order, Range, Again, SectorFault, StoreFault, Unread, Magic, Version, Chunk, Gap, Listed, Pair, Store}
 use Rattle.dm_store.specs.Numbers.{four_at}
-use Rattle.dm_store.specs.Pairs.{Sectors, pair, each, count_of, old_chunks}
-use Rattle.dm_store.specs.Layout.{row_sector, pair_count}
+use Rattle.dm_store.specs.Pairs.{Sectors, pair, pair_in, each, count_of, old_chunks}
+use Rattle.dm_store.specs.Layout.{row_sector, pair_count, rest_count}
 
 -- what a store holds: nothing yet, nothing any more, or the chunks that were taken, in their order
 pub data Stored : Type 0 where
@@ -54,20 +44,45 @@ abbrev pub of_list : Option ListFault → (chunks : List ℕ) → Stored
 of_list (Some fault) chunks = Refused (Listed fault)
 of_list None chunks = Holds chunks
 
--- it can be read if the pair that ends it can be
-abbrev pub listed_if : Stored → Result (List ℕ) SectorFault → Stored
-listed_if stored (Ok bytes) = stored
-listed_if stored (Err fault) = Refused (Unread fault)
+-- a pair of zeros: a kernel writes each area as a whole, and clears it before
+abbrev pub are_zeros : Pair → Bool
+are_zeros pair = pair.old == 0 && pair.new == 0
+
+-- a pair of a sector that can be read has zeros
+abbrev pub is_clear_in : Result (List ℕ) SectorFault → (index : ℕ) → Bool
+is_clear_in (Ok bytes) index = are_zeros (pair_in bytes index)
+is_clear_in (Err fault) index = false
+
+abbrev pub is_clear : Sectors → (chunk number : ℕ) → Bool
+is_clear sectors chunk number = is_clear_in (sectors (row_sector chunk (number / 32))) (number % 32)
+
+-- why a pair of this sector isn't clear
+abbrev pub rest_fault : Result (List ℕ) SectorFault → StoreFault
+rest_fault (Ok bytes) = Gap
+rest_fault (Err fault) = Unread fault
+
+-- a list that is followed by so many clear pairs: the rest of its area has no others
+abbrev pub ended_by : Sectors → (chunk count clear : ℕ) → (held : Stored) → Stored
+ended_by sectors chunk count clear held =
+    if clear == rest_count chunk count then held else Refused (rest_fault (sectors (row_sector chunk ((count + clear) / 32))))
+
+-- how many of the pairs after a list are clear, up to the end of its area
+abbrev pub clear_count : Sectors → (chunk count : ℕ) → ℕ
+clear_count sectors chunk count = count_of (λ i. is_clear sectors chunk (count + i)) (rest_count chunk count)
+
+-- a list of this length, of which not all areas are full
+abbrev pub ended : Sectors → (chunk count : ℕ) → (held : Stored) → Stored
+ended sectors chunk count held = ended_by sectors chunk count (clear_count sectors chunk count) held
 
 -- how long the list is
 abbrev pub list_count : Sectors → Store → ℕ
 list_count sectors store = count_of (λ i. is_listed (pair sectors store.chunk i)) (pair_count store.chunk store.len)
 
--- a list of this length: all areas are full, or the pair after it can be read
+-- a list of this length: all areas are full, or the rest of the one in which it ends is clear
 abbrev pub of_count : Sectors → Store → (count : ℕ) → Stored
 of_count sectors store count =
     if count == pair_count store.chunk store.len then of_list (list_fault store (pair sectors store.chunk) count) (old_chunks (pair sectors store.chunk) count)
-    else listed_if (of_list (list_fault store (pair sectors store.chunk) count) (old_chunks (pair sectors store.chunk) count)) (sectors (row_sector store.chunk (count / 32)))
+    else ended sectors store.chunk count (of_list (list_fault store (pair sectors store.chunk) count) (old_chunks (pair sectors store.chunk) count))
 
 -- what the list of a store says
 abbrev pub listed : Sectors → Store → Stored

@@ -1,7 +1,6 @@
 //! Which image each disk of a stack lies in.
 
-ghost use Rattle.std.specs.Prelude.{◌≡◌, ◌+◌, ◌<◌, ◌≤◌, ◌%◌, ◌^◌, None, Some, IfNone, IfSome, length};
-ghost use Rattle.dm_store.specs.Images.{AreRead, Contents, disk_contents, place_of};
+ghost use Rattle.dm_store.specs.Prelude.{◌≡◌, ◌+◌, ◌<◌, ◌≤◌, ◌%◌, ◌^◌, None, Some, IfNone, IfSome, length, AreRead, Contents, disk_contents, place_of};
 ghost use Rattle.dm_store.specs.declared.images.TheConstants.{MOST_BYTES, SECTOR};
 
 use crate::fault::SectorFault;
@@ -17,7 +16,7 @@ pub struct DiskImages {
 }
 
 impl Model for DiskImages {
-    ghost use Rattle.std.specs.Prelude.{List, Option};
+    ghost use Rattle.dm_store.specs.Base.{List, Option};
     ghost use Rattle.dm_store.specs.Places.{Place};
 
     ghost Value = { List (Option Place) };
@@ -45,7 +44,7 @@ impl DiskImages {
     }
 
     /// Reads whole sectors of a disk, from a sector of it on. After a fault the slice may hold anything.
-    pub(crate) fn read<I: Images>(
+    pub fn read<I: Images>(
         &self,
         images: &mut I,
         disk: DiskId,

@@ -25,7 +25,7 @@ pub enum ListFault {
 /// Why a store is refused.
 #[derive(Clone, Copy, Debug, PartialEq, Eq, Drop)]
 pub enum StoreFault {
-    /// A sector of its header or of its list can't be read.
+    /// Its header can't be read, or a sector of the areas that its list fills or ends in.
     Unread(SectorFault),
     /// It is no store: its first number is neither the magic one nor 0.
     Magic,
@@ -33,6 +33,8 @@ pub enum StoreFault {
     Version,
     /// Its chunks are of another size than the table says.
     Chunk,
+    /// Its list has a gap: what comes after it in its area isn't zeros.
+    Gap,
     /// Its list is refused.
     Listed(ListFault),
 }

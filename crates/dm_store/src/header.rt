@@ -1,8 +1,6 @@
 //! The header of a store.
 
-ghost use Rattle.std.specs.Prelude.{◌≡◌, Ok, length};
-ghost use Rattle.dm_store.specs.Reading.{told_header};
-ghost use Rattle.dm_store.specs.Stored.{Stored, by_header};
+ghost use Rattle.dm_store.specs.Prelude.{◌≡◌, Ok, length, told_header, Stored, by_header};
 ghost use Rattle.dm_store.specs.declared.images.TheConstants.{SECTOR};
 
 use crate::fault::StoreFault;

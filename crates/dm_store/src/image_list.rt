@@ -1,11 +1,8 @@
 //! The images of a stack's disks, as a list of paths has them.
 
-ghost use Rattle.std.specs.Prelude.{◌≡◌, ◌≢◌, IfErr, IfOk, Ok, Err, find, map, option_map};
+ghost use Rattle.dm_store.specs.Prelude.{◌≡◌, ◌≢◌, IfErr, IfOk, Ok, Err, find, map, option_map, IsMemoryFault, is_same, image_in, images_of};
 ghost use Rattle.dm_table.specs.declared.load.load_fault.LoadKind.TheVariants.{Memory};
 ghost use Rattle.dm_table.specs.declared.load.place.Part.TheVariants.{Source};
-ghost use Rattle.dm_table.specs.load.LoadFault.{IsMemoryFault};
-ghost use Rattle.dm_stack.specs.Description.{is_same};
-ghost use Rattle.dm_store.specs.ImageList.{image_in, images_of, own_images};
 
 use crate::disk_images::DiskImages;
 use crate::image_place::ImagePlace;
@@ -36,19 +33,6 @@ pub fn listed_images(
         Ok(places) => Ok(DiskImages::of_places(places)),
         Err(_) => Err(LoadFault::memory(Part::Source)),
     }
-}
-
-/// The images of the disks of a stack where each disk is all of the image that has its name. It fails only when out of
-/// memory.
-pub fn own_images(alloc: Global, stack: &Stack) -> Result<DiskImages, AllocError>
-    ensures { IfOk result (λ images. images ≡ own_images stack.now) }
-{
-    let mut places = Vec::new(alloc);
-    for disk in stack.disks() {
-        let path = String::from_str(alloc, disk.name.as_str())?;
-        places.push(Some(ImagePlace::new(path, 0, 0)))?;
-    }
-    Ok(DiskImages::of_places(places))
 }
 
 /// Where each disk lies, in the order of the stack.

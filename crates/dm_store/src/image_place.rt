@@ -1,7 +1,6 @@
 //! Where a disk lies.
 
-ghost use Rattle.std.specs.Prelude.{◌≡◌, ◌<◌, ◌^◌};
-ghost use Rattle.std.specs.String.{string_bytes};
+ghost use Rattle.dm_store.specs.Prelude.{◌≡◌, ◌<◌, ◌^◌, string_bytes};
 
 use std::marker::Model;
 
@@ -15,8 +14,7 @@ pub struct ImagePlace {
 }
 
 impl Model for ImagePlace {
-    ghost use Rattle.std.specs.Prelude.{◌<◌, ◌^◌};
-    ghost use Rattle.std.specs.String.{string_bytes};
+    ghost use Rattle.dm_store.specs.Base.{◌<◌, ◌^◌, string_bytes};
     ghost use Rattle.dm_store.specs.Places.{Place};
 
     ghost Value = { Place };

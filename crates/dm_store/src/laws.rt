@@ -1,9 +1,7 @@
 //! Laws of what a store holds, which fits the store and is spelled there, of the state that the stores of a stack hold,
 //! which fits the stack, and of restarts from it. They do nothing: their contracts are the laws.
 
-ghost use Rattle.dm_store.specs.Fitting.{AlwaysFit, AlwaysHaveRows, AlwaysStart};
-ghost use Rattle.dm_store.specs.Restart.{AreAllFound, AreListsEnough, AreListsRead, AreListsSaid, IsAlwaysExact, IsAlwaysFound};
-ghost use Rattle.dm_store.specs.Spelled.{IsSpelled, ReadsBack};
+ghost use Rattle.dm_store.specs.Prelude.{AlwaysFit, AlwaysHaveRows, AlwaysStart, AreAllFound, AreListsEnough, AreListsRead, AreListsSaid, IsAlwaysExact, IsAlwaysFound, IsSpelled, ReadsBack};
 
 use crate::store::Store;
 use dm_stack::Stack;

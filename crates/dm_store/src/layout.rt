@@ -1,7 +1,6 @@
 //! Where a store keeps its list.
 
-ghost use Rattle.std.specs.Prelude.{◌≡◌, ◌+◌, ◌<◌, ◌≤◌, ◌^◌};
-ghost use Rattle.dm_store.specs.Layout.{pair_count, row_sector};
+ghost use Rattle.dm_store.specs.Prelude.{◌≡◌, ◌+◌, ◌<◌, ◌≤◌, ◌^◌, pair_count, rest_count, row_sector};
 
 /// How many pairs the areas of a store have.
 pub(crate) fn pair_count(chunk: u64, store_len: u64) -> u64
@@ -14,8 +13,18 @@ pub(crate) fn pair_count(chunk: u64, store_len: u64) -> u64
     (store_len / chunk + 32 * chunk - 1) / (32 * chunk + 1) * (32 * chunk)
 }
 
+/// How many pairs there are from the pair of a number to the end of its area.
+pub(crate) fn rest_count(chunk: u64, number: u64) -> u64
+    requires some { 1 ≤ chunk }
+    requires small { chunk ≤ 1024 }
+    ensures count { result ≡ rest_count chunk number }
+    ensures few { result ≤ 32768 }
+{
+    32 * chunk - number % (32 * chunk)
+}
+
 /// The sector of a store that has a row of its list: 32 pairs, from that of number 32 * row on.
-pub fn row_sector(chunk: u64, row: u64) -> u64
+pub(crate) fn row_sector(chunk: u64, row: u64) -> u64
     requires some { 1 ≤ chunk }
     requires small { chunk ≤ 1024 }
     requires row { row < 2 ^ 46 }

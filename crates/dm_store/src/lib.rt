@@ -27,10 +27,9 @@ mod stores;
 
 pub use disk_images::DiskImages;
 pub use fault::{ListFault, SectorFault, StoreFault, StoreRefusal};
-pub use image_list::{listed_images, own_images};
-pub use images::{Images, ReadFault, SECTOR};
+pub use image_list::listed_images;
+pub use images::{Images, MOST_BYTES, ReadFault, SECTOR};
 pub use laws::{is_spelled, reads_back, restarts, restarts_go_on, stored_states_fit, stores_fit};
-pub use layout::row_sector;
 pub use memory_images::MemoryImages;
 pub use message::StoreMessage;
 pub use read_log::ReadLog;

@@ -1,43 +1,25 @@
-//! The list of a store, read pair by pair up to the first that is free.
+//! The list of a store, read pair by pair up to the first that is free, and from there to the end of its area.
 //!
-//! A list with a fault is read to its end all the same: the fault that is told is the first by its word, and a
-//! sector that can't be read goes before.
+//! A list with a fault is read to its end all the same: the fault that is told is the first by its word, and what is
+//! wrong with the sectors that have the list, or end it, goes before.
 
-ghost use Rattle.std.specs.Prelude.{◌≡◌, ◌+◌, ◌-◌, ◌*◌, ◌/◌, ◌%◌, ◌<◌, ◌≤◌, ◌^◌, None, Ok, OnOk, true, is_some, length};
-ghost use Rattle.dm_map.specs.state.Snapshots.{number_in};
-ghost use Rattle.dm_map.specs.state.State.{none_taken, put, taken_at, with_chunk};
-ghost use Rattle.dm_store.specs.Images.{Contents, disk_contents, sector_in};
-ghost use Rattle.dm_store.specs.Pairs.{pair_in};
-ghost use Rattle.dm_store.specs.Reading.{IsRowOf, IsStoreOf, next_fault, told_list};
-ghost use Rattle.dm_store.specs.Start.{store_sectors};
+ghost use Rattle.dm_store.specs.Prelude.{◌≡◌, ◌<◌, ◌^◌, List, None, OnOk, is_some, length, true, ℕ, with_looked, number_in, none_taken, put, taken_at, with_chunk, Contents, disk_contents, pair_count, HasRows, IsStoreIn, IsStoreOf, next_fault, told_list, store_sectors, Holds, ended, is_near, is_placed, listed, of_list};
 ghost use Rattle.dm_store.specs.declared.images.TheConstants.{MOST_BYTES};
-ghost use Rattle.dm_store.specs.declared.pair.TheConstants.{ROW};
-ghost use Rattle.dm_store.specs.Stored.{is_near, is_placed, listed};
 
 use crate::disk_images::DiskImages;
-use crate::fault::{ListFault, SectorFault};
-use crate::images::{Images, MOST_BYTES, SECTOR};
-use crate::layout::pair_count;
-use crate::pair::{Pair, ROW, pair_at};
+use crate::fault::{ListFault, StoreFault};
+use crate::images::{Images, MOST_BYTES};
+use crate::layout::{pair_count, rest_count};
+use crate::pair::Pair;
 use crate::row_range::RowRange;
-use crate::rows::reach;
+use crate::rows::read_pair;
 use crate::store::Store;
 use dm_map::{Mapper, Taken};
 use dm_stack::{DeviceId, place};
 use dm_table::StoreKind;
 
-/// The pair of a number, whose row the block has.
-fn pair_of(rows: RowRange, block: &[u8], number: u64) -> Pair
-    requires row { IsRowOf rows (number / ROW) }
-    requires block { length block.now ≡ MOST_BYTES }
-    ensures { result ≡ pair_in (sector_in block.now (number / ROW - rows.first)) (number % ROW) }
-{
-    let start = SECTOR * (number / ROW - rows.first) as usize;
-    pair_at(&block[start..start + SECTOR], (number % ROW) as usize)
-}
-
-/// Notes a pair of a list: the snapshot took its chunk, unless the list has a fault, with this pair or before it.
-fn note<T: Taken>(
+/// Takes the chunk that a pair lists, unless the list has a fault, with this pair or before it.
+fn take_listed<T: Taken>(
     mapper: &mut Mapper<'_, T>,
     device: DeviceId,
     store: &Store,
@@ -73,6 +55,56 @@ fn note<T: Taken>(
     }
 }
 
+/// What there is to say of a list that was read to its end, by what is wrong with its pairs.
+fn list_result(fault: Option<ListFault>) -> Result<(), StoreFault>
+    ensures list { (chunks : List ℕ) → told_list result (Holds chunks) ≡ of_list fault chunks }
+    ensures none { OnOk result (fault ≡ None) }
+{
+    match fault {
+        None => Ok(()),
+        Some(fault) => Err(StoreFault::Listed(fault)),
+    }
+}
+
+/// Ends a list before the pair of a number, by what is wrong with its pairs: this one and all after it in its area have
+/// to be zeros.
+fn end_list<I: Images, T: Taken>(
+    images: &mut I,
+    places: &DiskImages,
+    mapper: &mut Mapper<'_, T>,
+    store: &Store,
+    fault: Option<ListFault>,
+    number: u64,
+    rows: &mut RowRange,
+    block: &mut [u8],
+) -> Result<(), StoreFault>
+    requires store { IsStoreIn mapper.old.stack store.now }
+    requires number { number < pair_count store.now.chunk store.now.len }
+    requires near { number < 2 ^ 51 }
+    requires block { length block.old ≡ MOST_BYTES }
+    ensures same { mapper.new ≡ with_looked mapper.old mapper.new.looked }
+    ensures still { (held : Contents) → I.IsSeen images.new held → I.IsSeen images.old held }
+    ensures ended { (held : Contents) → I.IsSeen images.new held
+        → HasRows (store_sectors mapper.old.stack (disk_contents places.now held) store.now)
+        store.now.chunk rows.old block.old
+        → (chunks : List ℕ) → told_list result (Holds chunks)
+        ≡ ended (store_sectors mapper.old.stack (disk_contents places.now held) store.now) store.now.chunk number
+        (of_list fault chunks) }
+    ensures none { OnOk result (fault ≡ None) }
+{
+    for next in 0..rest_count(store.chunk.sectors(), number) {
+        match read_pair(images, places, mapper, store, number + next, rows, block) {
+            Ok(pair) => {
+                if !pair.are_zeros() {
+                    return Err(StoreFault::Gap);
+                }
+            }
+            Err(unread) => return Err(StoreFault::Unread(unread)),
+        }
+    }
+    list_result(fault)
+}
+
 /// Reads the list of a store, of a snapshot that took nothing so far.
 pub(crate) fn read_list<I: Images, T: Taken>(
     images: &mut I,
@@ -80,17 +112,17 @@ pub(crate) fn read_list<I: Images, T: Taken>(
     mapper: &mut Mapper<'_, T>,
     device: DeviceId,
     store: &Store,
-) -> Result<Option<ListFault>, SectorFault>
+) -> Result<(), StoreFault>
     requires of { IsStoreOf mapper.old.stack device store.now }
     requires there { device < length mapper.old.state }
     requires none { taken_at mapper.old.state device ≡ none_taken }
     ensures still { (held : Contents) → I.IsSeen images.new held → I.IsSeen images.old held }
     ensures list { (held : Contents) → I.IsSeen images.new held
-        → told_list result (taken_at mapper.new.state device).chunks
+        → told_list result (Holds (taken_at mapper.new.state device).chunks)
         ≡ listed (store_sectors mapper.old.stack (disk_contents places.now held) store.now) store.now }
-    ensures state { result ≡ Ok None → mapper.new.state
-        ≡ put mapper.old.state device (taken_at mapper.new.state device) }
-    ensures valid { result ≡ Ok None → (taken_at mapper.new.state device).valid ≡ true }
+    ensures state { OnOk result (mapper.new.state
+        ≡ put mapper.old.state device (taken_at mapper.new.state device)) }
+    ensures valid { OnOk result ((taken_at mapper.new.state device).valid ≡ true) }
     ensures stack { mapper.new.stack ≡ mapper.old.stack }
     ensures failed { mapper.new.failed ≡ mapper.old.failed }
 {
@@ -98,23 +130,16 @@ pub(crate) fn read_list<I: Images, T: Taken>(
     let mut rows = RowRange::none();
     let mut fault = None;
     for number in 0..pair_count(store.chunk.sectors(), store.len) {
-        match reach(
-            images,
-            places,
-            mapper,
-            store,
-            number / ROW,
-            rows,
-            &mut block,
-        ) {
-            Ok(reached) => rows = reached,
-            Err(unread) => return Err(unread),
-        }
-        let pair = pair_of(rows, &block, number);
+        let pair = match read_pair(images, places, mapper, store, number, &mut rows, &mut block) {
+            Ok(pair) => pair,
+            Err(unread) => return Err(StoreFault::Unread(unread)),
+        };
         if pair.new == 0 {
-            return Ok(fault);
+            return end_list(
+                images, places, mapper, store, fault, number, &mut rows, &mut block,
+            );
         }
-        fault = note(mapper, device, store, fault, number, pair);
+        fault = take_listed(mapper, device, store, fault, number, pair);
     }
-    Ok(fault)
+    list_result(fault)
 }

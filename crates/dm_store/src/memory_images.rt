@@ -1,8 +1,6 @@
 //! Images in memory, for tests: they end, and fail after a number of reads.
 
-ghost use Rattle.std.specs.Prelude.{◌≡◌, ◌+◌, ◌*◌, ◌<◌, OnErr, OnOk, length, slice_range};
-ghost use Rattle.dm_store.specs.Images.{Contents};
-ghost use Rattle.dm_store.specs.ReadLog.{AgreesWith};
+ghost use Rattle.dm_store.specs.Prelude.{◌≡◌, ◌+◌, ◌*◌, ◌<◌, OnErr, OnOk, length, slice_range, Contents, AgreesWith};
 ghost use Rattle.dm_store.specs.declared.images.TheConstants.{SECTOR};
 
 use crate::images::{Images, ReadFault, SECTOR};

@@ -2,9 +2,7 @@
 //!
 //! The words are fixed by `specs/Message.antt`, since users match on them.
 
-ghost use Rattle.std.specs.Prelude.{◌≡◌, ◌<◌, ◌≤◌, length};
-ghost use Rattle.dm_stack.specs.Description.{name_at};
-ghost use Rattle.dm_store.specs.Message.{fault_word, store_message};
+ghost use Rattle.dm_store.specs.Prelude.{◌≡◌, ◌<◌, ◌≤◌, length, name_at, fault_word, store_message};
 
 use crate::fault::{ListFault, SectorFault, StoreFault, StoreRefusal};
 use arrayvec::ArrayVec;
@@ -26,6 +24,7 @@ impl StoreFault {
             StoreFault::Magic => "magic",
             StoreFault::Version => "version",
             StoreFault::Chunk => "chunk",
+            StoreFault::Gap => "gap",
             StoreFault::Listed(ListFault::Order) => "order",
             StoreFault::Listed(ListFault::Range) => "range",
             StoreFault::Listed(ListFault::Again) => "again",

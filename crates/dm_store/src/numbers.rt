@@ -1,7 +1,6 @@
 //! Numbers in bytes, the least significant byte first.
 
-ghost use Rattle.std.specs.Prelude.{◌≡◌, ◌+◌, ◌≤◌, length};
-ghost use Rattle.dm_store.specs.Numbers.{eight_at, four_at};
+ghost use Rattle.dm_store.specs.Prelude.{◌≡◌, ◌+◌, ◌≤◌, length, eight_at, four_at};
 
 /// The number of four bytes.
 #[inline(always)]

@@ -1,7 +1,6 @@
 //! Pairs of a list: an old chunk, and the new chunk that keeps it.
 
-ghost use Rattle.std.specs.Prelude.{◌≡◌, ◌<◌, length};
-ghost use Rattle.dm_store.specs.Pairs.{pair_in};
+ghost use Rattle.dm_store.specs.Prelude.{◌≡◌, ◌<◌, length, pair_in, are_zeros};
 ghost use Rattle.dm_store.specs.declared.images.TheConstants.{SECTOR};
 
 use crate::numbers::eight;
@@ -11,6 +10,15 @@ use crate::numbers::eight;
 pub(crate) struct Pair {
     pub(crate) old: u64,
     pub(crate) new: u64,
+}
+
+impl Pair {
+    /// Whether both are 0.
+    pub(crate) fn are_zeros(self) -> bool
+        ensures { result ≡ are_zeros self }
+    {
+        self.old == 0 && self.new == 0
+    }
 }
 
 /// How many pairs a sector has.

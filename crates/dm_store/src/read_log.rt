@@ -2,9 +2,7 @@
 //!
 //! What a real image holds is known by it alone. Note each read as it is returned.
 
-ghost use Rattle.std.specs.Prelude.{◌≡◌, ◌↔◌, [], length};
-ghost use Rattle.dm_store.specs.Images.{AreRead, Contents};
-ghost use Rattle.dm_store.specs.ReadLog.{AgreesWith};
+ghost use Rattle.dm_store.specs.Prelude.{◌≡◌, ◌↔◌, [], length, AreRead, Contents, AgreesWith};
 
 use crate::asked::Asked;
 use crate::images::ReadFault;
@@ -20,7 +18,7 @@ pub struct ReadLog {
 }
 
 impl Model for ReadLog {
-    ghost use Rattle.std.specs.Prelude.{◌≡◌, length};
+    ghost use Rattle.dm_store.specs.Base.{◌≡◌, length};
     ghost use Rattle.dm_store.specs.ReadLog.{Logged, given_total, path_total};
 
     ghost Value = { Logged };

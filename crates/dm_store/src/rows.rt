@@ -1,23 +1,16 @@
 //! Rows of a list, read from images in blocks.
 //!
 //! A block is read at once, as far as its sectors lie in a row on a disk. Where that fails, its rows are read one
-//! by one, since one that comes after the end of the list doesn't count.
+//! by one, up to the first that can't be read.
 
-ghost use Rattle.std.specs.Prelude.{◌≡◌, ◌+◌, ◌*◌, ◌/◌, ◌%◌, ◌<◌, ◌≤◌, ◌^◌, ℕ, Err, Ok, IfErr, IfOk, OnOk, length};
-ghost use Rattle.dm_map.specs.Mapper.{with_looked};
-ghost use Rattle.dm_map.specs.walk.Homes.{GoOn, home};
-ghost use Rattle.dm_stack.specs.checks.Store.{IsStore};
-ghost use Rattle.dm_stack.specs.Description.{Description, lower_len};
-ghost use Rattle.dm_store.specs.Images.{Contents, disk_contents, sector_in};
-ghost use Rattle.dm_store.specs.Layout.{area_count, row_sector};
-ghost use Rattle.dm_store.specs.Reading.{HasRows, IsRowOf};
-ghost use Rattle.dm_store.specs.Start.{store_sectors};
+ghost use Rattle.dm_store.specs.Prelude.{◌≡◌, ◌+◌, ◌*◌, ◌/◌, ◌%◌, ◌<◌, ◌≤◌, ◌^◌, ℕ, Err, Ok, IfErr, IfOk, OnOk, length, with_looked, GoOn, home, Description, Contents, disk_contents, sector_in, area_count, pair_count, row_sector, HasRead, HasRows, IsRowOf, IsStoreIn, store_sectors};
 ghost use Rattle.dm_store.specs.declared.images.TheConstants.{MOST_BYTES};
 
 use crate::disk_images::DiskImages;
 use crate::fault::SectorFault;
 use crate::images::{Images, SECTOR};
 use crate::layout::row_sector;
+use crate::pair::{Pair, ROW, pair_at};
 use crate::row_range::RowRange;
 use crate::store::Store;
 use dm_map::{HomeStretch, Mapper, Taken};
@@ -89,9 +82,7 @@ fn read_block<I: Images, T: Taken>(
     single: u64,
     block: &mut [u8],
 ) -> Result<RowRange, SectorFault>
-    requires lower { IsStore mapper.old.stack store.now.lower }
-    requires len { store.now.len ≡ lower_len mapper.old.stack store.now.lower }
-    requires short { store.now.len ≤ 2 ^ 50 }
+    requires store { IsStoreIn mapper.old.stack store.now }
     requires row { row < area_count store.now.chunk store.now.len * store.now.chunk }
     requires near { row < 2 ^ 46 }
     requires block { length block.old ≡ MOST_BYTES }
@@ -138,36 +129,30 @@ fn rows_from(chunk: u64, row: u64, single: u64) -> u64
     }
 }
 
-/// Reads on where the block doesn't have a row, and says which it has then.
-pub(crate) fn reach<I: Images, T: Taken>(
+/// Reads the pair of a number, with a block of rows unless the last one that was read has its row.
+pub(crate) fn read_pair<I: Images, T: Taken>(
     images: &mut I,
     places: &DiskImages,
     mapper: &mut Mapper<'_, T>,
     store: &Store,
-    row: u64,
-    rows: RowRange,
+    number: u64,
+    rows: &mut RowRange,
     block: &mut [u8],
-) -> Result<RowRange, SectorFault>
-    requires lower { IsStore mapper.old.stack store.now.lower }
-    requires len { store.now.len ≡ lower_len mapper.old.stack store.now.lower }
-    requires short { store.now.len ≤ 2 ^ 50 }
-    requires row { row < area_count store.now.chunk store.now.len * store.now.chunk }
-    requires near { row < 2 ^ 46 }
+) -> Result<Pair, SectorFault>
+    requires store { IsStoreIn mapper.old.stack store.now }
+    requires number { number < pair_count store.now.chunk store.now.len }
+    requires near { number < 2 ^ 51 }
     requires block { length block.old ≡ MOST_BYTES }
     ensures same { mapper.new ≡ with_looked mapper.old mapper.new.looked }
     ensures still { (held : Contents) → I.IsSeen images.new held → I.IsSeen images.old held }
-    ensures rows { (held : Contents) → I.IsSeen images.new held
-        → HasRows (store_sectors mapper.old.stack (disk_contents places.now held) store.now)
-        store.now.chunk rows block.old
-        → IfOk result (λ rows. HasRows (store_sectors mapper.old.stack (disk_contents places.now held) store.now)
-        store.now.chunk rows block.new) }
-    ensures fault { (held : Contents) → I.IsSeen images.new held → IfErr result (λ fault.
-        store_sectors mapper.old.stack (disk_contents places.now held) store.now
-        (row_sector store.now.chunk row) ≡ Err fault) }
-    ensures has { IfOk result (λ rows. IsRowOf rows row) }
+    ensures read { (held : Contents) → I.IsSeen images.new held
+        → HasRead (store_sectors mapper.old.stack (disk_contents places.now held) store.now) store.now.chunk number
+        rows.old block.old result rows.new block.new }
 {
-    if rows.first <= row && row - rows.first < rows.count {
-        return Ok(rows);
+    let row = number / ROW;
+    if row < rows.first || row - rows.first >= rows.count {
+        *rows = read_block(images, places, mapper, store, row, rows.single, block)?;
     }
-    read_block(images, places, mapper, store, row, rows.single, block)
+    let start = SECTOR * (row - rows.first) as usize;
+    Ok(pair_at(&block[start..start + SECTOR], (number % ROW) as usize))
 }

@@ -1,9 +1,6 @@
 //! The store of a device, where it is to be read.
 
-ghost use Rattle.std.specs.Prelude.{◌≡◌, IfSome};
-ghost use Rattle.dm_stack.specs.checks.Snapshots.{IsSnapshot};
-ghost use Rattle.dm_store.specs.Reading.{IsStoreOf};
-ghost use Rattle.dm_store.specs.Start.{store_at};
+ghost use Rattle.dm_store.specs.Prelude.{◌≡◌, IfSome, IsSnapshot, IsStoreOf, store_at};
 
 use crate::store::Store;
 use dm_map::lower_len;

@@ -1,16 +1,6 @@
 //! The state that the stores of a stack hold, read into a mapper.
 
-ghost use Rattle.std.specs.Prelude.{◌≡◌, ◌<◌, ◌≤◌, IfErr, OnOk, length};
-ghost use Rattle.dm_map.specs.Mapper.{with_looked};
-ghost use Rattle.dm_map.specs.state.Fitting.{IsWithinPlaces};
-ghost use Rattle.dm_map.specs.state.State.{none_taken, put, start_state, taken_at};
-ghost use Rattle.dm_stack.specs.checks.Snapshots.{IsSnapshot};
-ghost use Rattle.dm_stack.specs.checks.Store.{IsStore};
-ghost use Rattle.dm_stack.specs.Description.{lower_len};
-ghost use Rattle.dm_store.specs.Images.{Contents, disk_contents};
-ghost use Rattle.dm_store.specs.Reading.{IsStoreOf, told, told_header};
-ghost use Rattle.dm_store.specs.Start.{start_of, store_sectors, stored_state, taken_in};
-ghost use Rattle.dm_store.specs.Stored.{Stored, by_header, stored};
+ghost use Rattle.dm_store.specs.Prelude.{◌≡◌, ◌<◌, IfErr, OnOk, length, with_looked, IsWithinPlaces, none_taken, put, start_state, taken_at, IsSnapshot, Contents, disk_contents, IsStoreIn, IsStoreOf, told, told_header, start_of, store_sectors, stored_state, taken_in, Stored, by_header, stored};
 
 use crate::disk_images::DiskImages;
 use crate::fault::{StoreFault, StoreRefusal};
@@ -32,9 +22,7 @@ fn header_of<I: Images, T: Taken>(
     mapper: &mut Mapper<'_, T>,
     store: &Store,
 ) -> Result<Header, StoreFault>
-    requires lower { IsStore mapper.old.stack store.now.lower }
-    requires some { 1 ≤ store.now.len }
-    requires len { store.now.len ≡ lower_len mapper.old.stack store.now.lower }
+    requires { IsStoreIn mapper.old.stack store.now }
     ensures same { mapper.new ≡ with_looked mapper.old mapper.new.looked }
     ensures still { (held : Contents) → I.IsSeen images.new held → I.IsSeen images.old held }
     ensures header { (held : Contents) → I.IsSeen images.new held → (used : Stored)
@@ -75,11 +63,7 @@ fn read_store<I: Images, T: Taken>(
             mapper.lose(device);
             Ok(())
         }
-        Header::Used => match read_list(images, places, mapper, device, store) {
-            Ok(None) => Ok(()),
-            Ok(Some(fault)) => Err(StoreFault::Listed(fault)),
-            Err(fault) => Err(StoreFault::Unread(fault)),
-        },
+        Header::Used => read_list(images, places, mapper, device, store),
     }
 }
 

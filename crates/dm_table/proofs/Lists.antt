@@ -1,7 +1,5 @@
 -- What proofs of several crates need of lists, options and results.
-use Rattle.std.proofs.Common.{◌≡◌, ℕ, zero, suc, List, [], ◌∷◌, ◌++◌, Option, Some, None, Result, Ok, Err, OnOk, refl, subst}
-use Rattle.std.specs.Prelude.{OnErr, option_map, slice_get}
-use Rattle.std.specs.List.{AllByRecursion}
+use Rattle.dm_table.proofs.Prelude.{◌≡◌, ℕ, zero, suc, List, [], ◌∷◌, ◌++◌, Option, Some, None, Result, Ok, Err, OnOk, refl, subst, OnErr, option_map, slice_get, AllByRecursion}
 
 -- Lists
 

@@ -5,9 +5,7 @@ pub mod CanonicalTable
 pub mod ConciseDescribed
 pub mod ConciseFaults
 pub mod ConciseRows
-mod ConciseWorked
 pub mod DiskLemmas
-mod KindsWorked
 pub mod PairRows
 pub mod PathLemmas
 pub mod PathPlaces

@@ -6,3 +6,6 @@ pub mod load
 pub mod laws
 pub mod Reserved
 pub mod ReservedLends
+pub mod Prelude
+pub mod Std
+pub mod Base

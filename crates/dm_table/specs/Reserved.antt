@@ -1,5 +1,5 @@
 -- Memory that was taken while loading.
-use Rattle.std.specs.Prelude.{ℕ, List}
+use Rattle.dm_table.specs.Base.{ℕ, List}
 
 -- values in their order, and for how many there is room
 pub record Reservation (T : Type 0) : Type 0 where

@@ -1,6 +1,5 @@
 -- What a `Reserved` ends as, where a `&mut` to one of its values is returned.
-use Rattle.std.specs.Prelude.{ℕ, slice_set}
-use Rattle.std.specs.Borrow.{Lends, Fml, RattleType, MutBor}
+use Rattle.dm_table.specs.Base.{ℕ, slice_set, Lends, Fml, RattleType, MutBor}
 use Rattle.dm_table.specs.Reserved.{Reservation}
 use Rattle.dm_table.specs.contracts.reserved.Reserved.{the_row}
 

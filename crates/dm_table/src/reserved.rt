@@ -6,10 +6,7 @@
 //! nothing but these, takes no memory. That is so as long as this module hands out no allocator, which no
 //! contract says.
 
-ghost use Rattle.std.specs.Prelude.{◌≡◌, ◌<◌, ◌≤◌, ◌++◌, ◌∷◌, [], IfOk, OnOk, length, slice_index_or, vec_capacity};
-ghost use Rattle.std.specs.Borrow.{sem};
-ghost use Rattle.std.specs.List.{insert};
-ghost use Rattle.std.specs.String.{string_bytes};
+ghost use Rattle.dm_table.specs.Prelude.{◌≡◌, ◌<◌, ◌≤◌, ◌++◌, ◌∷◌, [], IfOk, OnOk, length, slice_index_or, vec_capacity, sem, insert, string_bytes};
 
 use std::alloc::{AllocError, Global};
 use std::marker::Model;
@@ -23,7 +20,7 @@ pub struct Reserved<T> {
 }
 
 impl<T> Model for Reserved<T> {
-    ghost use Rattle.std.specs.Prelude.{vec_capacity};
+    ghost use Rattle.dm_table.specs.Base.{vec_capacity};
     ghost use Rattle.dm_table.specs.Reserved.{Reservation};
 
     ghost Value = { Reservation T };
@@ -133,8 +130,7 @@ pub struct ReservedText {
 }
 
 impl Model for ReservedText {
-    ghost use Rattle.std.specs.Prelude.{List, ℕ};
-    ghost use Rattle.std.specs.String.{string_bytes};
+    ghost use Rattle.dm_table.specs.Base.{List, ℕ, string_bytes};
 
     ghost Value = { List ℕ };
 

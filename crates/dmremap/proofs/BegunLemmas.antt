@@ -1,42 +1,30 @@
 -- How a run begins: what was refused before earlier requests, and what they do.
-use Rattle.std.proofs.Common.{◌≡◌, Option, Some, None, Result, Ok, Err, sym, subst}
-use Rattle.std.specs.Prelude.{IfErr}
-use Rattle.std.specs.Result.{IsErrAnd}
-use Rattle.std.proofs.lemmas.Result.{err_from_is_err_and}
-use Rattle.dm_table.specs.io.DeviceIo.{Delivery, InputPast}
-use Rattle.dm_stack.specs.Description.{Description}
-use Rattle.dm_map.specs.state.State.{State}
-use Rattle.dm_stream.specs.declared.runs.earlier.EarlierFault.{EarlierFault}
+use Rattle.dmremap.proofs.Prelude.{◌≡◌, arith, Option, Some, None, Result, Ok, Err, sym, subst, IfErr, IsErrAnd, err_from_is_err_and, Delivery, InputPast, Description, State, EarlierFault, Ending, refused_ending, Refusal, IsOutOfMemory, IsBegunAt, ArePlayedIf, ArePlayedOver, Begins, Start, earlier_from}
 use Rattle.dm_stream.specs.declared.runs.earlier.EarlierFault.TheVariants as earlier
-use Rattle.dm_stream.specs.declared.runs.ending.Ending.{Ending}
 use Rattle.dm_stream.specs.declared.runs.ending.Ending.TheVariants as endings
-use Rattle.dm_stream.specs.runs.Earlier.{refused_ending}
-use Rattle.dmremap.specs.declared.prepared.Unbegun.{Unbegun}
-use Rattle.dmremap.specs.declared.prepared.Unbegun.TheVariants as unbegun
-use Rattle.dmremap.specs.StoredStart.{IsBegunAt, IsOutOfMemory}
-use Rattle.dmremap.specs.Whole.{ArePlayedIf, ArePlayedOver, Begins, Start, earlier_from}
+use Rattle.dmremap.specs.declared.exit.Refusal.TheVariants as refusals
 
 -- what the exit of a `?` returns is why it was given
-pub handed_on : {T : Type 0} (P : Result T Unbegun → Type 0) (result : Result T Unbegun) (why : Unbegun) → IsErrAnd result (λ found. found ≡ why) → P (Err why) → P result
+pub handed_on : {T : Type 0} (P : Result T Refusal → Type 0) (result : Result T Refusal) (why : Refusal) → IsErrAnd result (λ found. found ≡ why) → P (Err why) → P result
 handed_on P result why is holds = let p = err_from_is_err_and result is in rw (p.1, p.2) holds
 
 -- what holds where memory ran out, and it did
-pub if_out : {T Q : Type 0} (begun : Result T Unbegun) → IfErr begun (λ why. IsOutOfMemory why → Q) → IsErrAnd begun IsOutOfMemory → Q
+pub if_out : {T Q : Type 0} (begun : Result T Refusal) → IfErr begun (λ why. IsOutOfMemory why → Q) → IsErrAnd begun IsOutOfMemory → Q
 if_out (Ok prepared) told out = absurd out
 if_out (Err why) told out = told out
 
 -- out of memory says nothing of where it begins
-pub out_begun : (stack : Description) (before : Option Delivery) (start : Start) (why : Unbegun) → IsOutOfMemory why → IsBegunAt stack before start (Err why)
-out_begun stack before start (unbegun.Load fault) memory = λ other. absurd (other memory)
-out_begun stack before start why memory = absurd memory
+pub out_begun : (stack : Description) (before : Option Delivery) (start : Start) (why : Refusal) → IsOutOfMemory why → IsBegunAt stack before start (Err why)
+out_begun stack before start (refusals.Earlier fault) memory = absurd (omega (arith, memory))
+out_begun stack before start why memory = λ other. absurd (other memory)
 
 -- what was refused with no earlier requests is refused before any
-never_done : (fault : EarlierFault) → Some endings.Done ≡ Some (refused_ending fault) → ⊥
+pub never_done : (fault : EarlierFault) → Some endings.Done ≡ Some (refused_ending fault) → ⊥
 never_done (earlier.BadRequest number word) is = cc
 never_done earlier.Read is = cc
 
-pub begun_before : (stack : Description) (before : Option Delivery) (start : Start) (why : Unbegun) → IsBegunAt stack None start (Err why) → IsBegunAt stack before start (Err why)
-begun_before stack before start (unbegun.Earlier fault) begun = absurd (never_done fault begun.2)
+pub begun_before : (stack : Description) (before : Option Delivery) (start : Start) (why : Refusal) → IsBegunAt stack None start (Err why) → IsBegunAt stack before start (Err why)
+begun_before stack before start (refusals.Earlier fault) begun = absurd (never_done fault begun.2)
 begun_before stack before start why begun = begun
 
 -- earlier requests were played from where it began

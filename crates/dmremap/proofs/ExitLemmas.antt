@@ -1,29 +1,17 @@
 -- What the exit of a command says of its status and of its streams.
-use Rattle.std.proofs.Common.{◌≡◌, ◌≢◌, ◌≤◌, ◌⊎◌, true, false, ℕ, ◌+◌, List, Result, Ok, Err, IsErr, OnErr, OnOk, inl, inr, refl, sym, ap, subst, ◌∙◌, arith}
-use Rattle.dm_table.specs.declared.load.load_fault.LoadKind.{LoadKind}
+use Rattle.dmremap.proofs.Prelude.{◌≡◌, ◌≢◌, ◌≤◌, ◌⊎◌, true, false, ℕ, ◌+◌, List, Result, Ok, Err, IsErr, OnErr, OnOk, inl, inr, refl, sym, ap, subst, ◌∙◌, arith, LoadKind, InputPast, OutputPast, written_since, HasWritten, IsClosedAfter, IsFinished, IsReadOn, Wrote, finished_as, grows-same, written_none, Ending, HasMet, NameFault, Exit, Refusal, ending_status, exit_message, exit_status, failed_writes, is_flushed, is_refused, load_status, name_status, refusal_status, AskedBy, EndsAs, Exits, IsClosedAs, MessagesTold, OutputWritten, RequestsRead}
 use Rattle.dm_table.specs.declared.load.load_fault.LoadKind.TheVariants as kinds
-use Rattle.dm_table.specs.io.DeviceIo.{InputPast, OutputPast, written_since}
-use Rattle.dm_table.specs.io.Progress.{HasWritten, IsClosedAfter, IsFinished, IsReadOn, Wrote}
-use Rattle.dm_table.specs.laws.Progress.{finished_as, grows-same, written_none}
-use Rattle.dm_stream.specs.declared.runs.ending.Ending.{Ending}
 use Rattle.dm_stream.specs.declared.runs.ending.Ending.TheVariants as endings
 use Rattle.dm_stream.specs.declared.runs.ending.RequestWord.TheVariants as words
-use Rattle.dm_stream.specs.requests.Requests.{HasMet}
-use Rattle.dm_stream.specs.runs.Messages.{HasTold}
-use Rattle.lvm_volume.specs.declared.fault.NameFault.{NameFault}
 use Rattle.lvm_volume.specs.declared.fault.NameFault.TheVariants as names
-use Rattle.dmremap.specs.declared.exit.Exit.{Exit}
 use Rattle.dmremap.specs.declared.exit.Exit.TheVariants as exits
-use Rattle.dmremap.specs.declared.exit.Refusal.{Refusal}
 use Rattle.dmremap.specs.declared.exit.Refusal.TheVariants as refusals
 use Rattle.dmremap.specs.declared.status.TheConstants.{STATUS_BAD_REQUEST, STATUS_DONE, STATUS_MEMORY, STATUS_READ_FAULT, STATUS_REFUSED, STATUS_WRITE_FAULT}
-use Rattle.dmremap.specs.Exit.{ending_status, exit_message, exit_status, failed_writes, is_flushed, is_refused, load_status, name_status, refusal_status}
-use Rattle.dmremap.specs.Streams.{AskedBy, EndsAs, Exits, HasExited, HasGiven, IsClosedAs, MessagesTold, OutputWritten, RequestsRead}
 
 -- ---- the status
 
 -- a command is refused with one of two statuses
-abbrev IsOfTwo : ℕ → Type 0
+abbrev pub IsOfTwo : ℕ → Type 0
 IsOfTwo status = (status ≡ STATUS_REFUSED) ⊎ (status ≡ STATUS_MEMORY)
 
 of_kind : (kind : LoadKind) → IsOfTwo (load_status kind)
@@ -57,14 +45,10 @@ write_fault_is exit five = absurd (omega (arith, five))
 pub exits_told : {exit : Exit} {result : ℕ} {old new : OutputPast} → Exits exit result old new → MessagesTold result old new
 exits_told {exit = exit} is = record { message = exit_message exit; told = is.told; write_message = λ five. ap exit_message (write_fault_is exit (sym is.is ∙ five)) }
 
--- and where it is refused by a message of its own
-pub refused_told : {message : List ℕ} {result : ℕ} {old new : OutputPast} → result ≡ STATUS_REFUSED → HasTold message old new → MessagesTold result old new
-refused_told {message = message} is told = record { message = message; told = told; write_message = λ five. absurd (omega (arith, is, five)) }
-
--- the status of a load that was refused for another reason than memory
-pub refused_load : (kind : LoadKind) → kind ≢ kinds.Memory → load_status kind ≡ STATUS_REFUSED
-refused_load kinds.Memory other = absurd (other refl)
-refused_load kind other = refl
+-- memory ran out exactly where the status says so
+pub kind_memory : (kind : LoadKind) → load_status kind ≡ STATUS_MEMORY → kind ≡ kinds.Memory
+kind_memory kinds.Memory six = refl
+kind_memory kind six = absurd (omega (arith, six))
 
 -- ---- an output that was written to
 
@@ -143,6 +127,7 @@ closed_well {E = E} Same exit old new (Ok done) going other untouched bytes clos
     record {
       bytes = bytes;
       ends = inl (refl, λ shut. let open_still = flushes_so exit going other in absurd cc);
+      untouched = λ refused. absurd cc;
       output = λ start moved. record {
         finished = finished_as (IsErr {T = Unit {0}} {E = E} (Ok tt)) (exit_status exit ≡ STATUS_WRITE_FAULT) (λ err. absurd cc) (λ five. absurd (other (write_fault_is exit five))) (closed start moved).finished;
         flushed = λ one five six. ((closed start moved).whole (λ err. absurd cc)).1;
@@ -160,6 +145,7 @@ pub closed_failed : {X E : Type 0} (past : X → OutputPast) (exit : Exit) (old 
 closed_failed past exit old new fault (Ok done) going other is untouched more bytes closes = record {
   bytes = bytes;
   ends = inr (refl, flushes_so exit going other, more);
+  untouched = λ refused. absurd cc;
   output = λ start moved. record {
     finished = finished_as _ _ (λ err. refl) (λ five. refl) (closes start (written_since start (past old)) (wrote_so start (past old) exit other moved)).finished;
     flushed = λ one five six. absurd (five refl);
@@ -170,41 +156,9 @@ closed_failed past exit old new fault (Ok done) going other is untouched more by
 closed_failed past exit old new fault (Err before) going other is untouched more bytes closes = record {
   bytes = bytes;
   ends = inl (sym is, λ shut. cc);
+  untouched = λ refused. absurd cc;
   output = λ start moved. written_failed start (past new) (rw untouched.1 (subst (λ (e : Exit). HasWritten start (past old) (failed_writes e)) is moved));
   flushed = λ flag start moved. absurd cc;
-}
-
--- ---- a command that exits
-
--- what it gave, where no flush failed
-given_same : (Did : List ℕ → Exit → Type 0) (text : List ℕ) (old new : ℕ) (exit : Exit) → (is_flushed exit ≡ false → new ≡ old) → Did text exit → HasGiven Did text old new exit
-given_same Did text old new (exits.Ended endings.WriteFault) shut did = inl (shut refl, did)
-given_same Did text old new exit shut did = did
-
-given : (Did : List ℕ → Exit → Type 0) (text : List ℕ) (old mid new : ℕ) (before after : Exit) → mid ≡ old → EndsAs before mid new after → Did text before → HasGiven Did text old new after
-given Did text old mid new before after same (inl (is, shut)) did =
-    rw is (given_same Did text old new before (λ flag. shut flag ∙ same) did)
-given Did text old mid new before after same (inr (is, flag, more)) did =
-    rw is (inr (more ∙ ap (λ (n : ℕ). n + 1) same, (before, flag, did)))
-
--- one that was refused had been so before its output was closed
-refused_before : (before after : Exit) (old new : ℕ) → EndsAs before old new after → is_refused after ≡ true → (is_refused before ≡ true) × (new ≡ old)
-refused_before before after old new (inl (is, shut)) refused =
-    let so : is_refused before ≡ true = ap is_refused (sym is) ∙ refused in (so, shut (unflushed before so))
-  where
-    unflushed : (exit : Exit) → is_refused exit ≡ true → is_flushed exit ≡ false
-    unflushed (exits.Refused refusal) so = refl
-    unflushed exit so = absurd cc
-refused_before before after old new (inr (is, flag, more)) refused =
-    let not_so : is_refused after ≡ false = ap is_refused is in absurd cc
-
-pub exited : (Did : List ℕ → Exit → Type 0) (start mid new : OutputPast) (before after : Exit) → HasWritten start mid (failed_writes before)
-    → Did (written_since start mid) before → IsClosedAs before mid new after → HasExited Did start new after
-exited Did start mid new before after moved did closed = record {
-  given = given Did (written_since start new) start.flushes mid.flushes new.flushes before after moved.unflushed closed.ends
-      (rw closed.bytes did);
-  flushed = λ flag. closed.flushed flag start moved;
-  refused = λ so. (refused_before before after mid.flushes new.flushes closed.ends so).1 ∙ moved.unflushed;
 }
 
 -- ---- how the requests were read
@@ -271,6 +225,13 @@ asked_read old new exits.Memory asked = record {
   bad_line = λ three. absurd (omega (arith, three));
   unasked = λ one. absurd (omega (arith, one));
 }
+asked_read old new (exits.Stopped stop) asked = record {
+  read_on = asked.read_on;
+  read_fault = λ four. absurd (omega (arith, four));
+  no_fault = λ zero. absurd (omega (arith, zero));
+  bad_line = λ three. absurd (omega (arith, three));
+  unasked = λ one. absurd (omega (arith, one));
+}
 
 -- and after it, where the flush may have failed
 pub closed_requests : (old new : InputPast) (before after : Exit) (f0 f1 status : ℕ) → EndsAs before f0 f1 after → AskedBy old new before → status ≡ exit_status after → RequestsRead status old new
@@ -280,9 +241,6 @@ closed_requests old new before after f0 f1 status ends_so asked is =
     go : EndsAs before f0 f1 after → RequestsRead (exit_status after) old new
     go (inl (same, shut)) = subst (λ (e : Exit). RequestsRead (exit_status e) old new) (sym same) (asked_read old new before asked)
     go (inr (failed, flag, more)) = rw failed (ran_requests endings.WriteFault _ old new refl asked.read_on tt)
-
-pub closed_unasked : (old new : InputPast) (before after : Exit) (f0 f1 : ℕ) → EndsAs before f0 f1 after → AskedBy old new before → is_refused after ≡ true → new ≡ old
-closed_unasked old new before after f0 f1 ends_so asked refused = asked.unasked (refused_before before after f0 f1 ends_so refused).0
 
 -- an input of which nothing is asked
 pub read_on_none : (x : InputPast) → IsReadOn x x

@@ -1,14 +1,5 @@
 -- The first fault of checks that run before others, what parts give that were read, and inputs of which nothing is asked.
-use Rattle.std.proofs.Common.{◌≡◌, ℕ, List, [], ◌∷◌, ◌++◌, Option, Some, None}
-use Rattle.dm_table.specs.io.DeviceIo.{Delivery, InputPast}
-use Rattle.dm_table.specs.declared.load.load_fault.LoadFault.{LoadFault}
-use Rattle.dm_table.specs.declared.load.place.Part.TheVariants.{Disks, Source}
-use Rattle.dm_table.specs.load.LoadFault.{first_fault}
-use Rattle.dm_table.specs.load.PartInput.{TextOf, part_read}
-use Rattle.dmremap.specs.declared.job.Format.TheVariants.{Lvm, Tables}
-use Rattle.dmremap.specs.declared.job.TableForm.{TableForm}
-use Rattle.dmremap.specs.Inputs.{IsReadOnIf}
-use Rattle.dmremap.specs.Load.{Load, MetadataGives, PartsGive, TextsGive}
+use Rattle.dmremap.proofs.Prelude.{◌≡◌, ℕ, List, [], ◌∷◌, ◌++◌, Option, Some, None, Delivery, InputPast, LoadFault, Disks, Source, first_fault, TextOf, part_read, Lvm, Tables, TableForm, IsReadOnIf, Load, MetadataGives, PartsGive, TextsGive}
 use Rattle.dmremap.proofs.ExitLemmas.{read_on_none}
 
 -- a fault of the first checks

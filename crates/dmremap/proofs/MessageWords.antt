@@ -1,14 +1,6 @@
 -- Where a mark stands in a text, as `split_once` says it and as the definition does.
-use Rattle.std.proofs.Common.{zero, suc, ◌≡◌, ◌∙◌, ◌++◌, ◌<◌, ◌≤◌, ◌+◌, ℕ, Bool, true, false, [], ◌∷◌, length, take, drop, Option, Some, None, option_map, ap, ap₂, arith, refl, sym}
-use Rattle.std.proofs.Math.Seq.{drop_at, take_at}
-use Rattle.std.proofs.lemmas.List.{length-append, length-drop, take-append-drop}
-use Rattle.std.proofs.lemmas.Slice.Eq.{bytes_eq-Decides}
-use Rattle.std.specs.Borrow.{Bor}
-use Rattle.std.specs.Option.{MatchOption}
-use Rattle.std.specs.Str.{bytes_eq}
-use Rattle.std.specs.Str.Pattern.{FindsText, LacksTextAt, SplitsAroundMatch}
+use Rattle.dmremap.proofs.Prelude.{zero, suc, ◌≡◌, ◌∙◌, ◌++◌, ◌<◌, ◌≤◌, ◌+◌, ℕ, Bool, true, false, [], ◌∷◌, length, take, drop, Option, Some, None, option_map, ap, ap₂, arith, refl, sym, drop_at, take_at, length-append, length-drop, take-append-drop, bytes_eq-Decides, Bor, MatchOption, bytes_eq, FindsText, LacksTextAt, SplitsAroundMatch, cut_at}
 use Rattle.clap.specs.Words.{Text}
-use Rattle.dmremap.specs.Explanation.{cut_at}
 
 -- a mark that a text doesn't begin with
 lacks_first : (mark text : Text) → LacksTextAt mark text 0 → bytes_eq (take (length mark) text) mark ≡ false

@@ -1,22 +1,9 @@
 -- What PATHS delivered opens one thing, by what images hold.
-use Rattle.std.proofs.Common.{◌≡◌, List, Option, Some, None, Result, Ok, Err, sym, ap, ◌∙◌}
-use Rattle.dm_table.specs.declared.load.load_fault.LoadFault.{LoadFault}
-use Rattle.dm_table.specs.declared.load.place.Part.TheVariants.{Paths}
-use Rattle.dm_table.specs.declared.tables.disk_path.DiskPath.{DiskPath}
-use Rattle.dm_table.specs.io.DeviceIo.{Delivery}
-use Rattle.dm_table.specs.load.PartInput.{part_read}
-use Rattle.dm_stack.specs.Description.{Description, described}
-use Rattle.dm_stack.proofs.OneFault.{never_both, one_fault as one_refusal}
-use Rattle.dm_store.specs.Images.{Contents}
-use Rattle.lvm_head.specs.declared.fault.HeadRefusal.{HeadRefusal}
-use Rattle.lvm_head.specs.Heads.{AllSaid}
+use Rattle.dmremap.proofs.Prelude.{◌≡◌, List, Option, Some, None, Result, Ok, Err, sym, ap, ◌∙◌, LoadFault, Paths, DiskPath, Delivery, part_read, Description, described, never_both, Contents, HeadRefusal, AllSaid, OwnedFault, HeadsOpen, ImagesOpen, OpensBy, SaidOpens, StackGives, ended_by, list_in, listed_disks, owners_of, Load, RefusedBy, SoundAs, Loaded, Opening, Stops}
+use Rattle.dm_stack.proofs.OneFault.{one_fault as one_refusal}
 use Rattle.lvm_volume.proofs.OwnedLemmas.{gives_one}
-use Rattle.lvm_volume.specs.declared.owned_metadata.OwnedFault.{OwnedFault}
 use Rattle.lvm_volume.specs.declared.owned_metadata.OwnedFault.TheVariants as owned
 use Rattle.lvm_volume.specs.OwnedMetadata.{Tables}
-use Rattle.dmremap.specs.ImagesLoad.{HeadsOpen, ImagesOpen, OpensBy, SaidOpens, StackGives, list_in, owners_of}
-use Rattle.dmremap.specs.Load.{Load, RefusedBy, SoundAs}
-use Rattle.dmremap.specs.Whole.{Loaded, Opening, Stops}
 
 one_stack : (stack : Description) (a b : Load) → StackGives stack a → StackGives stack b → a ≡ b
 one_stack stack (RefusedBy f) (RefusedBy g) x y = ap RefusedBy (one_refusal stack f g x y)
@@ -29,7 +16,7 @@ one_said paths (Ok tables) (Loaded a) (Loaded b) x y = ap Loaded (one_stack (des
 one_said paths (Ok tables) (Stops message) b x y = absurd x
 one_said paths (Ok tables) (Loaded a) (Stops message) x y = absurd y
 one_said paths (Err (owned.Load fault)) a b x y = x ∙ sym y
-one_said paths (Err (owned.Foreign disk)) a b x y = x ∙ sym y
+one_said paths (Err (owned.Disk disk fault)) a b x y = x ∙ sym y
 
 one_heads : (paths : List DiskPath) (heads : Result AllSaid HeadRefusal) (a b : Opening) → HeadsOpen paths heads a → HeadsOpen paths heads b → a ≡ b
 one_heads paths (Ok all) a b x y =
@@ -38,7 +25,7 @@ one_heads paths (Ok all) a b x y =
 one_heads paths (Err refusal) a b x y = x ∙ sym y
 
 one_opening : (held : Contents) (list : Option (Result (List DiskPath) LoadFault)) (a b : Opening) → OpensBy held list a → OpensBy held list b → a ≡ b
-one_opening held (Some (Ok paths)) a b x y = one_heads paths _ a b x y
+one_opening held (Some (Ok paths)) a b x y = x.2 ∙ ap (ended_by paths (listed_disks paths held)) (one_heads paths _ x.0 y.0 x.1 y.1) ∙ sym y.2
 one_opening held (Some (Err fault)) a b x y = x ∙ sym y
 one_opening held None a b x y = absurd x
 

@@ -1,39 +1,15 @@
 -- What the words and the deliveries give is one, save where the output failed or memory ran out.
-use Rattle.std.proofs.Common.{◌≡◌, ◌≢◌, ℕ, List, [], ◌∷◌, ◌++◌, Some, None, refl, sym, ap, subst, ◌∙◌}
-use Rattle.std.specs.List.{AllByRecursion}
-use Rattle.dm_table.specs.declared.load.load_fault.LoadFault.{LoadFault}
-use Rattle.dm_table.specs.declared.load.load_fault.LoadKind.TheVariants.{Memory}
-use Rattle.dm_table.specs.io.DeviceIo.{Delivery}
+use Rattle.dmremap.proofs.Prelude.{◌≡◌, ◌≢◌, true, false, ℕ, List, [], ◌∷◌, ◌++◌, Option, Some, None, refl, sym, ap, subst, ◌∙◌, AllByRecursion, Delivery, IsClash, IsTidy, claims, Description, State, Ending, NumberedRequest, Requests, requests_of, Asked, HasTop, runs_text, spaced, Exit, Answer, End, IsOne, IsOneSettled, IsSettled, Tells, Writes, end_of, IsPlain, is_flushed, JobWords, RangeWords, print_words, check_words, read_words, replay_words, name_words, split_words, explain_words, Opened, Opening, JobAnswers, JobMakes, has_requests, is_loading, Prints, Refuses, ReportSays, Said, SaidBy, SplitSays, answer_said, line, ReplaysOver, ReplaysStack, Start, AreAnswered, IsAnswer, IsOfNone, IsPlayed, IsWhole, StopsAt, asked_of}
 use Rattle.dm_stack.specs.declared.claims.clash.Clash.{Clash}
-use Rattle.dm_stack.specs.claims.Claims.{IsClash, IsTidy, claims}
-use Rattle.dm_stack.specs.Description.{Description}
 use Rattle.dm_stack.proofs.TopLemmas.{one_clash, one_report}
-use Rattle.dm_map.specs.state.State.{State}
-use Rattle.dm_stream.specs.declared.runs.ending.Ending.{Ending}
 use Rattle.dm_stream.specs.declared.runs.ending.Ending.TheVariants as endings
-use Rattle.dm_stream.specs.requests.Requests.{NumberedRequest, Requests, requests_of}
-use Rattle.dm_replay.specs.Histories.{Asked}
-use Rattle.dm_replay.specs.Replay.{HasTop}
-use Rattle.dm_replay.specs.RunText.{runs_text}
 use Rattle.dm_replay.proofs.OneRuns.{one_runs}
-use Rattle.lvm_volume.specs.Names.{spaced}
 use Rattle.lvm_volume.proofs.Splits.{one_split}
-use Rattle.dmremap.specs.declared.exit.Exit.{Exit}
 use Rattle.dmremap.specs.declared.exit.Exit.TheVariants as exits
-use Rattle.dmremap.specs.declared.exit.Refusal.TheVariants as refusals
-use Rattle.dmremap.specs.Exit.{IsPlain, load_status}
-use Rattle.dmremap.specs.declared.job.TableForm.{TableForm}
-use Rattle.dmremap.specs.declared.job.Task.{Task}
-use Rattle.dmremap.specs.declared.job.Task.TheVariants.{Check, Print, Replay}
-use Rattle.dmremap.specs.ImagesWhole.{TaskDoes}
-use Rattle.dmremap.specs.Job.{JobWords, format_of, map_images_words, map_words, metadata_words, of_images_words, print_words, check_words, replay_words, name_words, split_words, explain_words}
-use Rattle.dmremap.specs.Load.{Load, PartsGive, RefusedBy, SoundAs}
-use Rattle.dmremap.specs.OtherWhole.{JobDoes}
-use Rattle.dmremap.specs.Printing.{IsPrinted, LoadReports, LoadSays, Prints, Refuses, ReportSays, Said, SplitSays, JobSays, devices_said, line}
-use Rattle.dmremap.specs.ReplayWhole.{ReplaysFrom, ReplaysLoad, ReplaysStack}
-use Rattle.dmremap.specs.Whole.{Begins, Start, fresh_start}
-use Rattle.dmremap.specs.ReplayOutcome.{AreAnswered, IsAnswer, IsOfNone, IsPlayed, IsWhole, StopsAt, asked_of}
-use Rattle.dmremap.proofs.OneWhole.{one_load}
+use Rattle.dmremap.specs.declared.status.TheConstants.{STATUS_MEMORY}
+use Rattle.dmremap.specs.Whole as start
+use Rattle.dmremap.proofs.ExitLemmas.{write_fault_is}
+use Rattle.dmremap.proofs.OneWhole.{one_opened}
 
 -- What is said to be printed
 
@@ -44,35 +20,12 @@ one_split_said name (Prints a) (Refuses b) x y = absurd (y.0 x.1.0 x.1.1)
 one_split_said name (Refuses a) (Prints b) x y = absurd (x.0 y.1.0 y.1.1)
 one_split_said name (Refuses a) (Refuses b) x y = ap Refuses (sym x.1 ∙ y.1)
 
-one_report_said : (load : Load) (a b : Said) → ReportSays load a → ReportSays load b → a ≡ b
-one_report_said (RefusedBy fault) a b x y = sym x ∙ y
-one_report_said (SoundAs description) a b x y = sym x.2 ∙ ap Prints (one_report description x.0 y.0 x.1 y.1) ∙ y.2
+one_report_said : (stack : Description) (a b : Said) → ReportSays stack a → ReportSays stack b → a ≡ b
+one_report_said stack a b x y = sym x.2 ∙ ap Prints (one_report stack x.0 y.0 x.1 y.1) ∙ y.2
 
-one_devices : (Gives : Load → Type 0) → ((a b : Load) → Gives a → Gives b → a ≡ b) → (form : TableForm) (a b : Said) → LoadSays Gives form a → LoadSays Gives form b → a ≡ b
-one_devices Gives one form a b x y = sym x.is ∙ ap (devices_said form) (one x.load y.load x.loaded y.loaded) ∙ y.is
-
-one_reported : (Gives : Load → Type 0) → ((a b : Load) → Gives a → Gives b → a ≡ b) → (a b : Said) → LoadReports Gives a → LoadReports Gives b → a ≡ b
-one_reported Gives one a b x y = one_report_said y.load a b (rw (← one x.load y.load x.loaded y.loaded) x.says) y.says
-
-one_said : (asked : JobWords) (source disks : Delivery) (a b : Said) → JobSays asked source disks a → JobSays asked source disks b → a ≡ b
-one_said (print_words form from) source disks a b x y = one_devices (PartsGive (format_of from) source disks) (one_load (format_of from) source disks) form a b x y
-one_said (check_words from) source disks a b x y = one_reported (PartsGive (format_of from) source disks) (one_load (format_of from) source disks) a b x y
-one_said (name_words parts) source disks a b x y = sym x ∙ y
-one_said (split_words name) source disks a b x y = one_split_said name a b x y
-one_said (explain_words text) source disks a b x y = sym x ∙ y
-one_said asked source disks a b x y = absurd x
-
--- what is printed of it, and the exit
-one_printed : (Says : Said → Type 0) → ((a b : Said) → Says a → Says b → a ≡ b) → (a b : Exit) (x y : List ℕ) → IsPlain a → IsPlain b → IsPrinted Says x a → IsPrinted Says y b → (a ≡ b) × (x ≡ y)
-one_printed Says one (exits.Ended endings.Done) (exits.Ended endings.Done) x y plain plain' is is' = let same = one (Prints x) (Prints y) is is' in (refl, cc)
-one_printed Says one (exits.Ended endings.Done) (exits.Refused refusal) x y plain plain' is is' = let same = one (Prints x) (Refuses refusal) is (is'.1 plain'.1) in absurd cc
-one_printed Says one (exits.Refused refusal) (exits.Ended endings.Done) x y plain plain' is is' = let same = one (Refuses refusal) (Prints y) (is.1 plain.1) is' in absurd cc
-one_printed Says one (exits.Refused refusal) (exits.Refused other) x y plain plain' is is' = let same = one (Refuses refusal) (Refuses other) (is.1 plain.1) (is'.1 plain'.1) in (cc, is.0 ∙ sym is'.0)
-one_printed Says one (exits.Ended endings.WriteFault) b x y plain plain' is is' = absurd (plain.0 refl)
-one_printed Says one a (exits.Ended endings.WriteFault) x y plain plain' is is' = absurd (plain'.0 refl)
-one_printed Says one (exits.Ended endings.Done) b x y plain plain' is is' = absurd is'
-one_printed Says one (exits.Refused refusal) b x y plain plain' is is' = absurd is'
-one_printed Says one a b x y plain plain' is is' = absurd is
+-- the answer that is said
+one_said_by : (Says : Said → Type 0) → ((a b : Said) → Says a → Says b → a ≡ b) → IsOne (SaidBy Says)
+one_said_by Says one a b x y = sym x.2 ∙ ap answer_said (one x.0 y.0 x.1 y.1) ∙ y.2
 
 -- The answers to requests
 
@@ -153,66 +106,67 @@ one_end stack start requests a b x y plain plain' is is' = go a b plain plain' i
     go a exits.Memory plain plain' is is' = absurd (plain'.1 refl)
     go (exits.Refused refusal) b plain plain' is is' = absurd is
     go a (exits.Refused refusal) plain plain' is is' = absurd is'
+    go (exits.Stopped stop) b plain plain' is is' = absurd is
+    go a (exits.Stopped stop) plain plain' is is' = absurd is'
 
--- What a replay of a stack gives
-
-never_memory : (fault : LoadFault) → IsPlain (exits.Refused (refusals.Load fault)) → fault.kind ≢ Memory
-never_memory fault plain is = plain.1 (ap load_status is)
+-- What a replay has to answer
 
 -- no two claims of a tidy stack meet
 never_tidy : (stack : Description) (clash : Clash) → IsClash (claims stack) clash → IsTidy stack → ⊥
 never_tidy stack clash is tidy = let never = one_clash (claims stack) None (Some clash) tidy is in absurd cc
 
-one_of_stack : (stack : Description) (start : State) (requests : Delivery) (a b : Exit) (x y : List ℕ) → IsPlain a → IsPlain b → ReplaysStack stack start requests x a → ReplaysStack stack start requests y b → (a ≡ b) × (x ≡ y)
-one_of_stack stack start requests (exits.Refused (refusals.Load fault)) b x y plain plain' is is' = absurd (never_memory fault plain is.1)
-one_of_stack stack start requests a (exits.Refused (refusals.Load fault)) x y plain plain' is is' = absurd (never_memory fault plain' is'.1)
-one_of_stack stack start requests (exits.Refused refusals.Untidy) (exits.Refused refusals.Untidy) x y plain plain' is is' = (refl, is.0 ∙ sym is'.0)
-one_of_stack stack start requests (exits.Refused refusals.Untidy) (exits.Refused refusal) x y plain plain' is is' = absurd is'
-one_of_stack stack start requests (exits.Refused refusal) (exits.Refused refusals.Untidy) x y plain plain' is is' = absurd is
-one_of_stack stack start requests (exits.Refused refusals.Untidy) b x y plain plain' is is' = absurd (never_tidy stack is.1.0 is.1.1 is'.0)
-one_of_stack stack start requests a (exits.Refused refusals.Untidy) x y plain plain' is is' = absurd (never_tidy stack is'.1.0 is'.1.1 is.0)
-one_of_stack stack start requests (exits.Refused refusal) b x y plain plain' is is' = absurd is
-one_of_stack stack start requests a (exits.Refused refusal) x y plain plain' is is' = absurd is'
-one_of_stack stack start requests a b x y plain plain' is is' = one_end stack start (requests_of requests) a b x y plain plain' is.1 is'.1
+-- an exit after which the output was flushed, and not since memory ran out
+plain_of : (exit : Exit) (end : End) → is_flushed exit ≡ true → end ≡ end_of exit → end.status ≢ STATUS_MEMORY → IsPlain exit
+plain_of exit end flag is settled = (λ five. let same = write_fault_is exit five in absurd cc, λ six. settled (ap (λ (e : End). e.status) is ∙ six))
 
--- What the files give
+one_of_stack : (stack : Description) (state : State) (requests : Delivery) → IsOneSettled (ReplaysStack stack state requests)
+one_of_stack stack state requests (Tells a) (Tells b) such such' x y = ap Tells (x.0 ∙ sym y.0)
+one_of_stack stack state requests (Tells a) (Writes text (Some b)) such such' x y = absurd (never_tidy stack x.1 x.2 y.0)
+one_of_stack stack state requests (Writes text (Some a)) (Tells b) such such' x y = absurd (never_tidy stack y.1 y.2 x.0)
+one_of_stack stack state requests (Writes text (Some a)) (Writes other (Some b)) such such' x y =
+    let same = one_end stack state (requests_of requests) x.1 y.1 text other (plain_of x.1 a x.3 x.4 such) (plain_of y.1 b y.3 y.4 such') x.2 y.2 in
+    let end : a ≡ b = x.4 ∙ ap end_of same.0 ∙ sym y.4 in
+    rw (same.1, end) refl
+one_of_stack stack state requests (Writes text None) b such such' x y = absurd such
+one_of_stack stack state requests a (Writes text None) such such' x y = absurd such'
 
--- a load is refused or sound, and not both
-never_loaded : (Gives : Load → Type 0) → ((a b : Load) → Gives a → Gives b → a ≡ b) → (fault : LoadFault) (stack : Description) → Gives (RefusedBy fault) → Gives (SoundAs stack) → ⊥
-never_loaded Gives one fault stack refused sound = let same = one (RefusedBy fault) (SoundAs stack) refused sound in absurd cc
+one_over : (begun : Start) (stack : Description) (requests : Delivery) → IsOneSettled (ReplaysOver begun stack requests)
+one_over (start.Begins state) stack requests a b such such' x y = one_of_stack stack state requests a b such such' x y
+one_over (start.Refuses message) stack requests a b such such' x y = x ∙ sym y
+one_over start.Unsettled stack requests a b such such' x y = absurd x
 
-one_from_start : (start : Start) (stack : Description) (requests : Delivery) (a b : Exit) (x y : List ℕ) → IsPlain a → IsPlain b → ReplaysFrom start stack requests x a → ReplaysFrom start stack requests y b → (a ≡ b) × (x ≡ y)
-one_from_start (Begins state) stack requests a b x y plain plain' is is' = one_of_stack stack state requests a b x y plain plain' is is'
-one_from_start start stack requests (exits.Refused (refusals.Load fault)) b x y plain plain' is is' = absurd (never_memory fault plain is.1)
-one_from_start start stack requests a b x y plain plain' is is' = absurd is
+-- What every job has to answer
 
-pub one_replay : (starts : Description → Start) (Gives : Load → Type 0) → ((a b : Load) → Gives a → Gives b → a ≡ b) → (requests : Delivery) (a b : Exit) (x y : List ℕ) → IsPlain a → IsPlain b
-    → ReplaysLoad starts Gives requests x a → ReplaysLoad starts Gives requests y b → (a ≡ b) × (x ≡ y)
-one_replay starts Gives one requests (exits.Refused (refusals.Load f)) (exits.Refused (refusals.Load g)) x y plain plain' is is' =
-    let same = one (RefusedBy f) (RefusedBy g) (is.1 (never_memory f plain)) (is'.1 (never_memory g plain')) in
-    (cc, is.0 ∙ sym is'.0)
-one_replay starts Gives one requests (exits.Refused (refusals.Load f)) b x y plain plain' is is' = absurd (never_loaded Gives one f is'.0 (is.1 (never_memory f plain)) is'.1)
-one_replay starts Gives one requests a (exits.Refused (refusals.Load g)) x y plain plain' is is' = absurd (never_loaded Gives one g is.0 (is'.1 (never_memory g plain')) is.1)
-one_replay starts Gives one requests a b x y plain plain' is is' =
-    let load = one (SoundAs is.0) (SoundAs is'.0) is.1 is'.1 in
-    let same : is.0 ≡ is'.0 = cc in
-    one_from_start (starts is'.0) is'.0 requests a b x y plain plain' (subst (λ (stack : Description). ReplaysFrom (starts stack) stack requests x a) same is.2) is'.2
+-- one that loads a source has to answer what it makes of that
+pub job_loads : (job : JobWords) → is_loading job ≡ true → (Opens : Opening → Type 0) (starts : Description → Start) (reads : RangeWords → Description → Option Answer) (requests : Delivery) (answer : Answer) → Opened Opens (JobMakes job starts reads requests) answer → JobAnswers job Opens starts reads requests answer
+job_loads (name_words parts) loading Opens starts reads requests answer opened = absurd cc
+job_loads (split_words name) loading Opens starts reads requests answer opened = absurd cc
+job_loads (explain_words text) loading Opens starts reads requests answer opened = absurd cc
+job_loads job loading Opens starts reads requests answer opened = opened
 
--- What every job does
+one_made : (asked : JobWords) (starts : Description → Start) (reads : RangeWords → Description → Option Answer) (requests : Delivery) (stack : Description) → IsOneSettled (JobMakes asked starts reads requests stack)
+one_made (print_words form from) starts reads requests stack a b such such' x y = one_said_by _ (λ c d p q. sym p ∙ q) a b x y
+one_made (check_words from) starts reads requests stack a b such such' x y = one_said_by (ReportSays stack) (one_report_said stack) a b x y
+one_made (replay_words from paths) starts reads requests stack a b such such' x y = one_over (starts stack) stack requests a b such such' x y
+one_made (read_words from paths range) starts reads requests stack a b such such' x y = let some : Some a ≡ Some b = sym x ∙ y in cc
+one_made asked starts reads requests stack a b such such' x y = absurd x
 
-pub one_other : (asked : JobWords) (source disks : Delivery) (a b : Exit) (x y : List ℕ) → IsPlain a → IsPlain b
-    → JobDoes asked source disks x a → JobDoes asked source disks y b → (a ≡ b) × (x ≡ y)
-one_other (map_words from paths earlier status) source disks a b x y plain plain' is is' = absurd is
-one_other (map_images_words paths earlier status) source disks a b x y plain plain' is is' = absurd is
-one_other (of_images_words paths task) source disks a b x y plain plain' is is' = absurd is
-one_other (metadata_words paths) source disks a b x y plain plain' is is' = absurd is
-one_other (replay_words from paths) source disks a b x y plain plain' is is' = absurd is
-one_other asked source disks a b x y plain plain' is is' = one_printed (JobSays asked source disks) (one_said asked source disks) a b x y plain plain' is is'
+pub one_other : (asked : JobWords) (Opens : Opening → Type 0) → (is_loading asked ≡ true → (a b : Opening) → Opens a → Opens b → a ≡ b) → (starts : Description → Start) (reads : RangeWords → Description → Option Answer) (requests : Delivery) → IsOneSettled (JobAnswers asked Opens starts reads requests)
+one_other (name_words parts) Opens one starts reads requests a b such such' x y = one_said_by _ (λ c d p q. sym p ∙ q) a b x y
+one_other (split_words name) Opens one starts reads requests a b such such' x y = one_said_by (SplitSays name) (one_split_said name) a b x y
+one_other (explain_words text) Opens one starts reads requests a b such such' x y = one_said_by _ (λ c d p q. sym p ∙ q) a b x y
+one_other asked Opens one starts reads requests a b such such' x y = one_opened IsSettled Opens (one refl) (JobMakes asked starts reads requests) (one_made asked starts reads requests) a b such such' x y
 
--- What is done with any load does
+-- a job that reads no requests has one answer, settled or not
+one_stack : (asked : JobWords) (starts : Description → Start) (reads : RangeWords → Description → Option Answer) (requests : Delivery) → has_requests asked ≡ false → (stack : Description) → IsOne (JobMakes asked starts reads requests stack)
+one_stack (print_words form from) starts reads requests none stack a b x y = one_said_by _ (λ c d p q. sym p ∙ q) a b x y
+one_stack (check_words from) starts reads requests none stack a b x y = one_said_by (ReportSays stack) (one_report_said stack) a b x y
+one_stack (replay_words from paths) starts reads requests none stack a b x y = absurd cc
+one_stack (read_words from paths range) starts reads requests none stack a b x y = let some : Some a ≡ Some b = sym x ∙ y in cc
+one_stack asked starts reads requests none stack a b x y = absurd x
 
-pub one_task : (Gives : Load → Type 0) → ((a b : Load) → Gives a → Gives b → a ≡ b) → (task : Task) (requests : Delivery) (a b : Exit) (x y : List ℕ) → IsPlain a → IsPlain b
-    → TaskDoes task Gives requests x a → TaskDoes task Gives requests y b → (a ≡ b) × (x ≡ y)
-one_task Gives one (Print form) requests a b x y plain plain' is is' = one_printed (LoadSays Gives form) (one_devices Gives one form) a b x y plain plain' is is'
-one_task Gives one Check requests a b x y plain plain' is is' = one_printed (LoadReports Gives) (one_reported Gives one) a b x y plain plain' is is'
-one_task Gives one Replay requests a b x y plain plain' is is' = one_replay fresh_start Gives one requests a b x y plain plain' is is'
+pub one_printed : (asked : JobWords) (Opens : Opening → Type 0) → (is_loading asked ≡ true → (a b : Opening) → Opens a → Opens b → a ≡ b) → (starts : Description → Start) (reads : RangeWords → Description → Option Answer) (requests : Delivery) → has_requests asked ≡ false → IsOne (JobAnswers asked Opens starts reads requests)
+one_printed (name_words parts) Opens one starts reads requests none a b x y = one_said_by _ (λ c d p q. sym p ∙ q) a b x y
+one_printed (split_words name) Opens one starts reads requests none a b x y = one_said_by (SplitSays name) (one_split_said name) a b x y
+one_printed (explain_words text) Opens one starts reads requests none a b x y = one_said_by _ (λ c d p q. sym p ∙ q) a b x y
+one_printed asked Opens one starts reads requests none a b x y = one_opened (λ answer. Unit {0}) Opens (one refl) (JobMakes asked starts reads requests) (λ stack c d such such' p q. one_stack asked starts reads requests none stack c d p q) a b tt tt x y

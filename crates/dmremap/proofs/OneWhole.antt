@@ -1,27 +1,13 @@
 -- What is delivered gives one run: the texts describe one description at the most, and none where a check of the texts finds a fault.
-use Rattle.std.proofs.Common.{◌≡◌, inl, inr, Bool, ℕ, List, [], ◌∷◌, ◌++◌, Option, Some, None, sym, ap, ◌∙◌}
-use Rattle.dm_table.specs.declared.tables.table.DeviceSpec.{DeviceSpec}
-use Rattle.dm_table.specs.declared.tables.disk.Disk.{Disk}
-use Rattle.dm_table.specs.declared.load.place.Part.TheVariants.{Source, Disks}
-use Rattle.dm_table.specs.declared.load.load_fault.LoadFault.{LoadFault}
-use Rattle.dm_table.specs.load.LoadFault.{first_fault}
-use Rattle.dm_table.specs.tables.DiskList.{disk_checks}
-use Rattle.dm_table.specs.io.DeviceIo.{Delivery}
+use Rattle.dmremap.proofs.Prelude.{◌≡◌, inl, inr, Bool, ℕ, List, [], ◌∷◌, ◌++◌, Option, Some, None, sym, ap, subst, ◌∙◌, DeviceSpec, Disk, Source, Disks, LoadFault, first_fault, disk_checks, Delivery, PartRead, TextOf, Unread, part_read, Format, Lvm, Tables, TableForm, Description, IsSound, never_both, Load, RefusedBy, SoundAs, Describes, DescribesDevices, DescribesGroupAs, device_checks, GivesFault, MetadataGives, MetadataPartGives, TextsGive, TextPartsGive, PartsGive, Answer, IsOne, Loaded, Opened, Opening, OpeningMakes, PartsOpen, Stops, Maps, MapsOver, Start}
 use Rattle.dm_table.proofs.FaultLemmas.{first_or-none}
 use Rattle.dm_table.proofs.ConciseDescribed.{again as again_concise}
 use Rattle.dm_table.proofs.TableDescribed.{again}
 use Rattle.dm_table.proofs.DiskLemmas.{again as again_disks, DescribesDisks-unique}
-use Rattle.dm_table.specs.load.PartInput.{PartRead, TextOf, Refuses, Unread, part_read}
-use Rattle.dmremap.specs.declared.job.Format.{Format}
-use Rattle.dmremap.specs.declared.job.Format.TheVariants.{Lvm, Tables}
-use Rattle.dmremap.specs.declared.job.TableForm.{TableForm}
+use Rattle.dm_table.specs.load.PartInput.{Refuses}
 use Rattle.dmremap.specs.declared.job.TableForm.TheVariants.{Concise, Table}
-use Rattle.dm_stack.specs.Description.{Description}
-use Rattle.dm_stack.specs.checks.Soundness.{IsSound}
-use Rattle.dm_stack.proofs.OneFault.{never_both, one_fault as one_refusal}
+use Rattle.dm_stack.proofs.OneFault.{one_fault as one_refusal}
 use Rattle.lvm_volume.proofs.OneGroup.{never_refused, one_group, one_refusal as one_text_refusal}
-use Rattle.dmremap.specs.Load.{Load, RefusedBy, SoundAs, Describes, DescribesDevices, DescribesGroupAs, device_checks, GivesFault, MetadataGives, MetadataPartGives, TextsGive, TextPartsGive, PartsGive}
-use Rattle.dmremap.specs.Whole.{GiveBy, GiveFrom, Loaded, Opening, PartsOpen, Start, Stops, Whole}
 
 -- What two texts describe
 
@@ -118,19 +104,22 @@ one_load Lvm source disks a b is_a is_b = one_of_part (part_read Source source) 
 
 -- What the run gives
 
--- what opens at most one run gives one at the most
-pub one_by : (Opens : Opening → Type 0) → ((a b : Opening) → Opens a → Opens b → a ≡ b) → (starts : Description → Start) (flag : Bool) (before : Option Delivery) (requests : Delivery) (a b : Whole) → GiveBy Opens starts flag before requests a
-    → GiveBy Opens starts flag before requests b → a ≡ b
-one_by Opens one starts flag before requests a b is_a is_b =
-    let same = one is_a.opening is_b.opening is_a.opens is_b.opens in
-    let some : Some a ≡ Some b = cc in
-    cc
-
-one_opening : (format : Format) (source disks : Delivery) (a b : Opening) → PartsOpen format source disks a → PartsOpen format source disks b → a ≡ b
+pub one_opening : (format : Format) (source disks : Delivery) (a b : Opening) → PartsOpen format source disks a → PartsOpen format source disks b → a ≡ b
 one_opening format source disks (Loaded a) (Loaded b) is_a is_b = ap Loaded (one_load format source disks a b is_a is_b)
 one_opening format source disks (Stops message) b is_a is_b = absurd is_a
 one_opening format source disks (Loaded a) (Stops message) is_a is_b = absurd is_b
 
-pub one_from : (starts : Description → Start) (format : Format) (flag : Bool) (source disks : Delivery) (before : Option Delivery) (requests : Delivery) (a b : Whole) → GiveFrom starts format flag source disks before requests a
-    → GiveFrom starts format flag source disks before requests b → a ≡ b
-one_from starts format flag source disks = one_by (PartsOpen format source disks) (one_opening format source disks) starts flag
+-- what opens at most one thing, and makes at most one answer of a stack, gives one answer at the most
+pub one_opened : (IsSuch : Answer → Type 0) (Opens : Opening → Type 0) → ((a b : Opening) → Opens a → Opens b → a ≡ b) → (Makes : Description → Answer → Type 0) → ((stack : Description) (a b : Answer) → IsSuch a → IsSuch b → Makes stack a → Makes stack b → a ≡ b)
+    → (a b : Answer) → IsSuch a → IsSuch b → Opened Opens Makes a → Opened Opens Makes b → a ≡ b
+one_opened IsSuch Opens one Makes each a b such such' x y = go y.opening (subst (λ (o : Opening). OpeningMakes Makes o a) (one x.opening y.opening x.opens y.opens) x.makes) y.makes
+  where
+    go : (o : Opening) → OpeningMakes Makes o a → OpeningMakes Makes o b → a ≡ b
+    go (Loaded (RefusedBy fault)) p q = p ∙ sym q
+    go (Loaded (SoundAs stack)) p q = each stack a b such such' p q
+    go (Stops message) p q = p ∙ sym q
+
+pub one_by : (Opens : Opening → Type 0) → ((a b : Opening) → Opens a → Opens b → a ≡ b) → (starts : Description → Start) (flag : Bool) (before : Option Delivery) (requests : Delivery) → IsOne (Maps Opens starts flag before requests)
+one_by Opens one starts flag before requests a b x y =
+    one_opened (λ answer. Unit {0}) Opens one (λ stack. MapsOver (starts stack) stack flag before requests)
+    (λ stack c d such such' p q. let some : Some c ≡ Some d = sym p ∙ q in cc) a b tt tt x y

@@ -1,30 +1,13 @@
 -- What the requests that a player was handed say of a replay.
-use Rattle.std.proofs.Common.{◌≡◌, ◌≢◌, ℕ, List, [], ◌∷◌, ◌++◌, None, Some, Result, Err, IfErr, refl, sym, ap, append_assoc}
-use Rattle.std.proofs.lemmas.List.{append-nil}
-use Rattle.std.proofs.lemmas.Result.{IfErr-at_err}
-use Rattle.dm_table.specs.io.DeviceIo.{Delivery, InputPast, since}
-use Rattle.dm_table.specs.io.Progress.{IsReadOn, MetNothing}
-use Rattle.dm_table.specs.io.WriteAll.{IsCutShort}
-use Rattle.dm_table.specs.laws.Progress.{since-same}
-use Rattle.dm_stack.specs.claims.Claims.{IsTidy, IsTop}
-use Rattle.dm_stack.specs.Description.{Description}
-use Rattle.dm_map.specs.state.State.{State}
-use Rattle.dm_stream.specs.declared.runs.ending.Ending.{Ending}
+use Rattle.dmremap.proofs.Prelude.{◌≡◌, ◌≢◌, ℕ, List, [], ◌∷◌, ◌++◌, None, Some, Result, Err, IfErr, refl, sym, ap, subst, append_assoc, append-nil, IfErr-at_err, Delivery, InputPast, since, IsReadOn, MetNothing, IsCutShort, since-same, IsTidy, IsTop, Description, State, Ending, device_of, IsAmong, NumberedRequest, Requests, requests_of, Asked, asked_answers, world_after, HasTop, AreMaximal, flat, runs_text, named_id, named_top, top_named, Exit, Refusal, Tells, end_of, Does, refusal_status, ReplaysOver, ReplaysStack, AreAnswered, HasPlayed, HasStopped, IsAnswer, IsCutReplay, IsPlayed, StopsAt, asked_of, IsBegunAt, AskedBy, HasMetBy, Begins, Start}
 use Rattle.dm_stream.specs.declared.runs.ending.Ending.TheVariants as endings
-use Rattle.dm_stream.specs.runs.Outcome.{device_of}
-use Rattle.dm_stream.specs.requests.Requests.{IsAmong, NumberedRequest, Requests, requests_of}
 use Rattle.dm_replay.specs.declared.replay_fault.ReplayFault.{ReplayFault}
 use Rattle.dm_replay.specs.declared.value_run.ValueRun.{ValueRun}
-use Rattle.dm_replay.specs.Histories.{Asked, asked_answers, world_after}
-use Rattle.dm_replay.specs.Replay.{HasTop}
-use Rattle.dm_replay.specs.Runs.{AreMaximal, flat}
-use Rattle.dm_replay.specs.RunText.{runs_text}
-use Rattle.dm_replay.proofs.NamedLemmas.{named_id, named_top, top_named}
-use Rattle.dmremap.specs.declared.exit.Exit.{Exit}
 use Rattle.dmremap.specs.declared.exit.Exit.TheVariants as exits
-use Rattle.dmremap.specs.ReplayWhole.{ReplaysStack}
-use Rattle.dmremap.specs.ReplayOutcome.{AreAnswered, HasPlayed, HasStopped, IsAnswer, IsCutReplay, IsPlayed, StopsAt, asked_of}
-use Rattle.dmremap.specs.Streams.{AskedBy, HasMetBy}
+use Rattle.dmremap.specs.declared.exit.Refusal.TheVariants as refusals
+use Rattle.dmremap.specs.declared.status.TheConstants.{STATUS_MEMORY}
+use Rattle.dmremap.proofs.AnswerLemmas.{does_more, end_refused}
+use Rattle.dmremap.proofs.BegunLemmas.{never_done}
 
 -- ---- one request
 
@@ -51,7 +34,7 @@ one_cut stack start old request runs text named longest are short = record {
   cut = short;
 }
 
--- the same for a replay of this stack, by the id of the device
+-- one request to a replay of this stack, by the id of the device
 
 abbrev pub asked_by : NumberedRequest → (device : ℕ) → Asked
 asked_by request device = record { number = request.number; op = request.values.op; device = device; start = request.values.start; len = request.values.len; halted_after = None }
@@ -85,7 +68,7 @@ cut_by_name stack of start old request device runs text same named top longest a
 pub one_stopped : (IsCause : NumberedRequest → Type 0) (stack : Description) (start : State) (old : List Asked) (request : NumberedRequest) (w : List ℕ) → IsCause request → StopsAt IsCause stack start old (request ∷ []) (since w w)
 one_stopped IsCause stack start old request w why = record { first = []; last = request; later = []; split = refl; told = sym (since-same w); cause = why }
 
--- the same by the fault of a request
+-- a request is not answered, by its fault
 pub stopped_by : {T : Type 0} (Says : ReplayFault → Type 0) (IsCause : NumberedRequest → Type 0) (stack : Description) (start : State) (old : List Asked) (request : NumberedRequest) (w : List ℕ) (r : Result T ReplayFault) (fault : ReplayFault)
     → r ≡ Err fault → IfErr r Says → (Says fault → IsCause request) → StopsAt IsCause stack start old (request ∷ []) (since w w)
 stopped_by Says IsCause stack start old request w r fault is h why = one_stopped IsCause stack start old request w (why (IfErr-at_err Says is h))
@@ -136,9 +119,21 @@ stopped_met old new stack start exit asked requests text stopped met = absurd st
 -- ---- the stack
 
 -- a replay that has begun was not refused
-pub played_stack : (stack : Description) (start : State) (requests : Delivery) (text : List ℕ) (exit : Exit) → IsTidy stack → IsPlayed stack start (requests_of requests) text exit → ReplaysStack stack start requests text exit
-played_stack stack start requests text (exits.Refused refusal) tidy played = absurd played
-played_stack stack start requests text exit tidy played = (tidy, played)
+pub played_does : (stack : Description) (start : State) (requests : Delivery) (text : List ℕ) (exit : Exit) → IsTidy stack → IsPlayed stack start (requests_of requests) text exit → Does (ReplaysStack stack start requests) text exit
+played_does stack start requests text (exits.Refused refusal) tidy played = absurd played
+played_does stack start requests text (exits.Ended endings.WriteFault) tidy played =
+    (played.whole, None, (tidy, record { first = played.first; later = played.later; split = played.split; told = played.told }), played.cut)
+played_does stack start requests text exit tidy played = (tidy, exit, played, refl, refl)
+
+-- it begins from where the stack starts
+pub begun_replays : (start : Start) (stack : Description) (state reached : State) (requests : Delivery) (text : List ℕ) (exit : Exit) → start ≡ Begins state → reached ≡ state → Does (ReplaysStack stack reached requests) text exit → Does (ReplaysOver start stack requests) text exit
+begun_replays start stack state reached requests text exit begins same =
+    does_more (λ answer makes. subst (λ (s : Start). ReplaysOver s stack requests answer) (sym begins) (subst (λ (at : State). ReplaysStack stack at requests answer) same makes)) text exit
+
+-- one that does not begin tells why
+pub unbegun_replays : (start : Start) (stack : Description) (requests : Delivery) (refusal : Refusal) → IsBegunAt stack None start (Err refusal) → refusal_status refusal ≢ STATUS_MEMORY → ReplaysOver start stack requests (Tells (end_of (exits.Refused refusal)))
+unbegun_replays start stack requests (refusals.Earlier fault) begun other = absurd (never_done fault begun.2)
+unbegun_replays start stack requests refusal begun other = subst (λ (s : Start). ReplaysOver s stack requests (Tells (end_of (exits.Refused refusal)))) (sym (begun other)) (ap Tells (end_refused refusal other))
 
 pub played_asked : (old new : InputPast) (stack : Description) (start : State) (requests : Requests) (text : List ℕ) (exit : Exit) → IsPlayed stack start requests text exit → IsReadOn old new → HasMetBy exit old new
     → AskedBy old new exit

@@ -1,20 +1,12 @@
 -- How a command exits: its status and its message.
-use Rattle.std.specs.Prelude.{◌≢◌, ℕ, Bool, true, false, List, Result, Ok, Err, codes}
+use Rattle.dmremap.specs.Base.{◌≡◌, ◌≢◌, ℕ, Bool, true, false, List, Result, Ok, Err, codes, load_message, memory_message, Ending, earlier_message, ending_message, refused_request, write_faults, stop_message, NameFault, name_message, name_refusal, Exit, Refusal}
 use Rattle.dm_table.specs.declared.load.load_fault.LoadKind.{LoadKind}
 use Rattle.dm_table.specs.declared.load.load_fault.LoadKind.TheVariants as kinds
-use Rattle.dm_table.specs.load.LoadMessage.{load_message, memory_message}
-use Rattle.dm_stream.specs.declared.runs.ending.Ending.{Ending}
 use Rattle.dm_stream.specs.declared.runs.ending.Ending.TheVariants as endings
-use Rattle.dm_stream.specs.runs.Messages.{earlier_message, ending_message, refused_request}
-use Rattle.dm_stream.specs.runs.Run.{write_faults}
-use Rattle.lvm_volume.specs.declared.fault.NameFault.{NameFault}
 use Rattle.lvm_volume.specs.declared.fault.NameFault.TheVariants as names
-use Rattle.lvm_volume.specs.NameMessage.{name_message, name_refusal}
-use Rattle.dmremap.specs.declared.exit.Exit.{Exit}
 use Rattle.dmremap.specs.declared.exit.Exit.TheVariants as exits
-use Rattle.dmremap.specs.declared.exit.Refusal.{Refusal}
 use Rattle.dmremap.specs.declared.exit.Refusal.TheVariants as refusals
-use Rattle.dmremap.specs.declared.status.TheConstants.{STATUS_BAD_REQUEST, STATUS_DONE, STATUS_MEMORY, STATUS_READ_FAULT, STATUS_REFUSED, STATUS_WRITE_FAULT}
+use Rattle.dmremap.specs.declared.status.TheConstants.{STATUS_BAD_REQUEST, STATUS_DONE, STATUS_MEMORY, STATUS_READ_FAULT, STATUS_REFUSED, STATUS_STOPPED, STATUS_WRITE_FAULT}
 
 -- ---- the status
 
@@ -32,9 +24,11 @@ name_status fault = STATUS_REFUSED
 abbrev pub refusal_status : Refusal → ℕ
 refusal_status (refusals.Load fault) = load_status fault.kind
 refusal_status (refusals.Name fault) = name_status fault
-refusal_status (refusals.Earlier fault) = STATUS_REFUSED
-refusal_status refusals.Split = STATUS_REFUSED
-refusal_status refusals.Untidy = STATUS_REFUSED
+refusal_status refusal = STATUS_REFUSED
+
+-- memory ran out before anything was written
+abbrev pub IsOutOfMemory : Refusal → Type 0
+IsOutOfMemory refusal = refusal_status refusal ≡ STATUS_MEMORY
 
 -- the status of a run that ended so
 abbrev pub ending_status : Ending → ℕ
@@ -49,6 +43,7 @@ exit_status (exits.Refused refusal) = refusal_status refusal
 exit_status (exits.Ended ending) = ending_status ending
 exit_status (exits.NotTop number) = STATUS_BAD_REQUEST
 exit_status exits.Memory = STATUS_MEMORY
+exit_status (exits.Stopped stop) = STATUS_STOPPED
 
 -- neither the output failed nor memory ran out
 abbrev pub IsPlain : Exit → Type 0
@@ -59,10 +54,14 @@ IsPlain exit = (exit_status exit ≢ STATUS_WRITE_FAULT) × (exit_status exit �
 -- the message of a refused command
 abbrev pub refusal_message : Refusal → List ℕ
 refusal_message (refusals.Load fault) = load_message fault
+refusal_message (refusals.Head message) = message.items
+refusal_message (refusals.Store message) = message.items
 refusal_message (refusals.Name fault) = name_message fault
 refusal_message (refusals.Earlier fault) = earlier_message fault
 refusal_message refusals.Split = name_refusal (codes "split")
 refusal_message refusals.Untidy = codes "dmremap: replay: untidy\n"
+refusal_message refusals.Device = codes "dmremap: device: unknown\n"
+refusal_message refusals.PastEnd = codes "dmremap: device: range\n"
 
 -- the message of a command: none where it did all that was asked
 abbrev pub exit_message : Exit → List ℕ
@@ -70,6 +69,7 @@ exit_message (exits.Refused refusal) = refusal_message refusal
 exit_message (exits.Ended ending) = ending_message ending
 exit_message (exits.NotTop number) = refused_request number (codes "not top")
 exit_message exits.Memory = memory_message
+exit_message (exits.Stopped stop) = stop_message stop
 
 -- ---- the output
 

@@ -1,10 +1,7 @@
--- What is said of the word of a message: the text of its row in the table that is made of the manual.
-use Rattle.std.specs.Prelude.{Bool, List, [], ◌∷◌, ◌&&◌, Option, None, Some, codes, drop, find, length, map, option_map, take}
-use Rattle.std.specs.Prelude.{if◌then◌else◌}
-use Rattle.std.specs.Option.{option_map_or, option_or}
-use Rattle.std.specs.Str.{bytes_eq}
+-- What is said of the word of a message: the texts of its rows in the table that is made of the manual.
+use Rattle.dmremap.specs.Base.{Bool, List, [], ◌∷◌, ◌&&◌, ◌||◌, Option, None, Some, codes, drop, filter, length, map, option_map, take, if◌then◌else◌, join_with_byte, list_any, option_map_or, bytes_eq, code}
 use Rattle.clap.specs.Words.{Text}
-use Rattle.dmremap.specs.declared.messages.TheConstants.{ENTRIES, FIRST_WORDS, LATER_WORDS}
+use Rattle.dmremap.specs.declared.messages.TheConstants.{FIRST_ENTRIES, LATER_ENTRIES}
 
 -- ---- the word that is meant
 
@@ -32,30 +29,41 @@ part_in message = before (codes " ") (before (codes ": ") (after (codes "dmremap
 
 -- ---- what is said of it
 
--- a row is about a word of a part
-abbrev pub is_of : (part word : Text) → (Text × Text) × Text → Bool
-is_of part word row = bytes_eq row.0.0 part && bytes_eq row.0.1 word
+-- an entry of the manual: the parts of its messages, the word that it is about, and its text
+abbrev pub Entry : Type 0
+Entry = (Text × Text) × Text × Text
 
--- what the first of some rows says that is about a word of a part
-abbrev pub said_of : List ((Text × Text) × Text) → (part word : Text) → Option Text
-said_of rows part word = option_map (λ row. row.1) (find (is_of part word) rows)
+-- it is about a word in messages of a part, if one is said, or of any
+abbrev pub fits : (part : Option Text) → (word : Text) → Entry → Bool
+fits (Some part) word entry = bytes_eq entry.1 word && (bytes_eq entry.0.0 part || bytes_eq entry.0.1 part)
+fits None word entry = bytes_eq entry.1 word
 
--- what the entry of a message says, where others have its word, too
-unfoldable pub of_entry : Text → Option Text
-of_entry message = said_of (map (λ row. ((row.0.0.now, row.0.1.now), row.1.now)) ENTRIES) (part_in message) (word_in message)
+-- the entries of the first words, and those of the others
+unfoldable pub first_entries : List Entry
+first_entries = map (λ entry. ((entry.0.0.now, entry.0.1.now), entry.1.now, entry.2.now)) FIRST_ENTRIES
 
--- what all entries of one of the first words say: their rows name no part
-unfoldable pub of_word : Text → Option Text
-of_word word = said_of (map (λ row. ((row.0.0.now, row.0.1.now), row.1.now)) FIRST_WORDS) [] word
+unfoldable pub later_entries : List Entry
+later_entries = map (λ entry. ((entry.0.0.now, entry.0.1.now), entry.1.now, entry.2.now)) LATER_ENTRIES
 
--- what all entries of one of the other words say, or how to ask
-unfoldable pub of_later : Text → Option Text
-of_later word = said_of (map (λ row. ((row.0.0.now, row.0.1.now), row.1.now)) LATER_WORDS) [] word
+-- those of them that have all entries of a word
+abbrev pub table_of : (word : Text) → List Entry
+table_of word = if list_any (fits None word) first_entries then first_entries else later_entries
 
--- what all entries of a word say, or how to ask
-unfoldable pub of_any : Text → Option Text
-of_any word = option_or (of_word word) (of_later word)
+-- the part of a message, if one of these entries is about its word in messages of that part
+abbrev pub part_meant : (message word : Text) → List Entry → Option Text
+part_meant message word entries = if list_any (fits (Some (part_in message)) word) entries then Some (part_in message) else None
 
--- what the tables say of a message: of its word in its part, or else of the word in all parts
-unfoldable pub explanation : Text → Option Text
-explanation message = option_or (of_entry message) (of_any (word_in message))
+-- the texts of those entries that fit, with an empty line between them
+abbrev pub texts_of : (Fits : Entry → Bool) → List Entry → Text
+texts_of Fits entries = join_with_byte (code "\n") (map (λ entry. entry.2) (filter Fits entries))
+
+-- what is said of a message with this word: the entry of the word in messages of its part, or else all entries of the word
+abbrev pub said_of : (message word : Text) → Text
+said_of message word = texts_of (fits (part_meant message word (table_of word)) word) (table_of word)
+
+unfoldable pub explanation : Text → Text
+explanation message = said_of message (word_in message)
+
+-- something is said of it
+unfoldable pub is_explained : Text → Bool
+is_explained message = list_any (fits None (word_in message)) (table_of (word_in message))

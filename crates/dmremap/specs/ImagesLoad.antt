@@ -1,34 +1,19 @@
 -- What the images of a list of paths open: a load of the text that their heads have, or a message where a head is refused.
-use Rattle.std.specs.Prelude.{◌≡◌, ◌≢◌, ◌⊎◌, ◌+◌, ℕ, List, [], Option, Some, None, Result, Ok, Err, length, map, slice_get}
-use Rattle.dm_table.specs.declared.load.load_fault.LoadFault.{LoadFault}
-use Rattle.dm_table.specs.declared.load.load_fault.LoadKind.TheVariants.{Memory}
-use Rattle.dm_table.specs.declared.load.place.Part.TheVariants.{Paths}
-use Rattle.dm_table.specs.declared.tables.disk_path.DiskPath.{DiskPath}
-use Rattle.dm_table.specs.io.DeviceIo.{Delivery}
-use Rattle.dm_table.specs.load.PartInput.{PartRead, TextOf, Refuses, Unread, part_read}
-use Rattle.dm_table.specs.tables.PathList.{read_paths}
-use Rattle.dm_stack.specs.Description.{Description, described}
-use Rattle.dm_stack.specs.checks.Soundness.{IsSound, IsRefusedBy}
+use Rattle.dmremap.specs.Base.{◌≡◌, ◌≢◌, ◌⊎◌, ◌+◌, ◌-◌, ℕ, List, [], ◌∷◌, Option, Some, None, Result, Ok, Err, length, map, nat_lt, position, slice_get, if◌then◌else◌, option_map_or, is_ok, LoadFault, Limit, Memory, Paths, DiskPath, Delivery, InputPast, delivery, IsReadOn, fault_at, PartRead, TextOf, Refuses, Unread, part_read, read_paths, Description, described, disk_len, is_same, IsSound, IsRefusedBy, Contents, HeadRefusal, Sectors, AllSaid, heads_of, head_message, Owners, Gives, Refusal}
 use Rattle.dm_store.specs.declared.images.ReadFault.{ReadFault}
-use Rattle.dm_store.specs.Images.{Contents}
 use Rattle.lvm_head.specs.declared.disks.ReadFault.{ReadFault as HeadReadFault}
 use Rattle.lvm_head.specs.declared.fault.HeadFault.{HeadFault}
 use Rattle.lvm_head.specs.declared.fault.HeadFault.TheVariants as faults
-use Rattle.lvm_head.specs.declared.fault.HeadRefusal.{HeadRefusal}
-use Rattle.lvm_head.specs.Disks.{Contents as DiskContents, Sectors}
-use Rattle.lvm_head.specs.Heads.{AllSaid, heads_of}
-use Rattle.lvm_head.specs.Message.{head_message}
+use Rattle.lvm_head.specs.Disks.{Contents as DiskContents}
+use Rattle.lvm_volume.specs.declared.group.owners.DiskFault.{DiskFault}
+use Rattle.lvm_volume.specs.declared.group.owners.DiskFault.TheVariants as taken
 use Rattle.lvm_volume.specs.declared.owned_metadata.OwnedFault.{OwnedFault}
 use Rattle.lvm_volume.specs.declared.owned_metadata.OwnedFault.TheVariants as owned
-use Rattle.lvm_volume.specs.group.Owners.{Owners}
-use Rattle.lvm_volume.specs.OwnedMetadata.{Gives, Tables}
-use Rattle.dmremap.specs.declared.images_load.Unopened.{Unopened}
-use Rattle.dmremap.specs.declared.images_load.Unopened.TheVariants as unopened
-use Rattle.dmremap.specs.declared.status.TheConstants.{STATUS_REFUSED}
-use Rattle.dmremap.specs.Exit.{load_status}
+use Rattle.lvm_volume.specs.OwnedMetadata.{Tables}
+use Rattle.dmremap.specs.declared.exit.Refusal.TheVariants as refusals
+use Rattle.dmremap.specs.declared.group_images.GroupImages.{GroupImages}
 use Rattle.dmremap.specs.Load.{Load, RefusedBy, SoundAs}
-use Rattle.dmremap.specs.Whole.{Loaded, Opening, Stops}
-use Rattle.dm_table.specs.load.LoadMessage.{load_message}
+use Rattle.dmremap.specs.Opening.{Loaded, Opening, Stops}
 
 -- ---- what the disks of a list hold, by what images do
 
@@ -63,12 +48,18 @@ abbrev pub StackGives : Description → Load → Type 0
 StackGives stack (RefusedBy fault) = IsRefusedBy stack fault
 StackGives stack (SoundAs description) = (description ≡ stack) × IsSound stack
 
+-- why a disk is refused by its text
+abbrev pub by_text : DiskFault → HeadFault
+by_text taken.Foreign = faults.Foreign
+by_text taken.Missing = faults.Missing
+by_text taken.Array = faults.Array
+
 -- what a text said opens this
 abbrev pub SaidOpens : List DiskPath → Result Tables OwnedFault → Opening → Type 0
 SaidOpens paths (Ok tables) (Loaded load) = StackGives (described tables.0 tables.1) load
 SaidOpens paths (Ok tables) (Stops message) = ⊥
 SaidOpens paths (Err (owned.Load fault)) opening = opening ≡ Loaded (RefusedBy fault)
-SaidOpens paths (Err (owned.Foreign disk)) opening = opening ≡ Stops (disk_message (slice_get paths disk) faults.Foreign)
+SaidOpens paths (Err (owned.Disk disk fault)) opening = opening ≡ Stops (disk_message (slice_get paths disk) (by_text fault))
 
 -- the ids that heads said, and the names of their disks
 abbrev pub owners_of : List DiskPath → AllSaid → Owners
@@ -79,13 +70,40 @@ abbrev pub HeadsOpen : List DiskPath → Result AllSaid HeadRefusal → Opening 
 HeadsOpen paths (Ok all) opening = (said : Result Tables OwnedFault) × Gives (owners_of paths all) all.text said × SaidOpens paths said opening
 HeadsOpen paths (Err refusal) opening = opening ≡ Stops (disk_message (slice_get paths refusal.disk) refusal.fault)
 
--- the images of a list open this
+-- how many sectors a disk has by the text
+abbrev pub len_of : Description → (name : List ℕ) → ℕ
+len_of stack name = option_map_or (disk_len stack) (position (λ disk. is_same disk.name name) stack.disks) 0
+
+-- the first disk of a list, from one on, that hasn't the last sector that it has by the text
+unfoldable pub short_of : Description → DiskContents → (disk : ℕ) → List DiskPath → Option ℕ
+short_of stack disks disk [] = None
+short_of stack disks disk (path ∷ later) = if is_ok (disks disk (len_of stack path.disk - 1)) then short_of stack disks (disk + 1) later else Some disk
+
+-- such a disk stops what heads opened
+abbrev pub unless_short : List DiskPath → Description → Option ℕ → Opening
+unless_short paths stack (Some disk) = Stops (disk_message (slice_get paths disk) faults.Ends)
+unless_short paths stack None = Loaded (SoundAs stack)
+
+abbrev pub ended_by : List DiskPath → DiskContents → Opening → Opening
+ended_by paths disks (Loaded (SoundAs stack)) = unless_short paths stack (short_of stack disks 0 paths)
+ended_by paths disks (Loaded (RefusedBy fault)) = Loaded (RefusedBy fault)
+ended_by paths disks (Stops message) = Stops message
+
+-- the images of a list open this: what their heads do, if no disk ends before
+abbrev pub DisksOpen : List DiskPath → DiskContents → Opening → Type 0
+DisksOpen paths disks opening = (before : Opening) × HeadsOpen paths (heads_of disks (length paths)) before × (opening ≡ ended_by paths disks before)
+
 abbrev pub ListOpens : List DiskPath → Contents → Opening → Type 0
-ListOpens paths held opening = HeadsOpen paths (heads_of (listed_disks paths held) (length paths)) opening
+ListOpens paths held = DisksOpen paths (listed_disks paths held)
+
+-- a list that names more disks than a stack may have is refused at the first that is one too many
+abbrev pub few : Result (List DiskPath) LoadFault → Result (List DiskPath) LoadFault
+few (Ok paths) = if nat_lt 1024 (length paths) then Err (fault_at Paths Limit 1025) else Ok paths
+few (Err fault) = Err fault
 
 -- the list that PATHS is, or why it is none, if that is settled
 abbrev pub list_in : PartRead → Option (Result (List DiskPath) LoadFault)
-list_in (TextOf text) = Some (read_paths text)
+list_in (TextOf text) = Some (few (read_paths text))
 list_in (Refuses fault) = Some (Err fault)
 list_in Unread = None
 
@@ -100,31 +118,30 @@ ImagesOpen paths held opening = OpensBy held (list_in (part_read Paths paths)) o
 
 -- ---- what a call returns
 
--- it loaded a stack, or returns why none is opened, unless memory ran out
-abbrev pub IsOpened : (Opens : Opening → Type 0) → Result Description Unopened → Type 0
-IsOpened Opens (Ok stack) = Opens (Loaded (SoundAs stack))
-IsOpened Opens (Err (unopened.Load fault)) = fault.kind ≢ Memory → Opens (Loaded (RefusedBy fault))
-IsOpened Opens (Err (unopened.Head message)) = Opens (Stops message.items)
-
 -- a disk stops a run by its message, unless memory ran out
-abbrev pub IsStoppedBy : Option DiskPath → HeadFault → Unopened → Type 0
-IsStoppedBy path fault (unopened.Load found) = found.kind ≡ Memory
-IsStoppedBy path fault (unopened.Head message) = (fault ≢ faults.Memory) × (message.items ≡ disk_message path fault)
+abbrev pub IsStoppedBy : Option DiskPath → HeadFault → Refusal → Type 0
+IsStoppedBy path fault (refusals.Load found) = found.kind ≡ Memory
+IsStoppedBy path fault (refusals.Head message) = (fault ≢ faults.Memory) × (message.items ≡ disk_message path fault)
+IsStoppedBy path fault refusal = ⊥
 
 -- the fault of a text does
-abbrev pub IsUnowned : List DiskPath → OwnedFault → Unopened → Type 0
-IsUnowned paths (owned.Foreign disk) why = IsStoppedBy (slice_get paths disk) faults.Foreign why
-IsUnowned paths (owned.Load fault) why = why ≡ unopened.Load fault
+abbrev pub IsUnowned : List DiskPath → OwnedFault → Refusal → Type 0
+IsUnowned paths (owned.Disk disk fault) why = IsStoppedBy (slice_get paths disk) (by_text fault) why
+IsUnowned paths (owned.Load fault) why = why ≡ refusals.Load fault
 
--- the status and the message of what isn't opened
-abbrev pub unopened_status : Unopened → ℕ
-unopened_status (unopened.Load fault) = load_status fault.kind
-unopened_status (unopened.Head message) = STATUS_REFUSED
-
-abbrev pub unopened_message : Unopened → List ℕ
-unopened_message (unopened.Load fault) = load_message fault
-unopened_message (unopened.Head message) = message.items
+-- ---- what was asked for
 
 -- images are asked for only where PATHS is a list
 abbrev pub AreImagesUsed : {X : Type 0} → (paths : Delivery) → (old new : X) → Type 0
 AreImagesUsed paths old new = (new ≡ old) ⊎ ((listed : List DiskPath) × (list_in (part_read Paths paths) ≡ Some (Ok listed)))
+
+-- PATHS was read as a list, and the heads of its disks opened this stack
+pub record AreImagesOpened {P I : Type 0} (past : P → InputPast) (IsSeen : I → Contents → Type 0) (stack : Description) (old new : GroupImages P I) : Type 0 where
+  pub listed : list_in (part_read Paths (delivery (past old.list) (past new.list))) ≡ Some (Ok new.disks.paths.items)
+  pub opened : (held : Contents) → IsSeen new.disks.images held → ImagesOpen (delivery (past old.list) (past new.list)) held (Loaded (SoundAs stack))
+  pub list : IsReadOn (past old.list) (past new.list)
+
+-- PATHS was only read on, and nothing is asked of it after an end or a fault; images are asked for only where it is a list
+pub record AreImagesRead {P I : Type 0} (past : P → InputPast) (old new : GroupImages P I) : Type 0 where
+  pub list : IsReadOn (past old.list) (past new.list)
+  pub images : AreImagesUsed (delivery (past old.list) (past new.list)) old.disks.images new.disks.images

@@ -1,16 +1,19 @@
+pub mod Answers
 pub mod Done
 pub mod Exit
 pub mod Explanation
 pub mod ImagesLoad
 pub mod ImagesText
-pub mod ImagesWhole
 pub mod Inputs
 pub mod Job
 pub mod Limits
 pub mod Load
+pub mod Opening
 pub mod OtherWhole
 pub mod PartFile
+pub mod Parts
 pub mod Printing
+pub mod ReadWhole
 pub mod ReplayOutcome
 pub mod ReplayWhole
 pub mod StoredStart
@@ -18,3 +21,5 @@ pub mod Streams
 pub mod Whole
 pub mod Words
 pub mod laws
+pub mod Base
+pub mod Prelude

@@ -1,5 +1,5 @@
 -- The figures of the limits and of the exit statuses.
-use Rattle.std.specs.Prelude.{◌≡◌, ◌+◌, ◌^◌}
+use Rattle.dmremap.specs.Base.{◌≡◌, ◌+◌, ◌^◌}
 use Rattle.dm_table.specs.declared.load.part_input.TheConstants.{MOST_PART_BYTES}
 use Rattle.dm_stack.specs.declared.checks.graph.TheConstants.{MOST_DEPTH}
 use Rattle.dm_stack.specs.declared.checks.limits.TheConstants.{MOST_CHUNK, MOST_DEVICES, MOST_DISKS, MOST_LENGTH, MOST_LINES, MOST_STRIPES}

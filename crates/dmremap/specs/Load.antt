@@ -1,22 +1,5 @@
 -- What a load gives: a sound description, or the first fault of the first check that finds any.
-use Rattle.std.specs.Prelude.{◌≡◌, ◌≢◌, ◌⊎◌, ℕ, List, ◌++◌, Some, Result, IfOk, IfErr}
-use Rattle.dm_table.specs.declared.load.load_fault.LoadFault.{LoadFault}
-use Rattle.dm_table.specs.declared.load.load_fault.LoadKind.TheVariants.{Memory}
-use Rattle.dm_table.specs.declared.load.place.Part.TheVariants.{Source, Disks}
-use Rattle.dm_table.specs.io.DeviceIo.{Delivery}
-use Rattle.dm_table.specs.load.LoadFault.{first_fault}
-use Rattle.dm_table.specs.load.PartInput.{PartRead, TextOf, Refuses, Unread, part_read}
-use Rattle.dm_table.specs.tables.TableText.{DescribesTable, table_checks}
-use Rattle.dm_table.specs.tables.DiskList.{DescribesDisks, disk_checks}
-use Rattle.dm_stack.specs.Description.{Description}
-use Rattle.dm_stack.specs.checks.Soundness.{IsSound, IsRefusedBy}
-use Rattle.dm_table.specs.declared.tables.table.DeviceSpec.{DeviceSpec}
-use Rattle.dm_table.specs.tables.ConciseText.{DescribesConcise, concise_checks}
-use Rattle.dmremap.specs.declared.job.Format.{Format}
-use Rattle.dmremap.specs.declared.job.Format.TheVariants.{Lvm, Tables}
-use Rattle.dmremap.specs.declared.job.TableForm.{TableForm}
-use Rattle.dmremap.specs.declared.job.TableForm.TheVariants.{Concise, Table}
-use Rattle.lvm_volume.specs.Metadata.{DescribesGroup, IsRefusedText}
+use Rattle.dmremap.specs.Base.{◌≡◌, ◌≢◌, ◌⊎◌, ℕ, List, ◌++◌, Some, Result, IfOk, IfErr, LoadFault, Memory, Source, Disks, Delivery, first_fault, PartRead, TextOf, Refuses, Unread, part_read, DescribesTable, table_checks, DescribesDisks, disk_checks, Description, IsSound, IsRefusedBy, DeviceSpec, DescribesConcise, concise_checks, Format, Lvm, Tables, TableForm, Concise, Table, DescribesGroup, IsRefusedText}
 
 -- what a load gives
 pub data Load : Type 0 where

@@ -1,24 +1,47 @@
--- What the commands that read no requests do until their output is closed, by their words and by what was delivered.
-use Rattle.std.specs.Prelude.{ℕ, Bool, true, false, List}
-use Rattle.dm_table.specs.io.DeviceIo.{Delivery}
-use Rattle.dmremap.specs.declared.exit.Exit.{Exit}
-use Rattle.dmremap.specs.Job.{JobWords, map_images_words, map_words, metadata_words, of_images_words, replay_words}
-use Rattle.dmremap.specs.Printing.{IsPrinted, JobSays}
+-- What the commands but `map` have to answer, by their words, by what opens them and by the requests that were delivered.
+use Rattle.dmremap.specs.Base.{◌≡◌, Bool, true, false, Option, Some, Delivery, Description, built}
+use Rattle.dmremap.specs.Answers.{Answer}
+use Rattle.dmremap.specs.Explanation.{explanation}
+use Rattle.dmremap.specs.Job.{JobWords, RangeWords, map_words, metadata_words, print_words, check_words, read_words, replay_words, name_words, split_words, explain_words}
+use Rattle.dmremap.specs.Opening.{Opened, Opening}
+use Rattle.dmremap.specs.Printing.{Prints, ReportSays, SaidBy, SplitSays, name_said, written_as}
+use Rattle.dmremap.specs.ReplayWhole.{ReplaysOver}
+use Rattle.dmremap.specs.Whole.{Start}
 
--- the job is another than `map` and `replay`, and not of images
+-- the job is another than `map`, and not of the heads of images alone
 abbrev pub is_other : JobWords → Bool
 is_other (map_words from paths earlier status) = false
-is_other (map_images_words paths earlier status) = false
-is_other (of_images_words paths task) = false
-is_other (metadata_words paths) = false
-is_other (replay_words from paths) = false
+is_other (metadata_words list) = false
 is_other _ = true
 
--- the job writes this text, or a beginning of what it has to write, up to this exit
-abbrev pub JobDoes : JobWords → (source disks : Delivery) → List ℕ → Exit → Type 0
-JobDoes (map_words from paths earlier status) source disks text exit = ⊥
-JobDoes (map_images_words paths earlier status) source disks text exit = ⊥
-JobDoes (of_images_words paths task) source disks text exit = ⊥
-JobDoes (metadata_words paths) source disks text exit = ⊥
-JobDoes (replay_words from paths) source disks text exit = ⊥
-JobDoes asked source disks text exit = IsPrinted (JobSays asked source disks) text exit
+-- it loads a source
+abbrev pub is_loading : JobWords → Bool
+is_loading (name_words parts) = false
+is_loading (split_words name) = false
+is_loading (explain_words word) = false
+is_loading _ = true
+
+-- it reads requests
+abbrev pub has_requests : JobWords → Bool
+has_requests (replay_words from paths) = true
+has_requests _ = false
+
+-- it reads sectors of a device
+abbrev pub is_reading : JobWords → Bool
+is_reading (read_words from paths range) = true
+is_reading _ = false
+
+-- what it makes of a stack: its devices are printed in a form, or its report; or requests are replayed on its disks, or sectors of a device are read
+abbrev pub JobMakes : JobWords → (starts : Description → Start) → (reads : RangeWords → Description → Option Answer) → (requests : Delivery) → Description → Answer → Type 0
+JobMakes (print_words form from) starts reads requests stack = SaidBy (λ said. Prints (written_as form stack.devices) ≡ said)
+JobMakes (check_words from) starts reads requests stack = SaidBy (ReportSays stack)
+JobMakes (replay_words from paths) starts reads requests stack = ReplaysOver (starts stack) stack requests
+JobMakes (read_words from paths range) starts reads requests stack = λ answer. reads range stack ≡ Some answer
+JobMakes _ starts reads requests stack = λ answer. ⊥
+
+-- what it has to answer: what the words say, where it loads nothing
+abbrev pub JobAnswers : JobWords → (Opens : Opening → Type 0) → (starts : Description → Start) → (reads : RangeWords → Description → Option Answer) → (requests : Delivery) → Answer → Type 0
+JobAnswers (name_words parts) Opens starts reads requests = SaidBy (λ said. name_said (built parts) ≡ said)
+JobAnswers (split_words name) Opens starts reads requests = SaidBy (SplitSays name)
+JobAnswers (explain_words word) Opens starts reads requests = SaidBy (λ said. Prints (explanation word) ≡ said)
+JobAnswers job Opens starts reads requests = Opened Opens (JobMakes job starts reads requests)

@@ -1,5 +1,5 @@
 -- What a file of a load has left, by how far it was read.
-use Rattle.std.specs.Prelude.{ℕ, List, [], Option, None, Some}
+use Rattle.dmremap.specs.Base.{ℕ, List, [], Option, None, Some}
 use Rattle.dmremap.specs.declared.part_file.Stage.{Stage}
 use Rattle.dmremap.specs.declared.part_file.Stage.TheVariants.{Ended, Open, Unopened}
 

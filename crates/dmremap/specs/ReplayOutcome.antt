@@ -1,18 +1,7 @@
 -- What a replay of the requests that were delivered writes, and how it exits.
-use Rattle.std.specs.Prelude.{◌≡◌, ℕ, List, [], ◌∷◌, ◌++◌, None, Some, map}
-use Rattle.dm_table.specs.io.DeviceIo.{since}
-use Rattle.dm_table.specs.io.WriteAll.{IsCutShort}
-use Rattle.dm_stack.specs.Description.{Description, device_id}
-use Rattle.dm_map.specs.state.State.{State}
-use Rattle.dm_stream.specs.declared.runs.ending.Ending.{Ending}
+use Rattle.dmremap.specs.Base.{◌≡◌, ℕ, List, [], ◌∷◌, ◌++◌, None, Some, map, since, IsCutShort, Description, device_id, State, Ending, NumberedRequest, Requests, Asked, asked_answers, world_after, HasTop, AreMaximal, flat, runs_text, Exit}
 use Rattle.dm_stream.specs.declared.runs.ending.Ending.TheVariants as endings
-use Rattle.dm_stream.specs.requests.Requests.{NumberedRequest, Requests}
 use Rattle.dm_replay.specs.declared.value_run.ValueRun.{ValueRun}
-use Rattle.dm_replay.specs.Histories.{Asked, asked_answers, world_after}
-use Rattle.dm_replay.specs.Replay.{HasTop}
-use Rattle.dm_replay.specs.Runs.{AreMaximal, flat}
-use Rattle.dm_replay.specs.RunText.{runs_text}
-use Rattle.dmremap.specs.declared.exit.Exit.{Exit}
 use Rattle.dmremap.specs.declared.exit.Exit.TheVariants as exits
 
 -- a request of a stack that was played whole

@@ -1,42 +1,29 @@
--- The whole run of a replay, from where a stack starts: what it writes, its message and its exit status, by what was delivered.
-use Rattle.std.specs.Prelude.{◌≡◌, ◌≢◌, ℕ, List, []}
-use Rattle.dm_table.specs.declared.load.load_fault.LoadKind.TheVariants.{Memory}
-use Rattle.dm_table.specs.io.DeviceIo.{Delivery, InputPast, OutputPast}
+-- What a replay has to answer, from where a stack starts, by the requests that were delivered.
+use Rattle.dmremap.specs.Base.{◌≡◌, ◌++◌, ℕ, true, List, [], None, Some, Delivery, IsClash, IsTidy, claims, Description, State, NumberedRequest, requests_of, Exit, Refused}
 use Rattle.dm_stack.specs.declared.claims.clash.Clash.{Clash}
-use Rattle.dm_stack.specs.claims.Claims.{IsClash, IsTidy, claims}
-use Rattle.dm_stack.specs.Description.{Description}
-use Rattle.dm_map.specs.state.State.{State}
-use Rattle.dm_stream.specs.requests.Requests.{requests_of}
-use Rattle.dmremap.specs.declared.exit.Exit.{Exit}
-use Rattle.dmremap.specs.declared.exit.Exit.TheVariants.{Refused}
 use Rattle.dmremap.specs.declared.exit.Refusal.TheVariants as refusals
-use Rattle.dmremap.specs.Load.{Load, RefusedBy, SoundAs}
-use Rattle.dmremap.specs.ReplayOutcome.{IsPlayed}
-use Rattle.dmremap.specs.Streams.{ExitsBy}
-use Rattle.dmremap.specs.Whole.{Begins, Refuses, Start}
+use Rattle.dmremap.specs.Answers.{Answer, Tells, Writes, end_of, refused_by}
+use Rattle.dmremap.specs.Exit.{is_flushed}
+use Rattle.dmremap.specs.ReplayOutcome.{AreAnswered, IsPlayed}
+use Rattle.dmremap.specs.Whole.{Begins, Refuses, Start, Unsettled}
 
--- what is written for the requests to a stack in a state, up to this exit: none are played where two claims meet, or where there is no memory to begin
-abbrev pub ReplaysStack : Description → State → (requests : Delivery) → List ℕ → Exit → Type 0
-ReplaysStack stack state requests text (Refused (refusals.Load fault)) = (text ≡ []) × (fault.kind ≡ Memory)
-ReplaysStack stack state requests text (Refused refusals.Untidy) = (text ≡ []) × ((clash : Clash) × IsClash (claims stack) clash)
-ReplaysStack stack state requests text (Refused refusal) = ⊥
-ReplaysStack stack state requests text exit = IsTidy stack × IsPlayed stack state (requests_of requests) text exit
+-- what is written for the first of some requests to a stack in a state
+pub record BeginsReplay (stack : Description) (state : State) (requests : List NumberedRequest) (text : List ℕ) : Type 0 where
+  pub first : List NumberedRequest
+  pub later : List NumberedRequest
+  pub split : requests ≡ first ++ later
+  pub told : AreAnswered stack state [] first text
 
--- the same from where it starts: nothing is done where that is no state, but to run out of memory
-abbrev pub ReplaysFrom : Start → Description → (requests : Delivery) → List ℕ → Exit → Type 0
-ReplaysFrom (Begins state) stack requests text exit = ReplaysStack stack state requests text exit
-ReplaysFrom start stack requests text (Refused (refusals.Load fault)) = (text ≡ []) × (fault.kind ≡ Memory)
-ReplaysFrom start stack requests text exit = ⊥
+-- what requests to a stack in a state make the answer: that two claims meet; or what is written for all of them, up to where a replay ends; or for the first of
+-- them, where that is not settled
+abbrev pub ReplaysStack : Description → State → (requests : Delivery) → Answer → Type 0
+ReplaysStack stack state requests (Tells end) = (end ≡ end_of (Refused refusals.Untidy)) × (clash : Clash) × IsClash (claims stack) clash
+ReplaysStack stack state requests (Writes text (Some end)) =
+    IsTidy stack × (exit : Exit) × IsPlayed stack state (requests_of requests) text exit × (is_flushed exit ≡ true) × (end ≡ end_of exit)
+ReplaysStack stack state requests (Writes text None) = IsTidy stack × BeginsReplay stack state (requests_of requests).all text
 
--- the same for the requests to what is loaded; or the load is refused
-abbrev pub ReplaysLoad : (starts : Description → Start) → (Gives : Load → Type 0) → (requests : Delivery) → List ℕ → Exit → Type 0
-ReplaysLoad starts Gives requests text (Refused (refusals.Load fault)) = (text ≡ []) × (fault.kind ≢ Memory → Gives (RefusedBy fault))
-ReplaysLoad starts Gives requests text exit = (stack : Description) × Gives (SoundAs stack) × ReplaysFrom (starts stack) stack requests text exit
-
--- the stack that is loaded starts nowhere: a list or a store is refused by this message
-abbrev pub IsStopped : (starts : Description → Start) → (Gives : Load → Type 0) → (message : List ℕ) → Type 0
-IsStopped starts Gives message = (stack : Description) × Gives (SoundAs stack) × (starts stack ≡ Refuses message)
-
--- a replay of what is given exits so, from where it starts; or the list or a store of what is loaded is refused by a message
-abbrev pub ReplayExits : (starts : Description → Start) → (Gives : Load → Type 0) → (requests : Delivery) → (status : ℕ) → (asked_old asked_new : InputPast) → (output_old output_new messages_old messages_new : OutputPast) → Type 0
-ReplayExits starts Gives requests = ExitsBy (ReplaysLoad starts Gives requests) (IsStopped starts Gives)
+-- what requests to a stack that begins so make the answer
+abbrev pub ReplaysOver : Start → Description → (requests : Delivery) → Answer → Type 0
+ReplaysOver (Begins state) stack requests answer = ReplaysStack stack state requests answer
+ReplaysOver (Refuses message) stack requests answer = answer ≡ Tells (refused_by message)
+ReplaysOver Unsettled stack requests answer = ⊥

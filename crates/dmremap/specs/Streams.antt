@@ -1,15 +1,20 @@
 -- What became of the streams of a command until it exited.
-use Rattle.std.specs.Prelude.{◌≡◌, ◌≢◌, ◌⊎◌, ◌+◌, ℕ, ◌<◌, ◌≤◌, true, false, List}
-use Rattle.dm_table.specs.io.DeviceIo.{InputPast, OutputPast, written_since}
-use Rattle.dm_table.specs.load.LoadMessage.{memory_message}
-use Rattle.dm_table.specs.io.Progress.{FailedWhere, HasWritten, IsFinished, IsFlushed, IsReadOn, MetNothing}
-use Rattle.dm_stream.specs.declared.runs.ending.Ending.TheVariants.{WriteFault}
-use Rattle.dm_stream.specs.requests.Requests.{HasMet}
-use Rattle.dm_stream.specs.runs.Messages.{HasTold, IsTold, write_message}
-use Rattle.dmremap.specs.declared.exit.Exit.{Exit}
+use Rattle.dmremap.specs.Base.{◌≡◌, ◌≢◌, ◌⊎◌, ◌+◌, ℕ, ◌<◌, ◌≤◌, true, false, List, InputPast, OutputPast, memory_message, HasWritten, IsFinished, IsFlushed, IsReadOn, MetNothing, WriteFault, HasMet, HasTold, IsTold, write_message, Exit}
 use Rattle.dmremap.specs.declared.exit.Exit.TheVariants as exits
 use Rattle.dmremap.specs.declared.status.TheConstants.{STATUS_BAD_REQUEST, STATUS_DONE, STATUS_MEMORY, STATUS_READ_FAULT, STATUS_REFUSED, STATUS_WRITE_FAULT}
 use Rattle.dmremap.specs.Exit.{exit_message, exit_status, failed_writes, is_flushed, is_refused}
+
+-- how a stream moved on: its past before a command, and after it
+pub record Moved (Past : Type 0) : Type 0 where
+  pub old : Past
+  pub new : Past
+
+abbrev pub moved : {X Past : Type 0} → (past : X → Past) → (old new : X) → Moved Past
+moved past old new = record { old = past old; new = past new }
+
+-- nothing was asked of it
+abbrev pub IsUnmoved : {Past : Type 0} → Moved Past → Type 0
+IsUnmoved stream = stream.new ≡ stream.old
 
 -- ---- by the status
 
@@ -41,13 +46,15 @@ pub record MessagesTold (status : ℕ) (old new : OutputPast) : Type 0 where
   -- a failed output is told
   pub write_message : status ≡ STATUS_WRITE_FAULT → message ≡ write_message
 
--- all of it, where a run exits with this status
-pub record StreamsLeft (status : ℕ) (requests_old requests_new : InputPast) (output_old output_new messages_old messages_new : OutputPast) : Type 0 where
-  pub requests : RequestsRead status requests_old requests_new
-  pub output : OutputWritten status output_old output_new
-  pub messages : MessagesTold status messages_old messages_new
-  -- where memory ran out, nothing was asked of the output or of the requests
-  pub memory : status ≡ STATUS_MEMORY → (output_new ≡ output_old) × (requests_new ≡ requests_old) × IsTold memory_message messages_old messages_new
+-- how the streams of a command are left that exits with this status
+pub record StreamsLeft (status : ℕ) (requests : Moved InputPast) (output messages : Moved OutputPast) : Type 0 where
+  pub read : RequestsRead status requests.old requests.new
+  pub written : OutputWritten status output.old output.new
+  pub told : MessagesTold status messages.old messages.new
+
+-- memory ran out before anything was asked of the output or of the requests, and that was told
+abbrev pub IsOut : (requests : Moved InputPast) → (output messages : Moved OutputPast) → Type 0
+IsOut requests output messages = IsUnmoved output × IsUnmoved requests × IsTold memory_message messages.old messages.new
 
 -- ---- by the exit
 
@@ -78,25 +85,7 @@ EndsAs before old new after =
 pub record IsClosedAs (before : Exit) (old new : OutputPast) (after : Exit) : Type 0 where
   pub bytes : new.written ≡ old.written
   pub ends : EndsAs before old.flushes new.flushes after
+  pub untouched : is_refused before ≡ true → new ≡ old
   -- wherever the command began
   pub output : (start : OutputPast) → HasWritten start old (failed_writes before) → OutputWritten (exit_status after) start new
   pub flushed : is_flushed after ≡ true → (start : OutputPast) → HasWritten start old (failed_writes before) → IsFlushed start new
-
--- what a command gave that did this before its output was closed. The output failed at a write, or at the flush, after all that there was to write
-abbrev pub HasGiven : (Did : List ℕ → Exit → Type 0) → List ℕ → (flushes_old flushes_new : ℕ) → Exit → Type 0
-HasGiven Did text old new (exits.Ended WriteFault) =
-    FailedWhere (Did text (exits.Ended WriteFault)) ((before : Exit) × (is_flushed before ≡ true) × Did text before) old new
-HasGiven Did text old new exit = Did text exit
-
--- the same of its output, which is flushed once, at the end; not at all where the command was refused
-pub record HasExited (Did : List ℕ → Exit → Type 0) (old new : OutputPast) (exit : Exit) : Type 0 where
-  pub given : HasGiven Did (written_since old new) old.flushes new.flushes exit
-  pub flushed : is_flushed exit ≡ true → IsFlushed old new
-  pub refused : is_refused exit ≡ true → new.flushes ≡ old.flushes
-
--- a command that does this until its output is closed exits so, and its message was told; or it stopped by one before, and neither wrote nor asked for requests
-pub data ExitsBy (Does : List ℕ → Exit → Type 0) (StopsBy : (message : List ℕ) → Type 0) (status : ℕ) (asked_old asked_new : InputPast) (output_old output_new messages_old messages_new : OutputPast) : Type 0 where
-  Did : (exit : Exit) → HasExited Does output_old output_new exit → Exits exit status messages_old messages_new
-      → (is_refused exit ≡ true → asked_new ≡ asked_old) → ExitsBy Does StopsBy status asked_old asked_new output_old output_new messages_old messages_new
-  Told : (message : List ℕ) → StopsBy message → status ≡ STATUS_REFUSED → HasTold message messages_old messages_new
-      → output_new ≡ output_old → asked_new ≡ asked_old → ExitsBy Does StopsBy status asked_old asked_new output_old output_new messages_old messages_new

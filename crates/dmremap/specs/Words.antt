@@ -1,31 +1,20 @@
 -- The command line of the program, and the job or the refusal that words have by it.
-use Rattle.std.specs.Prelude.{◌≡◌, ◌≢◌, ◌∷◌, [], ℕ, Bool, true, false, List, Option, None, Some, Result, IfOk, ⊤}
-use Rattle.std.specs.Prelude.{◌&&◌, codes, drop, map, not, option_and_then, option_map, unwrap_or}
-use Rattle.std.specs.Prelude.{if◌then◌else◌}
-use Rattle.std.specs.Borrow.{Bor}
-use Rattle.std.specs.List.{before_first, list_any}
-use Rattle.std.specs.Option.{option_map_or}
-use Rattle.std.specs.Str.{bytes_eq}
+use Rattle.dmremap.specs.Base.{◌≡◌, ◌≢◌, ◌∷◌, [], ℕ, Bool, true, false, List, Option, None, Some, Result, IfOk, ⊤, ◌&&◌, ◌||◌, codes, drop, map, not, option_and_then, option_map, unwrap_or, if◌then◌else◌, Bor, before_first, list_any, option_map_or, bytes_eq, digits_value, Format, Lvm, Tables, Job, Concise, Table}
+use Rattle.std.specs.Str.Parse.{without_leading_plus}
 use Rattle.clap.specs.Kinds.{IsAmong}
 use Rattle.clap.specs.Simple.{on_top}
-use Rattle.clap.specs.Words.{App, Row, Rule, Text, app_of, fault_of, first_of, kind_of}
-use Rattle.clap.specs.Words.{new_app, new_rule, subcommand_of, with_rule, with_subcommand}
+use Rattle.clap.specs.ValueTests.{accepts}
+use Rattle.clap.specs.Words.{App, Row, Rule, Text, app_of, fault_of, first_of, kind_of, new_app, new_rule, subcommand_of, with_rule, with_subcommand}
 use Rattle.clap.specs.declared.builder.command.Command.{Command}
 use Rattle.clap.specs.declared.builder.ArgAction.{ArgAction}
 use Rattle.clap.specs.declared.builder.ArgAction.TheVariants.{SetTrue, Version}
 use Rattle.clap.specs.declared.builder.value_parser.ValueParser.{ValueParser}
-use Rattle.clap.specs.declared.builder.value_parser.ValueParser.TheVariants.{Names}
+use Rattle.clap.specs.declared.builder.value_parser.ValueParser.TheVariants.{Names, Unsigned}
 use Rattle.clap.specs.declared.error.Error.{Error}
 use Rattle.clap.specs.declared.error.kind.ErrorKind.{ErrorKind}
 use Rattle.clap.specs.declared.error.kind.ErrorKind.TheVariants as kind
-use Rattle.dmremap.specs.Explanation.{explanation}
-use Rattle.dmremap.specs.Job.{JobWords, SourceWords, check_words, explain_words, job_words, lvm_words, map_images_words, map_words, metadata_words, name_words, of_images_words, print_words, replay_words, split_words, table_words}
-use Rattle.dmremap.specs.declared.job.Format.{Format}
-use Rattle.dmremap.specs.declared.job.Format.TheVariants.{Lvm, Tables}
-use Rattle.dmremap.specs.declared.job.Job.{Job}
-use Rattle.dmremap.specs.declared.job.TableForm.TheVariants.{Concise, Table}
-use Rattle.dmremap.specs.declared.job.Task.{Task}
-use Rattle.dmremap.specs.declared.job.Task.TheVariants.{Check, Print, Replay}
+use Rattle.dmremap.specs.Explanation.{is_explained}
+use Rattle.dmremap.specs.Job.{JobWords, RangeWords, SourceWords, check_words, explain_words, file_words, image_words, job_words, map_words, metadata_words, name_words, print_words, read_words, replay_words, split_words}
 use Rattle.dmremap.specs.declared.status.TheConstants.{STATUS_DONE, STATUS_MEMORY, STATUS_WORDS}
 use Rattle.dmremap.specs.declared.words.WordsFault.{WordsFault}
 use Rattle.dmremap.specs.declared.words.WordsFault.TheVariants.{Words, Disks, Memory}
@@ -83,6 +72,14 @@ before_rule = record (optional_rule (codes "before")) { long = Some (codes "befo
 abbrev pub paths_rule : Rule
 paths_rule = record (optional_rule (codes "paths")) { long = Some (codes "paths") }
 
+-- what clap takes for a number of sectors: all that `u64` reads
+abbrev pub sectors_parser : ValueParser
+sectors_parser = Unsigned 0 18446744073709551615
+
+-- an option that has a number of sectors, `--NAME SECTORS`, which may stand once
+abbrev pub sectors_rule : Text → Rule
+sectors_rule id = record (optional_rule id) { long = Some id; parser = Some sectors_parser }
+
 -- the flag that asks for the version
 abbrev pub version_rule : Rule
 version_rule = flag_rule (codes "version") Version
@@ -102,6 +99,11 @@ map_app parser = with_rule (with_rule (with_rule (loading_app (codes "map") pars
 -- `replay FORMAT FILE [DISKS] [--paths PATHS]`
 abbrev pub replay_app : ValueParser → App
 replay_app parser = with_rule (loading_app (codes "replay") parser) paths_rule
+
+-- `read FORMAT FILE [DISKS] DEVICE [--from SECTOR] [--count SECTORS] [--paths PATHS]`: clap lets the last word be left out, since the formats differ in DISKS
+abbrev pub read_app : ValueParser → App
+read_app parser =
+    with_rule (with_rule (with_rule (with_rule (loading_app (codes "read") parser) (optional_rule (codes "device"))) (sectors_rule (codes "from"))) (sectors_rule (codes "count"))) paths_rule
 
 -- `metadata images PATHS`
 abbrev pub metadata_app : ValueParser → App
@@ -133,7 +135,7 @@ with_commands line (command ∷ commands) = with_commands (with_subcommand line 
 abbrev pub command_line : Parsers → App
 command_line parsers = with_commands (with_rule bare_app version_rule)
     (map_app parsers.any ∷ loading_app (codes "table") parsers.any ∷ loading_app (codes "concise") parsers.any
-    ∷ loading_app (codes "check") parsers.any ∷ replay_app parsers.any ∷ metadata_app parsers.images ∷ name_app ∷ split_app ∷ [])
+    ∷ loading_app (codes "check") parsers.any ∷ replay_app parsers.any ∷ read_app parsers.any ∷ metadata_app parsers.images ∷ name_app ∷ split_app ∷ [])
 
 -- a parse reads the command as this one, if there was memory to make it
 abbrev pub HasApp : {E : Type 0} → App → Result Command E → Type 0
@@ -149,16 +151,28 @@ has_flag id rows = option_map_or (λ text. bytes_eq text (codes "true")) (first_
 abbrev pub word_of : Text → List Row → Text
 word_of id rows = unwrap_or (first_of id rows) []
 
--- the source of FORMAT FILE [DISKS]: `lvm` has no list of disks, and the others have one
-abbrev pub source_at : Format → Text → Option Text → Option SourceWords
-source_at Lvm file None = Some (lvm_words file)
-source_at Lvm file (Some disks) = None
-source_at (Tables form) file None = None
-source_at (Tables form) file (Some disks) = Some (table_words form file disks)
+-- the files of FORMAT FILE [DISKS]: `lvm` has no list of disks, and the others have one
+abbrev pub files_at : Format → Text → Option Text → Option SourceWords
+files_at Lvm file None = Some (file_words Lvm file None)
+files_at Lvm file (Some disks) = None
+files_at (Tables form) file None = None
+files_at (Tables form) file (Some disks) = Some (file_words (Tables form) file (Some disks))
+
+-- the list of images, which is FILE: they have no list of disks, and no other list of paths
+abbrev pub images_at : Text → (disks paths : Option Text) → Option SourceWords
+images_at list None None = Some (image_words list)
+images_at list None (Some paths) = None
+images_at list (Some disks) paths = None
+
+-- the source of a word for FORMAT, with this word for DISKS
+abbrev pub source_by : (format : Text) → List Row → (disks : Option Text) → Option SourceWords
+source_by format rows disks =
+    if bytes_eq format (codes "images") then images_at (word_of (codes "file") rows) disks (first_of (codes "paths") rows)
+    else files_at (format_named format) (word_of (codes "file") rows) disks
 
 -- the source that the words of a command say
-abbrev pub source_in : List Row → Option SourceWords
-source_in rows = source_at (format_named (word_of (codes "format") rows)) (word_of (codes "file") rows) (first_of (codes "disks") rows)
+abbrev pub source_in : List Row → (disks : Option Text) → Option SourceWords
+source_in rows disks = source_by (word_of (codes "format") rows) rows disks
 
 -- the job of a command that loads this source; `replay` is the last of them
 abbrev pub loading_job : Text → List Row → SourceWords → JobWords
@@ -168,34 +182,40 @@ loading_job command rows from =
     else (if bytes_eq command (codes "concise") then print_words Concise from
     else (if bytes_eq command (codes "check") then check_words from else replay_words from (first_of (codes "paths") rows))))
 
--- FORMAT is that of images
-abbrev pub is_of_images : List Row → Bool
-is_of_images rows = bytes_eq (word_of (codes "format") rows) (codes "images")
+-- the job of a command that loads something, unless DISKS is missing or too much, or another list beside images
+abbrev pub source_job : Text → List Row → Option JobWords
+source_job command rows = option_map (loading_job command rows) (source_in rows (first_of (codes "disks") rows))
 
--- the list of images, which is FILE: they have no list of disks, and no other list of paths
-abbrev pub list_at : Text → (disks paths : Option Text) → Option Text
-list_at file None None = Some file
-list_at file None (Some paths) = None
-list_at file (Some disks) paths = None
+-- the number that a text spells; clap takes no text that spells none
+abbrev pub number_of : Text → Option ℕ
+number_of text = if accepts false sectors_parser text then Some (digits_value 10 (without_leading_plus text)) else None
 
--- what a command does with devices that are loaded; `replay` is the last
-abbrev pub task_of : Text → Task
-task_of command =
-    if bytes_eq command (codes "table") then Print Table
-    else (if bytes_eq command (codes "concise") then Print Concise
-    else (if bytes_eq command (codes "check") then Check else Replay))
+abbrev pub number_at : Text → List Row → Option ℕ
+number_at id rows = option_and_then number_of (first_of id rows)
 
--- the job of a command of these images
-abbrev pub images_job : Text → List Row → Text → JobWords
-images_job command rows paths =
-    if bytes_eq command (codes "map") then map_images_words paths (first_of (codes "before") rows) (has_flag (codes "status") rows)
-    else of_images_words paths (task_of command)
+-- the sectors of a device, from the first on and up to the last where the words don't say which
+abbrev pub range_at : List Row → (device : Text) → RangeWords
+range_at rows device = record { device = device; from = unwrap_or (number_at (codes "from") rows) 0; count = number_at (codes "count") rows }
 
--- the job of a command that loads something
-abbrev pub format_job : Text → List Row → Option JobWords
-format_job command rows =
-    if is_of_images rows then option_map (images_job command rows) (list_at (word_of (codes "file") rows) (first_of (codes "disks") rows) (first_of (codes "paths") rows))
-    else option_map (loading_job command rows) (source_in rows)
+-- DISKS and DEVICE, which is the last of two words
+abbrev pub last_of : (second third : Option Text) → Option Text × Option Text
+last_of second (Some device) = (second, Some device)
+last_of second None = (None, second)
+
+-- the job of `read` of a source: files need a list of paths
+abbrev pub read_from : SourceWords → (paths : Option Text) → RangeWords → Option JobWords
+read_from (file_words format file disks) None range = None
+read_from from paths range = Some (read_words from paths range)
+
+-- the job of `read` of these sectors, unless DISKS or a list of paths is missing or too much
+abbrev pub range_job : List Row → (disks : Option Text) → RangeWords → Option JobWords
+range_job rows disks range = option_and_then (λ from. read_from from (first_of (codes "paths") rows) range) (source_in rows disks)
+
+-- the job of `read`, unless a word is missing or too much
+abbrev pub read_job : List Row → Option JobWords
+read_job rows =
+    let last = last_of (first_of (codes "disks") rows) (first_of (codes "device") rows) in
+    option_and_then (λ device. range_job rows last.0 (range_at rows device)) last.1
 
 -- the job of `name`
 abbrev pub name_job : List Row → JobWords
@@ -207,9 +227,10 @@ job_in command rows =
     if bytes_eq command (codes "name") then Some (name_job rows)
     else (if bytes_eq command (codes "splitname") then Some (split_words (word_of (codes "name") rows))
     else (if bytes_eq command (codes "metadata") then Some (metadata_words (word_of (codes "file") rows))
-    else format_job command rows))
+    else (if bytes_eq command (codes "read") then read_job rows
+    else source_job command rows)))
 
--- the same of the command that clap met, which takes no words without one
+-- the job of the command that clap met, which takes no words without one
 abbrev pub said_by : Option (Text × List Row) → Option JobWords
 said_by met = option_and_then (λ m. job_in m.0 m.1) met
 
@@ -266,23 +287,27 @@ IsRefusedFor words (Words error) = IsErrorFor (has_lone_hyphen words) words erro
 IsRefusedFor words Disks = (has_lone_hyphen words ≡ false) × IsTaken words None
 IsRefusedFor words Memory = ⊤
 
--- what is said of the word of messages that `help` is asked about; `name` is a command, too
-abbrev pub explained_by : List Text → Option Text
-explained_by (program ∷ help ∷ asked ∷ []) = if bytes_eq help (codes "help") && not (bytes_eq asked (codes "name")) then explanation asked else None
-explained_by _ = None
+-- a word of messages that is a command, too
+abbrev pub is_command : Text → Bool
+is_command word = bytes_eq word (codes "name") || bytes_eq word (codes "read")
 
--- the job is to print what is said, if anything is, and else that of a command
-abbrev pub IsJobBy : Option Text → List Text → Job → Type 0
-IsJobBy (Some text) words job = job_words job ≡ explain_words text
+-- the word of messages that `help` is asked about, if anything is said of it
+abbrev pub asked_word : List Text → Option Text
+asked_word (program ∷ help ∷ asked ∷ []) = if bytes_eq help (codes "help") && not (is_command asked) && is_explained asked then Some asked else None
+asked_word _ = None
+
+-- the job is to print what is said of a word that `help` is asked about, and else that of a command
+abbrev pub IsJobBy : (asked : Option Text) → List Text → Job → Type 0
+IsJobBy (Some word) words job = job_words job ≡ explain_words word
 IsJobBy None words job = IsCommandOf words job
 
 -- the words ask for this job
 abbrev pub IsJobOf : List Text → Job → Type 0
-IsJobOf words job = IsJobBy (explained_by words) words job
+IsJobOf words job = IsJobBy (asked_word words) words job
 
 -- the words have this fault
 abbrev pub IsFaultOf : List Text → WordsFault → Type 0
-IsFaultOf words fault = (explained_by words ≡ None) × IsRefusedFor words fault
+IsFaultOf words fault = (asked_word words ≡ None) × IsRefusedFor words fault
 
 -- ---- the exit status of a fault
 

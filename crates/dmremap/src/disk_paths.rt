@@ -2,14 +2,9 @@
 //!
 //! It is read and checked after the stack is loaded, since its names are looked up there.
 
-ghost use Rattle.std.specs.Prelude.{◌≡◌, ◌≢◌, Err, IfErr, IfOk, Ok, Some};
-ghost use Rattle.dm_table.specs.io.DeviceIo.{delivery};
-ghost use Rattle.dm_table.specs.io.Progress.{IsReadOn};
-ghost use Rattle.dm_table.specs.declared.load.load_fault.LoadKind.TheVariants.{Memory};
-ghost use Rattle.dm_table.specs.declared.load.place.Part.TheVariants.{Paths};
-ghost use Rattle.dm_table.specs.load.PartInput.{part_read};
-ghost use Rattle.dmremap.specs.StoredStart.{images_in};
+ghost use Rattle.dmremap.specs.Prelude.{◌≡◌, ◌≢◌, Err, IfErr, IfOk, Ok, Some, delivery, IsReadOn, Memory, Paths, part_read, IsReadOnIf, delivered_if, AreSettled, places_in, images_in};
 
+use crate::load::unread;
 use dm_stack::Stack;
 use dm_store::{DiskImages, listed_images};
 use dm_table::{Input, LoadFault, Part, parse_paths, read_part};
@@ -32,4 +27,19 @@ pub(crate) fn load_images<P: Input>(
     let text = read_part(alloc, Part::Paths, paths)?;
     let listed = parse_paths(alloc, &text)?;
     listed_images(alloc, stack, &listed)
+}
+
+/// Reads the images of disks from PATHS, which may be missing: then it is refused as one that can't be read.
+pub(crate) fn load_images_if<P: Input>(
+    alloc: Global,
+    stack: &Stack,
+    paths: &mut Option<P>,
+) -> Result<DiskImages, LoadFault>
+    ensures settled { AreSettled (places_in (delivered_if P.past paths.old paths.new) stack.now) result }
+    ensures read_on { IsReadOnIf P.past paths.old paths.new }
+{
+    match paths {
+        Some(paths) => load_images(alloc, stack, paths),
+        None => Err(unread(Part::Paths)),
+    }
 }

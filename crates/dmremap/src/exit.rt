@@ -4,31 +4,33 @@
 //! told. A new way to exit is a variant here, with its status and its message here and in
 //! `specs/Exit.antt`.
 
-ghost use Rattle.std.specs.Prelude.{◌≡◌, ◌≢◌, OnErr, OnOk};
-ghost use Rattle.dmremap.specs.declared.exit.Exit.{Exit};
+ghost use Rattle.dmremap.specs.Prelude.{◌≡◌, ◌≢◌, OnErr, OnOk, false, Exit, exit_after, exit_message, exit_status, is_refused, load_status, name_status, refusal_status, Exits, IsClosedAs};
 ghost use Rattle.dmremap.specs.declared.exit.Exit.TheVariants.{Ended, Refused};
 ghost use Rattle.dmremap.specs.declared.exit.Refusal.TheVariants.{Load};
-ghost use Rattle.dmremap.specs.declared.status.TheConstants.{STATUS_REFUSED};
-ghost use Rattle.dm_stream.specs.runs.Messages.{HasTold};
 ghost use Rattle.dm_stream.specs.declared.runs.ending.Ending.TheVariants.{WriteFault};
-ghost use Rattle.dmremap.specs.Exit.{exit_after, exit_message, exit_status, is_refused, load_status, name_status, refusal_status};
-ghost use Rattle.dmremap.specs.Streams.{Exits, IsClosedAs};
 
 use crate::status::{
     STATUS_BAD_REQUEST, STATUS_DONE, STATUS_MEMORY, STATUS_READ_FAULT, STATUS_REFUSED,
-    STATUS_WRITE_FAULT,
+    STATUS_STOPPED, STATUS_WRITE_FAULT,
 };
+use dm_read::Stop;
+use dm_store::StoreMessage;
 use dm_stream::{
     EarlierFault, Ending, close_and_tell, earlier_message, message_of, refused_request, tell,
 };
 use dm_table::{LoadFault, LoadKind, LoadMessage, OutFault, Output, append, memory_message};
+use lvm_head::HeadMessage;
 use lvm_volume::NameFault;
 
 /// Why a command was refused before it wrote anything.
-#[derive(Clone, Copy)]
+#[derive(Drop)]
 pub(crate) enum Refusal {
-    /// The load was refused.
+    /// The load was refused, or the list of paths.
     Load(LoadFault),
+    /// The head of a disk was refused, with this message.
+    Head(HeadMessage),
+    /// A store was refused, with this message.
+    Store(StoreMessage),
     /// The requests before those of a run were refused.
     Earlier(EarlierFault),
     /// The name was not built.
@@ -37,10 +39,14 @@ pub(crate) enum Refusal {
     Split,
     /// Two claims of the stack meet.
     Untidy,
+    /// No device has the name that was asked for.
+    Device,
+    /// The sectors that were asked for go past the end of their device.
+    PastEnd,
 }
 
 /// How a command exits.
-#[derive(Clone, Copy)]
+#[derive(Drop)]
 pub(crate) enum Exit {
     /// Nothing was written.
     Refused(Refusal),
@@ -50,28 +56,39 @@ pub(crate) enum Exit {
     NotTop(u64),
     /// Memory ran out at a request; those before it were answered.
     Memory,
+    /// A sector of a device can't be read; those before it were written.
+    Stopped(Stop),
 }
 
 impl Refusal {
     /// The exit status.
-    fn status(self) -> u8
-        ensures { result ≡ refusal_status self }
+    fn status(&self) -> u8
+        ensures { result ≡ refusal_status self.now }
     {
         match self {
             Refusal::Load(fault) => load_status(fault.kind),
-            Refusal::Name(fault) => name_status(fault),
-            Refusal::Earlier(_) | Refusal::Split | Refusal::Untidy => STATUS_REFUSED,
+            Refusal::Name(fault) => name_status(*fault),
+            _ => STATUS_REFUSED,
         }
     }
-}
 
-/// Tells why a command was refused before it wrote anything, and returns its exit status.
-pub(crate) fn refuse<M: Output>(message: &[u8], messages: &mut M) -> u8
-    ensures status { result ≡ STATUS_REFUSED }
-    ensures told { HasTold message.now (M.past messages.old) (M.past messages.new) }
-{
-    tell(messages, message);
-    STATUS_REFUSED
+    /// Tells why, and returns the exit status.
+    pub(crate) fn tell<M: Output>(&self, messages: &mut M) -> u8
+        ensures { Exits (Refused self.now) result (M.past messages.old) (M.past messages.new) }
+    {
+        match self {
+            Refusal::Load(fault) => tell(messages, fault.message().as_slice()),
+            Refusal::Head(message) => tell(messages, message.as_slice()),
+            Refusal::Store(message) => tell(messages, message.as_slice()),
+            Refusal::Earlier(fault) => tell(messages, earlier_message(*fault).as_slice()),
+            Refusal::Name(fault) => tell(messages, fault.message()),
+            Refusal::Split => tell(messages, b"dmremap: name: split\n"),
+            Refusal::Untidy => tell(messages, b"dmremap: replay: untidy\n"),
+            Refusal::Device => tell(messages, b"dmremap: device: unknown\n"),
+            Refusal::PastEnd => tell(messages, b"dmremap: device: range\n"),
+        }
+        self.status()
+    }
 }
 
 /// The exit status of a refused load.
@@ -113,8 +130,8 @@ impl Exit {
     }
 
     /// The exit status.
-    pub(crate) fn status(self) -> u8
-        ensures { result ≡ exit_status self }
+    pub(crate) fn status(&self) -> u8
+        ensures { result ≡ exit_status self.now }
     {
         match self {
             Exit::Refused(refusal) => refusal.status(),
@@ -123,42 +140,42 @@ impl Exit {
             Exit::Ended(Ending::ReadFault) => STATUS_READ_FAULT,
             Exit::Ended(Ending::WriteFault) => STATUS_WRITE_FAULT,
             Exit::Memory => STATUS_MEMORY,
+            Exit::Stopped(_) => STATUS_STOPPED,
         }
     }
 
-    /// The message that tells why a command exits so: one line, or empty if all was done.
-    fn message(self) -> LoadMessage
-        ensures { result.items ≡ exit_message self }
+    /// The message of a command that was not refused: one line, or empty if all was done.
+    fn message(&self) -> LoadMessage
+        requires { is_refused self.now ≡ false }
+        ensures { result.items ≡ exit_message self.now }
     {
         let mut text = LoadMessage::new();
         match self {
-            Exit::Refused(Refusal::Load(fault)) => return fault.message(),
-            Exit::Refused(Refusal::Earlier(fault)) => {
-                append(&mut text, earlier_message(fault).as_slice());
-            }
-            Exit::Refused(Refusal::Name(fault)) => append(&mut text, fault.message()),
-            Exit::Refused(Refusal::Split) => append(&mut text, b"dmremap: name: split\n"),
-            Exit::Refused(Refusal::Untidy) => append(&mut text, b"dmremap: replay: untidy\n"),
-            Exit::Ended(ending) => append(&mut text, message_of(ending).as_slice()),
+            Exit::Refused(_) => unreachable!(),
+            Exit::Ended(ending) => append(&mut text, message_of(*ending).as_slice()),
             Exit::NotTop(number) => {
-                append(&mut text, refused_request(number, b"not top").as_slice());
+                append(&mut text, refused_request(*number, b"not top").as_slice());
             }
             Exit::Memory => append(&mut text, memory_message()),
+            Exit::Stopped(stop) => append(&mut text, stop.message().as_slice()),
         }
         text
     }
 
     /// Tells why a command exits so, if not all was done, and returns the exit status. No output is closed.
-    pub(crate) fn tell<M: Output>(self, messages: &mut M) -> u8
-        ensures { Exits self result (M.past messages.old) (M.past messages.new) }
+    pub(crate) fn tell<M: Output>(&self, messages: &mut M) -> u8
+        ensures { Exits self.now result (M.past messages.old) (M.past messages.new) }
     {
+        if let Exit::Refused(refusal) = self {
+            return refusal.tell(messages);
+        }
         tell(messages, self.message().as_slice());
         self.status()
     }
 
     /// Whether the command was refused before it wrote anything.
-    fn is_refused(self) -> bool
-        ensures { result ≡ is_refused self }
+    fn is_refused(&self) -> bool
+        ensures { result ≡ is_refused self.now }
     {
         match self {
             Exit::Refused(_) => true,
@@ -167,9 +184,9 @@ impl Exit {
     }
 
     /// Whether no write failed.
-    fn written(self) -> Result<(), OutFault>
-        ensures ok { OnOk result (self ≢ Ended WriteFault) }
-        ensures err { OnErr result (self ≡ Ended WriteFault) }
+    fn written(&self) -> Result<(), OutFault>
+        ensures ok { OnOk result (self.now ≢ Ended WriteFault) }
+        ensures err { OnErr result (self.now ≡ Ended WriteFault) }
     {
         match self {
             Exit::Ended(Ending::WriteFault) => Err(OutFault),
@@ -179,8 +196,8 @@ impl Exit {
 
     /// Closes the output of a command that would exit so, unless it was refused; then tells why not all was
     /// done, and returns the exit status.
-    pub(crate) fn finish<W: Output, M: Output>(self, output: &mut W, messages: &mut M) -> u8
-        ensures { (exit : Exit) × IsClosedAs self (W.past output.old) (W.past output.new) exit
+    pub(crate) fn finish<W: Output, M: Output>(&self, output: &mut W, messages: &mut M) -> u8
+        ensures { (exit : Exit) × IsClosedAs self.now (W.past output.old) (W.past output.new) exit
             × Exits exit result (M.past messages.old) (M.past messages.new) }
     {
         if self.is_refused() {

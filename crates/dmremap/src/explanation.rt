@@ -1,67 +1,139 @@
 //! What is said of the word of a message, for who asks `help` about it.
 
-ghost use Rattle.std.specs.Prelude.{◌≡◌, ◌<◌, length, map, option_map};
-ghost use Rattle.dmremap.specs.Explanation.{after, before, explanation, of_any, of_entry, of_later, of_word, part_in, said_of, word_in};
+ghost use Rattle.dmremap.specs.Prelude.{◌≡◌, ◌<◌, length, map, option_map, list_any, Does, HasDone, after, before, explanation, first_entries, fits, is_explained, later_entries, part_in, part_meant, table_of, texts_of, word_in, Prints, SaidBy};
+ghost use Rattle.dm_table.specs.io.Progress.{Wrote};
 
-use crate::messages::{ENTRIES, FIRST_WORDS, LATER_WORDS};
+use crate::exit::Exit;
+use crate::messages::{Entry, FIRST_ENTRIES, LATER_ENTRIES};
+use crate::printing::write_both;
+use dm_table::{OutFault, Output};
 
-/// What is said of a message, as it is told or without its beginning; of a word alone, all entries of that word.
-pub(crate) fn explanation(message: &str) -> Option<&'static str>
-    ensures { option_map (λ text. text.now) result ≡ explanation message.now }
+/// Whether anything is said of a message.
+pub(crate) fn is_explained(message: &str) -> bool
+    ensures { result ≡ is_explained message.now }
 {
-    match of_entry(message) {
-        Some(text) => Some(text),
-        None => of_any(word_in(message)),
+    let word = word_in(message);
+    has_entry(table_of(word), None, word)
+}
+
+/// Prints what is said of a message, and says how the command would exit. Nothing is flushed.
+pub(crate) fn print_explanation<W: Output>(message: &str, output: &mut W) -> Exit
+    ensures { HasDone (Does (SaidBy (λ said. Prints (explanation message.now) ≡ said)))
+        (W.past output.old) (W.past output.new) result }
+{
+    Exit::after(write_explanation(message, output))
+}
+
+/// Writes what is said of a message, as it is told or without its beginning; of a word alone, all entries of that
+/// word, with an empty line between them.
+fn write_explanation<W: Output>(message: &str, output: &mut W) -> Result<(), OutFault>
+    ensures { Wrote (W.past output.old) (W.past output.new) result (explanation message.now) }
+{
+    let word = word_in(message);
+    let entries = table_of(word);
+    write_entries(entries, part_meant(message, word, entries), word, output)
+}
+
+/// Writes those entries that are about a word in messages of a part, if one is said, or of any.
+fn write_entries<W: Output>(
+    entries: &[Entry<'_>],
+    part: Option<&str>,
+    word: &str,
+    output: &mut W,
+) -> Result<(), OutFault>
+    ensures { Wrote (W.past output.old) (W.past output.new) result
+        (texts_of (fits (option_map (λ part. part.now) part.entry) word.entry.now)
+        (map (λ entry. ((entry.0.0.now, entry.0.1.now), entry.1.now, entry.2.now)) entries.entry.now)) }
+{
+    let mut between: &[u8] = b"";
+    for entry in entries {
+        if fits(part, word, entry) {
+            write_both(&mut *output, between, entry.2.as_bytes())?;
+            between = b"\n";
+        }
+    }
+    Ok(())
+}
+
+/// The part of a message, if one of some entries is about its word in messages of that part.
+fn part_meant<'a>(message: &'a str, word: &str, entries: &[Entry<'_>]) -> Option<&'a str>
+    ensures { option_map (λ part. part.now) result ≡ part_meant message.entry.now word.now
+        (map (λ entry. ((entry.0.0.now, entry.0.1.now), entry.1.now, entry.2.now)) entries.now) }
+{
+    let part = part_in(message);
+    if has_entry(entries, Some(part), word) {
+        Some(part)
+    } else {
+        None
     }
 }
 
-/// What is said of a word in messages of this part, where there are others that have it.
-fn of_entry(message: &str) -> Option<&'static str>
-    ensures { option_map (λ text. text.now) result ≡ of_entry message.now }
+/// The table that has the entries of a word, if there are any.
+fn table_of(word: &str) -> &'static [Entry<'static>]
+    ensures { map (λ entry. ((entry.0.0.now, entry.0.1.now), entry.1.now, entry.2.now)) result.now ≡ table_of word.now }
 {
-    said_of(&ENTRIES, part_in(message), word_in(message))
-}
-
-/// What is said of a word in all messages, or of how to ask.
-fn of_any(word: &str) -> Option<&'static str>
-    ensures { option_map (λ text. text.now) result ≡ of_any word.now }
-{
-    match of_word(word) {
-        Some(text) => Some(text),
-        None => of_later(word),
+    let first = first_entries();
+    if has_entry(first, None, word) {
+        first
+    } else {
+        later_entries()
     }
 }
 
-/// The same, if it is one of the first words.
-fn of_word(word: &str) -> Option<&'static str>
-    ensures { option_map (λ text. text.now) result ≡ of_word word.now }
+/// The entries of the first words.
+fn first_entries() -> &'static [Entry<'static>]
+    ensures { map (λ entry. ((entry.0.0.now, entry.0.1.now), entry.1.now, entry.2.now)) result.now ≡ first_entries }
 {
-    said_of(&FIRST_WORDS, "", word)
+    &FIRST_ENTRIES
 }
 
-/// The same, if it is one of the others.
-fn of_later(word: &str) -> Option<&'static str>
-    ensures { option_map (λ text. text.now) result ≡ of_later word.now }
+/// The entries of the other words.
+fn later_entries() -> &'static [Entry<'static>]
+    ensures { map (λ entry. ((entry.0.0.now, entry.0.1.now), entry.1.now, entry.2.now)) result.now ≡ later_entries }
 {
-    said_of(&LATER_WORDS, "", word)
+    &LATER_ENTRIES
+}
+
+/// Whether one of some entries is about a word in messages of a part, if one is said, or of any.
+fn has_entry(entries: &[Entry<'_>], part: Option<&str>, word: &str) -> bool
+    ensures { result ≡ list_any (fits (option_map (λ part. part.now) part.entry) word.entry.now)
+        (map (λ entry. ((entry.0.0.now, entry.0.1.now), entry.1.now, entry.2.now)) entries.entry.now) }
+{
+    for entry in entries {
+        if fits(part, word, entry) {
+            return true;
+        }
+    }
+    false
+}
+
+/// Whether an entry is about a word in messages of a part, if one is said, or of any.
+fn fits(part: Option<&str>, word: &str, entry: &Entry<'_>) -> bool
+    ensures { result ≡ fits (option_map (λ part. part.now) part.entry) word.now
+        ((entry.now.0.0.now, entry.now.0.1.now), entry.now.1.now, entry.now.2.now) }
+{
+    match part {
+        Some(part) => entry.1 == word && (entry.0.0 == part || entry.0.1 == part),
+        None => entry.1 == word,
+    }
 }
 
 /// The part of a message, which stands first, without the name or the number behind it.
-pub(crate) fn part_in(message: &str) -> &str
+fn part_in(message: &str) -> &str
     ensures { result.now ≡ part_in message.now }
 {
     before(" ", before(": ", after("dmremap: ", message)))
 }
 
 /// The word of a message, which stands last, but for a place.
-pub(crate) fn word_in(message: &str) -> &str
+fn word_in(message: &str) -> &str
     ensures { result.now ≡ word_in message.now }
 {
     before(" at ", after(": ", after(": ", message)))
 }
 
 /// What stands in a text before the first mark, or all where there is none.
-pub(crate) fn before<'a>(mark: &str, text: &'a str) -> &'a str
+fn before<'a>(mark: &str, text: &'a str) -> &'a str
     requires { 0 < length mark.now }
     ensures { result.now ≡ before mark.now text.now }
 {
@@ -72,7 +144,7 @@ pub(crate) fn before<'a>(mark: &str, text: &'a str) -> &'a str
 }
 
 /// What stands after it.
-pub(crate) fn after<'a>(mark: &str, text: &'a str) -> &'a str
+fn after<'a>(mark: &str, text: &'a str) -> &'a str
     requires { 0 < length mark.now }
     ensures { result.now ≡ after mark.now text.now }
 {
@@ -80,17 +152,4 @@ pub(crate) fn after<'a>(mark: &str, text: &'a str) -> &'a str
         Some((_, rest)) => rest,
         None => text,
     }
-}
-
-/// What the first of some rows says that is about a word of a part.
-fn said_of<'a>(rows: &'a [((&'a str, &'a str), &'a str)], part: &str, word: &str) -> Option<&'a str>
-    ensures { option_map (λ text. text.now) result
-        ≡ said_of (map (λ row. ((row.0.0.now, row.0.1.now), row.1.now)) rows.now) part.now word.now }
-{
-    for row in rows {
-        if row.0.0 == part && row.0.1 == word {
-            return Some(row.1);
-        }
-    }
-    None
 }

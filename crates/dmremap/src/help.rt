@@ -13,12 +13,13 @@ statuses. `dmremap help WORD` explains a word of a message, and what to do then.
 
 Exit status
   0  done, or help or the version was asked for
-  1  FILE, DISKS, PATHS, a store, a name or earlier requests were refused
+  1  FILE, DISKS, PATHS, a store, a name, a device or requests were refused
   2  the command line was wrong
   3  a request was bad
   4  the requests could not be read
   5  the output could not be written
   6  out of memory
+  7  a sector of a device could not be read
 
 Manual: man dmremap";
 
@@ -96,11 +97,16 @@ Messages, of which `dmremap help WORD` explains each WORD
   dmremap: request N: WORD, dmremap: before: WORD at N
       form, number, length, unknown, long, unended, many
   dmremap: paths: WORD at LINE
-      text, syntax, field, name, twice, unknown
+      text, syntax, field, name, twice, unknown, limit
   dmremap: disk NAME: WORD
-      read, label, header, long, text, ends, differ, twice, foreign
+      read, partitions, array, label, header, long, text, differ, twice,
+      foreign, missing, ends
   dmremap: store NAME: WORD
-      missing, read, magic, version, chunk, order, range, again
+      missing, read, magic, version, chunk, gap, order, range, again
+  dmremap: device: WORD
+      unknown, range
+  dmremap: device: WORD at SECTOR
+      error, missing, read
   dmremap: requests: read, dmremap: paths: read, dmremap: paths: long,
   dmremap: before: read, dmremap: words: disks, dmremap: output: write,
   dmremap: memory
@@ -173,10 +179,10 @@ Example
 pub(crate) const REPLAY_ABOUT: &str = "Plays requests, and prints what each sector reads or stores";
 
 pub(crate) const REPLAY_NOTES: &str = "\
-FILE, DISKS and the requests are those of `dmremap map`, as is --paths: with it,
-the replay starts from what the stores of snapshots hold. Each request has to be
-for a device that no line uses, and `dmremap check` has to print `tidy`. For
-each request N, lines tell what its sectors read or store:
+FILE, DISKS and the requests are those of `dmremap map`, as is --paths: with it
+or with images, the replay starts from what the stores of snapshots hold. Each
+request has to be for a device that no line uses, and `dmremap check` has to
+print `tidy`. For each request N, lines tell what its sectors read or store:
   N old DISK START LEN      what was there before, from START of the disk on
   N wrote K START LEN       what request K wrote, from START of its device on
   N zero LEN                zeros, or writes that are thrown away
@@ -193,6 +199,37 @@ Exit status
 
 Example
   dmremap replay table stack.table disks.txt < requests.txt";
+
+pub(crate) const READ_ABOUT: &str = "Writes the bytes of a device";
+
+/// DEVICE is the last word, with or without DISKS before it.
+pub(crate) const READ_USAGE: &str = "dmremap read [OPTIONS] <FORMAT> <FILE> [DISKS] <DEVICE>";
+
+pub(crate) const READ_NOTES: &str = "\
+FILE and DISKS are those of `dmremap map`. DEVICE, the last word, is a device of
+FILE. Its sectors are read in rising order on the disks or images of PATHS, as
+the stores of snapshots have them there, and go to the standard output. Sectors
+that read as zeros are written as zeros.
+
+`dmremap read images` takes a list like PATHS for FILE, and no --paths. All
+other formats need --paths.
+
+The first sector that can't be read ends it: all those before it were written.
+  dmremap: device: error at SECTOR    its tables make it fail, or its snapshot
+                                      is lost
+  dmremap: device: missing at SECTOR  PATHS doesn't name its disk
+  dmremap: device: read at SECTOR     its image can't be read there
+
+Exit status
+  0  all bytes were written
+  1  FILE, DISKS, PATHS, DEVICE, its sectors, a disk or a store was refused
+  2  the command line was wrong
+  5  the output could not be written
+  6  out of memory
+  7  a sector could not be read
+
+Example
+  dmremap read images vg.paths vg0-home > home.img";
 
 pub(crate) const METADATA_ABOUT: &str =
     "Prints the metadata text that images of a group's disks have";
@@ -252,6 +289,12 @@ pub(crate) const FILE_HELP: &str = "The tables, the metadata, or the list of ima
 pub(crate) const IMAGES_HELP: &str = "The list of images";
 
 pub(crate) const DISKS_HELP: &str = "The disks and their lengths; not with lvm";
+
+pub(crate) const DEVICE_HELP: &str = "The device; DISKS is left out with lvm and images";
+
+pub(crate) const FROM_HELP: &str = "Begin at this sector of the device";
+
+pub(crate) const COUNT_HELP: &str = "Write only so many sectors";
 
 pub(crate) const STATUS_OPTION_HELP: &str = "At the end, print how full each snapshot's store is";
 

@@ -1,51 +1,24 @@
 //! The load of a volume group from the images of its disks: a list of paths, the heads of the disks that it names,
 //! and the text that these have.
 //!
-//! The order here is the order of the refusals: the list, the heads, disk by disk, the text, what it describes. Stores
-//! lie in the same images, so they are read through the same list.
+//! The order here is the order of the refusals: the list, the heads, disk by disk, the text, what it describes, and the
+//! first disk that ends before its text says. Stores lie in the same images, so they are read through the same list.
 
-ghost use Rattle.std.specs.Prelude.{◌≡◌, ◌≢◌, Err, IfErr, IfOk, Ok, Some, length, slice_get};
-ghost use Rattle.dm_table.specs.declared.load.load_fault.LoadKind.TheVariants.{Memory};
-ghost use Rattle.dm_table.specs.declared.load.place.Part.TheVariants.{Paths};
-ghost use Rattle.dm_table.specs.io.DeviceIo.{Delivery, delivery};
-ghost use Rattle.dm_table.specs.io.Progress.{IsReadOn};
-ghost use Rattle.dm_table.specs.load.PartInput.{part_read};
-ghost use Rattle.dm_stream.specs.runs.Messages.{HasTold};
-ghost use Rattle.dm_store.specs.Images.{Contents};
+ghost use Rattle.dmremap.specs.Prelude.{◌≡◌, ◌≢◌, ◌≤◌, ◌^◌, Err, IfErr, IfOk, Ok, Some, length, slice_get, Memory, Paths, Delivery, delivery, IsReadOn, part_read, Contents, heads_of, AreSeen, HeadsOpen, ImagesOpen, IsStoppedBy, IsUnowned, by_text, len_of, list_in, short_of, IsOpened};
 ghost use Rattle.lvm_head.specs.declared.fault.HeadFault.TheVariants as faults;
-ghost use Rattle.lvm_head.specs.Heads.{heads_of};
-ghost use Rattle.dmremap.specs.ImagesLoad.{HeadsOpen, ImagesOpen, IsOpened, IsStoppedBy, IsUnowned, list_in, listed_disks, unopened_message, unopened_status};
+ghost use Rattle.lvm_head.specs.Disks.{Contents as DiskContents};
 
-use crate::exit::{Exit, refuse};
+use crate::exit::Refusal;
 use crate::listed_images::ListedImages;
 use dm_stack::Stack;
 use dm_store::Images;
-use dm_table::{DiskPath, Input, LoadFault, Output, Part, parse_paths, read_part};
-use lvm_head::{HeadFault, HeadMessage, HeadRefusal, Heads, read_heads};
-use lvm_volume::{OwnedFault, Owners, parse_owned};
+use dm_table::{DiskPath, Input, LoadFault, LoadKind, Part, Place, parse_paths, read_part};
+use lvm_head::{HeadFault, HeadRefusal, Heads, SECTOR, read_heads, read_sector};
+use lvm_volume::{DiskFault, OwnedFault, Owners, parse_owned};
 use std::alloc::Global;
 
-/// Why images open no run.
-#[derive(Drop)]
-pub(crate) enum Unopened {
-    /// The list of paths was refused, or the text of the heads, or what it describes; or memory ran out.
-    Load(LoadFault),
-    /// The head of a disk was refused, with this message.
-    Head(HeadMessage),
-}
-
-impl Unopened {
-    /// Tells why, and returns the exit status.
-    pub(crate) fn tell<M: Output>(self, messages: &mut M) -> u8
-        ensures status { result ≡ unopened_status self }
-        ensures told { HasTold (unopened_message self) (M.past messages.old) (M.past messages.new) }
-    {
-        match self {
-            Unopened::Load(fault) => Exit::unloaded(fault).tell(messages),
-            Unopened::Head(message) => refuse(message.as_slice(), messages),
-        }
-    }
-}
+/// The most lines of a list of images: as many as the disks of a stack.
+const MOST_LINES: usize = 1024;
 
 /// Reads a list of paths whole.
 ///
@@ -58,7 +31,17 @@ pub(crate) fn read_list<P: Input>(alloc: Global, paths: &mut P) -> Result<Vec<Di
     ensures read_on { IsReadOn (P.past paths.old) (P.past paths.new) }
 {
     let text = read_part(alloc, Part::Paths, paths)?;
-    parse_paths(alloc, &text)
+    let listed = parse_paths(alloc, &text)?;
+    if listed.len() > MOST_LINES {
+        return Err(LoadFault {
+            kind: LoadKind::Limit,
+            at: Place {
+                part: Part::Paths,
+                number: 1025,
+            },
+        });
+    }
+    Ok(listed)
 }
 
 /// Loads the group of the disks of a list.
@@ -68,15 +51,53 @@ pub(crate) fn read_list<P: Input>(alloc: Global, paths: &mut P) -> Result<Vec<Di
 pub(crate) fn load_images<I: Images>(
     alloc: Global,
     disks: &mut ListedImages<I>,
-) -> Result<Stack, Unopened>
+) -> Result<Stack, Refusal>
     ensures opened { (p : Delivery) (held : Contents) → list_in (part_read Paths p) ≡ Some (Ok disks.old.paths.items)
         → I.IsSeen disks.new.images held → IsOpened (ImagesOpen p held) result }
     ensures paths { disks.new.paths.items ≡ disks.old.paths.items }
 {
-    match listed_heads(alloc, disks) {
-        Ok(heads) => load_owned(alloc, &disks.paths, &heads),
-        Err(refusal) => Err(stopped(&disks.paths, refusal.disk, refusal.fault)),
+    let heads = match listed_heads(alloc, disks) {
+        Ok(heads) => heads,
+        Err(refusal) => return Err(stopped(&disks.paths, refusal.disk, refusal.fault)),
+    };
+    let stack = match load_owned(alloc, &disks.paths, &heads) {
+        Ok(stack) => stack,
+        Err(refusal) => return Err(refusal),
+    };
+    match first_short(disks, &stack) {
+        Some(disk) => Err(stopped(&disks.paths, disk, HeadFault::Ends)),
+        None => Ok(stack),
     }
+}
+
+/// How many sectors a disk of a stack has, by its name; 0 where the stack has none of that name.
+fn len_of(stack: &Stack, name: &str) -> u64
+    ensures is { result ≡ len_of stack.now name.now }
+    ensures near { result ≤ 2 ^ 50 }
+{
+    match stack.disk(name) {
+        Some(disk) => stack.disk_len(disk),
+        None => 0,
+    }
+}
+
+/// The first disk of a list that hasn't the last sector that it has by the text.
+fn first_short<I: Images>(disks: &mut ListedImages<I>, stack: &Stack) -> Option<usize>
+    ensures paths { disks.new.paths.items ≡ disks.old.paths.items }
+    ensures still { (held : DiskContents) → AreSeen (I.IsSeen disks.new.images) disks.new.paths.items held
+        → AreSeen (I.IsSeen disks.old.images) disks.old.paths.items held }
+    ensures is { (held : DiskContents) → AreSeen (I.IsSeen disks.new.images) disks.new.paths.items held
+        → result ≡ short_of stack.now held 0 disks.old.paths.items }
+{
+    let mut sector = [0; SECTOR];
+    for disk in 0..disks.paths.len() {
+        let len = len_of(stack, disks.paths[disk].disk.as_str());
+        match read_sector(disks, disk, len.saturating_sub(1), &mut sector) {
+            Ok(()) => {}
+            Err(_) => return Some(disk),
+        }
+    }
+    None
 }
 
 /// Reads the heads of the disks of a list.
@@ -84,11 +105,11 @@ pub(crate) fn listed_heads<I: Images>(
     alloc: Global,
     disks: &mut ListedImages<I>,
 ) -> Result<Heads, HeadRefusal>
-    ensures given { (held : Contents) → I.IsSeen disks.new.images held → IfOk result
-        (λ heads. heads_of (listed_disks disks.old.paths.items held) (length disks.old.paths.items) ≡ Ok heads) }
-    ensures refused { (held : Contents) → I.IsSeen disks.new.images held → IfErr result
-        (λ refusal. refusal.fault ≢ faults.Memory
-        → heads_of (listed_disks disks.old.paths.items held) (length disks.old.paths.items) ≡ Err refusal) }
+    ensures given { (held : DiskContents) → AreSeen (I.IsSeen disks.new.images) disks.new.paths.items held
+        → IfOk result (λ heads. heads_of held (length disks.old.paths.items) ≡ Ok heads) }
+    ensures refused { (held : DiskContents) → AreSeen (I.IsSeen disks.new.images) disks.new.paths.items held
+        → IfErr result (λ refusal. refusal.fault ≢ faults.Memory
+        → heads_of held (length disks.old.paths.items) ≡ Err refusal) }
     ensures paths { disks.new.paths.items ≡ disks.old.paths.items }
 {
     let listed: &[DiskPath] = &disks.paths;
@@ -97,7 +118,7 @@ pub(crate) fn listed_heads<I: Images>(
 }
 
 /// Loads the group of the text that heads have, by the names of their disks.
-fn load_owned(alloc: Global, paths: &[DiskPath], heads: &Heads) -> Result<Stack, Unopened>
+fn load_owned(alloc: Global, paths: &[DiskPath], heads: &Heads) -> Result<Stack, Refusal>
     ensures { IsOpened (HeadsOpen paths.now (Ok heads.now)) result }
 {
     let owners = Owners {
@@ -107,31 +128,42 @@ fn load_owned(alloc: Global, paths: &[DiskPath], heads: &Heads) -> Result<Stack,
     match parse_owned(alloc, &heads.text, &owners) {
         Ok((devices, disks)) => match Stack::load(alloc, devices, disks) {
             Ok(stack) => Ok(stack),
-            Err(fault) => Err(Unopened::Load(fault)),
+            Err(fault) => Err(Refusal::Load(fault)),
         },
         Err(fault) => Err(unowned(paths, fault)),
     }
 }
 
 /// Why the text of the disks of a list opens no run.
-fn unowned(paths: &[DiskPath], fault: OwnedFault) -> Unopened
+fn unowned(paths: &[DiskPath], fault: OwnedFault) -> Refusal
     ensures { IsUnowned paths.now fault result }
 {
     match fault {
-        OwnedFault::Foreign(disk) => stopped(paths, disk, HeadFault::Foreign),
-        OwnedFault::Load(fault) => Unopened::Load(fault),
+        OwnedFault::Disk(disk, fault) => stopped(paths, disk, by_text(fault)),
+        OwnedFault::Load(fault) => Refusal::Load(fault),
+    }
+}
+
+/// Why a disk is refused by its text.
+fn by_text(fault: DiskFault) -> HeadFault
+    ensures { result ≡ by_text fault }
+{
+    match fault {
+        DiskFault::Foreign => HeadFault::Foreign,
+        DiskFault::Missing => HeadFault::Missing,
+        DiskFault::Array => HeadFault::Array,
     }
 }
 
 /// Why the disk of a place in a list opens no run.
-pub(crate) fn stopped(paths: &[DiskPath], disk: usize, fault: HeadFault) -> Unopened
+pub(crate) fn stopped(paths: &[DiskPath], disk: usize, fault: HeadFault) -> Refusal
     ensures { IsStoppedBy (slice_get paths.now disk) fault result }
 {
     if fault == HeadFault::Memory {
-        return Unopened::Load(LoadFault::memory(Part::Source));
+        return Refusal::Load(LoadFault::memory(Part::Source));
     }
     match paths.get(disk) {
-        Some(path) => Unopened::Head(fault.message(&path.disk)),
-        None => Unopened::Load(LoadFault::memory(Part::Source)),
+        Some(path) => Refusal::Head(fault.message(&path.disk)),
+        None => Refusal::Load(LoadFault::memory(Part::Source)),
     }
 }

@@ -3,9 +3,6 @@
 //! A job holds what the words say and nothing that a file says, so that words are refused before a file
 //! is opened. A new command is a variant of `Job`, a new format one of `Format` and of `Source`.
 
-ghost use Rattle.std.specs.Prelude.{◌≡◌, option_map};
-ghost use Rattle.dmremap.specs.Job.{disks_of, file_of, format_of, job_words, source_of, source_words};
-
 /// The form of a text of devices and their tables.
 #[derive(Clone, Copy)]
 pub enum TableForm {
@@ -24,55 +21,43 @@ pub enum Format {
     Tables(TableForm),
 }
 
-/// The files that a command loads, each by its path, which is taken as given.
+/// What a command loads, each file by its path, which is taken as given.
 #[derive(Clone, Copy)]
 pub enum Source<'a> {
-    /// Metadata, which says itself what its disks are.
-    Lvm {
+    /// A text in a format, and the list of its disks, where the format doesn't say itself what these are.
+    Files {
+        format: Format,
         file: &'a str,
+        disks: Option<&'a str>,
     },
-    /// Devices and their tables in a form, and the list of their disks.
-    Tables {
-        form: TableForm,
-        file: &'a str,
-        disks: &'a str,
+    /// The list of the images of a volume group's disks, whose heads say what they are.
+    Images {
+        list: &'a str,
     },
 }
 
-/// What is done with the devices of a load, other than to map requests through them.
+/// The sectors of a device that are asked for.
 #[derive(Clone, Copy)]
-pub enum Task {
-    /// Print them in a form.
-    Print(TableForm),
-    /// Check them, and print whether two of their lines claim one sector.
-    Check,
-    /// Replay the requests of the standard input on their disks.
-    Replay,
+pub struct SectorRange<'a> {
+    /// The name of the device.
+    pub device: &'a str,
+    /// The first of them.
+    pub from: u64,
+    /// How many they are, if not all up to the end of the device.
+    pub count: Option<u64>,
 }
 
 /// What the words ask for. The texts are those of the words.
 #[derive(Clone, Copy)]
 pub enum Job<'a> {
-    /// Map the requests of the standard input through the tables of a source, from the state that the stores hold
-    /// that lie in the images of the list `paths`, if there is one, and that the requests of the file `earlier` left,
-    /// if there is one. Where `status` is true, the status lines of snapshots follow the output.
+    /// Map the requests of the standard input through the tables of a source, from the state that its stores hold, if
+    /// it is of images or these lie in those of the list `paths`, and that the requests of the file `earlier` left, if
+    /// there is one. Where `status` is true, the status lines of snapshots follow the output.
     Map {
         source: Source<'a>,
         paths: Option<&'a str>,
         earlier: Option<&'a str>,
         status: bool,
-    },
-    /// Map the requests of the standard input through the tables of the group that lies in the images of the list
-    /// `paths`, from the state that its stores hold, and otherwise as `Map` does.
-    MapImages {
-        paths: &'a str,
-        earlier: Option<&'a str>,
-        status: bool,
-    },
-    /// Do something else with the devices of the group that lies in the images of a list.
-    OfImages {
-        paths: &'a str,
-        task: Task,
     },
     /// Print the metadata text of the group that lies in the images of a list.
     Metadata(&'a str),
@@ -83,11 +68,18 @@ pub enum Job<'a> {
     },
     /// Check the devices of a source, and print whether two of their lines claim one sector.
     Check(Source<'a>),
-    /// Replay the requests of the standard input on the disks of a source, from the state that the stores hold that lie
-    /// in the images of the list `paths`, if there is one.
+    /// Replay the requests of the standard input on the disks of a source, from the state that its stores hold, if it
+    /// is of images or these lie in those of the list `paths`.
     Replay {
         source: Source<'a>,
         paths: Option<&'a str>,
+    },
+    /// Write the bytes of sectors of a device of a source, in the state that its stores hold, from its images or from
+    /// those of the list `paths`.
+    Read {
+        source: Source<'a>,
+        paths: Option<&'a str>,
+        range: SectorRange<'a>,
     },
     /// Print the device mapper's name of a volume, or of a layer of it.
     Name {
@@ -99,55 +91,4 @@ pub enum Job<'a> {
     SplitName(&'a str),
     /// Print what is said of a word of messages.
     Explain(&'a str),
-}
-
-impl<'a> Source<'a> {
-    /// The format of its file.
-    pub fn format(self) -> Format
-        ensures { result ≡ format_of (source_words self.entry) }
-    {
-        match self {
-            Source::Lvm { .. } => Format::Lvm,
-            Source::Tables { form, .. } => Format::Tables(form),
-        }
-    }
-
-    /// The path of its file.
-    pub fn file(self) -> &'a str
-        ensures { result.now ≡ file_of (source_words self.entry) }
-    {
-        match self {
-            Source::Lvm { file } | Source::Tables { file, .. } => file,
-        }
-    }
-
-    /// The path of its list of disks, where its format has one.
-    pub fn disks(self) -> Option<&'a str>
-        ensures { option_map (λ d. d.now) result ≡ disks_of (source_words self.entry) }
-    {
-        match self {
-            Source::Lvm { .. } => None,
-            Source::Tables { disks, .. } => Some(disks),
-        }
-    }
-}
-
-impl<'a> Job<'a> {
-    /// The source that it loads, if it loads any.
-    pub fn source(self) -> Option<Source<'a>>
-        ensures { option_map source_words result ≡ source_of (job_words self.entry) }
-    {
-        match self {
-            Job::Map { source, .. }
-            | Job::Print { source, .. }
-            | Job::Check(source)
-            | Job::Replay { source, .. } => Some(source),
-            Job::MapImages { .. }
-            | Job::OfImages { .. }
-            | Job::Metadata(_)
-            | Job::Name { .. }
-            | Job::SplitName(_)
-            | Job::Explain(_) => None,
-        }
-    }
 }

@@ -1,7 +1,6 @@
 //! The images of a list of paths as disks, whose heads are read by their places in the list.
 
-ghost use Rattle.std.specs.Prelude.{◌≡◌};
-ghost use Rattle.dmremap.specs.ImagesLoad.{AreSeen};
+ghost use Rattle.dmremap.specs.Prelude.{◌≡◌, AreSeen};
 
 use dm_store::Images;
 use dm_table::DiskPath;

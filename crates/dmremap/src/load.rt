@@ -5,15 +5,8 @@
 //! over what they describe. A new format is an arm of `load` here and of `PartsGive` in
 //! `specs/Load.antt`, and takes the parts that it has.
 
-ghost use Rattle.std.specs.Prelude.{◌≡◌, ◌≢◌, IfOk, IfErr, None, OnOk, Some};
-ghost use Rattle.dm_table.specs.io.DeviceIo.{delivery};
-ghost use Rattle.dm_table.specs.declared.load.place.Part.TheVariants.{Disks};
-ghost use Rattle.dm_table.specs.declared.load.load_fault.LoadKind.TheVariants.{Memory, Read};
-ghost use Rattle.dm_table.specs.load.LoadFault.{fault_at, first_fault};
-ghost use Rattle.dm_table.specs.load.PartInput.{Refuses, TextOf, part_read};
-ghost use Rattle.dm_table.specs.io.Progress.{IsReadOn};
-ghost use Rattle.dmremap.specs.Inputs.{IsReadOnIf, delivery_if};
-ghost use Rattle.dmremap.specs.Load.{DescribesDevices, Loads, PartsGive, device_checks};
+ghost use Rattle.dmremap.specs.Prelude.{◌≡◌, ◌≢◌, IfOk, IfErr, None, OnOk, Some, delivery, Disks, Memory, Read, fault_at, first_fault, TextOf, part_read, IsReadOn, IsReadOnIf, delivery_if, DescribesDevices, Loads, PartsGive, device_checks};
+ghost use Rattle.dm_table.specs.load.PartInput.{Refuses};
 
 use crate::job::{Format, TableForm};
 use dm_stack::Stack;
@@ -55,27 +48,8 @@ pub(crate) fn load<S: Input, D: Input>(
     }
 }
 
-/// Loads the stack of a source that may be missing, which is refused as one that can't be read.
-#[tactic(auto, using(crate::proofs::LoadLemmas::untouched))]
-pub(crate) fn load_if<S: Input, D: Input>(
-    alloc: Global,
-    format: Format,
-    source: &mut Option<S>,
-    disks: &mut Option<D>,
-) -> Result<Stack, LoadFault>
-    ensures gives { Loads (PartsGive format (delivery_if S.past source.old source.new)
-        (delivery_if D.past disks.old disks.new)) result }
-    ensures source { IsReadOnIf S.past source.old source.new }
-    ensures disks { IsReadOnIf D.past disks.old disks.new }
-{
-    match source {
-        Some(source) => load(alloc, format, source, disks),
-        None => Err(unread(Part::Source)),
-    }
-}
-
 /// The fault of a part that can't be read.
-fn unread(part: Part) -> LoadFault
+pub(crate) fn unread(part: Part) -> LoadFault
     ensures { result ≡ fault_at part Read 0 }
 {
     LoadFault {

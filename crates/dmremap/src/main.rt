@@ -1,137 +1,157 @@
 //! dmremap maps block requests through device-mapper tables to the disks below.
 //!
-//! This file is the table of contents: `words` reads the command line, `map_whole`, `map_stored`,
-//! `map_images`, `replay_whole`, `other_whole`, `images_whole` and `print_metadata` do the work, and `main` joins them to
-//! the real files and streams and does nothing else.
+//! This file is the table of contents: `words` reads the command line, `map_whole`, `map_stored`, `other_whole` and
+//! `print_metadata` do the work, and `main` joins them to the real files and streams and does nothing else.
 #![tactic(auto)]
 
-ghost use Rattle.std.specs.Prelude.{◌≡◌, true};
-ghost use Rattle.dmremap.specs.Job.{job_words};
-ghost use Rattle.dmremap.specs.OtherWhole.{is_other};
+ghost use Rattle.dmremap.specs.Prelude.{◌≡◌, true, job_words, is_other};
 
 mod disk_paths;
 mod exit;
 mod explanation;
 mod file_images;
+mod group_images;
 mod help;
 mod images_load;
 mod images_text;
-mod images_whole;
 mod job;
 mod listed_images;
 mod load;
 mod map_from;
-mod map_images;
 mod map_stored;
 mod map_whole;
 mod messages;
-mod next_step;
+mod no_source;
+mod opening;
 mod other_whole;
 mod part_file;
+mod parts;
 mod prepared;
 mod printing;
+mod read_run;
 mod replay_run;
-mod replay_whole;
 mod status;
 mod words;
 
 use dm_map::has_stack_room;
 use dm_stream::Ending;
-use dm_table::{Counted, Gathered};
+use dm_table::{Counted, Gathered, Output};
 use exit::Exit;
 use file_images::FileImages;
+use group_images::GroupImages;
 use images_text::print_metadata;
-use images_whole::images_whole;
-use job::{Job, Source, Task};
+use job::{Format, Job, Source};
 use listed_images::ListedImages;
-use map_images::map_images;
 use map_stored::map_stored;
 use map_whole::map_whole;
-use next_step::{Asked, Shown, Told};
+use no_source::NoSource;
+use opening::Opens;
 use other_whole::other_whole;
 use part_file::{DisksPart, EarlierPart, PartFile, PathsPart, SourcePart};
-use replay_whole::replay_whole;
+use parts::Parts;
 use status::STATUS_DONE;
 use std::io;
-use std::io::Stdout;
+use std::io::{IsTerminal, Stderr, Stdin, Stdout};
 use std::process::ExitCode;
 use words::{WordsFault, not_text, read_words};
 
 /// A file of the command, which is of the type of its part.
 type File<'r, P> = Counted<PartFile<'r, HostRuntime, P>>;
 
-/// The requests, of which the first are kept.
-type Requests<'a> = Counted<&'a mut Asked>;
+/// The files of a source, and images.
+type FileParts<'r> = Parts<
+    File<'r, SourcePart>,
+    File<'r, DisksPart>,
+    File<'r, PathsPart>,
+    FileImages<'r>,
+>;
+
+/// The list of the images of a group.
+type FileGroup<'r> = GroupImages<File<'r, PathsPart>, FileImages<'r>>;
+
+/// The requests.
+type Requests = Counted<Stdin>;
 
 /// Where answers go.
 type Answers = Gathered<Counted<Stdout>>;
 
-/// Where answers of `map` go, of which the first are kept.
-type ShownAnswers<'s> = Gathered<Counted<&'s mut Shown>>;
-
 /// Where messages go.
-type Messages<'m> = Counted<&'m mut Told>;
+type Messages = Counted<Stderr>;
 
-/// Runs the command that the words ask for, and exits with its status.
+/// What follows a message on a terminal.
+const NEXT_STEP: &str =
+    "what it means: dmremap help WORD; what mends it: dmremap-tools explain COMMAND";
+
+/// Runs the command that the words ask for, and exits with its status. On a terminal, a last line names what explains a
+/// refusal or a fault.
 fn main(rt: HostRuntime) -> ExitCode {
-    let mut told = Told::new(rt.stderr());
-    let status = match begin(&rt, &mut told) {
+    let status = match begin(&rt) {
         Ok(status) => status,
-        Err(fault) => refuse(&rt, &mut told, &fault),
+        Err(fault) => refuse(&rt, &fault),
     };
+    if status != STATUS_DONE && rt.stderr().is_terminal() {
+        let _ = eprintln!(rt; "{NEXT_STEP}");
+    }
     ExitCode::from(status)
 }
 
 /// Does what the words ask for, where the stack has room for it, and returns the exit status.
-fn begin(rt: &HostRuntime, told: &mut Told) -> Result<u8, WordsFault> {
+fn begin(rt: &HostRuntime) -> Result<u8, WordsFault> {
     if !has_stack_room(rt) {
         return Err(WordsFault::Memory);
     }
-    answer(rt, told)
+    answer(rt)
 }
 
-/// Does what the words ask for, and returns the exit status; then names what explains a refusal or an error. Its room on
-/// the stack is taken when it is called, and no sooner.
+/// Does what the words ask for, and returns the exit status. Its room on the stack is taken when it is called, and no
+/// sooner.
 #[inline(never)]
-fn answer(rt: &HostRuntime, told: &mut Told) -> Result<u8, WordsFault> {
+fn answer(rt: &HostRuntime) -> Result<u8, WordsFault> {
     let arguments = arguments_of(rt)?;
     let words: Vec<&str> = arguments
         .iter()
         .map(|argument| argument.as_str())
         .collect(rt.alloc())?;
-    let (mut asked, mut shown) = (Asked::new(rt.stdin()), Shown::new(rt.stdout()));
-    let status = match do_words(rt, told, &mut asked, &mut shown, words.as_slice()) {
-        Ok(status) => status,
-        Err(fault) => refuse(rt, told, &fault),
-    };
-    told.name_next_step(rt, &asked, &shown, status == STATUS_DONE, words.as_slice());
-    Ok(status)
+    do_job(rt, read_words(rt.alloc(), words.as_slice())?)
 }
 
-/// Does what the words ask for, and returns the exit status.
-fn do_words(
-    rt: &HostRuntime,
-    told: &mut Told,
-    asked: &mut Asked,
-    shown: &mut Shown,
-    words: &[&str],
-) -> Result<u8, WordsFault> {
-    match read_words(rt.alloc(), words)? {
+/// Does a job, and returns the exit status.
+fn do_job<'r>(rt: &'r HostRuntime, job: Job<'r>) -> Result<u8, WordsFault> {
+    match job {
+        Job::Map {
+            source: Source::Files {
+                format,
+                file,
+                disks,
+            },
+            paths: None,
+            earlier: None,
+            status,
+        } => Ok(map_files(rt, format, file, disks, status)),
         Job::Map {
             source,
             paths,
             earlier,
             status,
-        } => map_files(rt, told, asked, shown, source, paths, earlier, status),
-        Job::MapImages {
-            paths,
-            earlier,
-            status,
-        } => map_images_of(rt, told, asked, shown, paths, earlier, status),
-        Job::OfImages { paths, task } => do_with_images(rt, told, asked, paths, task),
-        Job::Metadata(paths) => print_text_of(rt, told, paths),
-        Job::Replay { source, paths } => replay_files(rt, told, asked, source, paths),
-        job => Ok(do_other(rt, told, &job)),
+        } => match source {
+            Source::Files {
+                format,
+                file,
+                disks,
+            } => {
+                let mut parts = parts_at(rt, format, file, disks, paths)?;
+                Ok(map_from_state(rt, &mut parts, earlier, status))
+            }
+            Source::Images { list } => {
+                Ok(map_from_state(rt, &mut group_at(rt, list)?, earlier, status))
+            }
+        },
+        Job::Metadata(list) => print_text_of(rt, list),
+        Job::Print { source, .. } | Job::Check(source) => do_with(rt, &job, source, None),
+        Job::Replay { source, paths } | Job::Read { source, paths, .. } => {
+            do_with(rt, &job, source, paths)
+        }
+        _ => Ok(do_other(rt, &job, &mut NoSource)),
     }
 }
 
@@ -144,190 +164,128 @@ fn arguments_of(rt: &HostRuntime) -> Result<Vec<String>, WordsFault> {
     }
 }
 
-/// Maps the requests of the standard input through the tables of a source: from what the stores hold that lie in the
-/// images of a list, and after the requests of a file, if there are these.
+/// Maps the requests of the standard input through the tables of files, from the start.
 fn map_files(
     rt: &HostRuntime,
-    told: &mut Told,
-    asked: &mut Asked,
-    shown: &mut Shown,
-    source: Source<'_>,
-    paths: Option<&str>,
-    earlier: Option<&str>,
+    format: Format,
+    file: &str,
+    disks: Option<&str>,
     status: bool,
-) -> Result<u8, WordsFault> {
-    let mut disks = disks_at(rt, source);
-    if paths.is_none() && earlier.is_none() {
-        return Ok(map_whole::<
-            File<'_, SourcePart>,
-            File<'_, DisksPart>,
-            Requests<'_>,
-            ShownAnswers<'_>,
-            Messages<'_>,
-        >(
-            rt.alloc(),
-            source.format(),
-            status,
-            &mut source_at(rt, source),
-            &mut disks,
-            &mut Counted::new(&mut *asked),
-            &mut Gathered::new(Counted::new(&mut *shown)),
-            &mut Counted::new(&mut *told),
-        ));
-    }
-    let mut images = FileImages::new(rt.alloc(), rt)?;
-    let mut paths: Option<File<'_, PathsPart>> = file_if(rt, paths);
-    let mut earlier: Option<File<'_, EarlierPart>> = file_if(rt, earlier);
-    Ok(map_stored::<
-        File<'_, SourcePart>,
-        File<'_, DisksPart>,
-        File<'_, PathsPart>,
-        FileImages<'_>,
-        File<'_, EarlierPart>,
-        Requests<'_>,
-        ShownAnswers<'_>,
-        Messages<'_>,
-    >(
+) -> u8 {
+    map_whole::<File<'_, SourcePart>, File<'_, DisksPart>, Requests, Answers, Messages>(
         rt.alloc(),
-        source.format(),
+        format,
         status,
-        &mut source_at(rt, source),
-        &mut disks,
-        &mut paths,
-        &mut images,
-        &mut earlier,
-        &mut Counted::new(&mut *asked),
-        &mut Gathered::new(Counted::new(&mut *shown)),
-        &mut Counted::new(&mut *told),
-    ))
-}
-
-/// Replays the requests of the standard input on the disks of a source, from what the stores hold that lie in the images
-/// of a list, if there is one.
-fn replay_files(
-    rt: &HostRuntime,
-    told: &mut Told,
-    asked: &mut Asked,
-    source: Source<'_>,
-    paths: Option<&str>,
-) -> Result<u8, WordsFault> {
-    let mut disks = disks_at(rt, source);
-    let mut images = FileImages::new(rt.alloc(), rt)?;
-    let mut paths: Option<File<'_, PathsPart>> = file_if(rt, paths);
-    Ok(replay_whole::<
-        File<'_, SourcePart>,
-        File<'_, DisksPart>,
-        File<'_, PathsPart>,
-        FileImages<'_>,
-        Requests<'_>,
-        Answers,
-        Messages<'_>,
-    >(
-        rt.alloc(),
-        source.format(),
-        &mut source_at(rt, source),
-        &mut disks,
-        &mut paths,
-        &mut images,
-        &mut Counted::new(&mut *asked),
+        &mut file_at(rt, file),
+        &mut file_if(rt, disks),
+        &mut Counted::new(rt.stdin()),
         &mut Gathered::new(Counted::new(rt.stdout())),
-        &mut Counted::new(&mut *told),
-    ))
-}
-
-/// Maps the requests of the standard input through the tables of a group in images, after the requests of a file, if
-/// there are these.
-fn map_images_of(
-    rt: &HostRuntime,
-    told: &mut Told,
-    asked: &mut Asked,
-    shown: &mut Shown,
-    paths: &str,
-    earlier: Option<&str>,
-    status: bool,
-) -> Result<u8, WordsFault> {
-    let mut disks = ListedImages::new(rt.alloc(), FileImages::new(rt.alloc(), rt)?);
-    let mut paths: File<'_, PathsPart> = file_at(rt, paths);
-    let mut earlier: Option<File<'_, EarlierPart>> = file_if(rt, earlier);
-    Ok(map_images::<
-        File<'_, PathsPart>,
-        FileImages<'_>,
-        File<'_, EarlierPart>,
-        Requests<'_>,
-        ShownAnswers<'_>,
-        Messages<'_>,
-    >(
-        rt.alloc(),
-        status,
-        &mut paths,
-        &mut disks,
-        &mut earlier,
-        &mut Counted::new(&mut *asked),
-        &mut Gathered::new(Counted::new(&mut *shown)),
-        &mut Counted::new(&mut *told),
-    ))
-}
-
-/// Does something else with a group in images.
-fn do_with_images(
-    rt: &HostRuntime,
-    told: &mut Told,
-    asked: &mut Asked,
-    paths: &str,
-    task: Task,
-) -> Result<u8, WordsFault> {
-    let mut disks = ListedImages::new(rt.alloc(), FileImages::new(rt.alloc(), rt)?);
-    let mut paths: File<'_, PathsPart> = file_at(rt, paths);
-    Ok(images_whole::<File<'_, PathsPart>, FileImages<'_>, Requests<'_>, Answers, Messages<'_>>(
-        rt.alloc(),
-        task,
-        &mut paths,
-        &mut disks,
-        &mut Counted::new(&mut *asked),
-        &mut Gathered::new(Counted::new(rt.stdout())),
-        &mut Counted::new(&mut *told),
-    ))
-}
-
-/// Prints the metadata text of a group in images.
-fn print_text_of(rt: &HostRuntime, told: &mut Told, paths: &str) -> Result<u8, WordsFault> {
-    let mut disks = ListedImages::new(rt.alloc(), FileImages::new(rt.alloc(), rt)?);
-    let mut paths: File<'_, PathsPart> = file_at(rt, paths);
-    Ok(print_metadata::<File<'_, PathsPart>, FileImages<'_>, Answers, Messages<'_>>(
-        rt.alloc(),
-        &mut paths,
-        &mut disks,
-        &mut Gathered::new(Counted::new(rt.stdout())),
-        &mut Counted::new(&mut *told),
-    ))
-}
-
-/// Does a job of another command.
-fn do_other<'r>(rt: &'r HostRuntime, told: &mut Told, job: &'r Job<'r>) -> u8
-    requires { is_other (job_words job.now) ≡ true }
-{
-    let (mut source, mut disks) = match job.source() {
-        Some(source) => (Some(source_at(rt, source)), disks_at(rt, source)),
-        None => (None, None),
-    };
-    other_whole::<File<'_, SourcePart>, File<'_, DisksPart>, Answers, Messages<'_>>(
-        rt.alloc(),
-        job,
-        &mut source,
-        &mut disks,
-        &mut Gathered::new(Counted::new(rt.stdout())),
-        &mut Counted::new(&mut *told),
+        &mut Counted::new(rt.stderr()),
     )
 }
 
-/// The file of a source, which is opened once it is read.
-fn source_at<'r>(rt: &'r HostRuntime, source: Source<'r>) -> File<'r, SourcePart> {
-    file_at(rt, source.file())
+/// Maps them through the tables of any source: from what its stores hold, and after the requests of a file, if there
+/// are these.
+fn map_from_state<O: Opens>(
+    rt: &HostRuntime,
+    source: &mut O,
+    earlier: Option<&str>,
+    status: bool,
+) -> u8 {
+    map_stored::<O, File<'_, EarlierPart>, Requests, Answers, Messages>(
+        rt.alloc(),
+        status,
+        source,
+        &mut file_if(rt, earlier),
+        &mut Counted::new(rt.stdin()),
+        &mut Gathered::new(Counted::new(rt.stdout())),
+        &mut Counted::new(rt.stderr()),
+    )
 }
 
-/// The disk list of a source, where its format has one.
-fn disks_at<'r>(rt: &'r HostRuntime, source: Source<'r>) -> Option<File<'r, DisksPart>> {
-    file_if(rt, source.disks())
+/// Does a job of another command with a source.
+fn do_with<'r>(
+    rt: &'r HostRuntime,
+    job: &Job<'_>,
+    source: Source<'r>,
+    paths: Option<&'r str>,
+) -> Result<u8, WordsFault>
+    requires { is_other (job_words job.now) ≡ true }
+{
+    match source {
+        Source::Files {
+            format,
+            file,
+            disks,
+        } => Ok(do_other(rt, job, &mut parts_at(rt, format, file, disks, paths)?)),
+        Source::Images { list } => Ok(do_other(rt, job, &mut group_at(rt, list)?)),
+    }
+}
+
+/// Does a job of another command with what opens it. The bytes of a device are written in blocks, and so aren't
+/// gathered.
+fn do_other<O: Opens>(rt: &HostRuntime, job: &Job<'_>, source: &mut O) -> u8
+    requires { is_other (job_words job.now) ≡ true }
+{
+    let mut output = Counted::new(rt.stdout());
+    match job {
+        Job::Read { .. } => do_to(rt, job, source, &mut output),
+        _ => do_to(rt, job, source, &mut Gathered::new(output)),
+    }
+}
+
+/// Does a job of another command with what opens it and where its answers go.
+fn do_to<O: Opens, W: Output>(rt: &HostRuntime, job: &Job<'_>, source: &mut O, output: &mut W) -> u8
+    requires { is_other (job_words job.now) ≡ true }
+{
+    other_whole::<O, Requests, W, Messages>(
+        rt.alloc(),
+        job,
+        source,
+        &mut Counted::new(rt.stdin()),
+        output,
+        &mut Counted::new(rt.stderr()),
+    )
+}
+
+/// Prints the metadata text of a group in images.
+fn print_text_of<'r>(rt: &'r HostRuntime, list: &'r str) -> Result<u8, WordsFault> {
+    let GroupImages {
+        list: mut paths,
+        mut disks,
+    } = group_at(rt, list)?;
+    Ok(print_metadata::<File<'_, PathsPart>, FileImages<'_>, Answers, Messages>(
+        rt.alloc(),
+        &mut paths,
+        &mut disks,
+        &mut Gathered::new(Counted::new(rt.stdout())),
+        &mut Counted::new(rt.stderr()),
+    ))
+}
+
+/// The files of a source, which are opened once they are read, and the images of a list of paths, if there is one.
+fn parts_at<'r>(
+    rt: &'r HostRuntime,
+    format: Format,
+    file: &'r str,
+    disks: Option<&'r str>,
+    paths: Option<&'r str>,
+) -> Result<FileParts<'r>, WordsFault> {
+    Ok(Parts {
+        format,
+        source: file_at(rt, file),
+        disks: file_if(rt, disks),
+        paths: file_if(rt, paths),
+        images: FileImages::new(rt.alloc(), rt)?,
+    })
+}
+
+/// The images of a list, which are opened once they are read.
+fn group_at<'r>(rt: &'r HostRuntime, list: &'r str) -> Result<FileGroup<'r>, WordsFault> {
+    Ok(GroupImages {
+        list: file_at(rt, list),
+        disks: ListedImages::new(rt.alloc(), FileImages::new(rt.alloc(), rt)?),
+    })
 }
 
 /// A file of the command.
@@ -346,8 +304,8 @@ fn file_if<'r, P>(rt: &'r HostRuntime, path: Option<&'r str>) -> Option<File<'r,
 /// Prints why there is no job, and returns its exit status. Out of memory is told as by any command, and help or
 /// the version that could not be printed as an output that could not be written; whether a message could be printed
 /// makes no difference.
-fn refuse(rt: &HostRuntime, told: &mut Told, fault: &WordsFault) -> u8 {
-    let mut messages: Messages<'_> = Counted::new(told);
+fn refuse(rt: &HostRuntime, fault: &WordsFault) -> u8 {
+    let mut messages: Messages = Counted::new(rt.stderr());
     if let WordsFault::Memory = fault {
         return Exit::Memory.tell(&mut messages);
     }

@@ -1,17 +1,11 @@
 //! The run of `map` over a stack that is loaded, as it was begun: what `map_whole` and `map_stored` promise of a run
 //! stands here.
 
-ghost use Rattle.std.specs.Prelude.{◌≡◌, IfOk, Option};
-ghost use Rattle.std.specs.Result.{IsErrAnd};
-ghost use Rattle.dm_table.specs.io.DeviceIo.{Delivery, delivery};
-ghost use Rattle.dm_stream.specs.runs.Run.{CanMap};
+ghost use Rattle.dmremap.specs.Prelude.{◌≡◌, IfOk, Option, IsErrAnd, Delivery, CanMap, Answers, IsOutOfMemory, IsBegunAt, IsOut, StreamsLeft, moved, MapsOver, Start};
 ghost use Rattle.dmremap.specs.declared.status.TheConstants.{STATUS_MEMORY};
-ghost use Rattle.dmremap.specs.StoredStart.{IsBegunAt, IsOutOfMemory};
-ghost use Rattle.dmremap.specs.Streams.{StreamsLeft};
-ghost use Rattle.dmremap.specs.Whole.{RunsOver, Start};
 
-use crate::exit::Exit;
-use crate::prepared::{Prepared, Unbegun};
+use crate::exit::{Exit, Refusal};
+use crate::prepared::Prepared;
 use dm_stack::Stack;
 use dm_stream::{Exchange, run};
 use dm_table::Output;
@@ -20,7 +14,7 @@ use std::mem::forget;
 /// Runs requests over a stack as it was begun, and returns the exit status.
 pub(crate) fn map_from<'s, Q: Exchange<W>, W: Output, M: Output>(
     stack: &'s Stack,
-    begun: Result<Prepared<'s>, Unbegun>,
+    begun: Result<Prepared<'s>, Refusal>,
     requests: &mut Q,
     output: &mut W,
     messages: &mut M,
@@ -28,12 +22,14 @@ pub(crate) fn map_from<'s, Q: Exchange<W>, W: Output, M: Output>(
 ) -> u8
     requires going { IfOk begun (λ prepared. CanMap stack.now prepared.mapper) }
     requires texts { IfOk begun (λ prepared. prepared.texts ≡ stack.now) }
-    ensures run { (start : Start) (before : Option Delivery) → IsBegunAt stack.now before start begun.entry
-        → RunsOver start stack.now status before (delivery (Q.past requests.old) (Q.past requests.new)) result
-        (W.past output.old) (W.past output.new) (M.past messages.old) (M.past messages.new) }
-    ensures streams { StreamsLeft result (Q.past requests.old) (Q.past requests.new)
-        (W.past output.old) (W.past output.new) (M.past messages.old) (M.past messages.new) }
-    ensures memory { result ≡ STATUS_MEMORY → IsErrAnd begun.entry IsOutOfMemory }
+    ensures answers { (start : Start) (before : Option Delivery) → IsBegunAt stack.now before start begun.entry
+        → Answers (MapsOver start stack.now status before) (moved Q.past requests.old requests.new)
+        (moved W.past output.old output.new) (moved M.past messages.old messages.new) result }
+    ensures left { StreamsLeft result (moved Q.past requests.old requests.new)
+        (moved W.past output.old output.new) (moved M.past messages.old messages.new) }
+    ensures memory { result ≡ STATUS_MEMORY → IsErrAnd begun.entry IsOutOfMemory
+        × IsOut (moved Q.past requests.old requests.new)
+        (moved W.past output.old output.new) (moved M.past messages.old messages.new) }
 {
     match begun {
         Ok(Prepared { mut mapper, texts }) => {
@@ -51,6 +47,6 @@ pub(crate) fn map_from<'s, Q: Exchange<W>, W: Output, M: Output>(
             forget(mapper);
             Exit::Ended(ending).status()
         }
-        Err(unbegun) => unbegun.tell(messages),
+        Err(refusal) => refusal.tell(messages),
     }
 }

@@ -4,22 +4,8 @@
 //! `map_whole` is the promise that the program makes. `main` hands in the real files and streams,
 //! tests hand in memory.
 
-ghost use Rattle.std.specs.Prelude.{◌≡◌, ◌≢◌, Bool, List, None};
-ghost use Rattle.dm_table.specs.io.DeviceIo.{Delivery, delivery};
-ghost use Rattle.dm_table.specs.load.LoadMessage.{memory_message};
-ghost use Rattle.dm_table.specs.io.Progress.{IsReadOn};
-ghost use Rattle.dm_stack.specs.Description.{Description};
-ghost use Rattle.dm_stack.specs.checks.Soundness.{IsSound};
-ghost use Rattle.dm_map.specs.walk.Levels.{AreLevelsEnough};
-ghost use Rattle.dm_map.specs.pieces.Units.{BlockUnit};
-ghost use Rattle.dm_stream.specs.runs.Messages.{IsTold};
-ghost use Rattle.dm_stream.specs.pieces.Pieces.{AreFewest, fewest};
-ghost use Rattle.dmremap.specs.declared.job.Format.{Format};
-ghost use Rattle.dmremap.specs.declared.status.TheConstants.{STATUS_MEMORY, STATUS_WRITE_FAULT};
-ghost use Rattle.dmremap.specs.Inputs.{IsReadOnIf, delivery_if};
+ghost use Rattle.dmremap.specs.Prelude.{Bool, List, None, Delivery, delivery, IsReadOn, Description, IsSound, AreLevelsEnough, BlockUnit, AreFewest, fewest, Answers, IsOne, Format, IsReadOnIf, delivery_if, StreamsLeft, moved, PartsOpen, Maps, fresh_start};
 ghost use Rattle.dmremap.specs.Limits.{AreLimits};
-ghost use Rattle.dmremap.specs.Streams.{MessagesTold, OutputWritten, RequestsRead};
-ghost use Rattle.dmremap.specs.Whole.{GiveAfter, IsFailedAfter, IsRunAfter, Whole};
 
 #[cfg(test)]
 mod tests;
@@ -54,7 +40,6 @@ use std::mem::forget;
 ///
 /// Cost: near-linear in the source and the disk list; then in the requests, and for each request
 /// in its stretches times the binary digits of the line counts of the devices that they go through.
-#[tactic(auto, using(crate::proofs::ExitLemmas::exits_told))]
 pub fn map_whole<S: Input, D: Input, Q: Exchange<W>, W: Output, M: Output>(
     alloc: Global,
     format: Format,
@@ -65,36 +50,24 @@ pub fn map_whole<S: Input, D: Input, Q: Exchange<W>, W: Output, M: Output>(
     output: &mut W,
     messages: &mut M,
 ) -> u8
-    // What the deliveries give is one run: no requests came before.
-    ensures one { (f : Format) (flag : Bool) (s d q : Delivery) (a b : Whole)
-        → GiveAfter f flag s d None q a → GiveAfter f flag s d None q b → a ≡ b }
+    // FILE, DISKS and the requests that were delivered make one answer. It is written, told and returned.
+    ensures answers { Answers (Maps (PartsOpen format (delivery (S.past source.old) (S.past source.new))
+        (delivery_if D.past disks.old disks.new)) fresh_start status None) (moved Q.past requests.old requests.new)
+        (moved W.past output.old output.new) (moved M.past messages.old messages.new) result }
+    ensures one { (f : Format) (flag : Bool) (s d q : Delivery)
+        → IsOne (Maps (PartsOpen f s d) fresh_start flag None q) }
+    // The status says how the requests were read, and what came of the output and of the messages.
+    ensures left { StreamsLeft result (moved Q.past requests.old requests.new)
+        (moved W.past output.old output.new) (moved M.past messages.old messages.new) }
+    // Each input is only read on, and nothing is asked of it after an end or a fault.
+    ensures source_read_on { IsReadOn (S.past source.old) (S.past source.new) }
+    ensures disks_read_on { IsReadOnIf D.past disks.old disks.new }
+
     // The pieces of an answer are the fewest that its units can be made of.
     ensures fewest { (units : List BlockUnit) → AreFewest units (fewest units) }
     // The number of levels of devices that a sector is followed through never truncates a lookup.
     ensures levels { (stack : Description) → IsSound stack → AreLevelsEnough stack }
     ensures limits { AreLimits }
-
-    // Unless the output failed or memory ran out, the deliveries determine everything.
-    ensures whole { result ≢ STATUS_WRITE_FAULT → result ≢ STATUS_MEMORY → IsRunAfter format status
-        (delivery (S.past source.old) (S.past source.new)) (delivery_if D.past disks.old disks.new)
-        None (delivery (Q.past requests.old) (Q.past requests.new)) result
-        (W.past output.old) (W.past output.new) (M.past messages.old) (M.past messages.new) }
-    // Where the output failed, they determine what a beginning was written of.
-    ensures beginning { result ≡ STATUS_WRITE_FAULT → IsFailedAfter format status
-        (delivery (S.past source.old) (S.past source.new)) (delivery_if D.past disks.old disks.new)
-        None (delivery (Q.past requests.old) (Q.past requests.new)) (W.past output.old) (W.past output.new) }
-    // Where memory ran out, nothing was asked of the output or of the requests.
-    ensures memory { result ≡ STATUS_MEMORY → (W.past output.new ≡ W.past output.old)
-        × (Q.past requests.new ≡ Q.past requests.old)
-        × IsTold memory_message (M.past messages.old) (M.past messages.new) }
-
-    // Each input is only read on, and nothing is asked of it after an end or a fault.
-    ensures source_read_on { IsReadOn (S.past source.old) (S.past source.new) }
-    ensures disks_read_on { IsReadOnIf D.past disks.old disks.new }
-    // The status says how requests were read, what came of the output, and that a failed output was told.
-    ensures requests { RequestsRead result (Q.past requests.old) (Q.past requests.new) }
-    ensures output { OutputWritten result (W.past output.old) (W.past output.new) }
-    ensures messages { MessagesTold result (M.past messages.old) (M.past messages.new) }
 {
     match load(alloc, format, source, disks) {
         Ok(stack) => {

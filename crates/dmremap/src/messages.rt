@@ -6,113 +6,110 @@ use crate::help::HELP;
 
 /// The words that are explained, in lines of their own.
 pub(crate) const WORDS: &str = "
-  again, chunk, cycle, deep, differ, disks, empty, ends, extents, field,
-  foreign, form, gap, header, hyphen, label, length, letter, limit, long, magic,
-  many, memory, missing, name, not top, number, order, overlap, range, read,
-  snapshot, split, store, stripe, syntax, text, twice, unended, unknown, untidy,
-  version, write";
+  again, array, chunk, cycle, deep, differ, disks, empty, ends, error, extents,
+  field, foreign, form, gap, header, hyphen, label, length, letter, limit, long,
+  magic, many, memory, missing, name, not top, number, order, overlap,
+  partitions, range, read, snapshot, split, store, stripe, syntax, text, twice,
+  unended, unknown, untidy, version, write";
 
-/// What is said of the first of them in all messages; these rows name no part. A static of more text takes a proof too long.
-pub(crate) static FIRST_WORDS: [((&str, &str), &str); 25] = [
-    (("", "again"), AGAIN),
-    (("", "chunk"), CHUNK),
-    (("", "cycle"), CYCLE),
-    (("", "deep"), DEEP),
-    (("", "differ"), DIFFER),
-    (("", "disks"), DISKS),
-    (("", "empty"), EMPTY),
-    (("", "ends"), ENDS),
-    (("", "extents"), EXTENTS),
-    (("", "field"), FIELD),
-    (("", "foreign"), FOREIGN),
-    (("", "form"), FORM),
-    (("", "gap"), GAP),
-    (("", "header"), HEADER),
-    (("", "hyphen"), HYPHEN),
-    (("", "label"), LABEL),
-    (("", "length"), LENGTH),
-    (("", "letter"), LETTER),
-    (("", "limit"), LIMIT),
-    (("", "long"), LONG),
-    (("", "magic"), MAGIC),
-    (("", "many"), MANY),
-    (("", "memory"), MEMORY),
-    (("", "missing"), MISSING),
-    (("", "name"), NAME),
+/// The parts of messages, of which an entry that has one alone has it twice; a word of theirs; and what is said of it.
+pub(crate) type Entry<'a> = ((&'a str, &'a str), &'a str, &'a str);
+
+/// The entries of the first words. A static of more text takes a proof too long.
+pub(crate) static FIRST_ENTRIES: [Entry<'static>; 38] = [
+    (("store", "store"), "again", AGAIN),
+    (("disk", "disk"), "array", ARRAY),
+    (("store", "store"), "chunk", CHUNK),
+    (("source", "source"), "cycle", CYCLE),
+    (("source", "source"), "deep", DEEP),
+    (("disk", "disk"), "differ", DIFFER),
+    (("words", "words"), "disks", DISKS),
+    (("source", "disks"), "empty", SOURCE_EMPTY),
+    (("name", "name"), "empty", NAME_EMPTY),
+    (("disk", "disk"), "ends", ENDS),
+    (("device", "device"), "error", ERROR),
+    (("source", "source"), "extents", EXTENTS),
+    (("source", "disks"), "field", SOURCE_FIELD),
+    (("paths", "paths"), "field", PATHS_FIELD),
+    (("disk", "disk"), "foreign", FOREIGN),
+    (("request", "before"), "form", FORM),
+    (("source", "source"), "gap", SOURCE_GAP),
+    (("store", "store"), "gap", STORE_GAP),
+    (("disk", "disk"), "header", HEADER),
+    (("name", "name"), "hyphen", HYPHEN),
+    (("disk", "disk"), "label", LABEL),
+    (("request", "before"), "length", LENGTH),
+    (("name", "name"), "letter", LETTER),
+    (("source", "disks"), "limit", SOURCE_LIMIT),
+    (("paths", "paths"), "limit", PATHS_LIMIT),
+    (("source", "disks"), "long", SOURCE_LONG),
+    (("request", "before"), "long", REQUEST_LONG),
+    (("paths", "paths"), "long", PATHS_LONG),
+    (("disk", "disk"), "long", DISK_LONG),
+    (("name", "name"), "long", NAME_LONG),
+    (("store", "store"), "magic", MAGIC),
+    (("request", "before"), "many", MANY),
+    (("memory", "memory"), "memory", MEMORY),
+    (("disk", "disk"), "missing", DISK_MISSING),
+    (("store", "store"), "missing", STORE_MISSING),
+    (("device", "device"), "missing", DEVICE_MISSING),
+    (("source", "disks"), "name", SOURCE_NAME),
+    (("paths", "paths"), "name", PATHS_NAME),
 ];
 
-/// What is said of the others, and of how to ask.
-pub(crate) static LATER_WORDS: [((&str, &str), &str); 21] = [
-    (("", "not top"), NOT_TOP),
-    (("", "number"), NUMBER),
-    (("", "order"), ORDER),
-    (("", "overlap"), OVERLAP),
-    (("", "range"), RANGE),
-    (("", "read"), READ),
-    (("", "snapshot"), SNAPSHOT),
-    (("", "split"), SPLIT),
-    (("", "store"), STORE),
-    (("", "stripe"), STRIPE),
-    (("", "syntax"), SYNTAX),
-    (("", "text"), TEXT),
-    (("", "twice"), TWICE),
-    (("", "unended"), UNENDED),
-    (("", "unknown"), UNKNOWN),
-    (("", "untidy"), UNTIDY),
-    (("", "version"), VERSION),
-    (("", "write"), WRITE),
-    (("", "help"), HELP),
-    (("", "--help"), HELP),
-    (("", "-h"), HELP),
-];
-
-/// What is said of a word in the messages of a part, where others have it, too.
-pub(crate) static ENTRIES: [((&str, &str), &str); 40] = [
-    (("source", "empty"), SOURCE_EMPTY),
-    (("disks", "empty"), SOURCE_EMPTY),
-    (("name", "empty"), NAME_EMPTY),
-    (("source", "field"), SOURCE_FIELD),
-    (("disks", "field"), SOURCE_FIELD),
-    (("paths", "field"), PATHS_FIELD),
-    (("source", "long"), SOURCE_LONG),
-    (("disks", "long"), SOURCE_LONG),
-    (("request", "long"), REQUEST_LONG),
-    (("before", "long"), REQUEST_LONG),
-    (("paths", "long"), PATHS_LONG),
-    (("disk", "long"), DISK_LONG),
-    (("name", "long"), NAME_LONG),
-    (("source", "name"), SOURCE_NAME),
-    (("disks", "name"), SOURCE_NAME),
-    (("paths", "name"), PATHS_NAME),
-    (("source", "range"), SOURCE_RANGE),
-    (("store", "range"), STORE_RANGE),
-    (("source", "read"), SOURCE_READ),
-    (("disks", "read"), SOURCE_READ),
-    (("requests", "read"), REQUESTS_READ),
-    (("paths", "read"), PATHS_READ),
-    (("disk", "read"), DISK_READ),
-    (("store", "read"), STORE_READ),
-    (("before", "read"), BEFORE_READ),
-    (("source", "syntax"), SOURCE_SYNTAX),
-    (("disks", "syntax"), SOURCE_SYNTAX),
-    (("paths", "syntax"), PATHS_SYNTAX),
-    (("source", "text"), SOURCE_TEXT),
-    (("disks", "text"), SOURCE_TEXT),
-    (("paths", "text"), PATHS_TEXT),
-    (("disk", "text"), DISK_TEXT),
-    (("source", "twice"), SOURCE_TWICE),
-    (("disks", "twice"), SOURCE_TWICE),
-    (("paths", "twice"), PATHS_TWICE),
-    (("disk", "twice"), DISK_TWICE),
-    (("source", "unknown"), SOURCE_UNKNOWN),
-    (("request", "unknown"), REQUEST_UNKNOWN),
-    (("before", "unknown"), REQUEST_UNKNOWN),
-    (("paths", "unknown"), PATHS_UNKNOWN),
+/// Those of the other words, and of how to ask, which is of no part.
+pub(crate) static LATER_ENTRIES: [Entry<'static>; 38] = [
+    (("request", "request"), "not top", NOT_TOP),
+    (("request", "before"), "number", NUMBER),
+    (("store", "store"), "order", ORDER),
+    (("source", "source"), "overlap", OVERLAP),
+    (("disk", "disk"), "partitions", PARTITIONS),
+    (("source", "source"), "range", SOURCE_RANGE),
+    (("store", "store"), "range", STORE_RANGE),
+    (("device", "device"), "range", DEVICE_RANGE),
+    (("source", "disks"), "read", SOURCE_READ),
+    (("requests", "requests"), "read", REQUESTS_READ),
+    (("paths", "paths"), "read", PATHS_READ),
+    (("disk", "disk"), "read", DISK_READ),
+    (("store", "store"), "read", STORE_READ),
+    (("device", "device"), "read", DEVICE_READ),
+    (("before", "before"), "read", BEFORE_READ),
+    (("source", "source"), "snapshot", SNAPSHOT),
+    (("name", "name"), "split", SPLIT),
+    (("source", "source"), "store", STORE),
+    (("source", "source"), "stripe", STRIPE),
+    (("source", "disks"), "syntax", SOURCE_SYNTAX),
+    (("paths", "paths"), "syntax", PATHS_SYNTAX),
+    (("source", "disks"), "text", SOURCE_TEXT),
+    (("paths", "paths"), "text", PATHS_TEXT),
+    (("disk", "disk"), "text", DISK_TEXT),
+    (("source", "disks"), "twice", SOURCE_TWICE),
+    (("paths", "paths"), "twice", PATHS_TWICE),
+    (("disk", "disk"), "twice", DISK_TWICE),
+    (("request", "before"), "unended", UNENDED),
+    (("source", "source"), "unknown", SOURCE_UNKNOWN),
+    (("request", "before"), "unknown", REQUEST_UNKNOWN),
+    (("paths", "paths"), "unknown", PATHS_UNKNOWN),
+    (("device", "device"), "unknown", DEVICE_UNKNOWN),
+    (("replay", "replay"), "untidy", UNTIDY),
+    (("store", "store"), "version", VERSION),
+    (("output", "output"), "write", WRITE),
+    (("", ""), "help", HELP),
+    (("", ""), "--help", HELP),
+    (("", ""), "-h", HELP),
 ];
 
 const AGAIN: &str = "\
 dmremap: store NAME: again
   A chunk occurs twice in the store's list. See `order`.
+";
+
+const ARRAY: &str = "\
+dmremap: disk NAME: array
+  The disk is a member of an array, or was an array by its metadata, which lists
+  /dev/md... as its device. Give the array; or if this disk is one leg of a
+  mirror, give its data, and name it in PATHS as the metadata names the array:
+  the answers are sectors of the array then.
 ";
 
 const CHUNK: &str = "\
@@ -142,16 +139,8 @@ dmremap: disk NAME: differ
 const DISKS: &str = "\
 dmremap: words: disks
   DISKS is missing; or there is DISKS with `lvm` or `images`, or `--paths` with
-  `images`. Add DISKS, or remove the argument that is too much.
-";
-
-const EMPTY: &str = "\
-dmremap: source: empty at NUMBER
-dmremap: disks: empty at NUMBER
-  A device, a line, a disk or a volume of metadata has no sectors. Delete it.
-
-dmremap: name: empty
-  A part is empty. Look for a variable of the shell that has no value.
+  `images`; or `read` lacks DEVICE or `--paths`. Add what is missing, or remove
+  the argument that is too much.
 ";
 
 const SOURCE_EMPTY: &str = "\
@@ -167,8 +156,14 @@ dmremap: name: empty
 
 const ENDS: &str = "\
 dmremap: disk NAME: ends
-  The image ends before the physical volume does: it was cut short, or is one
-  member of an array. Give an image of the whole physical volume.
+  The disk ends before the metadata says: it was cut short, or is one member of
+  an array. Give an image of the whole physical volume.
+";
+
+const ERROR: &str = "\
+dmremap: device: error at SECTOR
+  Its line is `error`, or it lies on a snapshot that is invalid. Read on after
+  that line, with `--from`.
 ";
 
 const EXTENTS: &str = "\
@@ -179,27 +174,6 @@ dmremap: source: extents at NUMBER
   there is a gap, or the segment is empty, isn't a multiple of its stripes, goes
   past the end of a physical volume, or uses extents of an earlier segment. Take
   an older copy, or the copy on another physical volume.
-";
-
-const FIELD: &str = "\
-dmremap: source: field at NUMBER
-dmremap: disks: field at NUMBER
-  A value is wrong.
-  In a table or a list of disks: a number with a sign, a leading zero, a unit or
-  more than 19 digits; an unknown target; too few or too many arguments; a
-  snapshot of a kind other than `P`, `N` and `K`. In concise text, also: a MINOR
-  that isn't a number, or FLAGS other than `ro` and `rw`. Delete devices with
-  other targets, list them in DISKS with their lengths, and name them without
-  /dev/mapper/: answers then end at them.
-  In metadata: a field that the section at that line lacks, a value of the wrong
-  kind, a 0 where more is needed, a number of 2^63 or more, a second section at
-  the top, or a segment of an unknown type (raid, thin and others).
-  `dmremap-tools lvm2-text` makes a copy without such volumes and what lies on
-  them. If a snapshot is being merged, save the metadata again after that.
-
-dmremap: paths: field at LINE
-  The offset isn't a multiple of 512. It is in bytes: multiply a partition's
-  first sector by 512.
 ";
 
 const SOURCE_FIELD: &str = "\
@@ -240,10 +214,17 @@ dmremap: before: form at N
   prints. Delete comments and empty lines.
 ";
 
-const GAP: &str = "\
+const SOURCE_GAP: &str = "\
 dmremap: source: gap at NUMBER
   The line begins after the end of the one before it, or the first one doesn't
   begin at 0. Look for a missing line.
+";
+
+const STORE_GAP: &str = "\
+dmremap: store NAME: gap
+  The store's list ends amid an area that isn't zeros from there on: a part of
+  the list is missing, as after a read error. Copy the disk again, or use an
+  older image.
 ";
 
 const HEADER: &str = "\
@@ -265,8 +246,8 @@ dmremap: disk NAME: label
 const LENGTH: &str = "\
 dmremap: request N: length
 dmremap: before: length at N
-  The length is 0, or more than 1,048,576 sectors. `dmremap-tools cut` cuts the
-  request into several, and converts bytes to sectors.
+  The length is 0, or more than 1,048,576 sectors. `dmremap-tools trace --cut`
+  cuts the request into several, and `--bytes` also converts bytes to sectors.
 ";
 
 const LETTER: &str = "\
@@ -275,7 +256,7 @@ dmremap: name: letter
   begins with an underscore. Give group and volume as two words, without paths.
 ";
 
-const LIMIT: &str = "\
+const SOURCE_LIMIT: &str = "\
 dmremap: source: limit at NUMBER
 dmremap: disks: limit at NUMBER
   A count or a number is too large: see LIMITS. Leave out devices that the
@@ -283,24 +264,10 @@ dmremap: disks: limit at NUMBER
   `dmremap-tools lvm2-text` makes a copy without those beyond the limit.
 ";
 
-const LONG: &str = "\
-dmremap: source: long
-dmremap: disks: long
-  The file has more than 1,048,576 bytes. This message has no number. Leave out
-  devices that the requests don't need.
-
-dmremap: request N: long
-dmremap: before: long at N
-  The line has more than 4096 bytes. Look for a missing newline.
-
-dmremap: paths: long
-  The list can't be opened or read, or has more than 1,048,576 bytes.
-
-dmremap: disk NAME: long
-  Its metadata has more than 1,048,576 bytes.
-
-dmremap: name: long
-  The name has more than 127 bytes: take shorter parts.
+const PATHS_LIMIT: &str = "\
+dmremap: paths: limit at LINE
+  With `images`, the list has more than 1,024 lines, as a group has disks at
+  most.
 ";
 
 const SOURCE_LONG: &str = "\
@@ -349,27 +316,21 @@ dmremap: memory
   small: `ulimit -s` has to print 512 or more.
 ";
 
-const MISSING: &str = "\
+const DISK_MISSING: &str = "\
+dmremap: disk NAME: missing
+  The metadata was written while this disk was missing, so it may be older:
+  leave it out.
+";
+
+const STORE_MISSING: &str = "\
 dmremap: store NAME: missing
   A part of the store lies on a disk that PATHS doesn't name. Add the disk.
 ";
 
-const NAME: &str = "\
-dmremap: source: name at NUMBER
-dmremap: disks: name at NUMBER
-  A name is empty, too long, or has a character that isn't allowed, such as one
-  that dmsetup writes as `\\x20`. The name of a device has 1 to 127 letters,
-  digits and `#+-.:=@_`. The name of a disk has 1 to 255 characters from `!` to
-  `~` except comma, semicolon and backslash, and doesn't begin with
-  /dev/mapper/. A UUID has up to 128 of the characters of a device's name. Write
-  another name, everywhere.
-  In metadata, the name of a volume or of its layer would have more than 127
-  characters, with hyphens doubled: `dmremap-tools lvm2-text` makes a copy
-  without it.
-
-dmremap: paths: name at LINE
-  The first field isn't the name of a disk. Write the disk's name as in DISKS, a
-  space, and the path.
+const DEVICE_MISSING: &str = "\
+dmremap: device: missing at SECTOR
+  It lies on a disk that PATHS doesn't name. Add the disk, and read on with
+  `--from`.
 ";
 
 const SOURCE_NAME: &str = "\
@@ -420,13 +381,10 @@ dmremap: source: overlap at NUMBER
   or for a wrong number.
 ";
 
-const RANGE: &str = "\
-dmremap: source: range at NUMBER
-  The line goes past the end of what it names. Compare its offset and length
-  with the length of that disk or device.
-
-dmremap: store NAME: range
-  A chunk in the store's list is past the end of the snapshot. See `order`.
+const PARTITIONS: &str = "\
+dmremap: disk NAME: partitions
+  The disk has a partition table, so it isn't a physical volume itself. Give the
+  partition, as `dmremap-tools` `scan` shows it.
 ";
 
 const SOURCE_RANGE: &str = "\
@@ -440,29 +398,9 @@ dmremap: store NAME: range
   A chunk in the store's list is past the end of the snapshot. See `order`.
 ";
 
-const READ: &str = "\
-dmremap: source: read
-dmremap: disks: read
-  The file can't be opened or read: it isn't there, it is a folder, or you may
-  not read it. `cat FILE > /dev/null` shows why. This message has no number.
-
-dmremap: requests: read
-  The standard input is closed, or can't be read: look at what writes it, or
-  give a file.
-
-dmremap: paths: read
-  The list can't be opened or read, or has more than 1,048,576 bytes.
-
-dmremap: disk NAME: read
-  A sector of its head can't be read, or the image ends before it. Check that
-  the image is whole, and that you may read it.
-
-dmremap: store NAME: read
-  An image of a disk of this store can't be opened or read, or ends too early.
-  Check that the image is whole, and that you may read it.
-
-dmremap: before: read
-  The file of `--before` can't be opened or read.
+const DEVICE_RANGE: &str = "\
+dmremap: device: range
+  `--from` or `--count` goes past the end of the device.
 ";
 
 const SOURCE_READ: &str = "\
@@ -474,8 +412,8 @@ dmremap: disks: read
 
 const REQUESTS_READ: &str = "\
 dmremap: requests: read
-  The standard input is closed, or can't be read: look at what writes it, or
-  give a file.
+  The standard input is closed, or can't be read, or would have to be waited for
+  though it doesn't block: look at what writes it, or give a file.
 ";
 
 const PATHS_READ: &str = "\
@@ -493,6 +431,13 @@ const STORE_READ: &str = "\
 dmremap: store NAME: read
   An image of a disk of this store can't be opened or read, or ends too early.
   Check that the image is whole, and that you may read it.
+";
+
+const DEVICE_READ: &str = "\
+dmremap: device: read at SECTOR
+  The image of its disk can't be opened or read there, or ends before it. Copy
+  the disk with a tool that tries bad sectors again, such as `ddrescue`, or read
+  on after it with `--from`.
 ";
 
 const BEFORE_READ: &str = "\
@@ -533,27 +478,6 @@ dmremap: source: stripe at NUMBER
   columns, and the share of each column a multiple of the chunk.
 ";
 
-const SYNTAX: &str = "\
-dmremap: source: syntax at NUMBER
-dmremap: disks: syntax at NUMBER
-  The form of the text is wrong.
-  At line 1, mostly FORMAT is wrong for this file, or FILE and DISKS are
-  swapped.
-  In a table, a line is NAME: START LEN TYPE ARGS, with single spaces and a
-  newline at its end. Put NAME: in front of what `dmsetup table DEVICE` printed.
-  In a list of disks, a line is a name and a length. In concise text, a device
-  has four commas before its first line, no semicolon follows the last device,
-  and only the end may have a newline. In metadata, a bracket, comma, string or
-  key is missing or superfluous, or a number has a sign or a decimal point, as
-  in `read_ahead = -1`. `dmremap-tools lvm2-text` makes a copy without such
-  numbers. If NUMBER is the number of lines plus one, the end of the text is
-  missing.
-
-dmremap: paths: syntax at LINE
-  The line isn't a disk, a space and a path, or it is empty, or no newline ends
-  it.
-";
-
 const SOURCE_SYNTAX: &str = "\
 dmremap: source: syntax at NUMBER
 dmremap: disks: syntax at NUMBER
@@ -577,23 +501,6 @@ dmremap: paths: syntax at LINE
   it.
 ";
 
-const TEXT: &str = "\
-dmremap: source: text at NUMBER
-dmremap: disks: text at NUMBER
-  A byte isn't allowed: in tables a tab, a carriage return or a letter outside
-  ASCII; in metadata, anything but UTF-8. In a table, `tr -d '\\r'` removes
-  carriage returns; replace tabs by spaces, and rename what isn't ASCII. For
-  metadata, `dmremap-tools lvm2-text` makes a copy without such bytes. Metadata,
-  which has tabs, needs the FORMAT `lvm`. Unpack a compressed file first.
-
-dmremap: paths: text at LINE
-  The line isn't UTF-8, or has a NUL, as an image has that was given for PATHS.
-  Rename the image, or make a link to it.
-
-dmremap: disk NAME: text
-  Its metadata has a wrong checksum or end: it is damaged, or was just changed.
-";
-
 const SOURCE_TEXT: &str = "\
 dmremap: source: text at NUMBER
 dmremap: disks: text at NUMBER
@@ -613,21 +520,6 @@ dmremap: paths: text at LINE
 const DISK_TEXT: &str = "\
 dmremap: disk NAME: text
   Its metadata has a wrong checksum or end: it is damaged, or was just changed.
-";
-
-const TWICE: &str = "\
-dmremap: source: twice at NUMBER
-dmremap: disks: twice at NUMBER
-  A device, a disk or a key of the metadata occurs twice. In a table, keep the
-  lines of a device together, or rename one of two devices. In other texts,
-  delete one of the two. For metadata, `dmremap-tools lvm2-text` makes a copy
-  with the key that lvm2 uses.
-
-dmremap: paths: twice at LINE
-  An earlier line names the same disk. Delete one of them.
-
-dmremap: disk NAME: twice
-  An earlier disk has the same id: leave out the copy, or one leg of a mirror.
 ";
 
 const SOURCE_TWICE: &str = "\
@@ -655,24 +547,6 @@ dmremap: before: unended at N
   The last line has no newline. Add one, unless the line was cut off.
 ";
 
-const UNKNOWN: &str = "\
-dmremap: source: unknown at NUMBER
-  The line names a disk or device that isn't there. Add the disk to DISKS, or
-  the device to FILE. Replace the number of a device of FILE by
-  `/dev/mapper/NAME`; `dmremap-tools machine` does that for a whole machine. In
-  metadata, a stripe names a physical volume, or a snapshot names a volume, that
-  the group doesn't have: take an older copy.
-
-dmremap: request N: unknown
-dmremap: before: unknown at N
-  No device of FILE has that name. `dmremap table` prints the names. A request
-  can't name a disk.
-
-dmremap: paths: unknown at LINE
-  No disk has that name. Take a name from DISKS or, with `lvm`, from the
-  metadata.
-";
-
 const SOURCE_UNKNOWN: &str = "\
 dmremap: source: unknown at NUMBER
   The line names a disk or device that isn't there. Add the disk to DISKS, or
@@ -695,10 +569,16 @@ dmremap: paths: unknown at LINE
   metadata.
 ";
 
+const DEVICE_UNKNOWN: &str = "\
+dmremap: device: unknown
+  No device of FILE has the name DEVICE. `dmremap table` prints the names.
+";
+
 const UNTIDY: &str = "\
 dmremap: replay: untidy
-  Two lines of the tables use the same sectors. `dmremap check` prints such a
-  pair; use `map` if that is intended.
+  Two lines of the tables use the same sectors. What is refused of PATHS and of
+  stores comes first. `dmremap check` prints such a pair; use `map` if that is
+  intended.
 ";
 
 const VERSION: &str = "\
@@ -709,6 +589,7 @@ dmremap: store NAME: version
 
 const WRITE: &str = "\
 dmremap: output: write
-  The output can't be written: the disk is full, or the reader of a pipe has
-  gone. Make room, or find out why the reader ended.
+  The output can't be written: the disk is full, the reader of a pipe has gone,
+  or it would have to be waited for though the output doesn't block. Make room,
+  or find out why the reader ended.
 ";

@@ -3,65 +3,29 @@
 //! All memory of a run is taken here, after the load and before a request is read. The state is that at the start
 //! of the stack or that of its stores, or what earlier requests left of it.
 
-ghost use Rattle.std.specs.Prelude.{◌≡◌, ◌⊎◌, IfErr, IfOk, None, Some};
-ghost use Rattle.std.specs.Result.{IsErrAnd};
-ghost use Rattle.dm_map.specs.state.State.{start_state};
+ghost use Rattle.dmremap.specs.Prelude.{◌≡◌, ◌⊎◌, IfErr, IfOk, None, Some, IsErrAnd, start_state, CanMap, images_of, Contents, disk_contents, stored_state, IsOutOfMemory, IsReadOnIf, IsUnasked, delivered_if, AreImagesAsked, IsBegunAt, start_at, start_over, stored_start, ArePlayedIf, ArePlayedOver, Start, earlier_from, fresh_start};
 ghost use Rattle.dm_stream.specs.runs.Earlier.{HasPlayed};
-ghost use Rattle.dm_stream.specs.runs.Messages.{HasTold};
-ghost use Rattle.dm_stream.specs.runs.Run.{CanMap};
-ghost use Rattle.dm_store.specs.ImageList.{images_of};
-ghost use Rattle.dm_store.specs.Images.{Contents, disk_contents};
-ghost use Rattle.dm_store.specs.Start.{stored_state};
-ghost use Rattle.dmremap.specs.Inputs.{IsReadOnIf, IsUnasked, delivered_if};
-ghost use Rattle.dmremap.specs.StoredStart.{AreImagesAsked, IsBegunAt, IsOutOfMemory, start_at, start_over, stored_start};
-ghost use Rattle.dmremap.specs.StoredStart.{unbegun_message, unbegun_status};
-ghost use Rattle.dmremap.specs.Whole.{ArePlayedIf, ArePlayedOver, Start, earlier_from, fresh_start};
 
 use crate::disk_paths::load_images;
-use crate::exit::{Exit, Refusal, refuse};
+use crate::exit::Refusal;
 use crate::listed_images::ListedImages;
 use dm_map::{Mapper, TrieTaken};
 use dm_stack::Stack;
-use dm_store::{DiskImages, Images, StoreMessage, listed_images, read_stores};
+use dm_store::{DiskImages, Images, listed_images, read_stores};
 use dm_stream::{DiskTexts, EarlierFault, play_earlier};
-use dm_table::{Input, LoadFault, Output, Part};
+use dm_table::{Input, LoadFault, Part};
 use std::alloc::{AllocError, Global};
 use std::mem::forget;
 
 /// A mapper of a stack, and the texts of the names of its disks.
 #[derive(Drop)]
-pub(crate) struct Prepared<'s> {
+pub struct Prepared<'s> {
     pub mapper: Mapper<'s, TrieTaken>,
     pub texts: DiskTexts<'s>,
 }
 
-/// Why no run begins over a stack.
-#[derive(Drop)]
-pub(crate) enum Unbegun {
-    /// Memory ran out, or the list of paths was refused.
-    Load(LoadFault),
-    /// A store was refused, with this message.
-    Store(StoreMessage),
-    /// The requests before those of the run were refused.
-    Earlier(EarlierFault),
-}
-
-impl Unbegun {
-    /// Tells why, and returns the exit status.
-    pub(crate) fn tell<M: Output>(self, messages: &mut M) -> u8
-        ensures status { result ≡ unbegun_status self }
-        ensures told { HasTold (unbegun_message self) (M.past messages.old) (M.past messages.new) }
-    {
-        match self {
-            Unbegun::Load(fault) => Exit::unloaded(fault).tell(messages),
-            Unbegun::Store(message) => refuse(message.as_slice(), messages),
-            Unbegun::Earlier(fault) => Exit::Refused(Refusal::Earlier(fault)).tell(messages),
-        }
-    }
-}
-
 /// Begins from the start of a stack. It fails only when out of memory.
-pub(crate) fn begin(alloc: Global, stack: &Stack) -> Result<Prepared<'_>, Unbegun>
+pub(crate) fn begin(alloc: Global, stack: &Stack) -> Result<Prepared<'_>, Refusal>
     ensures going { IfOk result (λ prepared. CanMap stack.now prepared.mapper) }
     ensures texts { IfOk result (λ prepared. prepared.texts ≡ stack.now) }
     ensures begun { IsBegunAt stack.now None (fresh_start stack.now) result }
@@ -70,68 +34,16 @@ pub(crate) fn begin(alloc: Global, stack: &Stack) -> Result<Prepared<'_>, Unbegu
 {
     match prepare(alloc, stack) {
         Ok(prepared) => Ok(prepared),
-        Err(_) => Err(Unbegun::Load(LoadFault::memory(Part::Source))),
+        Err(_) => Err(Refusal::Load(LoadFault::memory(Part::Source))),
     }
 }
 
-/// Begins from what the stores of a stack hold in the images of a list of paths, if there is one, and plays earlier
-/// requests from there on, if there are any.
-pub(crate) fn begin_after<'s, P: Input, I: Images, B: Input>(
-    alloc: Global,
-    stack: &'s Stack,
-    paths: &mut Option<P>,
-    images: &mut I,
-    earlier: &mut Option<B>,
-) -> Result<Prepared<'s>, Unbegun>
-    ensures going { IfOk result (λ prepared. CanMap stack.now prepared.mapper) }
-    ensures texts { IfOk result (λ prepared. prepared.texts ≡ stack.now) }
-    ensures begun { (held : Contents) → I.IsSeen images.new held
-        → IsBegunAt stack.now (delivered_if B.past earlier.old earlier.new)
-        (stored_start (delivered_if P.past paths.old paths.new) held stack.now) result }
-    ensures memory { IfErr result (λ why. IsOutOfMemory why
-        → (images.new ≡ images.old) × IsUnasked B.past earlier.old earlier.new) }
-    ensures images { (held : Contents) → I.IsSeen images.new held → I.IsSeen images.old held }
-    ensures images_asked { AreImagesAsked stack.now (delivered_if P.past paths.old paths.new) images.old images.new }
-    ensures paths { IsReadOnIf P.past paths.old paths.new }
-    ensures earlier_asked { (held : Contents) → I.IsSeen images.new held → (earlier.new ≡ earlier.old)
-        ⊎ ArePlayedOver B.past (stored_start (delivered_if P.past paths.old paths.new) held stack.now) stack.now
-        earlier.old earlier.new }
-    ensures earlier { IsReadOnIf B.past earlier.old earlier.new }
-{
-    let begun = begin_by(alloc, stack, paths, images);
-    after_earlier(stack, begun, earlier)
-}
-
-/// Begins from what the stores of a stack hold in the images of a list, and plays earlier requests from there on, if
-/// there are any.
-pub(crate) fn begin_listed<'s, I: Images, B: Input>(
-    alloc: Global,
-    stack: &'s Stack,
-    disks: &mut ListedImages<I>,
-    earlier: &mut Option<B>,
-) -> Result<Prepared<'s>, Unbegun>
-    ensures going { IfOk result (λ prepared. CanMap stack.now prepared.mapper) }
-    ensures texts { IfOk result (λ prepared. prepared.texts ≡ stack.now) }
-    ensures begun { (held : Contents) → I.IsSeen disks.new.images held
-        → IsBegunAt stack.now (delivered_if B.past earlier.old earlier.new)
-        (start_over held stack.now (Some (images_of stack.now disks.old.paths.items))) result }
-    ensures memory { IfErr result (λ why. IsOutOfMemory why → IsUnasked B.past earlier.old earlier.new) }
-    ensures images { (held : Contents) → I.IsSeen disks.new.images held → I.IsSeen disks.old.images held }
-    ensures earlier_asked { (held : Contents) → I.IsSeen disks.new.images held → (earlier.new ≡ earlier.old)
-        ⊎ ArePlayedOver B.past (start_over held stack.now (Some (images_of stack.now disks.old.paths.items)))
-        stack.now earlier.old earlier.new }
-    ensures earlier { IsReadOnIf B.past earlier.old earlier.new }
-{
-    let begun = begin_in(alloc, stack, disks);
-    after_earlier(stack, begun, earlier)
-}
-
 /// Plays earlier requests, if there are any, from where a run was begun.
-fn after_earlier<'s, B: Input>(
+pub(crate) fn after_earlier<'s, B: Input>(
     stack: &'s Stack,
-    begun: Result<Prepared<'s>, Unbegun>,
+    begun: Result<Prepared<'s>, Refusal>,
     earlier: &mut Option<B>,
-) -> Result<Prepared<'s>, Unbegun>
+) -> Result<Prepared<'s>, Refusal>
     requires going { IfOk begun (λ prepared. CanMap stack.now prepared.mapper) }
     requires texts { IfOk begun (λ prepared. prepared.texts ≡ stack.now) }
     ensures going { IfOk result (λ prepared. CanMap stack.now prepared.mapper) }
@@ -147,18 +59,18 @@ fn after_earlier<'s, B: Input>(
     match begun {
         Ok(mut prepared) => match play_if(stack, &mut prepared.mapper, earlier) {
             Ok(()) => Ok(prepared),
-            Err(fault) => Err(Unbegun::Earlier(fault)),
+            Err(fault) => Err(Refusal::Earlier(fault)),
         },
         Err(unbegun) => Err(unbegun),
     }
 }
 
 /// Begins from what the stores of a stack hold in the images of a list.
-fn begin_in<'s, I: Images>(
+pub(crate) fn begin_in<'s, I: Images>(
     alloc: Global,
     stack: &'s Stack,
     disks: &mut ListedImages<I>,
-) -> Result<Prepared<'s>, Unbegun>
+) -> Result<Prepared<'s>, Refusal>
     ensures going { IfOk result (λ prepared. CanMap stack.now prepared.mapper) }
     ensures texts { IfOk result (λ prepared. prepared.texts ≡ stack.now) }
     ensures begun { (held : Contents) → I.IsSeen disks.new.images held → IsBegunAt stack.now None
@@ -172,7 +84,7 @@ fn begin_in<'s, I: Images>(
             forget(places);
             begun
         }
-        Err(fault) => Err(Unbegun::Load(fault)),
+        Err(fault) => Err(Refusal::Load(fault)),
     }
 }
 
@@ -182,7 +94,7 @@ pub(crate) fn begin_by<'s, P: Input, I: Images>(
     stack: &'s Stack,
     paths: &mut Option<P>,
     images: &mut I,
-) -> Result<Prepared<'s>, Unbegun>
+) -> Result<Prepared<'s>, Refusal>
     ensures going { IfOk result (λ prepared. CanMap stack.now prepared.mapper) }
     ensures texts { IfOk result (λ prepared. prepared.texts ≡ stack.now) }
     ensures begun { (held : Contents) → I.IsSeen images.new held → IsBegunAt stack.now None
@@ -200,19 +112,19 @@ pub(crate) fn begin_by<'s, P: Input, I: Images>(
                 forget(places);
                 begun
             }
-            Err(fault) => Err(Unbegun::Load(fault)),
+            Err(fault) => Err(Refusal::Load(fault)),
         },
         None => begin(alloc, stack),
     }
 }
 
 /// Begins from what the stores of a stack hold, where its disks lie in these places.
-fn begin_stored<'s, I: Images>(
+pub(crate) fn begin_stored<'s, I: Images>(
     alloc: Global,
     stack: &'s Stack,
     places: &DiskImages,
     images: &mut I,
-) -> Result<Prepared<'s>, Unbegun>
+) -> Result<Prepared<'s>, Refusal>
     ensures going { IfOk result (λ prepared. CanMap stack.now prepared.mapper) }
     ensures texts { IfOk result (λ prepared. prepared.texts ≡ stack.now) }
     ensures begun { (held : Contents) → I.IsSeen images.new held → IsBegunAt stack.now None
@@ -223,7 +135,7 @@ fn begin_stored<'s, I: Images>(
     let mut prepared = begin(alloc, stack)?;
     match read_stores(images, places, stack, &mut prepared.mapper) {
         Ok(()) => Ok(prepared),
-        Err(refusal) => Err(Unbegun::Store(refusal.message(stack))),
+        Err(refusal) => Err(Refusal::Store(refusal.message(stack))),
     }
 }
 

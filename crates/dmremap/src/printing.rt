@@ -3,12 +3,8 @@
 //! Each writes its text and says how the command would exit; nothing is flushed here. What is printed
 //! is said in `specs/Printing.antt`.
 
-ghost use Rattle.std.specs.Prelude.{◌≡◌, option_map};
+ghost use Rattle.dmremap.specs.Prelude.{◌≡◌, ◌++◌, option_map, built, Does, HasDone, Prints, ReportSays, SaidBy, SplitSays, line, name_said, written_as};
 ghost use Rattle.dm_table.specs.io.Progress.{Wrote};
-ghost use Rattle.lvm_volume.specs.Names.{built};
-ghost use Rattle.dmremap.specs.Load.{SoundAs};
-ghost use Rattle.dmremap.specs.Printing.{IsPrinted, IsTextPrinted, ReportSays, SplitSays, line, name_said, written_as};
-ghost use Rattle.dmremap.specs.Done.{HasDone};
 
 use crate::exit::{Exit, Refusal};
 use crate::job::TableForm;
@@ -21,7 +17,8 @@ use std::alloc::Global;
 
 /// Prints the devices of a stack in a form.
 pub(crate) fn print_stack<W: Output>(form: TableForm, stack: Stack, output: &mut W) -> Exit
-    ensures { HasDone (IsTextPrinted (written_as form stack.devices)) (W.past output.old) (W.past output.new) result }
+    ensures { HasDone (Does (SaidBy (λ said. Prints (written_as form stack.devices) ≡ said)))
+        (W.past output.old) (W.past output.new) result }
 {
     let (devices, _) = stack.into_parts();
     Exit::after(write_devices(form, &devices, output))
@@ -43,7 +40,7 @@ fn write_devices<W: Output>(
 
 /// Prints the report of a stack.
 pub(crate) fn print_report<W: Output>(alloc: Global, stack: &Stack, output: &mut W) -> Exit
-    ensures { HasDone (IsPrinted (ReportSays (SoundAs stack.now))) (W.past output.old) (W.past output.new) result }
+    ensures { HasDone (Does (SaidBy (ReportSays stack.now))) (W.past output.old) (W.past output.new) result }
 {
     match check_report(alloc, stack) {
         Ok(text) => print_text(text.as_str().as_bytes(), output),
@@ -59,9 +56,8 @@ pub(crate) fn print_name<W: Output>(
     layer: Option<&str>,
     output: &mut W,
 ) -> Exit
-    ensures { HasDone (IsPrinted
-        (λ said. name_said (built
-        (record { vg = vg.now; lv = lv.now; layer = option_map (λ l. l.now) layer.entry })) ≡ said))
+    ensures { HasDone (Does (SaidBy (λ said. name_said (built
+        (record { vg = vg.now; lv = lv.now; layer = option_map (λ l. l.now) layer.entry })) ≡ said)))
         (W.past output.old) (W.past output.new) result }
 {
     match build_name(alloc, vg, lv, layer) {
@@ -72,7 +68,7 @@ pub(crate) fn print_name<W: Output>(
 
 /// Prints the parts of the name of a volume.
 pub(crate) fn print_parts<W: Output>(alloc: Global, name: &str, output: &mut W) -> Exit
-    ensures { HasDone (IsPrinted (SplitSays name.now)) (W.past output.old) (W.past output.new) result }
+    ensures { HasDone (Does (SaidBy (SplitSays name.now))) (W.past output.old) (W.past output.new) result }
 {
     match spaced_parts(alloc, name) {
         Ok(Some(parts)) => print_line(parts.as_bytes(), output),
@@ -83,22 +79,28 @@ pub(crate) fn print_parts<W: Output>(alloc: Global, name: &str, output: &mut W) 
 
 /// Prints a text of whole lines.
 pub(crate) fn print_text<W: Output>(text: &[u8], output: &mut W) -> Exit
-    ensures { HasDone (IsTextPrinted text.now) (W.past output.old) (W.past output.new) result }
+    ensures { HasDone (Does (SaidBy (λ said. Prints text.now ≡ said)))
+        (W.past output.old) (W.past output.new) result }
 {
     Exit::after(write_all(output, text))
 }
 
 /// Prints a line.
 fn print_line<W: Output>(text: &[u8], output: &mut W) -> Exit
-    ensures { HasDone (IsTextPrinted (line text.now)) (W.past output.old) (W.past output.new) result }
+    ensures { HasDone (Does (SaidBy (λ said. Prints (line text.now) ≡ said)))
+        (W.past output.old) (W.past output.new) result }
 {
-    Exit::after(write_line(text, output))
+    Exit::after(write_both(output, text, b"\n"))
 }
 
-/// Writes a line: a text, and the newline after it.
-fn write_line<W: Output>(text: &[u8], output: &mut W) -> Result<(), OutFault>
-    ensures { Wrote (W.past output.old) (W.past output.new) result (line text.now) }
+/// Writes a text after another.
+pub(crate) fn write_both<W: Output>(
+    output: &mut W,
+    first: &[u8],
+    text: &[u8],
+) -> Result<(), OutFault>
+    ensures { Wrote (W.past output.old) (W.past output.new) result (first.now ++ text.now) }
 {
-    write_all(&mut *output, text)?;
-    write_all(output, b"\n")
+    write_all(&mut *output, first)?;
+    write_all(output, text)
 }

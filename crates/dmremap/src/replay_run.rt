@@ -2,21 +2,8 @@
 //!
 //! `specs/ReplayOutcome.antt` says what is written for the requests, and what one request adds to it.
 
-ghost use Rattle.std.specs.Prelude.{◌≡◌, false};
-ghost use Rattle.std.proofs.Common.{refl, ◌∙◌};
-ghost use Rattle.dm_table.specs.io.DeviceIo.{delivery, written_since};
-ghost use Rattle.dm_table.specs.io.Progress.{HasWrittenTo, IsReadOn};
-ghost use Rattle.dm_table.specs.laws.Progress.{written_to_none, written_to_more};
-ghost use Rattle.dm_stream.specs.requests.Requests.{requests_of};
-ghost use Rattle.dm_replay.specs.Replay.{replay_from};
-ghost use Rattle.dmremap.specs.Done.{HasDone};
-ghost use Rattle.dmremap.specs.Exit.{failed_writes};
-ghost use Rattle.dm_stream.specs.runs.Run.{CanMap};
-ghost use Rattle.dmremap.specs.ReplayWhole.{ReplaysFrom, ReplaysStack};
-ghost use Rattle.dmremap.specs.Whole.{fresh_start};
+ghost use Rattle.dmremap.specs.Prelude.{◌≡◌, false, refl, ◌∙◌, delivery, written_since, HasWrittenTo, IsReadOn, written_to_none, written_to_more, requests_of, replay_from, Does, HasDone, failed_writes, CanMap, ReplaysStack, HasPlayed, HasStopped, IsPlayed, AskedBy, HasMetBy};
 ghost use Rattle.dmremap.specs.laws.Played.{played_none, played_more, stopped_more};
-ghost use Rattle.dmremap.specs.ReplayOutcome.{HasPlayed, HasStopped, IsPlayed};
-ghost use Rattle.dmremap.specs.Streams.{AskedBy, HasMetBy};
 
 use crate::exit::{Exit, Refusal};
 use dm_map::{Mapper, TrieTaken};
@@ -152,7 +139,8 @@ pub(crate) fn replay_stack<'s, Q: Exchange<W>, W: Output>(
     output: &mut W,
 ) -> Exit
     requires { CanMap stack.now mapper }
-    ensures did { HasDone (ReplaysStack stack.now mapper.entry.state (delivery (Q.past requests.old) (Q.past requests.new)))
+    ensures did { HasDone (Does
+        (ReplaysStack stack.now mapper.entry.state (delivery (Q.past requests.old) (Q.past requests.new))))
         (W.past output.old) (W.past output.new) result }
     ensures asked { AskedBy (Q.past requests.old) (Q.past requests.new) result }
 {
@@ -160,23 +148,6 @@ pub(crate) fn replay_stack<'s, Q: Exchange<W>, W: Output>(
     match Replay::go_on(alloc, stack, mapper) {
         Ok(mut replay) => play_requests(alloc, stack, &mut replay, requests, output),
         Err(ReplayFault::Untidy) => Exit::Refused(Refusal::Untidy),
-        Err(_) => Exit::unloaded(LoadFault::memory(Part::Source)),
-    }
-}
-
-/// The same from the start of the stack, where no chunk was taken.
-pub(crate) fn replay_fresh<Q: Exchange<W>, W: Output>(
-    alloc: Global,
-    stack: &Stack,
-    requests: &mut Q,
-    output: &mut W,
-) -> Exit
-    ensures did { HasDone (ReplaysFrom (fresh_start stack.now) stack.now (delivery (Q.past requests.old) (Q.past requests.new)))
-        (W.past output.old) (W.past output.new) result }
-    ensures asked { AskedBy (Q.past requests.old) (Q.past requests.new) result }
-{
-    match Mapper::new(alloc, stack.looker()) {
-        Ok(mapper) => replay_stack(alloc, stack, mapper, requests, output),
         Err(_) => Exit::unloaded(LoadFault::memory(Part::Source)),
     }
 }

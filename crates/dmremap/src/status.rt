@@ -21,3 +21,6 @@ pub const STATUS_WRITE_FAULT: u8 = 5;
 
 /// Memory ran out.
 pub const STATUS_MEMORY: u8 = 6;
+
+/// A sector of a device can't be read; those before it were written.
+pub const STATUS_STOPPED: u8 = 7;

@@ -2,24 +2,20 @@
 //!
 //! The command line is made one word at a time, by functions that hold nothing else where memory runs out.
 //! A new command is a line in `program` and one in `job_in` or, if it loads a source, in `loading_job`. A new
-//! format is a word of `FORMATS` and of `format_named`. Images, which are no text, are asked for in `format_job`.
+//! format is a word of `FORMATS` and of `format_named`. Images, which are no text, are asked for in `source_in`.
 
-ghost use Rattle.std.specs.Prelude.{◌≡◌, ◌∷◌, [], IfErr, IfOk, List, codes, false, option_map, true};
+ghost use Rattle.dmremap.specs.Prelude.{◌≡◌, ◌∷◌, [], IfErr, IfOk, List, codes, false, option_map, true, job_words, range_words, source_words, HasApp, TakeFormats, TakesNames, bare_app, before_rule, command_line, flag_rule, format_named, format_rule, formats, loading_app, map_app, metadata_app, name_app, optional_rule, paths_rule, read_app, replay_app, required_rule, sectors_rule, split_app, version_rule, files_at, has_flag, has_lone_hyphen, images_at, job_in, last_of, loading_job, name_job, number_at, number_of, range_at, range_job, read_from, read_job, said_by, source_in, source_job, word_of, IsCommandOf, IsFaultOf, IsJobOf, IsOfKind, IsRefusedFor, IsTaken, IsUntaken, asked_word, fault_from, is_command, is_unknown, status_of};
 ghost use Rattle.clap.specs.Walk.{texts};
 ghost use Rattle.clap.specs.Words.{App, Rule, Text, app_of, first_of, found_of, kind_of, new_app, rows_of, rule_of, subcommand_rows_of, with_rule, with_subcommand};
 ghost use Rattle.clap.specs.declared.error.kind.ErrorKind.TheVariants as kind;
-ghost use Rattle.dmremap.specs.Job.{job_words, source_words};
-ghost use Rattle.dmremap.specs.Words.{HasApp, TakeFormats, TakesNames, bare_app, before_rule, command_line, flag_rule, format_named, format_rule, formats, loading_app, map_app, metadata_app, name_app, optional_rule, paths_rule, replay_app, required_rule, split_app, status_rule, version_rule};
-ghost use Rattle.dmremap.specs.Words.{format_job, has_flag, has_lone_hyphen, images_job, is_of_images, job_in, list_at, loading_job, name_job, said_by, source_at, source_in, task_of, word_of};
-ghost use Rattle.dmremap.specs.Words.{IsCommandOf, IsFaultOf, IsJobOf, IsOfKind, IsRefusedFor, IsTaken, IsUntaken, explained_by, fault_from, is_unknown, status_of};
 ghost use Rattle.dmremap.specs.declared.words.WordsFault.TheVariants as fault;
 
 #[cfg(test)]
 mod tests;
 
-use crate::explanation::explanation;
+use crate::explanation::is_explained;
 use crate::help;
-use crate::job::{Format, Job, Source, TableForm, Task};
+use crate::job::{Format, Job, SectorRange, Source, TableForm};
 use crate::messages::WORDS;
 use crate::status::{STATUS_DONE, STATUS_MEMORY, STATUS_WORDS};
 use clap::builder::ValueParser;
@@ -92,24 +88,47 @@ fn format_named(word: &str) -> Format
     }
 }
 
-/// The source of a format, unless its list of disks is missing or too much.
-fn source_at<'a>(format: Format, file: &'a str, disks: Option<&'a str>) -> Option<Source<'a>>
+/// The files of a format, unless its list of disks is missing or too much.
+fn files_at<'a>(format: Format, file: &'a str, disks: Option<&'a str>) -> Option<Source<'a>>
     ensures { option_map source_words result
-        ≡ source_at format file.entry.now (option_map (λ d. d.now) disks.entry) }
+        ≡ files_at format file.entry.now (option_map (λ d. d.now) disks.entry) }
 {
     match (format, disks) {
-        (Format::Lvm, None) => Some(Source::Lvm { file }),
-        (Format::Tables(form), Some(disks)) => Some(Source::Tables { form, file, disks }),
+        (Format::Lvm, None) | (Format::Tables(_), Some(_)) => Some(Source::Files {
+            format,
+            file,
+            disks,
+        }),
+        _ => None,
+    }
+}
+
+/// The list of images, unless there is a list of disks too, or another list of paths.
+fn images_at<'a>(
+    list: &'a str,
+    disks: Option<&'a str>,
+    paths: Option<&'a str>,
+) -> Option<Source<'a>>
+    ensures { option_map source_words result ≡ images_at list.entry.now
+        (option_map (λ d. d.now) disks.entry) (option_map (λ p. p.now) paths.entry) }
+{
+    match (disks, paths) {
+        (None, None) => Some(Source::Images { list }),
         _ => None,
     }
 }
 
 /// The source that the words of a command say.
-fn source_in<'a>(found: &ArgMatches<'a>) -> Option<Source<'a>>
-    ensures { option_map source_words result ≡ source_in (rows_of (found_of found.now)) }
+fn source_in<'a>(found: &ArgMatches<'a>, disks: Option<&'a str>) -> Option<Source<'a>>
+    ensures { option_map source_words result
+        ≡ source_in (rows_of (found_of found.now)) (option_map (λ d. d.now) disks.entry) }
 {
-    let format = format_named(word_of(found, "format"));
-    source_at(format, word_of(found, "file"), text_of(found, "disks"))
+    let (format, file) = (word_of(found, "format"), word_of(found, "file"));
+    if format == "images" {
+        images_at(file, disks, text_of(found, "paths"))
+    } else {
+        files_at(format_named(format), file, disks)
+    }
 }
 
 /// The job of a command that loads this source.
@@ -140,69 +159,103 @@ fn loading_job<'a>(command: &str, found: &ArgMatches<'a>, source: Source<'a>) ->
     }
 }
 
-/// Whether FORMAT is that of images.
-fn is_of_images(found: &ArgMatches<'_>) -> bool
-    ensures { result ≡ is_of_images (rows_of (found_of found.now)) }
+/// The job of a command that loads something, unless DISKS is missing or too much, or another list beside images.
+fn source_job<'a>(command: &str, found: &ArgMatches<'a>) -> Option<Job<'a>>
+    ensures { option_map job_words result ≡ source_job command.now (rows_of (found_of found.now)) }
 {
-    word_of(found, "format") == "images"
-}
-
-/// The list of images, unless there is a list of disks too, or another list of paths.
-fn list_at<'a>(file: &'a str, disks: Option<&'a str>, paths: Option<&'a str>) -> Option<&'a str>
-    ensures { option_map (λ list. list.now) result ≡ list_at file.entry.now
-        (option_map (λ d. d.now) disks.entry) (option_map (λ p. p.now) paths.entry) }
-{
-    match (disks, paths) {
-        (None, None) => Some(file),
-        _ => None,
+    match source_in(found, text_of(found, "disks")) {
+        Some(source) => Some(loading_job(command, found, source)),
+        None => None,
     }
 }
 
-/// What a command does with devices that are loaded, other than `map`.
-fn task_of(command: &str) -> Task
-    ensures { result ≡ task_of command.now }
+/// The number that a text spells; clap takes no text that spells none.
+fn number_of(text: &str) -> Option<u64>
+    ensures { result ≡ number_of text.now }
 {
-    match command {
-        "table" => Task::Print(TableForm::Table),
-        "concise" => Task::Print(TableForm::Concise),
-        "check" => Task::Check,
-        _ => Task::Replay,
+    match text.parse() {
+        Ok(number) => Some(number),
+        Err(_) => None,
     }
 }
 
-/// The job of a command of these images.
-fn images_job<'a>(command: &str, found: &ArgMatches<'a>, paths: &'a str) -> Job<'a>
-    ensures { job_words result
-        ≡ images_job command.now (rows_of (found_of found.now)) paths.entry.now }
+/// The number of an option, if it was given.
+fn number_at(found: &ArgMatches<'_>, id: &str) -> Option<u64>
+    ensures { result ≡ number_at id.now (rows_of (found_of found.now)) }
 {
-    match command {
-        "map" => Job::MapImages {
+    match text_of(found, id) {
+        Some(text) => number_of(text),
+        None => None,
+    }
+}
+
+/// The sectors of a device that the words ask for.
+fn range_at<'a>(found: &ArgMatches<'a>, device: &'a str) -> SectorRange<'a>
+    ensures { range_words result ≡ range_at (rows_of (found_of found.now)) device.entry.now }
+{
+    SectorRange {
+        device,
+        from: number_at(found, "from").unwrap_or(0),
+        count: number_at(found, "count"),
+    }
+}
+
+/// DISKS and DEVICE, which is the last of two words.
+fn last_of<'a>(
+    second: Option<&'a str>,
+    third: Option<&'a str>,
+) -> (Option<&'a str>, Option<&'a str>)
+    ensures { (option_map (λ d. d.now) result.0, option_map (λ d. d.now) result.1)
+        ≡ last_of (option_map (λ d. d.now) second.entry) (option_map (λ d. d.now) third.entry) }
+{
+    match third {
+        Some(_) => (second, third),
+        None => (None, second),
+    }
+}
+
+/// The job of `read` of a source, unless it is of files without a list of paths.
+fn read_from<'a>(
+    source: Source<'a>,
+    paths: Option<&'a str>,
+    range: SectorRange<'a>,
+) -> Option<Job<'a>>
+    ensures { option_map job_words result ≡ read_from (source_words source.entry)
+        (option_map (λ p. p.now) paths.entry) (range_words range.entry) }
+{
+    match (source, paths) {
+        (Source::Files { .. }, None) => None,
+        _ => Some(Job::Read {
+            source,
             paths,
-            earlier: text_of(found, "before"),
-            status: has_flag(found, "status"),
-        },
-        _ => Job::OfImages {
-            paths,
-            task: task_of(command),
-        },
+            range,
+        }),
     }
 }
 
-/// The job of a command that loads something.
-fn format_job<'a>(command: &str, found: &ArgMatches<'a>) -> Option<Job<'a>>
-    ensures { option_map job_words result ≡ format_job command.now (rows_of (found_of found.now)) }
+/// The job of `read` of these sectors, unless a list of disks or of paths is missing or too much.
+fn range_job<'a>(
+    found: &ArgMatches<'a>,
+    disks: Option<&'a str>,
+    range: SectorRange<'a>,
+) -> Option<Job<'a>>
+    ensures { option_map job_words result ≡ range_job (rows_of (found_of found.now))
+        (option_map (λ d. d.now) disks.entry) (range_words range.entry) }
 {
-    if is_of_images(found) {
-        let file = word_of(found, "file");
-        match list_at(file, text_of(found, "disks"), text_of(found, "paths")) {
-            Some(paths) => Some(images_job(command, found, paths)),
-            None => None,
-        }
-    } else {
-        match source_in(found) {
-            Some(source) => Some(loading_job(command, found, source)),
-            None => None,
-        }
+    match source_in(found, disks) {
+        Some(source) => read_from(source, text_of(found, "paths"), range),
+        None => None,
+    }
+}
+
+/// The job of `read`, unless a word is missing or too much.
+fn read_job<'a>(found: &ArgMatches<'a>) -> Option<Job<'a>>
+    ensures { option_map job_words result ≡ read_job (rows_of (found_of found.now)) }
+{
+    let (disks, device) = last_of(text_of(found, "disks"), text_of(found, "device"));
+    match device {
+        Some(device) => range_job(found, disks, range_at(found, device)),
+        None => None,
     }
 }
 
@@ -225,7 +278,8 @@ fn job_in<'a>(command: &str, found: &ArgMatches<'a>) -> Option<Job<'a>>
         "name" => Some(name_job(found)),
         "splitname" => Some(Job::SplitName(word_of(found, "name"))),
         "metadata" => Some(Job::Metadata(word_of(found, "file"))),
-        _ => format_job(command, found),
+        "read" => read_job(found),
+        _ => source_job(command, found),
     }
 }
 
@@ -368,6 +422,16 @@ fn paths_option<'a>(alloc: Global) -> Arg<'a>
     optional(alloc, "paths", "PATHS", help::PATHS_HELP).long("paths")
 }
 
+/// An option that has a number of sectors.
+fn sectors_option<'a>(alloc: Global, id: &'a str, value_name: &'a str, help: &'a str) -> Arg<'a>
+    ensures rule { rule_of result ≡ sectors_rule id.entry.now }
+    ensures local { result.global ≡ false }
+{
+    optional(alloc, id, value_name, help)
+        .long(id)
+        .value_parser(ValueParser::unsigned(0, u64::MAX))
+}
+
 /// A command with what its help says, and without words.
 fn titled<'a>(alloc: Global, name: &'a str, about: &'a str, notes: &'a str) -> Command<'a>
     ensures { app_of result ≡ new_app name.entry.now }
@@ -385,6 +449,16 @@ fn with_word<'a>(
         → HasApp (with_rule app rule) result }
 {
     command?.arg(word)
+}
+
+/// A command whose help shows this usage, if there was memory for the command.
+fn with_usage<'a>(
+    command: Result<Command<'a>, AllocError>,
+    usage: &'a str,
+) -> Result<Command<'a>, AllocError>
+    ensures { (app : App) → HasApp app command.entry → HasApp app result }
+{
+    Ok(command?.override_usage(usage))
 }
 
 /// The command line with one more command, if there was memory for both.
@@ -444,6 +518,20 @@ fn replay_command<'a>(alloc: Global, parser: ValueParser<'a>) -> Result<Command<
         help::REPLAY_NOTES,
     );
     with_word(command, paths_option(alloc))
+}
+
+/// `read FORMAT FILE [DISKS] DEVICE [--from SECTOR] [--count SECTORS] [--paths PATHS]`.
+fn reading_command<'a>(alloc: Global, parser: ValueParser<'a>) -> Result<Command<'a>, AllocError>
+    ensures { HasApp (read_app parser.entry) result }
+{
+    let command = loading_command(alloc, parser, "read", help::READ_ABOUT, help::READ_NOTES);
+    let device = optional(alloc, "device", "DEVICE", help::DEVICE_HELP);
+    let command = with_word(command, device);
+    let from = sectors_option(alloc, "from", "SECTOR", help::FROM_HELP);
+    let command = with_word(command, from);
+    let count = sectors_option(alloc, "count", "SECTORS", help::COUNT_HELP);
+    let command = with_word(command, count);
+    with_usage(with_word(command, paths_option(alloc)), help::READ_USAGE)
 }
 
 /// `metadata images PATHS`.
@@ -523,6 +611,7 @@ fn program<'a>(alloc: Global) -> Result<Command<'a>, AllocError>
         loading_command(alloc, parser, "check", help::CHECK_ABOUT, help::CHECK_NOTES),
     );
     let line = with_command(line, replay_command(alloc, parser));
+    let line = with_command(line, reading_command(alloc, parser));
     let line = with_command(line, metadata_command(alloc, images));
     let line = with_command(line, name_command(alloc));
     with_command(line, split_command(alloc))
@@ -618,12 +707,21 @@ fn read_command<'a>(alloc: Global, words: &'a [&'a str]) -> Result<Job<'a>, Word
     }
 }
 
-/// What is said of the word of messages that `help` is asked about. `name` is a command, too.
-fn explained_by(words: &[&str]) -> Option<&'static str>
-    ensures { option_map (λ text. text.now) result ≡ explained_by (texts words.now) }
+/// Whether a word of messages is a command, too.
+fn is_command(word: &str) -> bool
+    ensures { result ≡ is_command word.now }
+{
+    word == "name" || word == "read"
+}
+
+/// The word of messages that `help` is asked about, if anything is said of it.
+fn asked_word<'a>(words: &'a [&'a str]) -> Option<&'a str>
+    ensures { option_map (λ word. word.now) result ≡ asked_word (texts words.now) }
 {
     match words {
-        [_, help, asked] if *help == "help" && *asked != "name" => explanation(asked),
+        [_, help, asked] if *help == "help" && !is_command(asked) && is_explained(asked) => {
+            Some(asked)
+        }
         _ => None,
     }
 }
@@ -640,8 +738,8 @@ pub fn read_words<'a>(alloc: Global, words: &'a [&'a str]) -> Result<Job<'a>, Wo
     ensures job { IfOk result (IsJobOf (texts words.now)) }
     ensures fault { IfErr result (IsFaultOf (texts words.now)) }
 {
-    match explained_by(words) {
-        Some(text) => Ok(Job::Explain(text)),
+    match asked_word(words) {
+        Some(word) => Ok(Job::Explain(word)),
         None => read_command(alloc, words),
     }
 }

@@ -1,7 +1,5 @@
 -- What is found first.
-use Rattle.std.proofs.Common.{◌≡◌, inl, inr, ℕ, zero, suc, ◌+◌, ◌<◌, Option, Some, None, refl, arith}
-use Rattle.std.proofs.Math.Nat.{le-suc_iff}
-use Rattle.lvm_head.specs.FirstFound.{earlier, first_found}
+use Rattle.lvm_head.proofs.Prelude.{◌≡◌, inl, inr, ℕ, zero, suc, ◌+◌, ◌<◌, Option, Some, None, refl, arith, le-suc_iff, earlier, first_found}
 
 pub found_none : {X : Type 0} (has : ℕ → Option X) → first_found has 0 ≡ None
 unfolding first_found

@@ -1,36 +1,11 @@
 -- The heads of some disks, one more at a time.
-use Rattle.std.proofs.Common.{◌≡◌, inl, inr, ℕ, zero, suc, ◌+◌, ◌<◌, [], Result, Ok, Err, refl, subst, ap, ◌∙◌, arith}
-use Rattle.std.proofs.Math.Nat.{le-suc_iff}
-use Rattle.lvm_head.specs.declared.fault.HeadFault.{HeadFault}
-use Rattle.lvm_head.specs.declared.fault.HeadRefusal.{HeadRefusal}
-use Rattle.lvm_head.specs.Disks.{Contents}
-use Rattle.lvm_head.specs.Heads.{AllSaid, Said, at_disk, head_of, heads_of, joined, with_head}
+use Rattle.lvm_head.proofs.Prelude.{◌≡◌, ℕ, suc, ◌+◌, ◌-◌, ◌<◌, Result, Ok, refl, arith, HeadFault, Contents, ◌>>=◌, AllSaid, Said, at_disk, head_of, heads_from, joined}
 
-pub heads_none : (held : Contents) (all : AllSaid) → all.ids ≡ [] → all.text ≡ [] → heads_of held 0 ≡ Ok all
-unfolding heads_of
-heads_none held all ids text = rw (ids, text) refl
+pub heads_more : (held : Contents) (all : AllSaid) (disk count : ℕ) (next : Result Said HeadFault) (after : Result AllSaid HeadFault) → disk < count → head_of (held disk) ≡ next → (next >>= joined all) ≡ after
+    → heads_from held all disk (count - disk) ≡ (at_disk disk after >>= (λ joined. heads_from held joined (disk + 1) (count - (disk + 1))))
+unfolding heads_from
+heads_more held all disk count next after below here is = let k : count - disk ≡ suc (count - (disk + 1)) = omega (arith, below) in rw (k, here, is) refl
 
-with_known : (held : Contents) (disk : ℕ) (all : AllSaid) (next : Result Said HeadFault) (after : Result AllSaid HeadFault) → heads_of held disk ≡ Ok all → head_of (held disk) ≡ next → joined all next ≡ after
-    → with_head (heads_of held disk) disk (head_of (held disk)) ≡ at_disk disk after
-with_known held disk all next after before here is =
-    ap (λ (r : Result AllSaid HeadRefusal). with_head r disk (head_of (held disk))) before
-    ∙ ap (λ (r : Result Said HeadFault). at_disk disk (joined all r)) here
-    ∙ ap (at_disk disk) is
-
-pub heads_more : (held : Contents) (disk : ℕ) (all after : AllSaid) (next : Result Said HeadFault) → heads_of held disk ≡ Ok all → head_of (held disk) ≡ next → joined all next ≡ Ok after
-    → heads_of held (disk + 1) ≡ Ok after
-unfolding heads_of
-heads_more held disk all after next before here is = let k : disk + 1 ≡ suc disk = omega arith in rw k (with_known held disk all next (Ok after) before here is)
-
--- a refusal stays
-stays : (held : Contents) (n m : ℕ) (refusal : HeadRefusal) → with_head (heads_of held n) n (head_of (held n)) ≡ Err refusal → n < m → heads_of held m ≡ Err refusal
-unfolding heads_of
-stays held n zero refusal is below = absurd (omega (arith, below))
-stays held n (suc m) refusal is below = elim (le-suc_iff.0 below) as (λ _. with_head (heads_of held m) m (head_of (held m)) ≡ Err refusal) [
-  | inl less ↦ ap (λ (r : Result AllSaid HeadRefusal). with_head r m (head_of (held m))) (stays held n m refusal is less)
-  | inr same ↦ let k : n ≡ m = omega (arith, same) in subst (λ (i : ℕ). with_head (heads_of held i) i (head_of (held i)) ≡ Err refusal) k is
-]
-
-pub heads_refused : (held : Contents) (disk count : ℕ) (all : AllSaid) (next : Result Said HeadFault) (fault : HeadFault) → heads_of held disk ≡ Ok all → head_of (held disk) ≡ next → joined all next ≡ Err fault
-    → disk < count → heads_of held count ≡ Err (record { disk = disk; fault = fault })
-heads_refused held disk count all next fault before here is below = stays held disk count (record { disk = disk; fault = fault }) (with_known held disk all next (Err fault) before here is) below
+pub heads_done : (held : Contents) (all : AllSaid) (disk left : ℕ) → left ≡ 0 → heads_from held all disk left ≡ Ok all
+unfolding heads_from
+heads_done held all disk left none = rw none refl

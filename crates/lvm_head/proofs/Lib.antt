@@ -1,7 +1,8 @@
 pub mod FoundLemmas
 pub mod LabelLemmas
 pub mod TextLemmas
-pub mod HeadLemmas
 pub mod HeadsLemmas
+pub mod BoundLemmas
+pub mod SumLemmas
 pub mod LawLemmas
-pub mod SpelledLemmas
+pub mod Prelude

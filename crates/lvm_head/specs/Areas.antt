@@ -1,7 +1,5 @@
 -- A metadata area: its header, and where its text lies in the ring that comes after it (lvm2's format_text: mda_header, raw_locn).
-use Rattle.std.specs.Prelude.{ℕ, ◌+◌, ◌-◌, ◌%◌, ◌==◌, ◌&&◌, ◌||◌, Bool, List, nat_le, nat_lt, slice_range, if◌then◌else◌}
-use Rattle.lvm_head.specs.declared.area.Area.{Area}
-use Rattle.lvm_head.specs.declared.area.Location.{Location}
+use Rattle.lvm_head.specs.Base.{ℕ, ◌+◌, ◌-◌, ◌%◌, ◌==◌, ◌&&◌, ◌||◌, Bool, List, nat_le, nat_lt, slice_range, if◌then◌else◌, Area, Location}
 use Rattle.lvm_head.specs.Numbers.{eight_at, four_at}
 use Rattle.lvm_head.specs.Sums.{sum_of}
 
@@ -21,7 +19,7 @@ location_in bytes = record { ring = eight_at bytes 32; offset = eight_at bytes 4
 
 -- there is none: the area is to be ignored, or has no text yet
 abbrev pub is_none : Location → Bool
-is_none location = (location.flags % 2 == 1) || (location.offset == 0) || (location.size == 0)
+is_none location = (location.flags % 2 == 1) || (location.offset == 0)
 
 -- it lies in the ring, which begins after the header, and has no byte twice
 abbrev pub is_within : Location → Bool

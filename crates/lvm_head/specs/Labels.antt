@@ -1,70 +1,85 @@
 -- The label of a physical volume, and the header in its sector (lvm2's label and format_text: label_header, pv_header).
-use Rattle.std.specs.Prelude.{ℕ, ◌+◌, ◌*◌, ◌-◌, ◌/◌, ◌==◌, ◌&&◌, Bool, List, Option, Some, None, Result, Ok, Err, nat_le, slice_range, if◌then◌else◌}
-use Rattle.lvm_head.specs.declared.area.Area.{Area}
-use Rattle.lvm_head.specs.declared.area.AreaRange.{AreaRange}
-use Rattle.lvm_head.specs.declared.disks.ReadFault.{ReadFault}
-use Rattle.lvm_head.specs.declared.fault.HeadFault.{HeadFault}
-use Rattle.lvm_head.specs.declared.fault.HeadFault.TheVariants.{Unread, Label}
-use Rattle.lvm_head.specs.Disks.{Sectors}
+use Rattle.lvm_head.specs.Base.{ℕ, ◌+◌, ◌*◌, ◌-◌, ◌/◌, ◌%◌, ◌==◌, ◌&&◌, ◌||◌, Bool, not, List, ◌∷◌, Option, Some, None, Result, Ok, Err, length, map, nat_le, slice_index, slice_range, if◌then◌else◌, range_with_len, slice_split, Area, ReadFault, HeadFault, Array, Header, Label, Partitions, Unread}
+use Rattle.lvm_head.specs.Disks.{Sectors, ◌>>=◌, needed}
 use Rattle.lvm_head.specs.FirstFound.{first_found}
 use Rattle.lvm_head.specs.Numbers.{eight_at, four_at}
 use Rattle.lvm_head.specs.Sums.{sum_of}
+
+-- ---- what isn't a physical volume of its own
+
+-- a partition of a table in the first sector begins with a number that is 0 or 0x80, and has so many sectors
+abbrev pub is_entry : (sector : List ℕ) → (at : ℕ) → Bool
+is_entry sector at = slice_index sector at % 128 == 0
+
+abbrev pub has_sectors : (sector : List ℕ) → (at : ℕ) → Bool
+has_sectors sector at = not (four_at sector (at + 12) == 0)
+
+-- the first sector has a partition table: 55 AA at its end, and four entries, of which one has sectors
+abbrev pub is_partitioned : (sector : List ℕ) → Bool
+is_partitioned sector =
+    (slice_index sector 510 == 0x55) && (slice_index sector 511 == 0xAA)
+    && is_entry sector 446 && is_entry sector 462 && is_entry sector 478 && is_entry sector 494
+    && (has_sectors sector 446 || has_sectors sector 462 || has_sectors sector 478 || has_sectors sector 494)
+
+-- a sector begins with the magic number of a member of an array (md)
+abbrev pub is_member : (sector : List ℕ) → Bool
+is_member sector = four_at sector 0 == 0xA92B4EFC
+
+-- a disk is neither divided into partitions nor a member of an array, whose superblock of version 1.1 or 1.2 lies in sector 0 or 8
+abbrev pub undivided : Sectors → Result (Unit {0}) HeadFault
+undivided sectors =
+    needed (sectors 0) >>= (λ first. if is_partitioned first then Err Partitions
+    else (needed (sectors 8) >>= (λ later. if is_member first || is_member later then Err Array else Ok tt)))
+
+-- ---- the label
 
 -- where the header begins in the sector of a label
 abbrev pub header_at : (label : List ℕ) → ℕ
 header_at label = four_at label 20
 
--- a sector is a sound label: `LABELONE`, its own number, the sum of all that comes after the sum, a header that begins after the label and has 40 bytes, and `LVM2 001`
-abbrev pub is_label : (place : ℕ) → (bytes : List ℕ) → Bool
-is_label place bytes =
-    (eight_at bytes 0 == 0x454E4F4C4542414C) && (eight_at bytes 8 == place) && (four_at bytes 16 == sum_of (slice_range bytes 20 512))
-    && nat_le 32 (header_at bytes) && nat_le (header_at bytes) 472 && (eight_at bytes 24 == 0x31303020324D564C)
+-- a sector has `LABELONE`
+abbrev pub is_named : (sector : List ℕ) → Bool
+is_named sector = eight_at sector 0 == 0x454E4F4C4542414C
+
+-- lvm2 takes a sector for a label: it has `LVM2 001`, and if it has `LABELONE`, also its own number, and the sum of all that comes after the sum
+abbrev pub is_taken : (place : ℕ) → (sector : List ℕ) → Bool
+is_taken place sector =
+    (eight_at sector 24 == 0x31303020324D564C) && (not (is_named sector) || ((eight_at sector 8 == place) && (four_at sector 16 == sum_of (slice_range sector 20 512))))
+
+-- and it is sound: it has `LABELONE`, and its header begins after it and has 40 bytes
+abbrev pub is_sound : (sector : List ℕ) → Bool
+is_sound sector = is_named sector && nat_le 32 (header_at sector) && nat_le (header_at sector) 472
 
 -- what a sector says where labels are looked for
 abbrev pub label_in : (place : ℕ) → Result (List ℕ) ReadFault → Option (Result (List ℕ) HeadFault)
-label_in place (Ok bytes) = if is_label place bytes then Some (Ok bytes) else None
+label_in place (Ok sector) = if is_taken place sector then Some (if is_sound sector then Ok sector else Err Label) else None
 label_in place (Err fault) = Some (Err Unread)
 
 abbrev pub or_no_label : Option (Result (List ℕ) HeadFault) → Result (List ℕ) HeadFault
 or_no_label (Some found) = found
 or_no_label None = Err Label
 
--- the sector of the label: the first of four that is one
+-- the sector of the label: the first of four that is taken for one
 abbrev pub label_of : Sectors → Result (List ℕ) HeadFault
 label_of sectors = or_no_label (first_found (λ place. label_in place (sectors place)) 4)
 
--- ---- the header: the id, how many bytes the device has, and lists of areas
+-- ---- the header: the id, and lists of areas
 
 abbrev pub id_of : (label : List ℕ) → List ℕ
 id_of label = slice_range label (header_at label) (header_at label + 32)
-
-abbrev pub device_bytes : (label : List ℕ) → ℕ
-device_bytes label = eight_at label (header_at label + 32)
 
 -- the pair of a number in the lists: where an area begins, and how many bytes it has
 abbrev pub area_at : (label : List ℕ) → (number : ℕ) → Area
 area_at label number = record { start = eight_at label (header_at label + 40 + 16 * number); size = eight_at label (header_at label + 48 + 16 * number) }
 
--- how many pairs there can be up to the end of the sector
-abbrev pub most_pairs : (label : List ℕ) → ℕ
-most_pairs label = (472 - header_at label) / 16
+-- all pairs up to the end of the sector
+abbrev pub pairs_of : (label : List ℕ) → List Area
+pairs_of label = map (area_at label) (range_with_len 0 ((472 - header_at label) / 16))
 
--- a list ends with a pair that begins at 0
-abbrev pub end_at : (label : List ℕ) → (from number : ℕ) → Option ℕ
-end_at label from number = if (area_at label (from + number)).start == 0 then Some number else None
+-- two lists that each end with a pair that begins at 0: areas of data, and at most two metadata areas
+abbrev pub areas_in : (lists : List (List Area)) → Result (List Area) HeadFault
+areas_in (data_areas ∷ areas ∷ rest ∷ more) = if nat_le (length areas) 2 then Ok areas else Err Header
+areas_in _ = Err Header
 
--- how many areas the list has that begins with the pair of a number, if it ends in the sector
-abbrev pub list_len : (label : List ℕ) → (from : ℕ) → Option ℕ
-list_len label from = first_found (end_at label from) (most_pairs label - from)
-
-abbrev pub range_from : (from : ℕ) → Option ℕ → Option AreaRange
-range_from from (Some count) = Some (record { from = from; count = count })
-range_from from None = None
-
-abbrev pub after_data : (label : List ℕ) → Option ℕ → Option AreaRange
-after_data label (Some data_len) = range_from (data_len + 1) (list_len label (data_len + 1))
-after_data label None = None
-
--- which pairs are the metadata areas: those of the second list, after the areas of data; both lists end in the sector
-abbrev pub areas_of : (label : List ℕ) → Option AreaRange
-areas_of label = after_data label (list_len label 0)
+abbrev pub areas_of : (label : List ℕ) → Result (List Area) HeadFault
+areas_of label = areas_in (slice_split (λ area. area.start == 0) (pairs_of label))

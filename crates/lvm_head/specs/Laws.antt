@@ -1,26 +1,76 @@
--- What holds of all heads.
-use Rattle.std.specs.Prelude.{◌≡◌, ◌↔◌, ◌<◌, ℕ, true, List, None, Result, Ok, length, slice_index}
-use Rattle.lvm_head.specs.declared.fault.HeadFault.{HeadFault}
+-- What holds of all heads: what is read of a head is what it spells.
+use Rattle.lvm_head.specs.Base.{◌≡◌, ◌↔◌, ◌⊎◌, ◌<◌, ◌≤◌, ◌/◌, ◌++◌, ◌∷◌, [], ℕ, true, false, List, None, Result, Ok, length, slice_index, All, Any, Area, Location, HeadFault}
+use Rattle.lvm_head.specs.Areas.{is_header, is_near, is_none, is_within, location_in, ring_place}
 use Rattle.lvm_head.specs.Disks.{Sectors}
-use Rattle.lvm_head.specs.Labels.{is_label, label_in, label_of}
-use Rattle.lvm_head.specs.Texts.{gathered}
+use Rattle.lvm_head.specs.Heads.{Said, head_of}
+use Rattle.lvm_head.specs.Labels.{areas_of, id_of, is_sound, is_taken, is_member, is_partitioned, label_in}
+use Rattle.lvm_head.specs.Sums.{sum_of}
+use Rattle.lvm_head.specs.Texts.{byte_at}
+
+-- ---- a label
+
+-- the first sector has no partition table, and neither it nor sector 8 a superblock of an array
+pub record IsUndivided (sectors : Sectors) : Type 0 where
+  pub first : List ℕ
+  pub later : List ℕ
+  pub is_first : sectors 0 ≡ Ok first
+  pub is_later : sectors 8 ≡ Ok later
+  pub whole : is_partitioned first ≡ false
+  pub alone : is_member first ≡ false
+  pub alone_later : is_member later ≡ false
+
+-- the label is a sound one of the first four sectors, and none before it is taken for one
+pub record IsTheLabel (sectors : Sectors) (label : List ℕ) : Type 0 where
+  pub place : ℕ
+  pub inside : place < 4
+  pub read : sectors place ≡ Ok label
+  pub taken : is_taken place label ≡ true
+  pub sound : is_sound label ≡ true
+  pub first : (i : ℕ) → i < place → label_in i (sectors i) ≡ None
+
+-- ---- a text
 
 -- the first bytes of a function are these
 pub record HasBytes (byte : ℕ → Result ℕ HeadFault) (count : ℕ) (bytes : List ℕ) : Type 0 where
   pub len : length bytes ≡ count
   pub are : (i : ℕ) → i < count → byte i ≡ Ok (slice_index bytes i)
 
--- a text that can be read has its size, and each of its bytes where the ring has it; and what the ring has is read
-abbrev pub AreRingBytes : Type 0
-AreRingBytes = (byte : ℕ → Result ℕ HeadFault) (count : ℕ) (bytes : List ℕ) → (gathered byte count ≡ Ok bytes) ↔ HasBytes byte count bytes
+-- a text ends with a newline, or a NUL comes after it
+pub data IsEnded (text bytes : List ℕ) : Type 0 where
+  AtNul : bytes ≡ text ++ 0 ∷ [] → IsEnded text bytes
+  AtNewline : bytes ≡ text → (before : List ℕ) → text ≡ before ++ 10 ∷ [] → IsEnded text bytes
 
--- the label is a sound one of the first four sectors, and none before it is
-pub record IsTheLabel (sectors : Sectors) (label : List ℕ) : Type 0 where
-  pub place : ℕ
-  pub inside : place < 4
-  pub read : sectors place ≡ Ok label
-  pub sound : is_label place label ≡ true
-  pub first : (i : ℕ) → i < place → label_in i (sectors i) ≡ None
+-- a location spells a text: where the ring has it lie its bytes and what ends it, and they have its sum
+pub record SpellsText (sectors : Sectors) (start : ℕ) (location : Location) (text : List ℕ) : Type 0 where
+  pub some : is_none location ≡ false
+  pub within : is_within location ≡ true
+  pub short : location.size ≤ 1048576
+  pub bytes : List ℕ
+  pub has : HasBytes (λ i. byte_at sectors (ring_place start location i)) location.size bytes
+  pub sum : sum_of bytes ≡ location.sum
+  pub ends : IsEnded text bytes
 
-abbrev pub IsOneLabel : Type 0
-IsOneLabel = (sectors : Sectors) (label : List ℕ) → (label_of sectors ≡ Ok label) ↔ IsTheLabel sectors label
+-- an area spells a text, or none, which is []: it has a sound header
+pub record SpellsArea (sectors : Sectors) (text : List ℕ) (area : Area) : Type 0 where
+  pub header : List ℕ
+  pub near : is_near area ≡ true
+  pub begins : sectors (area.start / 512) ≡ Ok header
+  pub sound : is_header area header ≡ true
+  pub says : ((is_none (location_in header) ≡ true) × (text ≡ [])) ⊎ SpellsText sectors area.start (location_in header) text
+
+-- ---- a head
+
+-- a head spells an id and a text: its label has the id, each of its areas spells the text, or none, and one does if there is a text
+pub record SpellsHead (sectors : Sectors) (said : Said) : Type 0 where
+  pub undivided : IsUndivided sectors
+  pub label : List ℕ
+  pub is_label : IsTheLabel sectors label
+  pub id : said.id ≡ id_of label
+  pub areas : List Area
+  pub are_areas : areas_of label ≡ Ok areas
+  pub each : All (λ area. SpellsArea sectors [] area ⊎ SpellsArea sectors said.text area) areas
+  pub some : (said.text ≡ []) ⊎ Any (SpellsArea sectors said.text) areas
+
+-- what is spelled is read, and what is read is spelled
+abbrev pub ReadsBack : Type 0
+ReadsBack = (sectors : Sectors) (said : Said) → (head_of sectors ≡ Ok said) ↔ SpellsHead sectors said

@@ -7,5 +7,6 @@ pub mod Areas
 pub mod Texts
 pub mod Heads
 pub mod Laws
-pub mod Spelled
 pub mod Message
+pub mod Base
+pub mod Prelude

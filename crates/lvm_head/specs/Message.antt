@@ -1,20 +1,20 @@
 -- The message of a refused head.
-use Rattle.std.specs.Prelude.{ℕ, List, ◌++◌, codes}
-use Rattle.dm_table.specs.load.LoadMessage.{memory_message}
-use Rattle.lvm_head.specs.declared.fault.HeadFault.{HeadFault}
-use Rattle.lvm_head.specs.declared.fault.HeadFault.TheVariants.{Unread, Label, Header, Long, Text, Ends, Differ, Twice, Foreign, Memory}
+use Rattle.lvm_head.specs.Base.{ℕ, List, ◌++◌, codes, memory_message, HeadFault, Unread, Partitions, Array, Label, Header, Long, Text, Differ, Twice, Foreign, Missing, Ends, Memory}
 
 -- the word of a fault
 abbrev pub fault_word : HeadFault → List ℕ
 fault_word Unread = codes "read"
+fault_word Partitions = codes "partitions"
+fault_word Array = codes "array"
 fault_word Label = codes "label"
 fault_word Header = codes "header"
 fault_word Long = codes "long"
 fault_word Text = codes "text"
-fault_word Ends = codes "ends"
 fault_word Differ = codes "differ"
 fault_word Twice = codes "twice"
 fault_word Foreign = codes "foreign"
+fault_word Missing = codes "missing"
+fault_word Ends = codes "ends"
 fault_word Memory = codes "memory"
 
 -- the line that names the disk and the fault

@@ -1,5 +1,5 @@
 -- Numbers in a sector: the least significant byte is the first.
-use Rattle.std.specs.Prelude.{ℕ, List, drop}
+use Rattle.lvm_head.specs.Base.{ℕ, List, drop}
 use Rattle.byteorder.specs.Endian.{little_number}
 
 -- the number of the 4 bytes from here on

@@ -1,6 +1,5 @@
 -- The sums of labels, headers and texts (lvm2's calc_crc): CRC-32 with zlib's polynomial, bit by bit, the lowest first. The first sum is another, and the last one isn't inverted.
-use Rattle.std.specs.Prelude.{ℕ, ◌/◌, ◌%◌, ◌*◌, List, bit_xor}
-use Rattle.std.specs.List.{fold}
+use Rattle.lvm_head.specs.Base.{ℕ, ◌/◌, ◌%◌, ◌*◌, List, bit_xor, fold}
 
 -- one bit
 unfoldable pub sum_bit : (sum : ℕ) → ℕ

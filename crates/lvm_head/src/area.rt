@@ -1,11 +1,9 @@
 //! Metadata areas, and where their texts lie.
 
-ghost use Rattle.std.specs.Prelude.{◌≡◌, ◌+◌, ◌<◌, ◌≤◌, ◌/◌, ◌^◌, true, false, length};
-ghost use Rattle.lvm_head.specs.Areas.{is_header, is_near, is_none, is_within, location_in, ring_place};
-ghost use Rattle.lvm_head.specs.Numbers.{eight_at};
-ghost use Rattle.lvm_head.specs.declared.disks.TheConstants.{SECTOR};
+ghost use Rattle.lvm_head.specs.Prelude.{◌≡◌, ◌+◌, ◌<◌, ◌≤◌, ◌/◌, ◌^◌, ◌%◌, ℕ, true, false, length, is_header, is_near, is_none, is_within, location_in, ring_place, eight_at};
+ghost use Rattle.lvm_head.specs.declared.disks.TheConstants.{MOST_BYTES, SECTOR};
 
-use crate::disks::SECTOR;
+use crate::disks::{MOST_BYTES, SECTOR};
 use crate::numbers::{eight_at, four_at};
 use crate::sums::sum_of;
 
@@ -17,21 +15,14 @@ const MORE_MAGIC: u64 = 0x3E2A_4E30_7225_4135;
 /// The version that is read.
 const VERSION: u32 = 1;
 
-/// The last byte at which an area may begin, and the most bytes of one, and of a device.
-pub(crate) const MOST_BYTES: u64 = 0x200_0000_0000_0000;
+/// The last byte at which an area may begin, and the most bytes of one.
+const FARTHEST: u64 = 0x200_0000_0000_0000;
 
 /// An area: its first byte, and how many it has.
-#[derive(Clone, Copy, Debug, PartialEq, Eq, Drop)]
+#[derive(Clone, Copy, Debug, Default, PartialEq, Eq, Drop)]
 pub(crate) struct Area {
     pub start: u64,
     pub size: u64,
-}
-
-/// Which pairs of the lists in a header are metadata areas.
-#[derive(Clone, Copy, Debug, PartialEq, Eq, Drop)]
-pub(crate) struct AreaRange {
-    pub from: usize,
-    pub count: usize,
 }
 
 /// Where the header of an area says that its text is: so many bytes, from a byte of the area on, in a ring that ends
@@ -51,7 +42,7 @@ pub(crate) fn is_near(area: Area) -> bool
     ensures start { result ≡ true → area.start ≤ 2 ^ 57 }
     ensures size { result ≡ true → area.size ≤ 2 ^ 57 }
 {
-    area.start % 512 == 0 && area.start <= MOST_BYTES && area.size <= MOST_BYTES
+    area.start % 512 == 0 && area.start <= FARTHEST && area.size <= FARTHEST
 }
 
 /// Whether a sector is the sound header of an area.
@@ -84,10 +75,9 @@ pub(crate) fn location_in(sector: &[u8]) -> Location
 
 /// Whether there is no text: the area is to be ignored, or has none yet.
 pub(crate) fn is_none(location: Location) -> bool
-    ensures is { result ≡ is_none location }
-    ensures some { result ≡ false → 1 ≤ location.size }
+    ensures { result ≡ is_none location }
 {
-    location.flags % 2 == 1 || location.offset == 0 || location.size == 0
+    location.flags % 2 == 1 || location.offset == 0
 }
 
 /// Whether a text lies in its ring, after the header.
@@ -114,5 +104,27 @@ pub(crate) fn ring_place(start: u64, location: Location, number: u64) -> u64
         start + (location.offset + number)
     } else {
         start + (location.offset + number - location.ring + 512)
+    }
+}
+
+/// How many bytes of a text lie in a row from one on, before the ring's end, and in sectors that one read can give.
+pub(crate) fn row_len(start: u64, location: Location, number: u64) -> u64
+    requires start { start ≤ 2 ^ 58 }
+    requires ring { location.ring ≤ 2 ^ 58 }
+    requires within { is_within location ≡ true }
+    requires number { number < location.size }
+    ensures some { 0 < result }
+    ensures inside { number + result ≤ location.size }
+    ensures few { ring_place start location number % 512 + result ≤ MOST_BYTES }
+    ensures row { (i : ℕ) → i < result
+        → ring_place start location (number + i) ≡ ring_place start location number + i }
+{
+    let left = MOST_BYTES as u64 - ring_place(start, location, number) % 512;
+    let most = left.min(location.size - number);
+    let offset = location.offset + number;
+    if offset < location.ring {
+        most.min(location.ring - offset)
+    } else {
+        most
     }
 }

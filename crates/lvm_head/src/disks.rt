@@ -4,12 +4,15 @@
 //! read so far, and these are exactly the ones that agree with each read. If a disk gives other bytes for a sector
 //! than it gave before, none do.
 
-ghost use Rattle.std.specs.Prelude.{◌≡◌, ◌≤◌, ◌^◌, List, length};
+ghost use Rattle.lvm_head.specs.Base.{◌≡◌, ◌≤◌, ◌%◌, ◌^◌, List, length};
 ghost use Rattle.dm_table.specs.declared.tables.disk_path.DiskPath.{DiskPath};
-ghost use Rattle.lvm_head.specs.Disks.{Contents, answer};
+ghost use Rattle.lvm_head.specs.Disks.{AreRead, Contents, answer};
 
 /// The bytes of a sector.
 pub const SECTOR: usize = 512;
+
+/// The most bytes of one read.
+pub const MOST_BYTES: usize = 65_536;
 
 /// A sector that can't be read, or that comes after the end.
 #[derive(Clone, Copy, Debug, PartialEq, Eq, Drop)]
@@ -24,14 +27,33 @@ pub trait Disks {
     /// whoever makes disks promises that.
     ghost IsSeen: { Self → Contents → Type 0 };
 
-    /// Reads a sector of a disk. After a fault the slice may hold anything.
+    /// Reads whole sectors of a disk, from a sector of it on. After a fault the slice may hold anything.
     fn read(&mut self, disk: usize, sector: u64, into: &mut [u8]) -> Result<(), ReadFault>
-        requires len { length into.old ≡ SECTOR }
+        requires whole { length into.old % SECTOR ≡ 0 }
+        requires some { SECTOR ≤ length into.old }
+        requires few { length into.old ≤ MOST_BYTES }
         requires near { sector ≤ 2 ^ 50 }
         ensures listed { listed self.new ≡ listed self.old }
         ensures still { (held : Contents) → IsSeen self.new held → IsSeen self.old held }
         ensures is { (held : Contents) → IsSeen self.new held
-            → held disk sector ≡ answer result into.new }
+            → AreRead (held disk) sector result into.new }
         ensures seen { (held : Contents) → IsSeen self.old held
-            → held disk sector ≡ answer result into.new → IsSeen self.new held };
+            → AreRead (held disk) sector result into.new → IsSeen self.new held };
+}
+
+/// Reads one sector of a disk. After a fault the slice may hold anything.
+pub fn read_sector<D: Disks>(
+    disks: &mut D,
+    disk: usize,
+    sector: u64,
+    into: &mut [u8],
+) -> Result<(), ReadFault>
+    requires len { length into.old ≡ SECTOR }
+    requires near { sector ≤ 2 ^ 50 }
+    ensures listed { D.listed disks.new ≡ D.listed disks.old }
+    ensures still { (held : Contents) → D.IsSeen disks.new held → D.IsSeen disks.old held }
+    ensures is { (held : Contents) → D.IsSeen disks.new held
+        → held disk sector ≡ answer result into.new }
+{
+    disks.read(disk, sector, into)
 }

@@ -1,7 +1,6 @@
 //! Why a head is refused.
 
-ghost use Rattle.std.specs.Prelude.{◌≡◌};
-ghost use Rattle.lvm_head.specs.declared.fault.HeadFault.TheVariants.{Memory};
+ghost use Rattle.lvm_head.specs.Prelude.{◌≡◌, Memory};
 
 use std::alloc::{AllocError, AllocFailed};
 use thiserror::Error;
@@ -12,10 +11,17 @@ pub enum HeadFault {
     /// A sector of it can't be read.
     #[error("a sector that can't be read")]
     Unread,
-    /// None of the first four sectors is a sound label.
+    /// The first sector has a partition table, so the disk isn't a physical volume: partitions of it may be.
+    #[error("a partition table")]
+    Partitions,
+    /// The disk is a member of an array. A text may say so too, which is found where it is read.
+    #[error("a member of an array")]
+    Array,
+    /// None of the first four sectors is a label, or the first that is taken for one isn't sound.
     #[error("no label")]
     Label,
-    /// The lists in its header don't end, the header of an area isn't sound, or a text lies past its ring.
+    /// The lists in its header don't end, or list more than two metadata areas; the header of an area isn't sound, or
+    /// a text lies past its ring.
     #[error("a header that isn't sound")]
     Header,
     /// A text has more than 1,048,576 bytes.
@@ -24,9 +30,6 @@ pub enum HeadFault {
     /// A text has another sum, or another end.
     #[error("a text with another sum or end")]
     Text,
-    /// The device ends before its header says.
-    #[error("a device that ends before")]
-    Ends,
     /// Another area or an earlier disk has another text.
     #[error("another text than before")]
     Differ,
@@ -36,6 +39,12 @@ pub enum HeadFault {
     /// The text has no physical volume of its id. This is found where the text is read.
     #[error("an id that its text doesn't have")]
     Foreign,
+    /// Its text says that it was missing when the text was written. This is found where the text is read.
+    #[error("a disk that was missing")]
+    Missing,
+    /// It ends before its text says. This is found once the text is loaded.
+    #[error("a disk that ends before")]
+    Ends,
     /// An allocation was refused.
     #[error("out of memory")]
     Memory,

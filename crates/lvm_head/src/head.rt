@@ -1,15 +1,11 @@
 //! The head of one disk.
 
-ghost use Rattle.std.specs.Prelude.{◌≡◌, ◌+◌, ◌<◌, true};
-ghost use Rattle.lvm_head.specs.Disks.{Contents};
-ghost use Rattle.lvm_head.specs.Heads.{Returns, common_text, head_of, is_whole, same_text};
-ghost use Rattle.lvm_head.specs.Labels.{area_at, most_pairs};
-ghost use Rattle.lvm_head.specs.Texts.{area_text};
+ghost use Rattle.lvm_head.specs.Prelude.{◌≡◌, [], Contents, Returns, areas_text, head_of, same_text};
 
-use crate::area::{AreaRange, MOST_BYTES};
-use crate::disks::{Disks, SECTOR};
+use crate::area::Area;
+use crate::disks::Disks;
 use crate::fault::HeadFault;
-use crate::label::Label;
+use crate::label::{Label, areas_of, undivided};
 use crate::text::read_area;
 use std::alloc::Global;
 use std::marker::Model;
@@ -50,19 +46,16 @@ fn read_areas<D: Disks>(
     alloc: Global,
     disks: &mut D,
     disk: usize,
-    label: &Label,
-    areas: AreaRange,
+    areas: &[Area],
 ) -> Result<Vec<u8>, HeadFault>
-    requires inside { areas.from + areas.count < most_pairs label.now }
     ensures listed { D.listed disks.new ≡ D.listed disks.old }
     ensures still { (held : Contents) → D.IsSeen disks.new held → D.IsSeen disks.old held }
-    ensures is { (held : Contents) → D.IsSeen disks.new held → Returns (λ text. text.items) result
-        (common_text (λ i. area_text (held disk) (area_at label.now (areas.from + i))) areas.count) }
+    ensures is { (held : Contents) → D.IsSeen disks.new held
+        → Returns (λ text. text.items) result (areas_text (held disk) [] areas.now) }
 {
     let mut text = Vec::new(alloc);
-    for i in 0..areas.count {
-        let area = label.area_at(areas.from + i);
-        let next = match read_area(alloc, disks, disk, area) {
+    for area in areas {
+        let next = match read_area(alloc, disks, disk, *area) {
             Ok(next) => next,
             Err(fault) => return Err(fault),
         };
@@ -72,22 +65,6 @@ fn read_areas<D: Disks>(
         };
     }
     Ok(text)
-}
-
-/// Whether a disk has the last whole sector of so many bytes.
-fn is_whole<D: Disks>(disks: &mut D, disk: usize, bytes: u64) -> bool
-    ensures listed { D.listed disks.new ≡ D.listed disks.old }
-    ensures still { (held : Contents) → D.IsSeen disks.new held → D.IsSeen disks.old held }
-    ensures is { (held : Contents) → D.IsSeen disks.new held → result ≡ is_whole (held disk) bytes }
-{
-    if bytes < 512 || bytes > MOST_BYTES {
-        return false;
-    }
-    let mut sector = [0; SECTOR];
-    match disks.read(disk, bytes / 512 - 1, &mut sector) {
-        Ok(()) => true,
-        Err(_) => false,
-    }
 }
 
 /// Reads the head of a disk.
@@ -101,20 +78,22 @@ pub(crate) fn read_head<D: Disks>(
     ensures is { (held : Contents) → D.IsSeen disks.new held
         → Returns (λ head. head) result (head_of (held disk)) }
 {
+    if let Err(fault) = undivided(disks, disk) {
+        return Err(fault);
+    }
     let label = match Label::read(disks, disk) {
         Ok(label) => label,
         Err(fault) => return Err(fault),
     };
-    let Some(areas) = label.areas() else {
-        return Err(HeadFault::Header);
+    let pairs = label.pairs();
+    let areas = match areas_of(alloc, &pairs) {
+        Ok(areas) => areas,
+        Err(fault) => return Err(fault),
     };
-    let text = match read_areas(alloc, disks, disk, &label, areas) {
+    let text = match read_areas(alloc, disks, disk, areas) {
         Ok(text) => text,
         Err(fault) => return Err(fault),
     };
-    if !is_whole(disks, disk, label.device_bytes()) {
-        return Err(HeadFault::Ends);
-    }
     Ok(Head {
         id: label.id(),
         text,

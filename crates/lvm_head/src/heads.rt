@@ -1,11 +1,6 @@
 //! The heads of the disks of a group.
 
-ghost use Rattle.std.specs.Prelude.{◌≡◌, ◌≢◌, ◌<◌, Err, IfErr, IfOk, Ok};
-ghost use Rattle.std.specs.List.{list_any};
-ghost use Rattle.std.specs.Str.{bytes_eq};
-ghost use Rattle.lvm_head.specs.Disks.{Contents};
-ghost use Rattle.lvm_head.specs.Heads.{Returns, heads_of, joined};
-ghost use Rattle.lvm_head.specs.declared.fault.HeadFault.TheVariants.{Memory};
+ghost use Rattle.lvm_head.specs.Prelude.{◌≡◌, ◌≢◌, ◌<◌, Err, IfErr, IfOk, Ok, list_any, bytes_eq, Contents, Returns, heads_of, joined, Memory};
 
 use crate::disks::Disks;
 use crate::fault::{HeadFault, HeadRefusal};
@@ -37,7 +32,7 @@ fn has_id(ids: &[[u8; 32]], id: [u8; 32]) -> bool
 
 /// What heads say with one more.
 fn joined(heads: Heads, head: Head) -> Result<Heads, HeadFault>
-    ensures { Returns (λ heads. heads) result (joined heads (Ok head)) }
+    ensures { Returns (λ heads. heads) result (joined heads head) }
 {
     let Heads { mut ids, text } = heads;
     let Head { id, text: next } = head;
@@ -54,8 +49,8 @@ fn joined(heads: Heads, head: Head) -> Result<Heads, HeadFault>
 
 /// Reads the heads of the first disks, which are the physical volumes of one group.
 ///
-/// Label, header and areas of each are read, with all their sums, each text that is in force, and the device's last
-/// sector. All texts have to be the same.
+/// Label, header and areas of each are read, with all their sums, and each text that is in force. All texts have to
+/// be equal. A disk that has partitions, or is a member of an array, is refused.
 ///
 /// Cost: linear in the sectors of labels and texts, with a comparison of ids for each two disks. At most two texts
 /// are held at once, of at most 1 MiB each.

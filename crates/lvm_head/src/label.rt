@@ -1,16 +1,15 @@
 //! The label of a physical volume, and the header in its sector.
 
-ghost use Rattle.std.specs.Prelude.{◌≡◌, ◌+◌, ◌<◌, ◌≤◌, true, IfSome, length};
-ghost use Rattle.lvm_head.specs.Disks.{Contents};
-ghost use Rattle.lvm_head.specs.Heads.{Returns};
-ghost use Rattle.lvm_head.specs.Labels.{area_at, areas_of, device_bytes, header_at, id_of, is_label, label_of, list_len, most_pairs};
+ghost use Rattle.lvm_head.specs.Prelude.{◌≡◌, ◌+◌, ◌<◌, ◌≤◌, ◌==◌, ◌-◌, ◌/◌, true, IfOk, length, map, slice_split, Contents, Returns, area_at, areas_in, has_sectors, header_at, id_of, is_entry, is_member, is_partitioned, is_sound, is_taken, label_of, pairs_of, undivided};
 ghost use Rattle.lvm_head.specs.declared.disks.TheConstants.{SECTOR};
 
-use crate::area::{Area, AreaRange};
-use crate::disks::{Disks, ReadFault, SECTOR};
+use crate::area::Area;
+use crate::disks::{Disks, ReadFault, SECTOR, read_sector};
 use crate::fault::HeadFault;
 use crate::numbers::{eight_at, four_at};
 use crate::sums::sum_of;
+use arrayvec::ArrayVec;
+use std::alloc::{AllocError, Global};
 use std::marker::Model;
 
 /// `LABELONE`.
@@ -19,6 +18,79 @@ const LABEL: u64 = 0x454E_4F4C_4542_414C;
 /// `LVM2 001`.
 const KIND: u64 = 0x3130_3020_324D_564C;
 
+/// The magic number of a member of an array (md).
+const MEMBER: u32 = 0xA92B_4EFC;
+
+/// The pairs that a header has room for.
+const MOST_PAIRS: usize = 27;
+
+/// The most metadata areas: lvm2 makes one or two.
+const MOST_AREAS: usize = 2;
+
+/// Whether a partition of a table in a sector has sectors.
+fn has_sectors(sector: &[u8], at: usize) -> bool
+    requires { at + 16 ≤ length sector.now }
+    ensures { result ≡ has_sectors sector.now at }
+{
+    four_at(sector, at + 12) != 0
+}
+
+/// Whether a partition of a table in a sector begins as one does.
+fn is_entry(sector: &[u8], at: usize) -> bool
+    requires { at < length sector.now }
+    ensures { result ≡ is_entry sector.now at }
+{
+    sector[at] % 128 == 0
+}
+
+/// Whether the first sector has a partition table.
+fn is_partitioned(sector: &[u8]) -> bool
+    requires { length sector.now ≡ SECTOR }
+    ensures { result ≡ is_partitioned sector.now }
+{
+    sector[510] == 0x55
+        && sector[511] == 0xAA
+        && is_entry(sector, 446)
+        && is_entry(sector, 462)
+        && is_entry(sector, 478)
+        && is_entry(sector, 494)
+        && (has_sectors(sector, 446)
+            || has_sectors(sector, 462)
+            || has_sectors(sector, 478)
+            || has_sectors(sector, 494))
+}
+
+/// Whether a sector begins as the superblock of an array does.
+fn is_member(sector: &[u8]) -> bool
+    requires { length sector.now ≡ SECTOR }
+    ensures { result ≡ is_member sector.now }
+{
+    four_at(sector, 0) == MEMBER
+}
+
+/// Refuses a disk that is divided into partitions, or a member of an array.
+pub(crate) fn undivided<D: Disks>(disks: &mut D, disk: usize) -> Result<(), HeadFault>
+    ensures listed { D.listed disks.new ≡ D.listed disks.old }
+    ensures still { (held : Contents) → D.IsSeen disks.new held → D.IsSeen disks.old held }
+    ensures is { (held : Contents) → D.IsSeen disks.new held → Returns (λ done. done) result (undivided (held disk)) }
+{
+    let mut first = [0; SECTOR];
+    if let Err(ReadFault) = read_sector(disks, disk, 0, &mut first) {
+        return Err(HeadFault::Unread);
+    }
+    if is_partitioned(&first) {
+        return Err(HeadFault::Partitions);
+    }
+    let mut later = [0; SECTOR];
+    if let Err(ReadFault) = read_sector(disks, disk, 8, &mut later) {
+        return Err(HeadFault::Unread);
+    }
+    if is_member(&first) || is_member(&later) {
+        return Err(HeadFault::Array);
+    }
+    Ok(())
+}
+
 /// The sector of a sound label. A clause sees its bytes.
 #[derive(Debug, Drop)]
 pub(crate) struct Label {
@@ -26,18 +98,18 @@ pub(crate) struct Label {
 }
 
 impl Model for Label {
-    ghost use Rattle.std.specs.Prelude.{◌≤◌, ℕ, List};
+    ghost use Rattle.lvm_head.specs.Base.{◌≤◌, ℕ, List};
     ghost use Rattle.lvm_head.specs.Labels.{header_at};
 
     ghost Value = { List ℕ };
 
     ghost view = { λ label. label.sector };
 
-    ghost invariant = { λ label. header_at label.sector ≤ 472 };
+    ghost invariant = { λ label. (32 ≤ header_at label.sector) × (header_at label.sector ≤ 472) };
 }
 
 impl Label {
-    /// Reads the label of a disk: the first of the first four sectors that is one.
+    /// Reads the label of a disk: the first of the first four sectors that is taken for one.
     pub(crate) fn read<D: Disks>(disks: &mut D, disk: usize) -> Result<Label, HeadFault>
         ensures listed { D.listed disks.new ≡ D.listed disks.old }
         ensures still { (held : Contents) → D.IsSeen disks.new held → D.IsSeen disks.old held }
@@ -46,12 +118,15 @@ impl Label {
     {
         let mut sector = [0; SECTOR];
         for place in 0..4 {
-            match disks.read(disk, place, &mut sector) {
+            match read_sector(disks, disk, place, &mut sector) {
                 Ok(()) => {}
                 Err(ReadFault) => return Err(HeadFault::Unread),
             }
-            if is_label(&sector, place) {
-                return Ok(Label { sector });
+            if is_taken(&sector, place) {
+                if is_sound(&sector) {
+                    return Ok(Label { sector });
+                }
+                return Err(HeadFault::Label);
             }
         }
         Err(HeadFault::Label)
@@ -60,6 +135,7 @@ impl Label {
     /// Where the header begins.
     fn header_at(&self) -> usize
         ensures is { result ≡ header_at self.now }
+        ensures after { 32 ≤ result }
         ensures near { result ≤ 472 }
     {
         four_at(&self.sector, 20) as usize
@@ -75,23 +151,9 @@ impl Label {
         id
     }
 
-    /// How many bytes the device has.
-    pub(crate) fn device_bytes(&self) -> u64
-        ensures { result ≡ device_bytes self.now }
-    {
-        eight_at(&self.sector, self.header_at() + 32)
-    }
-
-    /// How many pairs the lists can have, up to the end of the sector.
-    fn most_pairs(&self) -> usize
-        ensures { result ≡ most_pairs self.now }
-    {
-        (472 - self.header_at()) / 16
-    }
-
-    /// The pair of a number in the lists.
-    pub(crate) fn area_at(&self, number: usize) -> Area
-        requires { number < most_pairs self.now }
+    /// The pair of a number.
+    fn area_at(&self, number: usize) -> Area
+        requires { number < (472 - header_at self.now) / 16 }
         ensures { result ≡ area_at self.now number }
     {
         let at = self.header_at();
@@ -101,45 +163,53 @@ impl Label {
         }
     }
 
-    /// How many areas the list has that begins with a pair, if it ends in the sector.
-    fn list_len(&self, from: usize) -> Option<usize>
-        requires { from ≤ most_pairs self.now }
-        ensures is { result ≡ list_len self.now from }
-        ensures inside { IfSome result (λ count. from + count < most_pairs self.now) }
+    /// All pairs up to the end of the sector.
+    pub(crate) fn pairs(&self) -> ArrayVec<Area, MOST_PAIRS>
+        ensures { result.items ≡ pairs_of self.now }
     {
-        for number in 0..self.most_pairs() - from {
-            if self.area_at(from + number).start == 0 {
-                return Some(number);
-            }
+        let mut pairs = ArrayVec::new();
+        for number in 0..(472 - self.header_at()) / 16 {
+            pairs.push(self.area_at(number));
         }
-        None
-    }
-
-    /// Which pairs are the metadata areas, if both lists end in the sector.
-    pub(crate) fn areas(&self) -> Option<AreaRange>
-        ensures is { result ≡ areas_of self.now }
-        ensures inside { IfSome result (λ areas. areas.from + areas.count < most_pairs self.now) }
-    {
-        let data_len = self.list_len(0)?;
-        let count = self.list_len(data_len + 1)?;
-        Some(AreaRange {
-            from: data_len + 1,
-            count,
-        })
+        pairs
     }
 }
 
-/// Whether a sector is a sound label.
-fn is_label(sector: &[u8], place: u64) -> bool
+/// The metadata areas among the pairs of a header.
+pub(crate) fn areas_of(alloc: Global, pairs: &[Area]) -> Result<&[Area], HeadFault>
+    ensures { Returns (λ areas. areas.now) result (areas_in (slice_split (λ area. area.start == 0) pairs.now)) }
+{
+    let lists = lists_of(alloc, pairs)?;
+    match lists.as_slice() {
+        [_, areas, _, ..] if areas.len() <= MOST_AREAS => Ok(*areas),
+        _ => Err(HeadFault::Header),
+    }
+}
+
+/// The lists that pairs form: a pair that begins at 0 ends one.
+fn lists_of(alloc: Global, pairs: &[Area]) -> Result<Vec<&[Area]>, AllocError>
+    ensures { IfOk result (λ lists. map (λ list. list.now) lists.items ≡ slice_split (λ area. area.start == 0) pairs.now) }
+{
+    pairs.split(|area| area.start == 0).collect(alloc)
+}
+
+/// Whether lvm2 takes a sector for a label.
+fn is_taken(sector: &[u8], place: u64) -> bool
     requires { length sector.now ≡ SECTOR }
-    ensures is { result ≡ is_label place sector.now }
+    ensures { result ≡ is_taken place sector.now }
+{
+    eight_at(sector, 24) == KIND
+        && (eight_at(sector, 0) != LABEL
+            || (eight_at(sector, 8) == place && four_at(sector, 16) == sum_of(&sector[20..512])))
+}
+
+/// Whether a sector that is taken for a label is sound.
+fn is_sound(sector: &[u8]) -> bool
+    requires { length sector.now ≡ SECTOR }
+    ensures is { result ≡ is_sound sector.now }
+    ensures after { result ≡ true → 32 ≤ header_at sector.now }
     ensures near { result ≡ true → header_at sector.now ≤ 472 }
 {
     let at = four_at(sector, 20);
-    eight_at(sector, 0) == LABEL
-        && eight_at(sector, 8) == place
-        && four_at(sector, 16) == sum_of(&sector[20..512])
-        && 32 <= at
-        && at <= 472
-        && eight_at(sector, 24) == KIND
+    eight_at(sector, 0) == LABEL && 32 <= at && at <= 472
 }

@@ -1,19 +1,8 @@
-//! Laws of what heads say. They do nothing: their contracts are the laws.
+//! The law of what heads say. It does nothing: its contract is the law.
 
-ghost use Rattle.lvm_head.specs.Laws.{AreRingBytes, IsOneLabel};
-ghost use Rattle.lvm_head.specs.Spelled.{ReadsBack};
+ghost use Rattle.lvm_head.specs.Prelude.{ReadsBack};
 
-/// A text that is read has its size, and the bytes that lie in its ring.
-pub fn ring_bytes_are_read()
-    ensures { AreRingBytes }
-{}
-
-/// At most one label is taken: the first.
-pub fn first_label_is_taken()
-    ensures { IsOneLabel }
-{}
-
-/// What a head spells is read.
-pub fn spelled_heads_are_read()
+/// What a head spells is read, and what is read is spelled.
+pub fn heads_read_back()
     ensures { ReadsBack }
 {}

@@ -19,9 +19,9 @@ mod sums;
 mod tests;
 mod text;
 
-pub use disks::{Disks, ReadFault, SECTOR};
+pub use disks::{Disks, MOST_BYTES, ReadFault, SECTOR, read_sector};
 pub use fault::{HeadFault, HeadRefusal};
 pub use heads::{Heads, read_heads};
-pub use laws::{first_label_is_taken, ring_bytes_are_read, spelled_heads_are_read};
+pub use laws::heads_read_back;
 pub use message::HeadMessage;
 pub use sums::sum_of;

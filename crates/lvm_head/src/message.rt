@@ -2,32 +2,34 @@
 //!
 //! The words are fixed by `specs/Message.antt`, since users match on them.
 
-ghost use Rattle.std.specs.Prelude.{◌≡◌, ◌≤◌, length};
-ghost use Rattle.lvm_head.specs.Message.{fault_word, head_message};
+ghost use Rattle.lvm_head.specs.Prelude.{◌≡◌, ◌≤◌, length, fault_word, head_message};
 
 use crate::fault::HeadFault;
 use arrayvec::ArrayVec;
 use dm_table::{DiskName, append, memory_message};
 
-/// The message of a refused head, which has at most 279 bytes with its newline.
-pub type HeadMessage = ArrayVec<u8, 279>;
+/// The message of a refused head, which has at most 282 bytes with its newline.
+pub type HeadMessage = ArrayVec<u8, 282>;
 
 impl HeadFault {
     /// The word that messages have for it.
     fn word(self) -> &'static str
         ensures word { result.now ≡ fault_word self }
-        ensures short { length result.now ≤ 7 }
+        ensures short { length result.now ≤ 10 }
     {
         match self {
             HeadFault::Unread => "read",
+            HeadFault::Partitions => "partitions",
+            HeadFault::Array => "array",
             HeadFault::Label => "label",
             HeadFault::Header => "header",
             HeadFault::Long => "long",
             HeadFault::Text => "text",
-            HeadFault::Ends => "ends",
             HeadFault::Differ => "differ",
             HeadFault::Twice => "twice",
             HeadFault::Foreign => "foreign",
+            HeadFault::Missing => "missing",
+            HeadFault::Ends => "ends",
             HeadFault::Memory => "memory",
         }
     }

@@ -1,7 +1,6 @@
 //! Numbers in a sector, the least significant byte first.
 
-ghost use Rattle.std.specs.Prelude.{◌≡◌, ◌+◌, ◌≤◌, length};
-ghost use Rattle.lvm_head.specs.Numbers.{eight_at, four_at};
+ghost use Rattle.lvm_head.specs.Prelude.{◌≡◌, ◌+◌, ◌≤◌, length, eight_at, four_at};
 
 use byteorder::{ByteOrder, LittleEndian};
 

@@ -1,6 +1,6 @@
 //! Heads in memory, and what is read of them.
 
-ghost use Rattle.std.specs.Prelude.{◌≡◌, [], ℕ, ◌+◌, ◌*◌, ◌==◌, ◌&&◌, Err, Ok, if◌then◌else◌, length, nat_le, nat_lt, not, slice_range};
+ghost use Rattle.lvm_head.specs.Prelude.{◌≡◌, [], ℕ, ◌+◌, ◌*◌, ◌==◌, ◌&&◌, Err, Ok, if◌then◌else◌, length, nat_le, nat_lt, not, slice_range};
 
 use super::*;
 use dm_table::DiskName;
@@ -10,7 +10,8 @@ use std::process::Abort;
 /// The sectors of a disk.
 const SECTORS: usize = 16;
 
-/// Disks in memory, one after the other, of which the last may end anywhere. One sector of all can't be read.
+/// Disks in memory, one after the other, of which the last may end anywhere. One sector of all can't be read, and each is
+/// read alone: more of them at once fail, as they may.
 #[derive(Drop)]
 struct MemoryDisks<'a> {
     bytes: &'a [u8],
@@ -28,7 +29,7 @@ impl Disks for MemoryDisks<'_> {
 
     fn read(&mut self, disk: usize, sector: u64, into: &mut [u8]) -> Result<(), ReadFault> {
         let all = self.bytes.len() / SECTOR;
-        if sector >= SECTORS as u64 || disk > all / SECTORS {
+        if into.len() != SECTOR || sector >= SECTORS as u64 || disk > all / SECTORS {
             return Err(ReadFault);
         }
         let at = SECTORS * disk + sector as usize;
@@ -48,19 +49,24 @@ type Change = (usize, usize, u64);
 type Row = (usize, usize, [&'static str; 2], &'static [Change]);
 
 /// Where its two areas begin.
-const AREAS: [usize; 2] = [2048, 4096];
+const AREAS: [usize; 2] = [2048, 4608];
 
 /// The bytes of an area.
 const AREA: usize = 2048;
 
+/// `LABELONE`.
+const NAME: u64 = 0x454E_4F4C_4542_414C;
+
+/// `LVM2 001`.
+const KIND: u64 = 0x3130_3020_324D_564C;
+
 /// The numbers of a label and of its header, from the beginning of its sector on.
-const LABEL: [Change; 10] = [
-    (0, 8, 0x454E_4F4C_4542_414C),
+const LABEL: [Change; 9] = [
+    (0, 8, NAME),
     (20, 4, 32),
-    (24, 8, 0x3130_3020_324D_564C),
+    (24, 8, KIND),
     (32, 8, 0x3742_6141_3642_6141),
     (40, 8, 0x3742_6141_3642_6141),
-    (64, 8, 8192),
     (72, 8, 6144),
     (80, 8, 2048),
     (104, 8, 2048),
@@ -172,7 +178,7 @@ fn compare(
 const TEXTS: [&str; 2] = ["ab\n\0", "ab\n\0"];
 
 /// Single disks, and the text or the fault of each.
-static ROWS: [(Row, Result<&str, HeadFault>); 44] = [
+static ROWS: [(Row, Result<&str, HeadFault>); 51] = [
     ((1, 512, TEXTS, &[]), Ok("ab\n")),
     // The label: its sector, its words, and where its header begins.
     ((0, 512, TEXTS, &[]), Ok("ab\n")),
@@ -183,6 +189,41 @@ static ROWS: [(Row, Result<&str, HeadFault>); 44] = [
     ((1, 512, TEXTS, &[(532, 4, 31)]), Err(HeadFault::Label)),
     ((1, 512, TEXTS, &[(532, 4, 473)]), Err(HeadFault::Label)),
     ((1, 512, TEXTS, &[(543, 1, 0x32)]), Err(HeadFault::Label)),
+    // What lvm2 takes for a label, though it isn't one: `LVM2 001` alone. With `LABELONE` the sum has to be right.
+    ((1, 512, TEXTS, &[(24, 8, KIND)]), Err(HeadFault::Label)),
+    ((1, 512, TEXTS, &[(0, 8, NAME), (24, 8, KIND)]), Ok("ab\n")),
+    // A partition table, and three that are none: without sectors, with another first byte, and without 55 AA.
+    (
+        (1, 512, TEXTS, &[(458, 4, 1), (510, 2, 0xAA55)]),
+        Err(HeadFault::Partitions),
+    ),
+    (
+        (
+            1,
+            512,
+            TEXTS,
+            &[(494, 1, 0x80), (506, 4, 256), (510, 2, 0xAA55)],
+        ),
+        Err(HeadFault::Partitions),
+    ),
+    ((1, 512, TEXTS, &[(510, 2, 0xAA55)]), Ok("ab\n")),
+    (
+        (1, 512, TEXTS, &[(458, 4, 1), (494, 1, 1), (510, 2, 0xAA55)]),
+        Ok("ab\n"),
+    ),
+    (
+        (1, 512, TEXTS, &[(458, 4, 1), (510, 2, 0xAB55)]),
+        Ok("ab\n"),
+    ),
+    // The superblock of an array, in sector 0 or 8.
+    (
+        (1, 512, TEXTS, &[(0, 4, 0xA92B_4EFC)]),
+        Err(HeadFault::Array),
+    ),
+    (
+        (1, 512, TEXTS, &[(4096, 4, 0xA92B_4EFC)]),
+        Err(HeadFault::Array),
+    ),
     // The lists: no pair, both empty in the last two pairs, and the second without an end.
     ((1, 512, TEXTS, &[(532, 4, 472)]), Err(HeadFault::Header)),
     ((1, 512, TEXTS, &[(532, 4, 440), (984, 8, 8192)]), Ok("")),
@@ -192,6 +233,20 @@ static ROWS: [(Row, Result<&str, HeadFault>); 44] = [
             512,
             TEXTS,
             &[(532, 4, 440), (984, 8, 8192), (1008, 8, 1)],
+        ),
+        Err(HeadFault::Header),
+    ),
+    (
+        (
+            1,
+            512,
+            TEXTS,
+            &[
+                (632, 8, 4608),
+                (640, 8, 2048),
+                (648, 8, 2048),
+                (656, 8, 2048),
+            ],
         ),
         Err(HeadFault::Header),
     ),
@@ -213,7 +268,7 @@ static ROWS: [(Row, Result<&str, HeadFault>); 44] = [
     ((1, 512, TEXTS, &[(2080, 8, 2049)]), Err(HeadFault::Header)),
     // Where the text is: nowhere, at the ring's edges, too long, and around the ring.
     ((1, 512, TEXTS, &[(2088, 8, 0)]), Ok("")),
-    ((1, 512, TEXTS, &[(2096, 8, 0)]), Ok("")),
+    ((1, 512, TEXTS, &[(2096, 8, 0)]), Err(HeadFault::Text)),
     ((1, 512, TEXTS, &[(2108, 4, 1)]), Ok("")),
     ((1, 512, TEXTS, &[(2108, 4, 2)]), Ok("ab\n")),
     ((1, 512, TEXTS, &[(2088, 8, 511)]), Err(HeadFault::Header)),
@@ -245,13 +300,9 @@ static ROWS: [(Row, Result<&str, HeadFault>); 44] = [
     ((1, 512, ["ab\r", ""], &[]), Err(HeadFault::Text)),
     ((1, 512, ["ab\n", ""], &[]), Ok("ab\n")),
     ((1, 512, ["ab\0", ""], &[]), Ok("ab")),
-    // The end of the device.
-    ((1, 512, TEXTS, &[(576, 8, 511)]), Err(HeadFault::Ends)),
-    ((1, 512, TEXTS, &[(576, 8, 8703)]), Ok("ab\n")),
-    ((1, 512, TEXTS, &[(576, 8, 8704)]), Err(HeadFault::Ends)),
     // Two areas.
     (
-        (1, 512, TEXTS, &[(632, 8, 4096), (640, 8, 2048)]),
+        (1, 512, TEXTS, &[(632, 8, 4608), (640, 8, 2048)]),
         Ok("ab\n"),
     ),
     (
@@ -259,7 +310,7 @@ static ROWS: [(Row, Result<&str, HeadFault>); 44] = [
             1,
             512,
             ["ab\n\0", "ac\n\0"],
-            &[(632, 8, 4096), (640, 8, 2048)],
+            &[(632, 8, 4608), (640, 8, 2048)],
         ),
         Err(HeadFault::Differ),
     ),
@@ -268,7 +319,7 @@ static ROWS: [(Row, Result<&str, HeadFault>); 44] = [
             1,
             512,
             ["ab\n\0", "ac\n\0"],
-            &[(632, 8, 4096), (640, 8, 2048), (4156, 4, 1)],
+            &[(632, 8, 4608), (640, 8, 2048), (4668, 4, 1)],
         ),
         Ok("ab\n"),
     ),
@@ -277,7 +328,7 @@ static ROWS: [(Row, Result<&str, HeadFault>); 44] = [
             1,
             512,
             ["ab\n\0", "ac\n\0"],
-            &[(632, 8, 4096), (640, 8, 2048), (2108, 4, 1)],
+            &[(632, 8, 4608), (640, 8, 2048), (2108, 4, 1)],
         ),
         Ok("ac\n"),
     ),
@@ -301,7 +352,7 @@ static BAD: [(usize, Result<&str, HeadFault>); 6] = [
     (2, Ok("ab\n")),
     (4, Err(HeadFault::Unread)),
     (5, Err(HeadFault::Unread)),
-    (15, Err(HeadFault::Ends)),
+    (8, Err(HeadFault::Unread)),
 ];
 
 #[test]

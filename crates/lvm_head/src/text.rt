@@ -1,16 +1,12 @@
 //! The text of a metadata area that is in force.
 
-ghost use Rattle.std.specs.Prelude.{◌≡◌, ◌<◌, ◌≤◌, ◌^◌, true, Ok, IfOk, IfSome, length};
-ghost use Rattle.lvm_head.specs.Areas.{is_within};
-ghost use Rattle.lvm_head.specs.Disks.{Contents, answer};
-ghost use Rattle.lvm_head.specs.Heads.{Returns};
-ghost use Rattle.lvm_head.specs.Texts.{area_text, ended, ring_bytes, text_at};
-ghost use Rattle.lvm_head.specs.declared.disks.TheConstants.{SECTOR};
+ghost use Rattle.lvm_head.specs.Prelude.{◌≡◌, ◌+◌, ◌/◌, ◌%◌, ◌<◌, ◌≤◌, ◌^◌, ℕ, Err, Ok, true, IfErr, IfOk, OnOk, length, slice_index, is_within, Contents, sector_in, Returns, area_text, byte_at, ended, ring_bytes, text_at};
+ghost use Rattle.lvm_head.specs.declared.disks.TheConstants.{MOST_BYTES};
 
 use crate::area::{
-    Area, Location, is_header, is_near, is_none, is_within, location_in, ring_place,
+    Area, Location, is_header, is_near, is_none, is_within, location_in, ring_place, row_len,
 };
-use crate::disks::{Disks, ReadFault, SECTOR};
+use crate::disks::{Disks, MOST_BYTES, ReadFault, SECTOR, read_sector};
 use crate::fault::HeadFault;
 use crate::sums::sum_of;
 use std::alloc::Global;
@@ -18,26 +14,59 @@ use std::alloc::Global;
 /// The most bytes of a text.
 const MOST_TEXT: u64 = 1_048_576;
 
-/// Reads a sector of a disk, unless the block has it.
-fn reach<D: Disks>(
+/// Reads sectors that lie in a row on a disk to the front of a block.
+fn read_sectors<D: Disks>(
     disks: &mut D,
     disk: usize,
-    sector: u64,
-    loaded: Option<u64>,
+    start: u64,
+    count: u64,
     block: &mut [u8],
 ) -> Result<(), ReadFault>
-    requires len { length block.old ≡ SECTOR }
-    requires near { sector ≤ 2 ^ 50 }
+    requires some { 1 ≤ count }
+    requires few { count ≤ 128 }
+    requires near { start ≤ 2 ^ 50 }
+    requires block { length block.old ≡ MOST_BYTES }
     ensures listed { D.listed disks.new ≡ D.listed disks.old }
     ensures still { (held : Contents) → D.IsSeen disks.new held → D.IsSeen disks.old held }
-    ensures is { (held : Contents) → D.IsSeen disks.new held
-        → IfSome loaded (λ before. held disk before ≡ Ok block.old)
-        → held disk sector ≡ answer result block.new }
+    ensures sectors { (held : Contents) → D.IsSeen disks.new held → OnOk result ((i : ℕ) → i < count
+        → held disk (start + i) ≡ Ok (sector_in block.new i)) }
+    ensures fault { (held : Contents) → D.IsSeen disks.new held
+        → IfErr result (λ fault. count ≡ 1 → held disk start ≡ Err fault) }
 {
-    if loaded == Some(sector) {
-        return Ok(());
+    let len = SECTOR * count as usize;
+    disks.read(disk, start, &mut block[..len])
+}
+
+/// Reads bytes that lie in a row on a disk, from a place on, and says how many: all, or where that fails those of the
+/// first sector. In the block they have the places that they have in their sectors.
+fn read_row<D: Disks>(
+    disks: &mut D,
+    disk: usize,
+    place: u64,
+    len: u64,
+    block: &mut [u8],
+) -> Result<u64, HeadFault>
+    requires some { 0 < len }
+    requires few { place % 512 + len ≤ MOST_BYTES }
+    requires near { place / 512 ≤ 2 ^ 50 }
+    requires block { length block.old ≡ MOST_BYTES }
+    ensures listed { D.listed disks.new ≡ D.listed disks.old }
+    ensures still { (held : Contents) → D.IsSeen disks.new held → D.IsSeen disks.old held }
+    ensures some { IfOk result (λ read. 0 < read) }
+    ensures inside { IfOk result (λ read. read ≤ len) }
+    ensures bytes { (held : Contents) → D.IsSeen disks.new held → IfOk result (λ read. (i : ℕ) → i < read
+        → byte_at (held disk) (place + i) ≡ Ok (slice_index block.new (place % 512 + i))) }
+    ensures fault { (held : Contents) → D.IsSeen disks.new held
+        → IfErr result (λ fault. byte_at (held disk) place ≡ Err fault) }
+{
+    let sectors = (place % 512 + len + 511) / 512;
+    match read_sectors(disks, disk, place / 512, sectors, block) {
+        Ok(()) => Ok(len),
+        Err(ReadFault) => match read_sectors(disks, disk, place / 512, 1, block) {
+            Ok(()) => Ok(len.min(512 - place % 512)),
+            Err(ReadFault) => Err(HeadFault::Unread),
+        },
     }
-    disks.read(disk, sector, block)
 }
 
 /// Reads the bytes of a text.
@@ -58,16 +87,19 @@ fn read_ring<D: Disks>(
         → Returns (λ bytes. bytes.items) result (ring_bytes (held disk) start location location.size) }
     ensures len { IfOk result (λ bytes. length bytes.items ≡ location.size) }
 {
-    let mut block = [0; SECTOR];
-    let mut loaded = None;
+    let mut block = [0; MOST_BYTES];
     let mut bytes = Vec::with_capacity(alloc, location.size as usize)?;
-    for number in 0..location.size {
+    let mut number = 0;
+    while number < location.size {
         let place = ring_place(start, location, number);
-        if let Err(ReadFault) = reach(disks, disk, place / 512, loaded, &mut block) {
-            return Err(HeadFault::Unread);
-        }
-        loaded = Some(place / 512);
-        bytes.push(block[(place % 512) as usize])?;
+        let len = row_len(start, location, number);
+        let read = match read_row(disks, disk, place, len, &mut block) {
+            Ok(read) => read,
+            Err(fault) => return Err(fault),
+        };
+        let at = (place % 512) as usize;
+        bytes.extend_from_slice(&block[at..at + read as usize])?;
+        number += read;
     }
     Ok(bytes)
 }
@@ -111,6 +143,9 @@ fn read_text<D: Disks>(
     if location.size > MOST_TEXT {
         return Err(HeadFault::Long);
     }
+    if location.size == 0 {
+        return Err(HeadFault::Text);
+    }
     match read_ring(alloc, disks, disk, start, location) {
         Ok(bytes) => {
             if sum_of(&bytes) != location.sum {
@@ -138,7 +173,7 @@ pub(crate) fn read_area<D: Disks>(
         return Err(HeadFault::Header);
     }
     let mut sector = [0; SECTOR];
-    if let Err(ReadFault) = disks.read(disk, area.start / 512, &mut sector) {
+    if let Err(ReadFault) = read_sector(disks, disk, area.start / 512, &mut sector) {
         return Err(HeadFault::Unread);
     }
     if !is_header(&sector, area) {

@@ -1,14 +1,5 @@
 -- The parser's stages say which tokens can still become a text.
-use Rattle.std.proofs.Common.{◌≡◌, ◌≢◌, ℕ, zero, suc, ◌-◌, ◌≤◌, Bool, true, false, cond, nat_lt, List, [], ◌∷◌, ◌++◌, Option, Some, None, refl, sym, ap, ◌∙◌, arith}
-use Rattle.std.specs.Prelude.{is_some, option_and_then}
-use Rattle.std.proofs.lemmas.Bool.{lt-ltb, eqb-true, eq-eqb}
-use Rattle.std.proofs.lemmas.Option.{some_pair_parts}
-use Rattle.std.specs.Prelude.{MatchOption}
-use Rattle.lvm_text.specs.Token.{Token, Word, Text, Open, Close, ListOpen, ListClose, Equals, Comma, TokenAtLine}
-use Rattle.lvm_text.specs.Tree.{Scalar, Values, Nothing, Section, Single, Several}
-use Rattle.lvm_text.specs.Grammar.{scalar_of, is_key, ReadsMore, ReadsList, Reads, IsText, BeginsText, IsBreak, IsUnfinished}
-use Rattle.lvm_text.specs.Machine.{State, scalar_then, step, run, is_over}
-use Rattle.lvm_text.specs.declared.syntax.Stage.{Stage}
+use Rattle.lvm_text.proofs.Prelude.{◌≡◌, ◌≢◌, ℕ, zero, suc, ◌-◌, ◌≤◌, Bool, true, false, cond, nat_lt, List, [], ◌∷◌, ◌++◌, Option, Some, None, refl, sym, ap, ◌∙◌, arith, is_some, option_and_then, lt-ltb, eqb-true, eq-eqb, some_pair_parts, MatchOption, Token, Word, Open, Close, ListOpen, ListClose, Equals, Comma, TokenAtLine, Scalar, Values, Nothing, Section, Single, Several, scalar_of, is_key, ReadsMore, ReadsList, Reads, IsText, BeginsText, IsBreak, IsUnfinished, State, scalar_then, stage_after, run, is_over, Stage, Text}
 use Rattle.lvm_text.specs.declared.syntax.Stage.TheVariants as at
 
 -- Runs
@@ -19,7 +10,7 @@ chain (Some s) f g h e = e s
 
 pub run-append : (d : ℕ) (p : Stage) (a b : List TokenAtLine) → run d p (a ++ b) ≡ option_and_then (λ s. run s.0 s.1 b) (run d p a)
 run-append d p [] b = refl
-run-append d p (t ∷ a) b = chain (step d p t.0) (λ s. run s.0 s.1 a) (λ s. run s.0 s.1 b) (λ s. run s.0 s.1 (a ++ b)) (λ s. run-append s.0 s.1 a b)
+run-append d p (t ∷ a) b = chain (stage_after d p t.0) (λ s. run s.0 s.1 a) (λ s. run s.0 s.1 b) (λ s. run s.0 s.1 (a ++ b)) (λ s. run-append s.0 s.1 a b)
 
 abbrev pub done : State
 done = (0, at.Key)
@@ -30,18 +21,18 @@ scalar_next : (t : Token) (s : Scalar) (next : State) → scalar_of t ≡ Some s
 scalar_next t s next e = rw e
 
 -- a stage where a word or a text stands is left as a scalar leaves it
-scalar_step : (p : Stage) (d : ℕ) (next : State) → ((w : List ℕ) → step d p (Word w) ≡ scalar_then (Word w) next) → ((w : List ℕ) → step d p (Text w) ≡ Some next) → (t : Token) (s : Scalar) → scalar_of t ≡ Some s → step d p t ≡ Some next
+scalar_step : (p : Stage) (d : ℕ) (next : State) → ((w : List ℕ) → stage_after d p (Word w) ≡ scalar_then (Word w) next) → ((w : List ℕ) → stage_after d p (Text w) ≡ Some next) → (t : Token) (s : Scalar) → scalar_of t ≡ Some s → stage_after d p t ≡ Some next
 scalar_step p d next word text (Word w) s e = word w ∙ scalar_next (Word w) s next e
 scalar_step p d next word text (Text w) s e = text w
 scalar_step p d next word text t s e = absurd cc
 
-content_step : (d : ℕ) (t : Token) (s : Scalar) → scalar_of t ≡ Some s → step d at.Content t ≡ Some (d, at.Key)
+content_step : (d : ℕ) (t : Token) (s : Scalar) → scalar_of t ≡ Some s → stage_after d at.Content t ≡ Some (d, at.Key)
 content_step d = scalar_step at.Content d (d, at.Key) (λ w. refl) (λ w. refl)
 
-first_step : (d : ℕ) (t : Token) (s : Scalar) → scalar_of t ≡ Some s → step d at.First t ≡ Some (d, at.After)
+first_step : (d : ℕ) (t : Token) (s : Scalar) → scalar_of t ≡ Some s → stage_after d at.First t ≡ Some (d, at.After)
 first_step d = scalar_step at.First d (d, at.After) (λ w. refl) (λ w. refl)
 
-then_run : (d : ℕ) (p : Stage) (t : TokenAtLine) (a : List TokenAtLine) (s : State) → step d p t.0 ≡ Some s → run d p (t ∷ a) ≡ run s.0 s.1 a
+then_run : (d : ℕ) (p : Stage) (t : TokenAtLine) (a : List TokenAtLine) (s : State) → stage_after d p t.0 ≡ Some s → run d p (t ∷ a) ≡ run s.0 s.1 a
 then_run d p t a s e = ap (option_and_then (λ x. run x.0 x.1 a)) e
 
 close_run : (d n : ℕ) (b : List TokenAtLine) → run (suc d) at.Key ((Close, n) ∷ b) ≡ run d at.Key b
@@ -212,10 +203,10 @@ front_run ts h = reached (run 0 at.Key ts) (λ s. run s.0 s.1 h.more) (sym (run-
 
 -- The line of a fault
 
-pub last_run : (before : List TokenAtLine) (t : TokenAtLine) (s : State) → run 0 at.Key before ≡ Some s → run 0 at.Key (before ++ t ∷ []) ≡ option_and_then (λ x. Some x) (step s.0 s.1 t.0)
+pub last_run : (before : List TokenAtLine) (t : TokenAtLine) (s : State) → run 0 at.Key before ≡ Some s → run 0 at.Key (before ++ t ∷ []) ≡ option_and_then (λ x. Some x) (stage_after s.0 s.1 t.0)
 last_run before t s e = run-append 0 at.Key before (t ∷ []) ∙ ap (option_and_then (λ x. run x.0 x.1 (t ∷ []))) e
 
-pub broken : (before after : List TokenAtLine) (t : Token) (n : ℕ) (s : State) → run 0 at.Key before ≡ Some s → step s.0 s.1 t ≡ None → IsBreak (before ++ (t, n) ∷ after) n
+pub broken : (before after : List TokenAtLine) (t : Token) (n : ℕ) (s : State) → run 0 at.Key before ≡ Some s → stage_after s.0 s.1 t ≡ None → IsBreak (before ++ (t, n) ∷ after) n
 broken before after t n s e none = record {
   before = before;
   token = t;
@@ -238,7 +229,7 @@ if_shallow : (b : Bool) (next : State) (d : ℕ) → next.0 ≤ suc d → MatchO
 if_shallow true next d h = h
 if_shallow false next d h = tt
 
-pub shallow : (d : ℕ) (p : Stage) (t : Token) → MatchOption (step d p t) (Unit {0}) (λ s. s.0 ≤ suc d)
+pub shallow : (d : ℕ) (p : Stage) (t : Token) → MatchOption (stage_after d p t) (Unit {0}) (λ s. s.0 ≤ suc d)
 shallow d at.Key (Word w) = if_shallow (is_key w) (d, at.AfterKey) d (omega arith)
 shallow d at.Key Close = if_shallow (nat_lt 0 d) (d - 1, at.Key) d (omega arith)
 shallow d at.AfterKey Open = omega arith

@@ -1,13 +1,5 @@
 -- Where a text is cut, a character begins.
-use Rattle.std.proofs.Common.{◌≡◌, ℕ, zero, suc, ◌<◌, ◌≤◌, true, cond, eqb, List, [], ◌∷◌, length, get_or, drop, Option, Some, None, refl, sym, subst, arith}
-use Rattle.std.specs.Prelude.{MatchOption, option_map, IsUtf8, IsCharBoundary}
-use Rattle.std.proofs.lemmas.Bool.{cond_both, eqb-true}
-use Rattle.std.proofs.lemmas.Bool.Decides.{nat_tests}
-use Rattle.std.proofs.lemmas.Option.{MatchOption-at_some}
-use Rattle.std.proofs.lemmas.Str.{IsUtf8-drop, IsCharBoundary-start, IsCharBoundary-before_ascii, IsCharBoundary-after_ascii}
-use Rattle.lvm_text.specs.Bytes.{code}
-use Rattle.lvm_text.specs.Spelling.{is_word_byte, is_escapable}
-use Rattle.lvm_text.specs.Scan.{line_length, word_length, raw_length}
+use Rattle.lvm_text.proofs.Prelude.{◌≡◌, ℕ, zero, suc, ◌<◌, ◌≤◌, true, cond, eqb, List, [], ◌∷◌, length, get_or, drop, Option, Some, None, refl, sym, subst, arith, MatchOption, option_map, IsUtf8, IsCharBoundary, cond_both, eqb-true, nat_tests, MatchOption-at_some, IsUtf8-drop, IsCharBoundary-start, IsCharBoundary-before_ascii, IsCharBoundary-after_ascii, code, is_word_byte, is_escapable, newline_at, leading_word_bytes, raw_length}
 use Rattle.lvm_text.proofs.Cases.{mapped}
 
 -- after an ASCII byte at the front of what a text ends with
@@ -30,14 +22,14 @@ pub record Here (byte : ℕ) (bs : List ℕ) (n : ℕ) : Type 0 where
 later : (byte b : ℕ) (bs : List ℕ) (n : ℕ) → Here byte bs n → Here byte (b ∷ bs) (suc n)
 later byte b bs n h = let lt : n < length bs = h.within in record { within = omega arith; is = h.is }
 
-line_here : (bs : List ℕ) → MatchOption (line_length bs) (Unit {0}) (Here (code "\n") bs)
+line_here : (bs : List ℕ) → MatchOption (newline_at bs) (Unit {0}) (Here (code "\n") bs)
 line_here [] = tt
 line_here (b ∷ bs) =
-    cond_both (eqb b (code "\n")) (Some 0) (option_map suc (line_length bs)) (λ r. MatchOption r (Unit {0}) (Here (code "\n") (b ∷ bs)))
+    cond_both (eqb b (code "\n")) (Some 0) (option_map suc (newline_at bs)) (λ r. MatchOption r (Unit {0}) (Here (code "\n") (b ∷ bs)))
     (λ is. record { within = omega arith; is = eqb-true b (code "\n") is })
-    (λ none. mapped (line_length bs) suc (Here (code "\n") bs) (Here (code "\n") (b ∷ bs)) (later (code "\n") b bs) (line_here bs))
+    (λ none. mapped (newline_at bs) suc (Here (code "\n") bs) (Here (code "\n") (b ∷ bs)) (later (code "\n") b bs) (line_here bs))
 
-pub line_at : (bs : List ℕ) (n : ℕ) → line_length bs ≡ Some n → Here (code "\n") bs n
+pub line_at : (bs : List ℕ) (n : ℕ) → newline_at bs ≡ Some n → Here (code "\n") bs n
 line_at bs n e = MatchOption-at_some (Unit {0}) (Here (code "\n") bs) n e (line_here bs)
 
 raw_here : (bs : List ℕ) → MatchOption (raw_length bs) (Unit {0}) (Here (code "\"") bs)
@@ -71,14 +63,14 @@ pub record Within (bs : List ℕ) (n : ℕ) : Type 0 where
   pub most : n ≤ length bs
   pub ascii : (k : ℕ) → k < n → get_or bs k 0 < 128
 
-word_within : (bs : List ℕ) → Within bs (word_length bs)
+word_within : (bs : List ℕ) → Within bs (leading_word_bytes bs)
 word_within [] = record { most = omega arith; ascii = λ k lt. absurd (omega arith) }
 word_within (b ∷ bs) =
-    cond_both (is_word_byte b) (suc (word_length bs)) 0 (Within (b ∷ bs))
+    cond_both (is_word_byte b) (suc (leading_word_bytes bs)) 0 (Within (b ∷ bs))
     (λ is. record { most = omega (arith, (word_within bs).most); ascii = λ k lt. at k is lt (word_within bs).ascii })
     (λ none. record { most = omega arith; ascii = λ k lt. absurd (omega arith) })
   where
-    at : (k : ℕ) → is_word_byte b ≡ true → k < suc (word_length bs) → ((j : ℕ) → j < word_length bs → get_or bs j 0 < 128) → get_or (b ∷ bs) k 0 < 128
+    at : (k : ℕ) → is_word_byte b ≡ true → k < suc (leading_word_bytes bs) → ((j : ℕ) → j < leading_word_bytes bs → get_or bs j 0 < 128) → get_or (b ∷ bs) k 0 < 128
     at zero is lt f = word_byte_ascii b is
     at (suc k) is lt f = f k (omega arith)
 
@@ -89,5 +81,5 @@ ascii_boundary bs (suc n) u h =
     let b = IsCharBoundary-after_ascii bs n u (omega arith) (h.ascii n (omega arith)) in
     subst (IsCharBoundary bs) (omega arith) b
 
-pub word_boundary : (bs : List ℕ) → IsUtf8 bs → IsCharBoundary bs (word_length bs)
-word_boundary bs u = ascii_boundary bs (word_length bs) u (word_within bs)
+pub word_boundary : (bs : List ℕ) → IsUtf8 bs → IsCharBoundary bs (leading_word_bytes bs)
+word_boundary bs u = ascii_boundary bs (leading_word_bytes bs) u (word_within bs)

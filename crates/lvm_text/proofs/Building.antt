@@ -1,18 +1,6 @@
 -- What the builder has read so far.
-use Rattle.std.proofs.Common.{◌≡◌, ℕ, true, false, List, [], ◌∷◌, ◌++◌, drop, Option, Some, None, refl, sym, ap, ◌∙◌, append_assoc, inl, inr, ◌⊎◌}
-use Rattle.std.specs.Prelude.{option_map}
-use Rattle.std.proofs.lemmas.List.{append-nil}
-use Rattle.std.proofs.lemmas.Option.{some_pair_parts}
-use Rattle.lvm_text.specs.Token.{Token, Word, Text, Open, Close, ListOpen, ListClose, Equals, Comma, TokenAtLine}
-use Rattle.lvm_text.specs.Tree.{Scalar, Values, Nothing, Section, Single, Several}
-use Rattle.lvm_text.specs.Grammar.{ReadsListBy, ReadsMoreBy, ReadsBy}
-use Rattle.lvm_text.specs.Build.{bounded_of, is_open, is_list_open, begins_key, scalar_first, item_of, ReadsScalars, ReadsLeaf, ReadsValue, ReadsValues, before}
-use Rattle.lvm_text.specs.View.{put, values_of, has_line, lines_agree}
-use Rattle.std.proofs.lemmas.Bool.{and_parts, and_from}
-use Rattle.lvm_text.specs.TokenView.{token_view, views}
+use Rattle.lvm_text.proofs.Prelude.{◌≡◌, ℕ, true, false, List, [], ◌∷◌, ◌++◌, drop, Option, Some, None, refl, sym, ap, ◌∙◌, append_assoc, inl, inr, ◌⊎◌, option_map, append-nil, some_pair_parts, and_parts, and_from, Token, Word, Open, Close, ListOpen, ListClose, Equals, Comma, TokenAtLine, Scalar, Values, Nothing, Section, Single, Several, ReadsListBy, ReadsMoreBy, ReadsBy, bounded_of, is_open, is_list_open, begins_key, scalar_first, item_of, ReadsScalars, ReadsLeaf, ReadsValue, ReadsValues, before, put, values_of, has_line, lines_agree, token_view, views, Value, Entry, Text}
 use Rattle.lvm_text.specs.declared.token.TokenAtLine as code
-use Rattle.lvm_text.specs.declared.tree.Value.{Value}
-use Rattle.lvm_text.specs.declared.tree.Entry.{Entry}
 
 -- Lists
 

@@ -1,6 +1,5 @@
 -- Options by cases.
-use Rattle.std.proofs.Common.{Option, Some, None}
-use Rattle.std.specs.Prelude.{MatchOption, option_map}
+use Rattle.lvm_text.proofs.Prelude.{Option, Some, None, MatchOption, option_map}
 
 -- what holds of a mapped value, if there is one
 pub mapped : {X Y : Type 0} (o : Option X) (f : X → Y) (P : X → Type 0) (Q : Y → Type 0) → ((n : X) → P n → Q (f n)) → MatchOption o (Unit {0}) P → MatchOption (option_map f o) (Unit {0}) Q

@@ -1,14 +1,5 @@
 -- A text is cut into elements in one way.
-use Rattle.std.proofs.Common.{◌≡◌, ℕ, suc, ◌+◌, true, false, cond, eqb, List, [], ◌∷◌, ◌++◌, length, take, drop, Option, Some, None, refl, sym, ap, ◌∙◌, append_assoc, arith}
-use Rattle.std.specs.Prelude.{MatchOption, option_map}
-use Rattle.std.specs.List.{list_all}
-use Rattle.std.proofs.lemmas.Bool.{cond_both, and_parts, eqb-true}
-use Rattle.std.proofs.lemmas.Bool.Decides.{nat_tests}
-use Rattle.std.proofs.lemmas.Option.{some_pair_parts}
-use Rattle.lvm_text.specs.Bytes.{code}
-use Rattle.lvm_text.specs.Token.{Token, Word, Text, Open, Close, ListOpen, ListClose, Equals, Comma, TokenAtLine}
-use Rattle.lvm_text.specs.Spelling.{Element, White, Comment, Lexeme, spelling, token_spelling, IsWord, IsToken, IsElement, Begins, Cut, is_white, is_line, is_word_byte, is_end, line_after, tokens_from, put_token, newlines, Spells, IsBadToken}
-use Rattle.lvm_text.specs.Scan.{line_length, word_length, raw_length, sign_of, element_at}
+use Rattle.lvm_text.proofs.Prelude.{◌≡◌, ℕ, suc, ◌+◌, true, false, cond, eqb, List, [], ◌∷◌, ◌++◌, length, take, drop, Option, Some, None, refl, sym, ap, ◌∙◌, append_assoc, arith, MatchOption, option_map, list_all, cond_both, and_parts, eqb-true, nat_tests, some_pair_parts, code, Token, Word, Open, Close, ListOpen, ListClose, Equals, Comma, TokenAtLine, Element, White, Comment, Lexeme, spelling, token_spelling, IsWord, IsToken, IsElement, Begins, Cut, is_white, is_line, is_word_byte, is_end, line_after, tokens_from, put_token, newlines, Spells, IsBadToken, newline_at, leading_word_bytes, raw_length, sign_of, element_at, Text}
 use Rattle.lvm_text.proofs.Cases.{mapped}
 use Rattle.lvm_text.proofs.Scans.{line_again, line_none, Line, line_found, word_again, word_found, raw_again, Raw, raw_found}
 use Rattle.std.proofs.Math.Seq.{drop-append_seam, take-append_seam}
@@ -35,10 +26,10 @@ sign_found b =
 abbrev pub Found : List ℕ → Element × List ℕ → Type 0
 Found bs q = Begins bs q.0 q.1
 
-nonempty : (b : ℕ) (bs : List ℕ) → is_word_byte b ≡ true → take (word_length (b ∷ bs)) (b ∷ bs) ≡ [] → ⊥
-nonempty b bs is = cond_both (is_word_byte b) (suc (word_length bs)) 0 (λ n. take n (b ∷ bs) ≡ [] → ⊥) (λ h e. cc) (λ no e. cc)
+nonempty : (b : ℕ) (bs : List ℕ) → is_word_byte b ≡ true → take (leading_word_bytes (b ∷ bs)) (b ∷ bs) ≡ [] → ⊥
+nonempty b bs is = cond_both (is_word_byte b) (suc (leading_word_bytes bs)) 0 (λ n. take n (b ∷ bs) ≡ [] → ⊥) (λ h e. cc) (λ no e. cc)
 
-word_is : (b : ℕ) (bs : List ℕ) → is_word_byte b ≡ true → Begins (b ∷ bs) (Lexeme (Word (take (word_length (b ∷ bs)) (b ∷ bs)))) (drop (word_length (b ∷ bs)) (b ∷ bs))
+word_is : (b : ℕ) (bs : List ℕ) → is_word_byte b ≡ true → Begins (b ∷ bs) (Lexeme (Word (take (leading_word_bytes (b ∷ bs)) (b ∷ bs)))) (drop (leading_word_bytes (b ∷ bs)) (b ∷ bs))
 word_is b bs is =
     let h = word_found (b ∷ bs) in
     (h.cut, record { some = nonempty b bs is; bytes = h.bytes; longest = h.longest })
@@ -48,14 +39,14 @@ unfolding element_at
 element_found [] = tt
 element_found (b ∷ bs) =
     let P : Option (Element × List ℕ) → Type 0 = λ r. MatchOption r (Unit {0}) (Found (b ∷ bs)) in
-    let comment : Option (Element × List ℕ) = option_map (λ n. (Comment (take n bs), drop (suc n) bs)) (line_length bs) in
+    let comment : Option (Element × List ℕ) = option_map (λ n. (Comment (take n bs), drop (suc n) bs)) (newline_at bs) in
     let text : Option (Element × List ℕ) = option_map (λ n. (Lexeme (Text (take n bs)), drop (suc n) bs)) (raw_length bs) in
-    let word : Option (Element × List ℕ) = Some (Lexeme (Word (take (word_length (b ∷ bs)) (b ∷ bs))), drop (word_length (b ∷ bs)) (b ∷ bs)) in
+    let word : Option (Element × List ℕ) = Some (Lexeme (Word (take (leading_word_bytes (b ∷ bs)) (b ∷ bs))), drop (leading_word_bytes (b ∷ bs)) (b ∷ bs)) in
     let sign : Option (Element × List ℕ) = option_map (λ t. (Lexeme t, bs)) (sign_of b) in
     cond_both (is_white b) (Some (White b, bs)) (cond (eqb b (code "#")) comment (cond (eqb b (code "\"")) text (cond (is_word_byte b) word sign))) P
     (λ is. (refl, is))
     (λ no. cond_both (eqb b (code "#")) comment (cond (eqb b (code "\"")) text (cond (is_word_byte b) word sign)) P
-    (λ is. mapped (line_length bs) (λ n. (Comment (take n bs), drop (suc n) bs)) (Line bs) (Found (b ∷ bs))
+    (λ is. mapped (newline_at bs) (λ n. (Comment (take n bs), drop (suc n) bs)) (Line bs) (Found (b ∷ bs))
     (λ n h. (cc (eqb-true b (code "#") is, append_assoc (take n bs) (code "\n" ∷ []) (drop (suc n) bs)), h.line)) (line_found bs))
     (λ no. cond_both (eqb b (code "\"")) text (cond (is_word_byte b) word sign) P
     (λ is. mapped (raw_length bs) (λ n. (Lexeme (Text (take n bs)), drop (suc n) bs)) (Raw bs) (Found (b ∷ bs))

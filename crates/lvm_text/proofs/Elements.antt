@@ -1,19 +1,8 @@
 -- The elements at the front of a text, and the newlines in them.
-use Rattle.std.proofs.Common.{◌≡◌, ℕ, suc, ◌+◌, ◌<◌, ◌≤◌, Bool, true, false, cond, not, ◌&&◌, eqb, List, [], ◌∷◌, ◌++◌, length, get_or, drop, Some, None, refl, sym, ap, arith, inl, inr, length-append}
-use Rattle.std.specs.List.{list_all}
-use Rattle.std.proofs.lemmas.Bool.{and_parts, or_cases, not-true, eqb-true}
-use Rattle.std.proofs.lemmas.Bool.Decides.{nat_tests}
-use Rattle.std.proofs.lemmas.Option.{MatchOption-at_some}
-use Rattle.lvm_text.specs.Bytes.{code}
-use Rattle.lvm_text.specs.Token.{Token, Word, Text, TokenAtLine}
-use Rattle.lvm_text.specs.Spelling.{Element, White, Lexeme, spelling, token_spelling, IsToken, IsElement, Begins, is_white, is_line, is_word_byte, is_raw, is_plain, is_escapable, newlines, put_token}
-use Rattle.lvm_text.specs.Scan.{element_at, element_from}
+use Rattle.lvm_text.proofs.Prelude.{◌≡◌, ℕ, suc, ◌+◌, ◌<◌, ◌≤◌, Bool, true, true≢false, false, cond, not, ◌&&◌, eqb, List, [], ◌∷◌, ◌++◌, length, get_or, drop, Some, None, refl, sym, ap, arith, inl, inr, length-append, list_all, and_parts, or_cases, not-true, eqb-true, nat_tests, MatchOption-at_some, code, Token, Word, TokenAtLine, Element, White, Lexeme, spelling, token_spelling, IsToken, IsElement, Begins, is_white, is_line, is_word_byte, is_raw, is_plain, is_escapable, newlines, put_token, element_at, element_from, Text}
 use Rattle.lvm_text.proofs.Cuts.{Found, element_found, Before, before_more}
 
 -- The front
-
-true_false : true ≡ false → ⊥
-true_false h = cc
 
 pub element_nil : (bs : List ℕ) → true ≡ eqb (length bs) 0 → None ≡ element_at bs
 unfolding element_at
@@ -140,5 +129,5 @@ reached_more {text} {rest} {after} {line} {lines} {tokens} {more} {p} h e m l =
     (rw (m, l) (record { before = before_more text line tokens rest p after h.before b; most = omega (arith, s.1, h.most) }), s.0)
 
 pub some_bytes : (bs : List ℕ) → false ≡ eqb (length bs) 0 → 0 < length bs
-some_bytes [] h = absurd (true_false (sym h))
+some_bytes [] h = absurd (true≢false (sym h))
 some_bytes (b ∷ bs) h = omega arith

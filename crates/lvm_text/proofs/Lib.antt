@@ -1,3 +1,4 @@
+pub mod Std
 pub mod Cases
 pub mod Scans
 pub mod Cuts
@@ -16,3 +17,4 @@ pub mod Elements
 pub mod Boundaries
 pub mod Searches
 pub mod Whole
+pub mod Prelude

@@ -1,12 +1,6 @@
 -- Looking a key up, and going over the sections.
-use Rattle.std.proofs.Common.{◌≡◌, ℕ, true, cond, List, [], ◌∷◌, Some, refl, ap, ◌∙◌}
-use Rattle.std.specs.Prelude.{bytes_eq}
-use Rattle.std.proofs.lemmas.Bool.{and_parts, eqb-true}
-use Rattle.lvm_text.specs.Tree.{Values, Tree, node_of, sections_of}
-use Rattle.lvm_text.specs.View.{put, values_of, has_line, lines_agree, content_view, put_section, sections_in}
-use Rattle.lvm_text.specs.declared.tree.Value.{Value}
+use Rattle.lvm_text.proofs.Prelude.{◌≡◌, ℕ, true, cond, List, [], ◌∷◌, Some, refl, ap, ◌∙◌, bytes_eq, and_parts, eqb-true, Values, Tree, node_of, sections_of, put, values_of, has_line, lines_agree, content_view, put_section, sections_in, Value, Entry}
 use Rattle.lvm_text.specs.declared.tree.Value.TheVariants as variants
-use Rattle.lvm_text.specs.declared.tree.Entry.{Entry}
 
 same_line : (s : Tree) (n : ℕ) → (s.line ≡ n) → ◌≡◌ {A = Tree} (record { line = n; values = s.values }) s
 same_line s n e = rw (← e)

@@ -1,22 +1,16 @@
 -- What the lengths of elements say of a text, and which lengths a spelled element has.
-use Rattle.std.proofs.Common.{◌≡◌, ℕ, suc, Bool, true, false, cond, not, ◌&&◌, ◌||◌, eqb, List, [], ◌∷◌, ◌++◌, length, take, drop, Option, Some, None, refl, inl, inr}
-use Rattle.std.specs.Prelude.{MatchOption, option_map}
-use Rattle.std.specs.List.{list_all}
-use Rattle.std.proofs.lemmas.Bool.{cond_both, and_parts, and_from, or_cases, not-true, not_from_false, eqb-true, or_left, or_right}
-use Rattle.lvm_text.specs.Bytes.{code}
-use Rattle.lvm_text.specs.Spelling.{is_line, is_word_byte, begins_word, is_plain, is_escapable, is_raw}
-use Rattle.lvm_text.specs.Scan.{line_length, word_length, raw_length}
+use Rattle.lvm_text.proofs.Prelude.{◌≡◌, ℕ, suc, Bool, true, false, cond, not, ◌&&◌, ◌||◌, eqb, List, [], ◌∷◌, ◌++◌, length, take, drop, Option, Some, None, refl, inl, inr, MatchOption, option_map, list_all, cond_both, and_parts, and_from, or_cases, not-true, not_from_false, eqb-true, or_left, or_right, code, is_line, is_word_byte, begins_word, is_plain, is_escapable, is_raw, newline_at, leading_word_bytes, raw_length}
 use Rattle.lvm_text.proofs.Cases.{mapped}
 
 -- Lines
 
-pub line_again : (c after : List ℕ) → is_line c ≡ true → line_length (c ++ code "\n" ∷ after) ≡ Some (length c)
+pub line_again : (c after : List ℕ) → is_line c ≡ true → newline_at (c ++ code "\n" ∷ after) ≡ Some (length c)
 line_again [] after h = refl
 line_again (b ∷ c) after h =
     let a = and_parts (not (eqb b (code "\n"))) (is_line c) h in
     rw (not-true _ a.0, line_again c after a.1)
 
-pub line_none : (c : List ℕ) → is_line c ≡ true → line_length c ≡ None
+pub line_none : (c : List ℕ) → is_line c ≡ true → newline_at c ≡ None
 line_none [] h = refl
 line_none (b ∷ c) h =
     let a = and_parts (not (eqb b (code "\n"))) (is_line c) h in
@@ -26,16 +20,16 @@ pub record Line (bs : List ℕ) (n : ℕ) : Type 0 where
   pub cut : bs ≡ take n bs ++ code "\n" ∷ drop (suc n) bs
   pub line : is_line (take n bs) ≡ true
 
-pub line_found : (bs : List ℕ) → MatchOption (line_length bs) (Unit {0}) (Line bs)
+pub line_found : (bs : List ℕ) → MatchOption (newline_at bs) (Unit {0}) (Line bs)
 line_found [] = tt
 line_found (b ∷ bs) =
-    cond_both (eqb b (code "\n")) (Some 0) (option_map suc (line_length bs)) (λ r. MatchOption r (Unit {0}) (Line (b ∷ bs)))
+    cond_both (eqb b (code "\n")) (Some 0) (option_map suc (newline_at bs)) (λ r. MatchOption r (Unit {0}) (Line (b ∷ bs)))
     (λ is. record { cut = cc (eqb-true b (code "\n") is); line = refl })
-    (λ no. mapped (line_length bs) suc (Line bs) (Line (b ∷ bs)) (λ n h. record { cut = cc; line = and_from _ _ (not_from_false _ no) h.line }) (line_found bs))
+    (λ no. mapped (newline_at bs) suc (Line bs) (Line (b ∷ bs)) (λ n h. record { cut = cc; line = and_from _ _ (not_from_false _ no) h.line }) (line_found bs))
 
 -- Words
 
-pub word_again : (w after : List ℕ) → list_all is_word_byte w ≡ true → begins_word after ≡ false → word_length (w ++ after) ≡ length w
+pub word_again : (w after : List ℕ) → list_all is_word_byte w ≡ true → begins_word after ≡ false → leading_word_bytes (w ++ after) ≡ length w
 word_again [] [] h e = refl
 word_again [] (a ∷ more) h e = rw e
 word_again (b ∷ w) after h e =
@@ -47,10 +41,10 @@ pub record Run (bs : List ℕ) (n : ℕ) : Type 0 where
   pub bytes : list_all is_word_byte (take n bs) ≡ true
   pub longest : begins_word (drop n bs) ≡ false
 
-pub word_found : (bs : List ℕ) → Run bs (word_length bs)
+pub word_found : (bs : List ℕ) → Run bs (leading_word_bytes bs)
 word_found [] = record { cut = refl; bytes = refl; longest = refl }
 word_found (b ∷ bs) =
-    cond_both (is_word_byte b) (suc (word_length bs)) 0 (Run (b ∷ bs))
+    cond_both (is_word_byte b) (suc (leading_word_bytes bs)) 0 (Run (b ∷ bs))
     (λ is. let h = word_found bs in record { cut = cc; bytes = and_from _ _ is h.bytes; longest = h.longest })
     (λ no. record { cut = refl; bytes = refl; longest = no })
 

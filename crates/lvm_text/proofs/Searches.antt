@@ -1,15 +1,9 @@
 -- The first position of a byte, as a length of what stands before it.
-use Rattle.std.proofs.Common.{◌≡◌, ◌≢◌, ℕ, zero, suc, ◌+◌, ◌-◌, ◌<◌, ◌≤◌, Bool, true, false, cond, not, ◌&&◌, ◌||◌, eqb, List, [], ◌∷◌, length, get_or, take, drop, Option, Some, None, refl, sym, ap, ◌∙◌, arith, length-drop}
-use Rattle.std.specs.Prelude.{option_map, is_some, is_none}
-use Rattle.std.proofs.lemmas.Bool.{and_parts, false_from_ne_true, eqb-true, ne_eqb}
-use Rattle.std.proofs.lemmas.List.{take_rest, drop-drop}
-use Rattle.lvm_text.specs.Bytes.{code}
+use Rattle.lvm_text.proofs.Prelude.{◌≡◌, ◌≢◌, ℕ, zero, suc, ◌+◌, ◌-◌, ◌<◌, ◌≤◌, Bool, true, false, cond, not, ◌&&◌, ◌||◌, eqb, List, [], ◌∷◌, length, get_or, take, drop, Option, Some, None, refl, sym, ap, ◌∙◌, arith, length-drop, option_map, is_some, is_none, and_parts, false_from_ne_true, eqb-true, ne_eqb, take_rest, drop-drop, code, is_line, is_end, is_escapable, newline_at, raw_length, is_escape}
 use Rattle.memchr.specs.Find.{is_byte, is_byte3, IsFirstByte}
-use Rattle.lvm_text.specs.Spelling.{is_line, is_end, is_escapable}
-use Rattle.lvm_text.specs.Scan.{line_length, raw_length, is_escape}
 use Rattle.lvm_text.proofs.Boundaries.{first_of_drop}
 
-pub line_first : (xs : List ℕ) (r : Option ℕ) → IsFirstByte (is_byte (code "\n")) xs r → r ≡ line_length xs
+pub line_first : (xs : List ℕ) (r : Option ℕ) → IsFirstByte (is_byte (code "\n")) xs r → r ≡ newline_at xs
 line_first [] None h = refl
 line_first [] (Some k) h = absurd (omega (arith, h.0.high))
 line_first (b ∷ bs) None h =
@@ -27,13 +21,13 @@ none_suc : (o : Option ℕ) → is_none (option_map suc o) ≡ is_none o
 none_suc None = refl
 none_suc (Some n) = refl
 
-line_byte : (t : Bool) (bs : List ℕ) → is_none (line_length bs) ≡ is_line bs → is_none (cond t (Some 0) (option_map suc (line_length bs))) ≡ (not t && is_line bs)
+line_byte : (t : Bool) (bs : List ℕ) → is_none (newline_at bs) ≡ is_line bs → is_none (cond t (Some 0) (option_map suc (newline_at bs))) ≡ (not t && is_line bs)
 line_byte true bs h = refl
-line_byte false bs h = none_suc (line_length bs) ∙ h
+line_byte false bs h = none_suc (newline_at bs) ∙ h
 
-pub is_line-line_length : (xs : List ℕ) → is_none (line_length xs) ≡ is_line xs
-is_line-line_length [] = refl
-is_line-line_length (b ∷ bs) = line_byte (eqb b (code "\n")) bs (is_line-line_length bs)
+pub is_line-newline_at : (xs : List ℕ) → is_none (newline_at xs) ≡ is_line xs
+is_line-newline_at [] = refl
+is_line-newline_at (b ∷ bs) = line_byte (eqb b (code "\n")) bs (is_line-newline_at bs)
 
 -- the number, if any, and k more
 abbrev pub plus : ℕ → Option ℕ → Option ℕ
@@ -112,9 +106,9 @@ none_is (Some n) true h = absurd cc
 none_is o r h = refl
 
 -- the test of the end, at a first byte
-pub is_end_comment : (bs : List ℕ) (o : Option ℕ) (r : Bool) → false ≡ eqb (length bs) 0 → get_or bs 0 0 ≡ code "#" → o ≡ line_length (take (length bs - 1) (drop 1 bs)) → is_some o ≡ not r → r ≡ is_end bs
+pub is_end_comment : (bs : List ℕ) (o : Option ℕ) (r : Bool) → false ≡ eqb (length bs) 0 → get_or bs 0 0 ≡ code "#" → o ≡ newline_at (take (length bs - 1) (drop 1 bs)) → is_some o ≡ not r → r ≡ is_end bs
 is_end_comment [] o r e b h n = absurd cc
-is_end_comment (x ∷ bs) o r e b h n = none_is o r n ∙ ap is_none (h ∙ ap line_length (take_rest (x ∷ bs) 1)) ∙ is_line-line_length bs ∙ rw b
+is_end_comment (x ∷ bs) o r e b h n = none_is o r n ∙ ap is_none (h ∙ ap newline_at (take_rest (x ∷ bs) 1)) ∙ is_line-newline_at bs ∙ rw b
 
 -- The search of a string's end, at position i of all its bytes
 

@@ -1,13 +1,6 @@
 -- The tokens before a position, at it and after it.
-use Rattle.std.proofs.Common.{◌≡◌, ℕ, zero, suc, ◌+◌, ◌<◌, ◌≤◌, false, List, [], ◌∷◌, ◌++◌, length, get_or, take, drop, Some, None, refl, sym, ap, ◌∙◌, arith, inl, inr, add-one}
-use Rattle.std.specs.Prelude.{option_and_then}
-use Rattle.std.proofs.lemmas.Option.{MatchOption-at_some}
-use Rattle.std.proofs.lemmas.List.{take_all}
-use Rattle.lvm_text.specs.Grammar.{IsSyntaxLine}
-use Rattle.lvm_text.specs.Machine.{State, step, run, is_over}
-use Rattle.lvm_text.specs.TokenView.{token_view, view, views}
+use Rattle.lvm_text.proofs.Prelude.{◌≡◌, ℕ, zero, suc, ◌+◌, ◌<◌, ◌≤◌, false, List, [], ◌∷◌, ◌++◌, length, get_or, take, drop, Some, None, refl, sym, ap, ◌∙◌, arith, inl, inr, add-one, option_and_then, MatchOption-at_some, take_all, IsSyntaxLine, State, stage_after, run, is_over, token_view, view, views, Stage}
 use Rattle.lvm_text.specs.declared.token.TokenAtLine.{TokenAtLine}
-use Rattle.lvm_text.specs.declared.syntax.Stage.{Stage}
 use Rattle.lvm_text.specs.declared.syntax.Stage.TheVariants as at
 use Rattle.lvm_text.proofs.Beginnings.{broken, unfinished, last_run, shallow, not_over}
 
@@ -25,12 +18,12 @@ pub views_more : (ts : List TokenAtLine) (i : ℕ) (d : TokenAtLine) → i < len
 views_more ts i d lt = rw (add-one i) (views_suc ts i d lt)
 
 pub refused : (ts : List TokenAtLine) (i : ℕ) (x : TokenAtLine) (depth : ℕ) (stage : Stage) (end : ℕ) → i < length ts → run 0 at.Key (views (take i ts)) ≡ Some (depth, stage)
-    → None ≡ step depth stage (token_view (get_or ts i x).token) → IsSyntaxLine (views ts) end (get_or ts i x).line
+    → None ≡ stage_after depth stage (token_view (get_or ts i x).token) → IsSyntaxLine (views ts) end (get_or ts i x).line
 refused ts i x depth stage end lt e none =
     inl (rw (views_at ts i x lt) (broken (views (take i ts)) (views (drop (suc i) ts)) (token_view (get_or ts i x).token) (get_or ts i x).line (depth, stage) e (sym none)))
 
 pub stepped : (ts : List TokenAtLine) (i : ℕ) (x : TokenAtLine) (depth : ℕ) (stage : Stage) (next : State) → i < length ts → run 0 at.Key (views (take i ts)) ≡ Some (depth, stage)
-    → Some next ≡ step depth stage (token_view (get_or ts i x).token) → (run 0 at.Key (views (take (i + 1) ts)) ≡ Some next) × (next.0 ≤ suc depth)
+    → Some next ≡ stage_after depth stage (token_view (get_or ts i x).token) → (run 0 at.Key (views (take (i + 1) ts)) ≡ Some next) × (next.0 ≤ suc depth)
 stepped ts i x depth stage next lt e s = (
   ap (run 0 at.Key) (views_more ts i x lt) ∙ last_run (views (take i ts)) (view (get_or ts i x)) (depth, stage) e ∙ ap (option_and_then (λ (y : State). Some y)) (sym s),
   MatchOption-at_some (Unit {0}) (λ y. y.0 ≤ suc depth) next (sym s) (shallow depth stage (token_view (get_or ts i x).token)),

@@ -1,20 +1,7 @@
 -- Keys that stand twice: those of the entries read so far, and the first that a new key hits.
-use Rattle.std.proofs.Common.{◌≡◌, ℕ, ◌+◌, Bool, true, false, cond, ◌||◌, List, [], ◌∷◌, ◌++◌, Option, Some, refl, sym, ap, ◌∙◌, append_assoc}
-use Rattle.std.specs.Prelude.{bytes_eq, is_some}
-use Rattle.std.proofs.lemmas.Bool.{or_right}
+use Rattle.lvm_text.proofs.Prelude.{◌≡◌, ℕ, ◌+◌, Bool, true, false, cond, ◌||◌, List, [], ◌∷◌, ◌++◌, Option, Some, refl, sym, ap, ◌∙◌, append_assoc, bytes_eq, is_some, or_right, Word, Open, Equals, ListOpen, TokenAtLine, Values, Nothing, Section, Single, Several, ReadsBy, head_line, hit, has_key, twice_lines, inner_lines, bounded_of, begins_key, is_open, before, IsTwice, IsTwiceInside, put, values_of, position_of, Value, Entry, TextFault}
 use Rattle.std.proofs.Math.Bool.{or-false}
-use Rattle.lvm_text.specs.Token.{Word, Open, Equals, ListOpen, TokenAtLine}
-use Rattle.lvm_text.specs.Tree.{Values, Nothing, Section, Single, Several}
-use Rattle.lvm_text.specs.Grammar.{ReadsBy}
-use Rattle.lvm_text.specs.Checks.{head_line, hit, has_key, twice_lines}
-use Rattle.lvm_text.specs.Repeat.{inner_lines}
-use Rattle.lvm_text.specs.Build.{bounded_of, begins_key, is_open, before, IsTwice, IsTwiceInside}
-use Rattle.lvm_text.specs.View.{put, values_of}
-use Rattle.lvm_text.specs.Positions.{position_of}
-use Rattle.lvm_text.specs.declared.tree.Value.{Value}
 use Rattle.lvm_text.specs.declared.tree.Value.TheVariants as variants
-use Rattle.lvm_text.specs.declared.tree.Entry.{Entry}
-use Rattle.lvm_text.specs.declared.fault.TextFault.{TextFault}
 use Rattle.lvm_text.specs.declared.fault.TextFault.TheVariants as fault
 use Rattle.lvm_text.proofs.Building.{ValuesSoFar, before_push, before_all, no_values, same_key, opened}
 

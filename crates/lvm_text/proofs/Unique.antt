@@ -1,22 +1,12 @@
 -- A text says one thing: one tree, or one fault.
-use Rattle.std.proofs.Common.{◌≡◌, ◌≢◌, ℕ, ◌+◌, true, false, List, [], ◌∷◌, ◌++◌, Some, None, refl, sym, ap, subst, ◌∙◌, append_assoc, inl, inr, ◌⊎◌}
-use Rattle.std.specs.Prelude.{Result, Ok, Err, IfOk, IfErr}
-use Rattle.std.proofs.lemmas.Option.{same_Some, some_pair_parts}
-use Rattle.std.proofs.lemmas.List.{append-nil}
-use Rattle.lvm_text.specs.Token.{Token, Word, Open, Close, ListOpen, ListClose, Equals, Comma, TokenAtLine}
-use Rattle.lvm_text.specs.Tree.{Scalar, Values, Nothing, Section, Single, Several, Tree}
-use Rattle.lvm_text.specs.Grammar.{scalar_of, ReadsList, ReadsMore, Reads, IsText, BeginsText, IsBreak, IsSyntaxLine}
-use Rattle.lvm_text.specs.Build.{begins_key}
-use Rattle.lvm_text.specs.Spelling.{Spells, IsBadToken, newlines}
-use Rattle.lvm_text.specs.Reading.{Describes, IsBadSyntax, IsUnsound, HasFault, Answers}
-use Rattle.lvm_text.specs.declared.fault.TextFault.{TextFault}
+use Rattle.lvm_text.proofs.Prelude.{◌≡◌, ◌≢◌, ℕ, ◌+◌, true, false, List, [], ◌∷◌, ◌++◌, Some, None, refl, sym, ap, subst, ◌∙◌, append_assoc, inl, inr, ◌⊎◌, Result, Ok, Err, IfOk, IfErr, same_Some, some_pair_parts, append-nil, Token, Word, Open, Close, ListOpen, ListClose, Equals, Comma, TokenAtLine, Scalar, Values, Nothing, Section, Single, Several, Tree, scalar_of, ReadsList, ReadsMore, Reads, IsText, BeginsText, IsBreak, IsSyntaxLine, begins_key, Spells, IsBadToken, newlines, Describes, IsBadSyntax, IsUnsound, HasFault, Answers, TextFault}
 use Rattle.lvm_text.specs.declared.fault.TextFault.TheVariants as fault
 use Rattle.lvm_text.proofs.Cuts.{one_spelling, spelled_no_bad, one_bad}
 use Rattle.lvm_text.proofs.Building.{SameKey, same_key, list_same}
 
 -- One tree
 
--- the same scalars, and the same rest
+-- scalars and the rest after them are equal
 abbrev One : {X : Type 0} → X → X → List TokenAtLine → List TokenAtLine → Type 0
 One v w m n = (v ≡ w) × (m ≡ n)
 

@@ -1,17 +1,6 @@
 -- Every text says a tree, or has a fault.
-use Rattle.std.proofs.Common.{◌≡◌, ℕ, zero, suc, ◌+◌, ◌<◌, false, List, [], ◌∷◌, ◌++◌, length, Option, Some, None, refl, sym, ◌∙◌, ◌⊎◌, inl, inr, append_assoc, arith}
-use Rattle.std.proofs.lemmas.Bool.{cases_Bool}
-use Rattle.std.proofs.lemmas.List.{append-nil}
-use Rattle.lvm_text.specs.Token.{TokenAtLine}
-use Rattle.lvm_text.specs.Tree.{Values, Tree}
-use Rattle.lvm_text.specs.Spelling.{Element, Spells, IsBadToken, is_end, newlines, spelling, put_token}
-use Rattle.lvm_text.specs.Scan.{element_at}
-use Rattle.lvm_text.specs.Grammar.{IsText, IsSyntaxLine}
-use Rattle.lvm_text.specs.Machine.{State, step, run, is_over}
-use Rattle.lvm_text.specs.Checks.{fault_of}
-use Rattle.lvm_text.specs.Reading.{Describes, HasFault}
+use Rattle.lvm_text.proofs.Prelude.{◌≡◌, ℕ, zero, suc, ◌+◌, ◌<◌, false, List, [], ◌∷◌, ◌++◌, length, Option, Some, None, refl, sym, ◌∙◌, ◌⊎◌, inl, inr, append_assoc, arith, cases_Bool, append-nil, TokenAtLine, Values, Tree, Element, Spells, IsBadToken, is_end, newlines, spelling, put_token, element_at, IsText, IsSyntaxLine, State, stage_after, run, is_over, fault_of, Describes, HasFault, TextFault}
 use Rattle.lvm_text.specs.declared.syntax.Stage.TheVariants as at
-use Rattle.lvm_text.specs.declared.fault.TextFault.{TextFault}
 use Rattle.lvm_text.specs.declared.fault.TextFault.TheVariants as fault
 use Rattle.lvm_text.proofs.Cuts.{Before, before_all, before_more, spells_whole, bad_here}
 use Rattle.lvm_text.proofs.Elements.{begins, shorter}
@@ -52,7 +41,7 @@ ended ts end s h =
       | inr e ↦ inr (end, inr (unfinished ts s h (not_over s.0 s.1 e), refl))
     ]
 
-next_token : (before : List TokenAtLine) (t : TokenAtLine) (ts : List TokenAtLine) (end : ℕ) (s : State) (next : Option State) → run 0 at.Key before ≡ Some s → step s.0 s.1 t.0 ≡ next
+next_token : (before : List TokenAtLine) (t : TokenAtLine) (ts : List TokenAtLine) (end : ℕ) (s : State) (next : Option State) → run 0 at.Key before ≡ Some s → stage_after s.0 s.1 t.0 ≡ next
     → ((x : State) → run 0 at.Key (before ++ t ∷ []) ≡ Some x → Syntax ((before ++ t ∷ []) ++ ts) end) → Syntax (before ++ t ∷ ts) end
 next_token before t ts end s None h e go = inr (t.1, inl (broken before ts t.0 t.1 s h e))
 next_token before t ts end s (Some x) h e go =
@@ -60,7 +49,7 @@ next_token before t ts end s (Some x) h e go =
 
 syntax_from : (ts before : List TokenAtLine) (end : ℕ) (s : State) → run 0 at.Key before ≡ Some s → Syntax (before ++ ts) end
 syntax_from [] before end s h = rw (append-nil before) (ended before end s h)
-syntax_from (t ∷ ts) before end s h = next_token before t ts end s (step s.0 s.1 t.0) h refl (λ x e. syntax_from ts (before ++ t ∷ []) end x e)
+syntax_from (t ∷ ts) before end s h = next_token before t ts end s (stage_after s.0 s.1 t.0) h refl (λ x e. syntax_from ts (before ++ t ∷ []) end x e)
 
 -- The text
 

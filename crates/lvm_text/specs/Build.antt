@@ -1,16 +1,13 @@
 -- What the tree's builder reads, from the tokens that are left.
-use Rattle.std.specs.Prelude.{◌≡◌, ℕ, Bool, true, false, List, [], ◌∷◌, Option, Some, None, drop, unwrap_or, option_map, if◌then◌else◌}
+use Rattle.lvm_text.specs.Base.{◌≡◌, ℕ, Bool, true, false, List, [], ◌∷◌, Option, Some, None, drop, unwrap_or, option_map, if◌then◌else◌, TextFault, KeyTwice, Memory, Scalar}
 use Rattle.lvm_text.specs.Token.{Token, Word, Text, Open, Comma, ListOpen, TokenAtLine}
 use Rattle.lvm_text.specs.Tree as tree
 use Rattle.lvm_text.specs.Tree.{Values, Section, Single, Several}
 use Rattle.lvm_text.specs.Grammar.{are_digits, number_of, ReadsListBy, ReadsBy}
 use Rattle.lvm_text.specs.Checks.{head_line, twice_lines}
 use Rattle.lvm_text.specs.View.{scalar_view, put}
-use Rattle.lvm_text.specs.declared.fault.TextFault.{TextFault}
-use Rattle.lvm_text.specs.declared.fault.TextFault.TheVariants.{KeyTwice, Memory}
 use Rattle.lvm_text.specs.TokenView.{views}
 use Rattle.lvm_text.specs.declared.build.Builder.{Builder}
-use Rattle.lvm_text.specs.declared.tree.Scalar.{Scalar}
 use Rattle.lvm_text.specs.declared.tree.Value.{Value}
 use Rattle.lvm_text.specs.declared.tree.Entry.{Entry}
 

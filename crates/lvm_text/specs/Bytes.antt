@@ -1,5 +1,5 @@
 -- Single bytes of texts.
-use Rattle.std.specs.Prelude.{ℕ, codes, get_or}
+use Rattle.lvm_text.specs.Base.{ℕ, codes, get_or}
 use Prim.Native.String.{String}
 
 -- the byte that a text of one ASCII character is

@@ -1,11 +1,8 @@
 -- The checks of a text of the grammar: for each the lines where it finds something, in source order.
-use Rattle.std.specs.Prelude.{ℕ, suc, ◌-◌, Bool, true, false, ◌&&◌, nat_lt, List, [], ◌∷◌, ◌++◌, Option, Some, None, is_none, bytes_eq, if◌then◌else◌}
-use Rattle.std.specs.List.{list_any}
+use Rattle.lvm_text.specs.Base.{ℕ, suc, ◌-◌, Bool, true, false, ◌&&◌, nat_lt, List, [], ◌∷◌, ◌++◌, Option, Some, None, is_none, bytes_eq, if◌then◌else◌, list_any, TextFault, Deep, Number, KeyTwice}
 use Rattle.lvm_text.specs.Token.{Token, Word, Open, Close, ListOpen, Equals, Comma, TokenAtLine}
 use Rattle.lvm_text.specs.Tree.{Values, Nothing, Section, Single, Several}
 use Rattle.lvm_text.specs.Grammar.{number_of}
-use Rattle.lvm_text.specs.declared.fault.TextFault.{TextFault}
-use Rattle.lvm_text.specs.declared.fault.TextFault.TheVariants.{Deep, Number, KeyTwice}
 
 -- a line, if a test finds something there, before later lines
 abbrev pub hit : Bool → ℕ → List ℕ → List ℕ

@@ -1,8 +1,5 @@
 -- The grammar of a text by its tokens, and the beginnings of its texts.
-use Rattle.std.specs.Prelude.{◌≡◌, ℕ, ◌^◌, ◌⊎◌, Bool, true, false, ◌&&◌, not, ◌==◌, nat_le, nat_lt, List, [], ◌∷◌, ◌++◌, length, Option, Some, None, if◌then◌else◌}
-use Rattle.std.specs.List.{list_all}
-use Rattle.std.specs.Char.{is_ascii_digit}
-use Rattle.std.specs.Str.Parse.{digits_value}
+use Rattle.lvm_text.specs.Base.{◌≡◌, ℕ, ◌^◌, ◌⊎◌, Bool, true, false, ◌&&◌, not, ◌==◌, nat_le, nat_lt, List, [], ◌∷◌, ◌++◌, length, Option, Some, None, if◌then◌else◌, list_all, is_ascii_digit, digits_value}
 use Rattle.lvm_text.specs.Bytes.{code}
 use Rattle.lvm_text.specs.Token.{Token, Word, Text, Open, Close, ListOpen, ListClose, Equals, Comma, TokenAtLine}
 use Rattle.lvm_text.specs.Tree as tree
@@ -49,15 +46,15 @@ ReadsBy scalar ts (Single k n s rest) more =
 ReadsBy scalar ts (Several k n ss rest) more =
     (is_key k ≡ true) × (e o : ℕ) × (a b : List TokenAtLine) × (ts ≡ (Word k, n) ∷ (Equals, e) ∷ (ListOpen, o) ∷ a) × ReadsListBy scalar a ss b × ReadsBy scalar b rest more
 
--- the same, as the grammar has scalars
+-- more scalars of a list, as the grammar has them
 abbrev pub ReadsMore : List TokenAtLine → List tree.Scalar → List TokenAtLine → Type 0
 ReadsMore = ReadsMoreBy scalar_of
 
--- the same of a list
+-- after an opening bracket: a list, as the grammar has scalars
 abbrev pub ReadsList : List TokenAtLine → List tree.Scalar → List TokenAtLine → Type 0
 ReadsList = ReadsListBy scalar_of
 
--- the same of values
+-- values, as the grammar has scalars
 abbrev pub Reads : List TokenAtLine → Values → List TokenAtLine → Type 0
 Reads = ReadsBy scalar_of
 

@@ -1,5 +1,5 @@
 -- The sections that are left of an iteration.
-use Rattle.std.specs.Prelude.{ℕ, List, drop}
+use Rattle.lvm_text.specs.Base.{ℕ, List, drop}
 use Rattle.lvm_text.specs.Tree.{Tree}
 use Rattle.lvm_text.specs.View.{sections_in}
 use Rattle.lvm_text.specs.declared.tree.Section.{Section}

@@ -15,3 +15,6 @@ pub mod Build
 pub mod Iterate
 pub mod Repeat
 pub mod Sound
+pub mod Prelude
+pub mod Std
+pub mod Base

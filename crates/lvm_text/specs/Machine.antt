@@ -1,5 +1,5 @@
 -- The stages of a parser. That they say which tokens can still become a text is proved, not assumed.
-use Rattle.std.specs.Prelude.{ℕ, suc, ◌-◌, Bool, false, ◌==◌, List, [], ◌∷◌, Option, Some, None, is_some, option_and_then, if◌then◌else◌, nat_lt}
+use Rattle.lvm_text.specs.Base.{ℕ, suc, ◌-◌, Bool, false, ◌==◌, List, [], ◌∷◌, Option, Some, None, is_some, option_and_then, if◌then◌else◌, nat_lt}
 use Rattle.lvm_text.specs.Token.{Token, Word, Open, Close, ListOpen, ListClose, Equals, Comma, TokenAtLine}
 use Rattle.lvm_text.specs.Grammar.{scalar_of, is_key}
 use Rattle.lvm_text.specs.declared.syntax.Stage.{Stage}
@@ -14,26 +14,26 @@ abbrev pub scalar_then : Token → State → Option State
 scalar_then t next = if is_some (scalar_of t) then Some next else None
 
 -- the state after a token, if it may stand here
-abbrev pub step : ℕ → Stage → Token → Option State
-step d at.Key (Word w) = if is_key w then Some (d, at.AfterKey) else None
-step d at.Key Close = if nat_lt 0 d then Some (d - 1, at.Key) else None
-step d at.Key _ = None
-step d at.AfterKey Open = Some (suc d, at.Key)
-step d at.AfterKey Equals = Some (d, at.Content)
-step d at.AfterKey _ = None
-step d at.Content ListOpen = Some (d, at.First)
-step d at.Content t = scalar_then t (d, at.Key)
-step d at.First ListClose = Some (d, at.Key)
-step d at.First t = scalar_then t (d, at.After)
-step d at.After ListClose = Some (d, at.Key)
-step d at.After Comma = Some (d, at.Next)
-step d at.After _ = None
-step d at.Next t = scalar_then t (d, at.After)
+abbrev pub stage_after : ℕ → Stage → Token → Option State
+stage_after d at.Key (Word w) = if is_key w then Some (d, at.AfterKey) else None
+stage_after d at.Key Close = if nat_lt 0 d then Some (d - 1, at.Key) else None
+stage_after d at.Key _ = None
+stage_after d at.AfterKey Open = Some (suc d, at.Key)
+stage_after d at.AfterKey Equals = Some (d, at.Content)
+stage_after d at.AfterKey _ = None
+stage_after d at.Content ListOpen = Some (d, at.First)
+stage_after d at.Content t = scalar_then t (d, at.Key)
+stage_after d at.First ListClose = Some (d, at.Key)
+stage_after d at.First t = scalar_then t (d, at.After)
+stage_after d at.After ListClose = Some (d, at.Key)
+stage_after d at.After Comma = Some (d, at.Next)
+stage_after d at.After _ = None
+stage_after d at.Next t = scalar_then t (d, at.After)
 
 -- the state after the tokens, if none of them is refused
 abbrev pub run : ℕ → Stage → List TokenAtLine → Option State
 run d p [] = Some (d, p)
-run d p (t ∷ ts) = option_and_then (λ s. run s.0 s.1 ts) (step d p t.0)
+run d p (t ∷ ts) = option_and_then (λ s. run s.0 s.1 ts) (stage_after d p t.0)
 
 -- a stage where a text may end
 abbrev pub is_over : ℕ → Stage → Bool

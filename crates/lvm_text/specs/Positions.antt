@@ -1,8 +1,5 @@
 -- Where the keys of a section stand.
-use Rattle.std.specs.Prelude.{◌≡◌, ℕ, ◌+◌, List, [], ◌∷◌, drop, Option, Some, None, bytes_eq, if◌then◌else◌}
-use Rattle.std.specs.Ordering.{nat_cmp}
-use Rattle.std.specs.Cmp.Lexicographic.{slice_cmp}
-use Rattle.std.specs.BTreeMap.{BTreeMap, get_by}
+use Rattle.lvm_text.specs.Base.{◌≡◌, ℕ, ◌+◌, List, [], ◌∷◌, drop, Option, Some, None, bytes_eq, if◌then◌else◌, nat_cmp, slice_cmp, BTreeMap, get_by}
 use Rattle.lvm_text.specs.declared.index.TheConstants.{FEW}
 use Rattle.lvm_text.specs.declared.tree.Entry.{Entry}
 use denote.Ref.{Bor}

@@ -1,5 +1,5 @@
 -- The keys inside a value that appear twice.
-use Rattle.std.specs.Prelude.{ℕ, List, []}
+use Rattle.lvm_text.specs.Base.{ℕ, List, []}
 use Rattle.lvm_text.specs.Checks.{twice_lines}
 use Rattle.lvm_text.specs.declared.tree.Value.{Value}
 use Rattle.lvm_text.specs.declared.tree.Value.TheVariants as variants

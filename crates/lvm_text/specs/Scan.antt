@@ -1,18 +1,18 @@
 -- How many bytes an element of a text takes.
-use Rattle.std.specs.Prelude.{ℕ, suc, Bool, false, ◌&&◌, ◌==◌, List, [], ◌∷◌, take, drop, Option, Some, None, option_map, if◌then◌else◌}
+use Rattle.lvm_text.specs.Base.{ℕ, suc, Bool, false, ◌&&◌, ◌==◌, List, [], ◌∷◌, take, drop, Option, Some, None, option_map, if◌then◌else◌}
 use Rattle.lvm_text.specs.Bytes.{code}
 use Rattle.lvm_text.specs.Token.{Token, Word, Text, Open, Close, ListOpen, ListClose, Equals, Comma}
 use Rattle.lvm_text.specs.Spelling.{Element, White, Comment, Lexeme, is_white, is_word_byte, is_escapable}
 
 -- up to the newline
-abbrev pub line_length : List ℕ → Option ℕ
-line_length [] = None
-line_length (b ∷ bs) = if b == code "\n" then Some 0 else option_map suc (line_length bs)
+abbrev pub newline_at : List ℕ → Option ℕ
+newline_at [] = None
+newline_at (b ∷ bs) = if b == code "\n" then Some 0 else option_map suc (newline_at bs)
 
 -- up to a byte of no word
-abbrev pub word_length : List ℕ → ℕ
-word_length [] = 0
-word_length (b ∷ bs) = if is_word_byte b then suc (word_length bs) else 0
+abbrev pub leading_word_bytes : List ℕ → ℕ
+leading_word_bytes [] = 0
+leading_word_bytes (b ∷ bs) = if is_word_byte b then suc (leading_word_bytes bs) else 0
 
 -- up to the closing quote
 abbrev pub raw_length : List ℕ → Option ℕ
@@ -38,7 +38,7 @@ sign_of b =
 
 -- a comment, from after its hash, and what comes after it
 abbrev pub comment_from : List ℕ → Option (Element × List ℕ)
-comment_from bs = option_map (λ n. (Comment (take n bs), drop (suc n) bs)) (line_length bs)
+comment_from bs = option_map (λ n. (Comment (take n bs), drop (suc n) bs)) (newline_at bs)
 
 -- a string, from after its opening quote, and what comes after it
 abbrev pub string_from : List ℕ → Option (Element × List ℕ)
@@ -46,7 +46,7 @@ string_from bs = option_map (λ n. (Lexeme (Text (take n bs)), drop (suc n) bs))
 
 -- a word, and what comes after it
 abbrev pub word_from : List ℕ → Element × List ℕ
-word_from bs = (Lexeme (Word (take (word_length bs) bs)), drop (word_length bs) bs)
+word_from bs = (Lexeme (Word (take (leading_word_bytes bs) bs)), drop (leading_word_bytes bs) bs)
 
 -- the element that begins with this byte before these, and what comes after it
 abbrev pub element_from : ℕ → List ℕ → Option (Element × List ℕ)

@@ -1,6 +1,5 @@
 -- What is true of every section.
-use Rattle.std.specs.Prelude.{◌≡◌, ℕ, true, List, []}
-use Rattle.std.specs.BTreeMap.{BTreeMap}
+use Rattle.lvm_text.specs.Base.{◌≡◌, ℕ, true, List, [], BTreeMap}
 use Rattle.lvm_text.specs.Checks.{twice_lines}
 use Rattle.lvm_text.specs.View.{values_of, lines_agree}
 use Rattle.lvm_text.specs.Positions.{Finds}

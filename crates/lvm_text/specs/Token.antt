@@ -1,5 +1,5 @@
 -- The tokens of a text.
-use Rattle.std.specs.Prelude.{ℕ, List}
+use Rattle.lvm_text.specs.Base.{ℕ, List}
 
 -- a word, the raw text between quotes, or one of the signs { } [ ] = ,
 pub data Token : Type 0 where

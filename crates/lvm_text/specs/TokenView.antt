@@ -1,5 +1,5 @@
 -- The crate's tokens and elements, without where their texts lie in memory.
-use Rattle.std.specs.Prelude.{ℕ, List, map, Option, option_map}
+use Rattle.lvm_text.specs.Base.{ℕ, List, map, Option, option_map}
 use Rattle.lvm_text.specs.Token as spec
 use Rattle.lvm_text.specs.declared.token.Token.{Token}
 use Rattle.lvm_text.specs.declared.token.Token.TheVariants as token

@@ -1,5 +1,5 @@
 -- The tree of a text.
-use Rattle.std.specs.Prelude.{◌≡◌, ℕ, ◌+◌, List, [], ◌∷◌, Option, Some, None, bytes_eq, if◌then◌else◌}
+use Rattle.lvm_text.specs.Base.{◌≡◌, ℕ, ◌+◌, List, [], ◌∷◌, Option, Some, None, bytes_eq, if◌then◌else◌}
 
 -- an integer, or the raw text between quotes
 pub data Scalar : Type 0 where

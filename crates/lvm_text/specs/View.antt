@@ -1,8 +1,7 @@
 -- What the crate's types show.
-use Rattle.std.specs.Prelude.{ℕ, Bool, true, ◌&&◌, ◌==◌, List, [], ◌∷◌, map}
+use Rattle.lvm_text.specs.Base.{ℕ, Bool, true, ◌&&◌, ◌==◌, List, [], ◌∷◌, map, Scalar}
 use Rattle.lvm_text.specs.Tree as tree
 use Rattle.lvm_text.specs.Tree.{Values, Tree, Nothing, Single, Several, Content, Inner, Whole, Items, Shown}
-use Rattle.lvm_text.specs.declared.tree.Scalar.{Scalar}
 use Rattle.lvm_text.specs.declared.tree.Scalar.TheVariants as scalars
 use Rattle.lvm_text.specs.declared.tree.Value.{Value}
 use Rattle.lvm_text.specs.declared.tree.Value.TheVariants as variants

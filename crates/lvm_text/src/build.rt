@@ -3,19 +3,11 @@
 //! is looked for before what it holds is read, which is the order of the source. Sections inside sections are
 //! calls inside calls, at most 16 deep, since depth was checked.
 
-ghost use Rattle.std.specs.Prelude.{◌≡◌, ◌≤◌, ◌<◌, ◌+◌, ◌∷◌, [], drop, length, option_map, IfOk, IfErr};
-ghost use Rattle.std.specs.Prelude.{IfSome, MatchOption, ℕ, true, false};
+ghost use Rattle.lvm_text.specs.Prelude.{◌≡◌, ◌≤◌, ◌<◌, ◌+◌, ◌∷◌, [], drop, length, option_map, IfOk, IfErr, IfSome, MatchOption, ℕ, true, false, token_view, views, scalar_view, scalar_views, has_line, bounded_of, is_comma, is_open, is_list_open, begins_key, scalar_first, item_of, left, ReadsScalars, ShowsScalar, ReadsLeaf, ReadsValue, ReadsValues, IsTwice, IsTwiceInside, twice_lines, inner_lines};
 ghost use Rattle.lvm_text.specs.Token as spec;
-ghost use Rattle.lvm_text.specs.TokenView.{token_view, views};
-ghost use Rattle.lvm_text.specs.View.{scalar_view, scalar_views, has_line};
-ghost use Rattle.lvm_text.specs.Build.{bounded_of, is_comma, is_open, is_list_open, begins_key, scalar_first};
-ghost use Rattle.lvm_text.specs.Build.{item_of, left, ReadsScalars, ShowsScalar, ReadsLeaf, ReadsValue};
-ghost use Rattle.lvm_text.specs.Build.{ReadsValues, IsTwice, IsTwiceInside};
-ghost use Rattle.lvm_text.specs.Checks.{twice_lines};
-ghost use Rattle.lvm_text.specs.Repeat.{inner_lines};
 
 use crate::fault::TextFault;
-use crate::index::{FEW, position_of, put_entry};
+use crate::index::{FEW, add_entry, position_of};
 use crate::number::{are_digits, number_of};
 use crate::token::{Token, TokenAtLine};
 use crate::tree::{Entry, Node, Scalar, Section, Value};
@@ -216,7 +208,7 @@ impl<'t, 'a> Builder<'t, 'a> {
                 value,
                 line: key_line,
             };
-            put_entry(&mut entries, &mut index, Entry { key, node })?;
+            add_entry(&mut entries, &mut index, Entry { key, node })?;
             at = after;
         }
         // Most sections have few keys, so the room left for more would be most of the memory.

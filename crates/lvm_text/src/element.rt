@@ -2,17 +2,11 @@
 //! A text is cut at its front, element by element, so an element is found by its first byte. A new form of
 //! token is a case of `element_at`.
 
-ghost use Rattle.std.specs.Prelude.{◌≡◌, ◌<◌, ◌∷◌, suc, None, Some, length, take, drop, slice_index};
-ghost use Rattle.std.specs.Prelude.{option_map, IfSome, IsTrue};
-ghost use Rattle.std.specs.Char.{is_ascii};
+ghost use Rattle.lvm_text.specs.Prelude.{◌≡◌, ◌<◌, ◌∷◌, suc, None, Some, length, take, drop, slice_index, option_map, IfSome, IsTrue, is_ascii, Lexeme, comment_from, string_from, leading_word_bytes, sign_of, element_from, element_at, element_view, found_view, token_view};
 ghost use Rattle.lvm_text.specs.Spelling as spelling;
-ghost use Rattle.lvm_text.specs.Spelling.{Lexeme};
 ghost use Rattle.lvm_text.specs.Token as spec;
-ghost use Rattle.lvm_text.specs.Scan.{comment_from, string_from, word_length};
-ghost use Rattle.lvm_text.specs.Scan.{sign_of, element_from, element_at};
-ghost use Rattle.lvm_text.specs.TokenView.{element_view, found_view, token_view};
 
-use crate::scan::{is_white, is_word_byte, line_length, raw_length, word_length};
+use crate::scan::{is_white, is_word_byte, leading_word_bytes, newline_at, raw_length};
 use crate::token::Token;
 
 /// A white byte, the text of a comment, or a token.
@@ -39,7 +33,7 @@ fn around(text: &str, at: usize) -> (&str, &str)
 fn comment(rest: &str) -> Option<(Element<'_>, &str)>
     ensures { found_view result ≡ comment_from rest.now }
 {
-    let end = line_length(rest.as_bytes())?;
+    let end = newline_at(rest.as_bytes())?;
     let (text, after) = around(rest, end);
     Some((Element::Comment(text), after))
 }
@@ -55,10 +49,10 @@ fn string(rest: &str) -> Option<(Element<'_>, &str)>
 
 /// A word.
 fn word(rest: &str) -> (Element<'_>, &str)
-    ensures element { element_view result.0 ≡ Lexeme (spec.Word (take (word_length rest.now) rest.now)) }
-    ensures after { result.1.now ≡ drop (word_length rest.now) rest.now }
+    ensures element { element_view result.0 ≡ Lexeme (spec.Word (take (leading_word_bytes rest.now) rest.now)) }
+    ensures after { result.1.now ≡ drop (leading_word_bytes rest.now) rest.now }
 {
-    let (word, after) = rest.split_at(word_length(rest.as_bytes()));
+    let (word, after) = rest.split_at(leading_word_bytes(rest.as_bytes()));
     (Element::Lexeme(Token::Word(word)), after)
 }
 

@@ -1,7 +1,6 @@
 //! Why a text is refused.
 
-ghost use Rattle.std.specs.Prelude.{◌≡◌};
-ghost use Rattle.lvm_text.specs.declared.fault.TextFault.TheVariants.{Memory};
+ghost use Rattle.lvm_text.specs.Prelude.{◌≡◌, Memory};
 
 use std::alloc::{AllocError, AllocFailed};
 use thiserror::Error;

@@ -3,8 +3,7 @@
 //! `log n` steps: metadata is mostly small sections, and an index for each of them would take most of its
 //! memory. What an index has is `Finds` in `specs/Positions`; change that first.
 
-ghost use Rattle.std.specs.Prelude.{◌≡◌, None, ◌∷◌, ◌++◌, [], OnOk};
-ghost use Rattle.lvm_text.specs.Positions.{Finds, position_of};
+ghost use Rattle.lvm_text.specs.Prelude.{◌≡◌, None, ◌∷◌, ◌++◌, [], OnOk, Finds, position_of};
 
 use crate::tree::Entry;
 use std::alloc::AllocError;
@@ -41,7 +40,7 @@ pub(crate) fn position_of(
 }
 
 /// Adds an entry, whose key none has yet, after the others.
-pub(crate) fn put_entry<'a>(
+pub(crate) fn add_entry<'a>(
     entries: &mut Vec<Entry<'a>>,
     index: &mut BTreeMap<&'a str, usize>,
     entry: Entry<'a>,

@@ -3,11 +3,7 @@
 //! from bytes to a tree. To change what a text may say, change `specs/` first.
 #![tactic(auto)]
 
-ghost use Rattle.std.specs.Prelude.{◌≡◌, ◌≢◌, ◌⊎◌, ℕ, List, Ok, Err, IfOk, IfErr};
-ghost use Rattle.lvm_text.specs.Tree.{Tree};
-ghost use Rattle.lvm_text.specs.Reading.{Describes, HasFault, Answers};
-ghost use Rattle.lvm_text.specs.declared.fault.TextFault.{TextFault};
-ghost use Rattle.lvm_text.specs.declared.fault.TextFault.TheVariants.{Memory};
+ghost use Rattle.lvm_text.specs.Prelude.{◌≡◌, ◌≢◌, ◌⊎◌, ℕ, List, Ok, Err, IfOk, IfErr, Tree, Describes, HasFault, Answers, TextFault, Memory};
 
 mod build;
 mod check;

@@ -2,9 +2,7 @@
 //! Leading zeros are allowed. 19 digits bound the work, and a `u64` holds their value, which then has to be
 //! below 2^63. A sign or a decimal point would be a change of `scalar_of` in `specs/Grammar`.
 
-ghost use Rattle.std.specs.Prelude.{◌≡◌, ◌≤◌, length, IsTrue};
-ghost use Rattle.std.specs.Str.Parse.{digits_value};
-ghost use Rattle.lvm_text.specs.Grammar.{are_digits, number_of};
+ghost use Rattle.lvm_text.specs.Prelude.{◌≡◌, ◌≤◌, length, IsTrue, digits_value, are_digits, number_of};
 
 /// Whether a word has digits alone.
 pub(crate) fn are_digits(word: &[u8]) -> bool

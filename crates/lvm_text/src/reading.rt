@@ -2,13 +2,7 @@
 //! Each check goes over the whole text before the next begins, since the order of the checks, and not that of
 //! the lines, decides which fault is returned. A new check goes between two of these.
 
-ghost use Rattle.std.specs.Prelude.{◌≡◌, ◌≢◌, ◌+◌, Ok, Err, IfOk, IfErr};
-ghost use Rattle.lvm_text.specs.Tree.{Values};
-ghost use Rattle.lvm_text.specs.Spelling.{newlines};
-ghost use Rattle.lvm_text.specs.Grammar.{IsText};
-ghost use Rattle.lvm_text.specs.TokenView.{views};
-ghost use Rattle.lvm_text.specs.Reading.{Describes, HasFault, TreeOf};
-ghost use Rattle.lvm_text.specs.declared.fault.TextFault.TheVariants.{Memory};
+ghost use Rattle.lvm_text.specs.Prelude.{◌≡◌, ◌≢◌, ◌+◌, Ok, Err, IfOk, IfErr, Values, newlines, IsText, views, Describes, HasFault, TreeOf, Memory};
 
 use crate::build::Builder;
 use crate::check::{deep_line, number_line};

@@ -2,9 +2,7 @@
 //! Each is found by one look at each byte, since a text may be one long word. A new form of token begins
 //! here, with its length.
 
-ghost use Rattle.std.specs.Prelude.{◌≡◌, None, is_none};
-ghost use Rattle.lvm_text.specs.Spelling.{is_white, is_word_byte, is_end};
-ghost use Rattle.lvm_text.specs.Scan.{line_length, word_length, raw_length, is_escape};
+ghost use Rattle.lvm_text.specs.Prelude.{◌≡◌, None, is_none, is_white, is_word_byte, is_end, newline_at, leading_word_bytes, raw_length, is_escape};
 
 use memchr::{memchr, memchr3};
 
@@ -23,15 +21,15 @@ pub(crate) fn is_word_byte(byte: u8) -> bool
 }
 
 /// How many bytes stand before the first newline.
-pub(crate) fn line_length(bytes: &[u8]) -> Option<usize>
-    ensures { result ≡ line_length bytes.now }
+pub(crate) fn newline_at(bytes: &[u8]) -> Option<usize>
+    ensures { result ≡ newline_at bytes.now }
 {
     memchr(b'\n', bytes)
 }
 
 /// How many word bytes stand at the front.
-pub(crate) fn word_length(bytes: &[u8]) -> usize
-    ensures { result ≡ word_length bytes.now }
+pub(crate) fn leading_word_bytes(bytes: &[u8]) -> usize
+    ensures { result ≡ leading_word_bytes bytes.now }
 {
     for (i, byte) in bytes.iter().enumerate() {
         if !is_word_byte(*byte) {
@@ -76,5 +74,5 @@ pub(crate) fn is_end(bytes: &[u8]) -> bool
     if bytes.is_empty() {
         return true;
     }
-    bytes[0] == b'#' && line_length(&bytes[1..]).is_none()
+    bytes[0] == b'#' && newline_at(&bytes[1..]).is_none()
 }

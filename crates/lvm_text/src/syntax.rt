@@ -2,12 +2,7 @@
 //! Sections may nest without bound here, so the number of open ones takes the place of a stack. A new form of
 //! value is a stage and its steps; the proof then asks how a text can go on from there.
 
-ghost use Rattle.std.specs.Prelude.{◌≡◌, ◌<◌, ◌+◌, ◌^◌, Some, is_some, MatchOption};
-ghost use Rattle.lvm_text.specs.Grammar.{scalar_of, is_key, IsSyntaxLine};
-ghost use Rattle.lvm_text.specs.Machine.{step, run, is_over};
-ghost use Rattle.lvm_text.specs.Spelling.{newlines};
-ghost use Rattle.lvm_text.specs.TokenView.{token_view, views};
-ghost use Rattle.lvm_text.specs.declared.syntax.Stage.TheVariants.{Key};
+ghost use Rattle.lvm_text.specs.Prelude.{◌≡◌, ◌<◌, ◌+◌, ◌^◌, Some, is_some, MatchOption, scalar_of, is_key, IsSyntaxLine, stage_after, run, is_over, newlines, token_view, views, Key};
 
 use crate::number::are_digits;
 use crate::reading::end_line;
@@ -50,9 +45,9 @@ fn is_scalar(token: Token<'_>) -> bool
 }
 
 /// The open sections and the stage after a token, if it may stand here.
-fn step(depth: u64, stage: Stage, token: Token<'_>) -> Option<(u64, Stage)>
+fn stage_after(depth: u64, stage: Stage, token: Token<'_>) -> Option<(u64, Stage)>
     requires { depth < 2 ^ 63 }
-    ensures { result ≡ step depth stage (token_view token.entry) }
+    ensures { result ≡ stage_after depth stage (token_view token.entry) }
 {
     match (stage, token) {
         (Stage::Key, Token::Word(word)) if is_key(word) => Some((depth, Stage::AfterKey)),
@@ -87,7 +82,7 @@ pub(crate) fn syntax_line(tokens: &[TokenAtLine<'_>], text: &str) -> Option<u64>
     let mut depth = 0;
     let mut stage = Stage::Key;
     for at_line in tokens {
-        let Some((next_depth, next_stage)) = step(depth, stage, at_line.token) else {
+        let Some((next_depth, next_stage)) = stage_after(depth, stage, at_line.token) else {
             return Some(at_line.line);
         };
         depth = next_depth;

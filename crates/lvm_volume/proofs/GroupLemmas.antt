@@ -1,17 +1,6 @@
 -- The checks of a group one after the other, and the fault of each.
-use Rattle.std.proofs.Common.{◌≡◌, ◌≢◌, ◌⊎◌, inl, inr, List, [], ◌∷◌, Option, Some, None, Result, Ok, Err, refl, ◌∙◌}
-use Rattle.lvm_text.specs.Tree.{Tree}
-use Rattle.dm_table.specs.declared.load.place.Part.TheVariants.{Source}
-use Rattle.dm_table.specs.declared.load.load_fault.LoadKind.TheVariants.{Memory}
-use Rattle.dm_table.specs.declared.load.load_fault.LoadFault.{LoadFault}
-use Rattle.dm_table.specs.load.LoadFault.{IsMemoryFault, first_fault, first_or, unless}
-use Rattle.lvm_volume.specs.fields.Checks.{Fields, Limits}
-use Rattle.lvm_volume.specs.checks.Extents.{name_faults, snapshot_faults, unknown_faults}
-use Rattle.lvm_volume.specs.fields.Fields.{faults_of_fields}
-use Rattle.lvm_volume.specs.group.Group.{Group, group_of}
-use Rattle.lvm_volume.specs.tables.Tables.{members_of, checks_of_parts, extent_faults, group_checks, unnamed}
+use Rattle.lvm_volume.proofs.Prelude.{◌≡◌, ◌≢◌, ◌⊎◌, inl, inr, List, [], ◌∷◌, Option, Some, None, Result, Ok, Err, refl, ◌∙◌, Tree, Source, Memory, LoadFault, IsMemoryFault, first_fault, first_or, unless, Fields, Limits, name_faults, snapshot_faults, unknown_faults, faults_of_fields, Group, group_of, members_of, checks_of_parts, extent_faults, group_checks, unnamed, first_or-found, first_or-passed, unless-err}
 use Rattle.lvm_volume.proofs.checks.FaultKinds.{NoMemory, first_kind, of_walk, of_unknown, of_extents, of_snapshots, of_unnamed}
-use Rattle.dm_table.proofs.FaultLemmas.{first_or-found, first_or-passed, unless-err}
 
 -- what is returned where a fault is found
 abbrev pub Refused : {X : Type 0} → LoadFault → Result X LoadFault → Type 0

@@ -4,4 +4,4 @@ pub mod NameLengths
 pub mod OneGroup
 pub mod OwnedLemmas
 pub mod Splits
-mod WorkedSnapshots
+pub mod Prelude

@@ -1,20 +1,6 @@
 -- What the steps from a text of metadata to its tables say together.
-use Rattle.std.proofs.Common.{◌≡◌, ◌≢◌, ℕ, List, [], ◌∷◌, ◌++◌, Option, Some, None, Result, Ok, Err, IfErr, refl, sym, ap, ◌∙◌}
-use Rattle.lvm_text.specs.Tree.{Tree}
-use Rattle.lvm_text.specs.Reading.{HasFault}
-use Rattle.lvm_text.specs.declared.fault.TextFault.{TextFault}
+use Rattle.lvm_volume.proofs.Prelude.{◌≡◌, ◌≢◌, ℕ, List, [], ◌∷◌, ◌++◌, Option, Some, None, Result, Ok, Err, IfErr, refl, sym, ap, ◌∙◌, IsUtf8, TextFault, Source, Memory, LoadFault, DeviceSpec, Disk, Tree, HasFault, Answers, first_fault, first_or, unless, Group, group_of, SaysTree, IsRefusedText, OfText, OfGroup, metadata_checks, group_checks, tables_of, text_fault, unnamed, unless-err, unless-ok}
 use Rattle.lvm_text.specs.declared.fault.TextFault.TheVariants as texts
-use Rattle.std.specs.Str.{IsUtf8}
-use Rattle.dm_table.specs.declared.load.place.Part.TheVariants.{Source}
-use Rattle.dm_table.specs.declared.load.load_fault.LoadKind.TheVariants.{Memory}
-use Rattle.dm_table.specs.declared.load.load_fault.LoadFault.{LoadFault}
-use Rattle.dm_table.specs.declared.tables.table.DeviceSpec.{DeviceSpec}
-use Rattle.dm_table.specs.declared.tables.disk.Disk.{Disk}
-use Rattle.dm_table.specs.load.LoadFault.{Answers, first_fault, first_or, unless}
-use Rattle.lvm_volume.specs.group.Group.{Group, group_of}
-use Rattle.lvm_volume.specs.Metadata.{SaysTree, IsRefusedText, OfText, OfGroup, metadata_checks}
-use Rattle.lvm_volume.specs.tables.Tables.{group_checks, tables_of, text_fault, unnamed}
-use Rattle.dm_table.proofs.FaultLemmas.{unless-err, unless-ok}
 
 -- a check after others of which none finds anything, and after one that does
 pub last_check : (checks : List (List LoadFault)) (last : List LoadFault) → first_fault checks ≡ None → first_fault (checks ++ last ∷ []) ≡ first_or last None

@@ -1,9 +1,5 @@
 -- How long a name is.
-use Rattle.std.proofs.Common.{◌≡◌, ℕ, ◌+◌, ◌==◌, Bool, true, false, cond, List, [], ◌∷◌, ◌++◌, length, length-append, arith, refl}
-use Rattle.std.specs.Prelude.{count_by, option_map}
-use Rattle.std.proofs.lemmas.List.Sums.{sum_by-cons}
-use Rattle.dm_table.specs.words.Bytes.{code}
-use Rattle.lvm_volume.specs.Names.{NameParts, doubled, joined, with_hyphen}
+use Rattle.lvm_volume.proofs.Prelude.{◌≡◌, ℕ, ◌+◌, ◌==◌, Bool, true, false, cond, List, [], ◌∷◌, ◌++◌, length, length-append, arith, refl, count_by, option_map, sum_by-cons, code, NameParts, doubled, joined, with_hyphen}
 
 -- each hyphen counts twice
 pub length_doubled : (part : List ℕ) → length (doubled part) ≡ length part + count_by (λ b. b == code "-") part

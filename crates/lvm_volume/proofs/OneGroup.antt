@@ -1,21 +1,6 @@
 -- A text of metadata describes at most one group, or is refused by at most one fault, and not both.
-use Rattle.std.proofs.Common.{◌≡◌, ◌⊎◌, ℕ, Bool, true, false, List, Option, None, Some, inl, inr, refl, sym, ap, ◌∙◌}
-use Rattle.std.specs.Str.{IsUtf8, is_utf8}
-use Rattle.std.proofs.lemmas.Str.{IsUtf8-from_is_utf8, is_utf8-from_IsUtf8}
-use Rattle.lvm_text.specs.Tree.{Tree}
-use Rattle.lvm_text.specs.Reading.{Describes, HasFault}
-use Rattle.lvm_text.specs.declared.fault.TextFault.{TextFault}
-use Rattle.lvm_text.proofs.Whole.{every_text}
-use Rattle.lvm_text.proofs.Unique.{one_tree, no_fault as no_text_fault, one_fault as one_text_fault}
-use Rattle.dm_table.specs.declared.load.load_fault.LoadFault.{LoadFault}
-use Rattle.dm_table.specs.declared.tables.table.DeviceSpec.{DeviceSpec}
-use Rattle.dm_table.specs.declared.tables.disk.Disk.{Disk}
-use Rattle.dm_table.specs.declared.load.place.Part.TheVariants.{Source}
-use Rattle.dm_table.specs.declared.load.load_fault.LoadKind.TheVariants.{NotText}
-use Rattle.dm_table.specs.load.LoadFault.{fault_at, first_fault}
-use Rattle.lvm_volume.specs.group.Group.{group_of}
-use Rattle.lvm_volume.specs.Metadata.{DescribesGroup, SaysTree, IsRefusedText, NotUtf8, OfText, OfGroup, SaysOneThing, bad_byte_line, metadata_checks}
-use Rattle.lvm_volume.specs.tables.Tables.{tables_of, text_fault}
+use Rattle.lvm_volume.proofs.Prelude.{◌≡◌, ◌⊎◌, ℕ, Bool, true, false, List, Option, None, Some, inl, inr, refl, sym, ap, ◌∙◌, IsUtf8, is_utf8, IsUtf8-from_is_utf8, is_utf8-from_IsUtf8, TextFault, LoadFault, DeviceSpec, Disk, Source, NotText, Tree, Describes, HasFault, every_text, one_tree, fault_at, first_fault, group_of, DescribesGroup, SaysTree, IsRefusedText, OfText, OfGroup, SaysOneThing, bad_byte_line, metadata_checks, tables_of, text_fault, NotUtf8}
+use Rattle.lvm_text.proofs.Unique.{no_fault as no_text_fault, one_fault as one_text_fault}
 
 same_tree : (source : List ℕ) (t u : Tree) → SaysTree source t → SaysTree source u → t ≡ u
 same_tree source t u is_t is_u = one_tree source t u is_t.says is_u.says

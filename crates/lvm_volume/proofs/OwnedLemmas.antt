@@ -1,28 +1,10 @@
 -- What a text gives where images have some of its physical volumes.
-use Rattle.std.proofs.Common.{◌≡◌, ◌≢◌, ◌⊎◌, ◌++◌, inl, inr, ℕ, suc, Bool, true, false, List, [], ◌∷◌, length, map, Option, None, Result, Ok, Err, refl, sym, ap, subst, ◌∙◌}
-use Rattle.std.specs.Prelude.{codes}
-use Rattle.std.specs.Str.{IsUtf8, is_utf8}
-use Rattle.std.proofs.lemmas.Str.{IsUtf8-from_is_utf8, is_utf8-from_IsUtf8}
-use Rattle.lvm_text.specs.Tree.{Tree, sections_of}
-use Rattle.lvm_text.specs.Reading.{Describes, HasFault}
-use Rattle.lvm_text.specs.declared.fault.TextFault.{TextFault}
+use Rattle.lvm_volume.proofs.Prelude.{◌≡◌, ◌≢◌, ◌⊎◌, ◌++◌, inl, inr, ℕ, suc, Bool, true, false, List, [], ◌∷◌, length, map, Option, None, Result, Ok, Err, refl, sym, ap, subst, ◌∙◌, codes, IsUtf8, is_utf8, IsUtf8-from_is_utf8, is_utf8-from_IsUtf8, TextFault, Source, Memory, NotText, LoadFault, Tree, sections_of, Describes, HasFault, every_text, one_tree, IsMemoryFault, fault_at, first_fault, first_or, unless, OwnedFault, DiskFault, Group, Keyed, device_of, first_section, group_of, physical_of, Owners, id_in, ids_of, owned_group, physicals_of, untaken, bad_byte_line, metadata_checks, Gives, GivesOneThing, OfTree, OwnedAnswers, Tables, of_load, owned_tables, unless_untaken, group_checks, tables_of, text_fault, unnamed, unless-ok}
 use Rattle.lvm_text.specs.declared.fault.TextFault.TheVariants as texts
-use Rattle.lvm_text.proofs.Whole.{every_text}
-use Rattle.lvm_text.proofs.Unique.{one_tree, no_fault as no_text_fault, one_fault as one_text_fault}
-use Rattle.dm_table.specs.declared.load.place.Part.TheVariants.{Source}
-use Rattle.dm_table.specs.declared.load.load_fault.LoadKind.TheVariants.{Memory, NotText}
-use Rattle.dm_table.specs.declared.load.load_fault.LoadFault.{LoadFault}
-use Rattle.dm_table.specs.load.LoadFault.{IsMemoryFault, fault_at, first_fault, first_or, unless}
-use Rattle.lvm_volume.specs.declared.owned_metadata.OwnedFault.{OwnedFault}
-use Rattle.lvm_volume.specs.declared.owned_metadata.OwnedFault.TheVariants.{Foreign, Load}
-use Rattle.lvm_volume.specs.fields.Fields.{sections_at}
-use Rattle.lvm_volume.specs.group.Group.{Group, Keyed, device_of, first_section, group_of, physical_of}
-use Rattle.lvm_volume.specs.group.Owners.{Owners, foreign, id_in, ids_of, owned_group}
-use Rattle.lvm_volume.specs.Metadata.{bad_byte_line, metadata_checks}
-use Rattle.lvm_volume.specs.OwnedMetadata.{Gives, GivesOneThing, NotUtf8, OfText, OfTree, OwnedAnswers, Tables, of_load, owned_tables, unless_foreign}
-use Rattle.lvm_volume.specs.tables.Tables.{group_checks, tables_of, text_fault, unnamed}
+use Rattle.lvm_text.proofs.Unique.{no_fault as no_text_fault, one_fault as one_text_fault}
+use Rattle.lvm_volume.specs.declared.owned_metadata.OwnedFault.TheVariants.{Disk, Load}
+use Rattle.lvm_volume.specs.OwnedMetadata.{NotUtf8, OfText}
 use Rattle.lvm_volume.proofs.MetadataLemmas.{last_check}
-use Rattle.dm_table.proofs.FaultLemmas.{unless-ok}
 
 -- ---- the group of a tree
 
@@ -33,16 +15,16 @@ count_both f g (x ∷ xs) = ap (λ (n : ℕ). suc n) (count_both f g xs)
 -- each physical volume has an id
 pub ids_counted : (top : Tree) (ids : List (List ℕ)) (group : Group) → ids ≡ ids_of top → unless (first_fault (group_checks top)) (group_of top) ≡ Ok group → length ids ≡ length group.physicals
 ids_counted top ids group are is =
-    let sections : List Keyed = sections_at (codes "physical_volumes") (first_section (sections_of top.values)).1 in
+    let sections : List Keyed = physicals_of top in
     ap (λ (xs : List (List ℕ)). length xs) are
     ∙ count_both id_in (physical_of (map device_of sections)) sections
     ∙ ap (λ (g : Group). length g.physicals) (unless-ok (first_fault (group_checks top)) (group_of top) group is).1
 
-said_known : (owners : Owners) (top : Tree) (ids : List (List ℕ)) (said : Result Tables LoadFault) → ids ≡ ids_of top → foreign owners.ids ids ≡ None
+said_known : (owners : Owners) (top : Tree) (said : Result Tables LoadFault) → untaken (physicals_of top) owners.names 0 owners.ids ≡ None
     → unless (first_fault (metadata_checks top)) (tables_of (owned_group owners (ids_of top) (group_of top))) ≡ said → of_load said ≡ owned_tables owners top
-said_known owners top ids said are none is =
+said_known owners top said none is =
     let all : Result Tables OwnedFault = of_load (unless (first_fault (metadata_checks top)) (tables_of (owned_group owners (ids_of top) (group_of top)))) in
-    sym (ap (λ (xs : List (List ℕ)). unless_foreign (foreign owners.ids xs) all) (sym are) ∙ ap (λ (f : Option ℕ). unless_foreign f all) none ∙ ap of_load is)
+    sym (ap (λ (f : Option (ℕ × DiskFault)). unless_untaken f all) none ∙ ap of_load is)
 
 earlier_found : {X : Type 0} (checks : List (List LoadFault)) (last : List LoadFault) (group : Group) (x : X) (fault : LoadFault) → unless (first_fault checks) group ≡ Err fault → unless (first_fault (checks ++ last ∷ [])) x ≡ Err fault
 earlier_found [] last group x fault is = absurd cc
@@ -50,19 +32,19 @@ earlier_found ([] ∷ checks) last group x fault is = earlier_found checks last 
 earlier_found ((found ∷ faults) ∷ checks) last group x fault is = let same : found ≡ fault = cc in rw same refl
 
 -- a check of the group finds a fault
-pub said_refused : (owners : Owners) (top : Tree) (ids : List (List ℕ)) (fault : LoadFault) → ids ≡ ids_of top → foreign owners.ids ids ≡ None → unless (first_fault (group_checks top)) (group_of top) ≡ Err fault
+pub said_refused : (owners : Owners) (top : Tree) (fault : LoadFault) → untaken (physicals_of top) owners.names 0 owners.ids ≡ None → unless (first_fault (group_checks top)) (group_of top) ≡ Err fault
     → Err (Load fault) ≡ owned_tables owners top
-said_refused owners top ids fault are none is =
-    said_known owners top ids (Err fault) are none
+said_refused owners top fault none is =
+    said_known owners top (Err fault) none
     (earlier_found (group_checks top) (unnamed (group_of top)) (group_of top) (tables_of (owned_group owners (ids_of top) (group_of top))) fault is)
 
 -- no check of the group does: what its tables are is what is said
-pub said_tables : (owners : Owners) (top : Tree) (ids : List (List ℕ)) (group owned : Group) (said : Result Tables LoadFault) → ids ≡ ids_of top → foreign owners.ids ids ≡ None → unless (first_fault (group_checks top)) (group_of top) ≡ Ok group
+pub said_tables : (owners : Owners) (top : Tree) (ids : List (List ℕ)) (group owned : Group) (said : Result Tables LoadFault) → ids ≡ ids_of top → untaken (physicals_of top) owners.names 0 owners.ids ≡ None → unless (first_fault (group_checks top)) (group_of top) ≡ Ok group
     → owned ≡ owned_group owners ids group → unless (first_or (unnamed owned) None) (tables_of owned) ≡ said → of_load said ≡ owned_tables owners top
 said_tables owners top ids group owned said are none is same tables =
     let p = unless-ok (first_fault (group_checks top)) (group_of top) group is in
     let e : owned ≡ owned_group owners (ids_of top) (group_of top) = same ∙ ap (λ (xs : List (List ℕ)). owned_group owners xs group) are ∙ ap (owned_group owners (ids_of top)) (sym p.1) in
-    said_known owners top ids said are none
+    said_known owners top said none
     (ap (λ (found : Option LoadFault). unless found (tables_of (owned_group owners (ids_of top) (group_of top)))) (last_check (group_checks top) (unnamed (group_of top)) p.0)
     ∙ ap (λ (g : Group). unless (first_or (unnamed g) None) (tables_of g)) (sym e)
     ∙ tables)
@@ -71,7 +53,7 @@ said_tables owners top ids group owned said are none is same tables =
 
 pub answers_by : {X : Type 0} (view : X → Tables) (P Q : Result Tables OwnedFault → Type 0) → ((said : Result Tables OwnedFault) → P said → Q said) → (result : Result X OwnedFault) → OwnedAnswers view P result → OwnedAnswers view Q result
 answers_by view P Q f (Ok x) is = f (Ok (view x)) is
-answers_by view P Q f (Err (Foreign disk)) is = f (Err (Foreign disk)) is
+answers_by view P Q f (Err (Disk disk fault)) is = f (Err (Disk disk fault)) is
 answers_by view P Q f (Err (Load fault)) is = (is.0, λ other. f (Err (Load fault)) (is.1 other))
 
 text_memory : (found : TextFault) → (text_fault found).kind ≡ Memory → IsMemoryFault Source (text_fault found)

@@ -1,21 +1,8 @@
 -- A name is cut in one way, and its slices are its parts doubled.
-use Rattle.std.proofs.Common.{◌≡◌, ◌≢◌, ℕ, suc, ◌+◌, ◌<◌, ◌≤◌, Bool, true, false, cond, eqb, ◌&&◌, List, [], ◌∷◌, ◌++◌, length, take, drop, Option, Some, None, refl, sym, ap, subst, ◌∙◌, zero, get_or, arith, append_assoc, drop-cons, length-append}
-use Rattle.std.specs.Prelude.{Result, Err, IfSome, IsTrue, option_map, MatchOption, option_and_then, is_none, nat_le}
-use Rattle.std.specs.List.{list_all}
-use Rattle.std.specs.Str.Pattern.{LacksTextAt, HasTextAt}
-use Rattle.std.proofs.lemmas.Bool.{cond_both, eqb-true, and_parts, and_from, leb-true, le-leb, lt-leb}
-use Rattle.std.proofs.lemmas.Bool.Decides.{nat_tests}
-use Rattle.std.proofs.lemmas.List.{append-nil, take_more, take-append-drop, drop_more}
+use Rattle.lvm_volume.proofs.Prelude.{◌≡◌, ◌≢◌, ℕ, suc, ◌+◌, ◌<◌, ◌≤◌, Bool, true, false, cond, eqb, ◌&&◌, List, [], ◌∷◌, ◌++◌, length, take, drop, Option, Some, None, refl, sym, ap, subst, ◌∙◌, zero, get_or, arith, append_assoc, drop-cons, length-append, Result, Err, IfSome, IsTrue, option_map, MatchOption, option_and_then, is_none, nat_le, list_all, LacksTextAt, HasTextAt, cond_both, eqb-true, and_parts, and_from, leb-true, le-leb, lt-leb, nat_tests, append-nil, take_more, take-append-drop, drop_more, same_Some, drop-append_seam, take-append_seam, code, is_device_byte, is_device_name, NameParts, built, Returns, is_letter, begins_with, part_fault, layer_fault, or_later, doubled, undoubled, undoubled_parts, with_hyphen, joined, fault_of, Builds, IsSplit, doubled_parts, slice_length, first_slice, after_hyphen, later_slices, with_layer, slices_of, NameFault}
 use denote.Ref.{Bor}
-use Rattle.std.proofs.lemmas.Option.{same_Some}
-use Rattle.dm_table.specs.words.Bytes.{code}
-use Rattle.lvm_volume.specs.Names.{NameParts, built, Returns, is_letter, begins_with, part_fault, layer_fault, or_later, doubled, undoubled, undoubled_parts, with_hyphen, joined, fault_of, Builds, IsSplit, doubled_parts}
-use Rattle.dm_table.specs.words.Name.{is_device_byte, is_device_name}
 use Rattle.dm_table.proofs.ByteLemmas.{list_all-both}
-use Rattle.lvm_volume.specs.Cuts.{slice_length, first_slice, after_hyphen, later_slices, with_layer, slices_of}
-use Rattle.lvm_volume.specs.declared.fault.NameFault.{NameFault}
 use Rattle.lvm_volume.specs.declared.fault.NameFault.TheVariants.{Letter, HyphenFirst, Empty, Long, Memory}
-use Rattle.std.proofs.Math.Seq.{drop-append_seam, take-append_seam}
 
 -- Doubled parts
 

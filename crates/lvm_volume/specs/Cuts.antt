@@ -1,6 +1,5 @@
 -- Where a name is cut: at a hyphen that has no neighbour left to pair with.
-use Rattle.std.specs.Prelude.{ℕ, suc, ◌==◌, List, [], ◌∷◌, take, drop, Option, Some, None, is_none, option_and_then, if◌then◌else◌}
-use Rattle.dm_table.specs.words.Bytes.{code}
+use Rattle.lvm_volume.specs.Base.{ℕ, suc, ◌==◌, List, [], ◌∷◌, take, drop, Option, Some, None, is_none, option_and_then, if◌then◌else◌, code}
 use Rattle.lvm_volume.specs.Names.{NameParts}
 
 -- up to a hyphen that no hyphen follows, where pairs of them are passed over

@@ -7,3 +7,5 @@ pub mod checks
 pub mod fields
 pub mod group
 pub mod tables
+pub mod Prelude
+pub mod Base

@@ -1,17 +1,6 @@
 -- What a text of metadata describes, and why one is refused.
-use Rattle.std.specs.Prelude.{◌≡◌, ◌⊎◌, ℕ, ◌+◌, List, [], ◌∷◌, ◌++◌, None, Some, take}
-use Rattle.std.specs.Str.{IsUtf8}
+use Rattle.lvm_volume.specs.Base.{◌≡◌, ◌⊎◌, ℕ, ◌+◌, List, [], ◌∷◌, ◌++◌, None, Some, take, IsUtf8, TextFault, Source, NotText, LoadFault, DeviceSpec, Disk, Tree, newlines, Describes, HasFault, fault_at, first_fault}
 use Rattle.std.specs.Str.Lossy.{utf8_valid_len}
-use Rattle.lvm_text.specs.Tree.{Tree}
-use Rattle.lvm_text.specs.Spelling.{newlines}
-use Rattle.lvm_text.specs.Reading.{Describes, HasFault}
-use Rattle.lvm_text.specs.declared.fault.TextFault.{TextFault}
-use Rattle.dm_table.specs.declared.load.place.Part.TheVariants.{Source}
-use Rattle.dm_table.specs.declared.load.load_fault.LoadKind.TheVariants.{NotText}
-use Rattle.dm_table.specs.declared.load.load_fault.LoadFault.{LoadFault}
-use Rattle.dm_table.specs.declared.tables.table.DeviceSpec.{DeviceSpec}
-use Rattle.dm_table.specs.declared.tables.disk.Disk.{Disk}
-use Rattle.dm_table.specs.load.LoadFault.{fault_at, first_fault}
 use Rattle.lvm_volume.specs.group.Group.{group_of}
 use Rattle.lvm_volume.specs.tables.Tables.{group_checks, tables_of, text_fault, unnamed}
 

@@ -1,8 +1,6 @@
 -- The messages of names that are not built, or have no parts.
-use Rattle.std.specs.Prelude.{ℕ, List, ◌++◌, codes}
-use Rattle.dm_table.specs.load.LoadMessage.{memory_message}
-use Rattle.lvm_volume.specs.declared.fault.NameFault.{NameFault}
-use Rattle.lvm_volume.specs.declared.fault.NameFault.TheVariants.{Letter, HyphenFirst, Empty, Long, Memory}
+use Rattle.lvm_volume.specs.Base.{ℕ, List, ◌++◌, codes, memory_message, NameFault, Letter, HyphenFirst, Empty, Long}
+use Rattle.lvm_volume.specs.declared.fault.NameFault.TheVariants.{Memory}
 
 -- a message about a name, with this word
 abbrev pub name_refusal : List ℕ → List ℕ

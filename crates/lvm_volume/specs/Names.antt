@@ -1,10 +1,6 @@
 -- How the device mapper's name of a volume is spelled from its parts (lvm(8), "Valid names"; dmsetup splitname).
-use Rattle.std.specs.Prelude.{◌≡◌, ℕ, Bool, false, ◌&&◌, ◌||◌, ◌==◌, nat_le, List, [], ◌∷◌, ◌++◌, length, Option, Some, None, option_map, Result, Ok, Err, if◌then◌else◌}
-use Rattle.std.specs.List.{list_all}
-use Rattle.std.specs.Char.{is_ascii_alphanumeric}
-use Rattle.dm_table.specs.words.Bytes.{code}
-use Rattle.lvm_volume.specs.declared.fault.NameFault.{NameFault}
-use Rattle.lvm_volume.specs.declared.fault.NameFault.TheVariants.{Letter, HyphenFirst, Empty, Long, Memory}
+use Rattle.lvm_volume.specs.Base.{◌≡◌, ℕ, Bool, false, ◌&&◌, ◌||◌, ◌==◌, nat_le, List, [], ◌∷◌, ◌++◌, length, Option, Some, None, option_map, Result, Ok, Err, if◌then◌else◌, list_all, is_ascii_alphanumeric, code, NameFault, Letter, HyphenFirst, Empty, Long}
+use Rattle.lvm_volume.specs.declared.fault.NameFault.TheVariants.{Memory}
 use Rattle.lvm_volume.specs.declared.names.Parts.{Parts}
 use denote.Ref.{Bor}
 

@@ -1,37 +1,28 @@
 -- What a text of metadata gives where images have some of its physical volumes.
-use Rattle.std.specs.Prelude.{◌≡◌, ◌≢◌, ℕ, List, Option, Some, None, Result, Ok, Err}
-use Rattle.std.specs.Str.{IsUtf8}
-use Rattle.lvm_text.specs.Tree.{Tree}
-use Rattle.lvm_text.specs.Reading.{HasFault}
-use Rattle.lvm_text.specs.declared.fault.TextFault.{TextFault}
-use Rattle.dm_table.specs.declared.load.place.Part.TheVariants.{Source}
-use Rattle.dm_table.specs.declared.load.load_fault.LoadKind.TheVariants.{Memory, NotText}
-use Rattle.dm_table.specs.declared.load.load_fault.LoadFault.{LoadFault}
-use Rattle.dm_table.specs.declared.tables.table.DeviceSpec.{DeviceSpec}
-use Rattle.dm_table.specs.declared.tables.disk.Disk.{Disk}
-use Rattle.dm_table.specs.load.LoadFault.{IsMemoryFault, fault_at, first_fault, unless}
+use Rattle.lvm_volume.specs.Base.{◌≡◌, ◌≢◌, ℕ, List, Option, Some, None, Result, Ok, Err, IsUtf8, Tree, HasFault, TextFault, Source, Memory, NotText, LoadFault, DeviceSpec, IsMemoryFault, fault_at, first_fault, unless, DiskFault}
+use Rattle.dm_table.specs.declared.tables.disk.Disk.{Disk as TableDisk}
 use Rattle.lvm_volume.specs.declared.owned_metadata.OwnedFault.{OwnedFault}
-use Rattle.lvm_volume.specs.declared.owned_metadata.OwnedFault.TheVariants.{Foreign, Load}
+use Rattle.lvm_volume.specs.declared.owned_metadata.OwnedFault.TheVariants.{Disk, Load}
 use Rattle.lvm_volume.specs.group.Group.{group_of}
-use Rattle.lvm_volume.specs.group.Owners.{Owners, foreign, ids_of, owned_group}
+use Rattle.lvm_volume.specs.group.Owners.{Owners, ids_of, owned_group, physicals_of, untaken}
 use Rattle.lvm_volume.specs.Metadata.{SaysTree, bad_byte_line, metadata_checks}
 use Rattle.lvm_volume.specs.tables.Tables.{tables_of, text_fault}
 
 -- devices and disks
 abbrev pub Tables : Type 0
-Tables = List DeviceSpec × List Disk
+Tables = List DeviceSpec × List TableDisk
 
 abbrev pub of_load : Result Tables LoadFault → Result Tables OwnedFault
 of_load (Ok tables) = Ok tables
 of_load (Err fault) = Err (Load fault)
 
-abbrev pub unless_foreign : Option ℕ → Result Tables OwnedFault → Result Tables OwnedFault
-unless_foreign (Some disk) said = Err (Foreign disk)
-unless_foreign None said = said
+abbrev pub unless_untaken : Option (ℕ × DiskFault) → Result Tables OwnedFault → Result Tables OwnedFault
+unless_untaken (Some found) said = Err (Disk found.0 found.1)
+unless_untaken None said = said
 
--- what a tree gives: the first disk whose id it doesn't have, or else the first fault of its checks, or else tables
+-- what a tree gives: the first disk that isn't taken, or else the first fault of its checks, or else tables
 abbrev pub owned_tables : Owners → Tree → Result Tables OwnedFault
-owned_tables owners top = unless_foreign (foreign owners.ids (ids_of top)) (of_load (unless (first_fault (metadata_checks top)) (tables_of (owned_group owners (ids_of top) (group_of top)))))
+owned_tables owners top = unless_untaken (untaken (physicals_of top) owners.names 0 owners.ids) (of_load (unless (first_fault (metadata_checks top)) (tables_of (owned_group owners (ids_of top) (group_of top)))))
 
 -- what a text gives: a byte that is no UTF-8, or else a fault of the text, goes before
 pub data Gives (owners : Owners) (source : List ℕ) (said : Result Tables OwnedFault) : Type 0 where
@@ -47,5 +38,5 @@ pub record GivesOneThing (owners : Owners) (source : List ℕ) : Type 0 where
 -- what a call returned is so, except that out of memory may stand in its place
 abbrev pub OwnedAnswers : {X : Type 0} → (X → Tables) → (Result Tables OwnedFault → Type 0) → Result X OwnedFault → Type 0
 OwnedAnswers view is (Ok x) = is (Ok (view x))
-OwnedAnswers view is (Err (Foreign disk)) = is (Err (Foreign disk))
+OwnedAnswers view is (Err (Disk disk fault)) = is (Err (Disk disk fault))
 OwnedAnswers view is (Err (Load fault)) = (fault.kind ≡ Memory → IsMemoryFault Source fault) × (fault.kind ≢ Memory → is (Err (Load fault)))

@@ -2,7 +2,7 @@
 //!
 //! Why a text is refused is tested on the built program (`tests/outside`).
 
-use crate::{OwnedFault, Owners, VolumeGroup, parse_owned, text_fault};
+use crate::{DiskFault, OwnedFault, Owners, VolumeGroup, parse_owned, text_fault};
 use dm_table::{
     DeviceSpec, Disk, LoadFault, LoadKind, Part, Place, ShortOut, parse_paths, write_concise,
 };
@@ -54,7 +54,7 @@ const SECOND: &str = r#"    }
       }
     }"#;
 
-/// The same with the store of a snapshot of the volume, in lines 25 to 35, and its record in lines 36 to 47.
+/// What stands there if the second volume is the store of a snapshot of the first, in lines 25 to 35, and its record in lines 36 to 47.
 const SNAPSHOT: &str = r#"    }
     snap {
       status = ["READ", "WRITE", "VISIBLE"]
@@ -279,11 +279,30 @@ fn several_devices(rt: HostRuntime) {
 const OWNED: &str =
     "device = \"/dev/sda1\" id = \"abcdef-ghij-klmn-opqr-stuv-wxyz-012345\" type = \"raid1\"";
 
+/// Line 7 of `ONE` for a physical volume that was missing; below, for some that lay elsewhere.
+const MISSING: &str =
+    "device = \"/dev/md0\" flags = [\"X\", \"MISSING\"] id = \"abcdefghijklmnopqrstuvwxyz012345\"";
+
+const ON_ARRAY: &str = "device = \"/dev/md/a:0\" id = \"abcdefghijklmnopqrstuvwxyz012345\"";
+
+const ON_MD: &str = "device = \"/dev/md\" id = \"abcdefghijklmnopqrstuvwxyz012345\"";
+
+const ON_MAPPER: &str = "device = \"/dev/mapper/md0\" id = \"abcdefghijklmnopqrstuvwxyz012345\"";
+
 /// A line of `ONE` and what stands in its place; its device in the concise form, or why there is none, where an image
 /// with an id has the disk `sdb`.
-static OF_OWNED: [(usize, &str, Result<&str, OwnedFault>); 3] = [
+static OF_OWNED: [(usize, &str, Result<&str, OwnedFault>); 7] = [
     (7, OWNED, Ok("vg0-lv0,,,rw,0 204800 linear sdb 2048\n")),
-    (20, "type = \"raid1\"", Err(OwnedFault::Foreign(0))),
+    (
+        20,
+        "type = \"raid1\"",
+        Err(OwnedFault::Disk(0, DiskFault::Foreign)),
+    ),
+    // A disk that was missing, before it lay on an array of another name, and one of its own name.
+    (7, MISSING, Err(OwnedFault::Disk(0, DiskFault::Missing))),
+    (7, ON_ARRAY, Err(OwnedFault::Disk(0, DiskFault::Array))),
+    (7, ON_MD, Err(OwnedFault::Disk(0, DiskFault::Array))),
+    (7, ON_MAPPER, Ok("vg0-lv0,,,rw,0 204800 linear sdb 2048\n")),
     (
         11,
         "id = \"abcdefghijklmnopqrstuvwxyz012345\" } pv1 {}",

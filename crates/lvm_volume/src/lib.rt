@@ -23,7 +23,7 @@ mod tests;
 mod volume_group;
 
 pub use fault::NameFault;
-pub use group::owners::Owners;
+pub use group::owners::{DiskFault, Owners};
 pub use metadata::parse_metadata;
 pub use names::{Parts, build_name, spaced_parts, split_name, undouble};
 pub use owned_metadata::{OwnedFault, parse_owned};

@@ -3,15 +3,7 @@
 //! This joins the steps in the order of their refusals: bytes that are no UTF-8, the language of the text,
 //! the group, the names of its volumes. None has a rule of its own here.
 
-ghost use Rattle.std.specs.Prelude.{◌≡◌, ◌≢◌, IfErr, IfOk};
-ghost use Rattle.std.specs.Str.{IsUtf8};
-ghost use Rattle.dm_table.specs.load.LoadFault.{Answers, IsMemoryFault, fault_at, first_fault, unless};
-ghost use Rattle.dm_table.specs.declared.load.load_fault.LoadKind.TheVariants.{Memory, NotText};
-ghost use Rattle.dm_table.specs.declared.load.place.Part.TheVariants.{Source};
-ghost use Rattle.lvm_volume.specs.group.Group.{group_of};
-ghost use Rattle.lvm_volume.specs.Metadata.{DescribesGroup, IsRefusedText, SaysOneThing, bad_byte_line};
-ghost use Rattle.lvm_volume.specs.Metadata.{metadata_checks};
-ghost use Rattle.lvm_volume.specs.tables.Tables.{tables_of};
+ghost use Rattle.lvm_volume.specs.Prelude.{◌≡◌, ◌≢◌, IfErr, IfOk, IsUtf8, Memory, NotText, Source, Answers, IsMemoryFault, fault_at, first_fault, unless, group_of, DescribesGroup, IsRefusedText, SaysOneThing, bad_byte_line, metadata_checks, tables_of};
 
 use crate::fields::source_line::source_fault;
 use crate::refused_text::text_fault;

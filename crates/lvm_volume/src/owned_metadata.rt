@@ -1,15 +1,13 @@
 //! Texts of metadata where images have some of the physical volumes: each of these is named by the disk that lies in
 //! its image.
 //!
-//! That an image is of another group is asked once the text is read, before any check of its group: else a fault of
-//! the group would hide it.
+//! That an image is of another group, or that its disk isn't to be taken, is asked once the text is read, before any
+//! check of its group: else a fault of the group would hide it.
 
-ghost use Rattle.std.specs.Prelude.{◌≡◌};
-ghost use Rattle.lvm_volume.specs.group.OwnersCode.{owners_view};
-ghost use Rattle.lvm_volume.specs.OwnedMetadata.{Gives, GivesOneThing, OwnedAnswers, owned_tables};
+ghost use Rattle.lvm_volume.specs.Prelude.{◌≡◌, owners_view, Gives, GivesOneThing, OwnedAnswers, owned_tables};
 
 use crate::fields::source_line::memory_fault;
-use crate::group::owners::{Owners, first_foreign, ids_of, owned_group};
+use crate::group::owners::{DiskFault, Owners, first_untaken, ids_of, owned_group, physicals_of};
 use crate::metadata::utf8_text;
 use crate::refused_text::text_fault;
 use crate::volume_group::VolumeGroup;
@@ -20,8 +18,8 @@ use std::alloc::Global;
 /// Why a text of metadata gives no tables, where images have some of its physical volumes.
 #[derive(Clone, Copy, Debug, PartialEq, Eq, Drop)]
 pub enum OwnedFault {
-    /// No physical volume of the text has the id of the image of this number, from 0.
-    Foreign(usize),
+    /// The disk of this number, from 0, isn't taken for the physical volume of its id.
+    Disk(usize, DiskFault),
     /// The text is refused.
     Load(LoadFault),
 }
@@ -30,8 +28,8 @@ pub enum OwnedFault {
 /// disk of each of these has the name of the disk that lies in its image. Otherwise the name is that of
 /// `parse_metadata`, whose checks are made of these names alone.
 ///
-/// `Foreign` is found in a text that can be read, before its group is checked. Apart from it, faults are those of
-/// `parse_metadata`.
+/// `Disk` is found in a text that can be read, before its group is checked: the first disk that has a fault. Apart from
+/// it, faults are those of `parse_metadata`.
 ///
 /// Cost: that of `parse_metadata`, and a comparison for each id of an image and each of the text.
 pub fn parse_owned(
@@ -62,11 +60,14 @@ fn owned_tables(
     ensures { OwnedAnswers (λ tables. (tables.0.items, tables.1.items))
         (λ said. said ≡ owned_tables (owners_view owners.now) top.now) result }
 {
-    let Ok(ids) = ids_of(alloc, top) else {
+    let Ok(physicals) = physicals_of(alloc, top) else {
         return Err(OwnedFault::Load(memory_fault()));
     };
-    if let Some(disk) = first_foreign(owners.ids, &ids) {
-        return Err(OwnedFault::Foreign(disk));
+    let Ok(ids) = ids_of(alloc, &physicals) else {
+        return Err(OwnedFault::Load(memory_fault()));
+    };
+    if let Some((disk, fault)) = first_untaken(owners, &physicals) {
+        return Err(OwnedFault::Disk(disk, fault));
     }
     let group = match VolumeGroup::read(alloc, top) {
         Ok(group) => group,

@@ -3,11 +3,7 @@
 //! The checks of a group have passed, so each product fits 64 bits and each position is one of its list: only
 //! a name can still be refused.
 
-ghost use Rattle.std.specs.Prelude.{◌≡◌, None};
-ghost use Rattle.dm_table.specs.load.LoadFault.{Answers, unless};
-ghost use Rattle.dm_table.specs.declared.load.place.Part.TheVariants.{Source};
-ghost use Rattle.lvm_volume.specs.fields.Fields.{first_of};
-ghost use Rattle.lvm_volume.specs.tables.Tables.{tables_of, unnamed};
+ghost use Rattle.lvm_volume.specs.Prelude.{◌≡◌, None, Source, Answers, unless, first_of, tables_of, unnamed};
 
 pub(crate) mod device_names;
 pub(crate) mod devices;

@@ -4,12 +4,7 @@
 //! bits in sectors, stripes of physical volumes that are there, and snapshots of volumes that are origins. A
 //! new check takes its place here and in `group_checks` of `specs/tables/Tables.antt`.
 
-ghost use Rattle.std.specs.Prelude.{ℕ, List};
-ghost use Rattle.dm_table.specs.load.LoadFault.{Answers, first_fault, unless};
-ghost use Rattle.dm_table.specs.declared.load.place.Part.TheVariants.{Source};
-ghost use Rattle.lvm_volume.specs.fields.Fields.{IsChecked};
-ghost use Rattle.lvm_volume.specs.group.Group.{group_of, group_with};
-ghost use Rattle.lvm_volume.specs.tables.Tables.{checks_of_parts, group_checks};
+ghost use Rattle.lvm_volume.specs.Prelude.{ℕ, List, Source, Answers, first_fault, unless, IsChecked, group_of, group_with, checks_of_parts, group_checks};
 
 use crate::checks::extents::{check_extents, check_sizes};
 use crate::checks::segment_check::{check_snapshots, check_targets};

@@ -1,4 +1,4 @@
-"""The pages of the crates: each crate has a short one, which names and links what is there. Code that it shows stands in
+"""The pages of the crates: each crate has one, which names and links what is there. Code that it shows stands in
 the test that it links to, word for word and in one piece, so it is proved and run; its commands print what is shown."""
 
 import os
@@ -6,17 +6,16 @@ import re
 import textwrap
 
 import documents
+import source_names
 import transcripts
 from harness import text_of
 
-# How many bytes a page has, at least and at most.
-BYTES = 1000, 2000
 # A link to a source, and a block of code: each block is in the source that was linked last before it.
 SHOWN = re.compile(r"\]\(([\w./-]+\.rt)\)|^```rust\n(.*?)^```$", re.M | re.S)
 
 
 def test_pages(tally, program, top):
-    code = documents.code_of(top)
+    code = source_names.words_of_sources(top)
     for crate in re.findall(r"^(\w+):", text_of(os.path.join(top, "crates.txt")), re.M):
         name = os.path.join("crates", crate, "README.md")
         path = os.path.join(top, name)
@@ -25,8 +24,6 @@ def test_pages(tally, program, top):
             continue
         text = text_of(path)
         tally.holds("the head of " + name, text.startswith("# %s\n" % crate), "it is %r" % text.split("\n")[0])
-        size = os.path.getsize(path)
-        tally.holds("the size of " + name, BYTES[0] <= size <= BYTES[1], "it has %d bytes" % size)
         words = re.sub(r"\]\([^)]*\)", "]", text)
         lost = documents.lost_paths(words, top) + documents.lost_words(words, top) + documents.lost_links(text, path)
         tally.holds("what %s names" % name, not lost, "there is no %s" % ", ".join(lost))

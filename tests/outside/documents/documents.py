@@ -1,4 +1,4 @@
-"""The documents: what they name and link to exists, they are short, and the commands that the README, the tutorial and the
+"""The documents: what they name and link to exists, and the commands that the README, the tutorial and the
 page on programs show print what is shown there. The heads of the sources' files name files that exist, too."""
 
 import glob
@@ -25,27 +25,14 @@ DECLARED = re.compile(r"^(?:(?:abbrev|unfoldable|pub|record|data) )+(\w+)|^  (?:
 # A file of definitions as a comment of its own crate names it, and perhaps of another crate.
 HEAD = re.compile(r"`specs/([\w/]+)(?:\.antt)?`(?: of `(\w+)`)?")
 COMMENT = re.compile(r"^ *(?://[/!]?|--) ?(.*)$", re.M)
-# A table of a document, of which one column has code, and a name of code.
-TABLE = re.compile(r"^\|(.*\| Code \|.*)\n\|[-|]+\n((?:\|.*\n)*)", re.M)
-NAME = re.compile(r"`(?:\w+/)*(\w+)`")
-ITEM = re.compile(r"^ *(?:pub(?:\(\w+\))? )?(?:const )?(?:fn|struct|enum|trait|const|static|type) (\w+)", re.M)
 
-# What these documents have at most, so that each is read at one sitting.
-BYTES = {"README.md": 7000, "CHANGELOG.md": 5500, "docs/TUTORIAL.md": 11500, "docs/RECIPES.md": 20000,
-         "docs/FORMATS.md": 32000, "docs/MAPPING.md": 18000, "docs/KERNEL.md": 8900, "docs/dmremap.1": 21800,
-         "docs/dmremap-tools.1": 10100}
-# The picture of the README, the group that it is of, and the write that it shows.
-PICTURE, GROUP, WRITE = "docs/stack.svg", "examples/vg0-snapshot.backup", "W vg0-lv0 8000 8"
 # What a block of the tutorial begins with if its commands want more than the repository's files.
 MARK = "# needs "
-# Its way from images of disks to lost files, and how many commands that takes at most.
-WALK, COMMANDS = re.compile(r"\n## 1\. From images alone\n(.*?)\n## ", re.S), 12
 
 
 def test_names(tally, top):
     documents = [os.path.join(top, *it) for it in (("README.md",), ("CHANGELOG.md",), ("tests", "benches", "RESULTS.md"))]
     documents += sorted(glob.glob(os.path.join(top, "docs", "*.md")))
-    code = code_of(top)
     for document in documents + sorted(glob.glob(os.path.join(top, "docs", "*.1"))):
         name = os.path.relpath(document, top)
         text = text_of(document)
@@ -55,18 +42,10 @@ def test_names(tally, top):
         tally.holds("files that %s names" % name, not lost, "there is no %s" % ", ".join(lost))
         lost = lost_words(text, top)
         tally.holds("definitions that %s names" % name, not lost, "there is no %s" % ", ".join(lost))
-        lost = lost_code(text, code)
-        tally.holds("code that %s names" % name, not lost, "there is no %s" % ", ".join(lost))
         lost = lost_links(text, document)
         tally.holds("links of %s" % name, not lost, "there is no %s" % ", ".join(lost))
     lost = lost_heads(top)
     tally.holds("definitions that comments name", not lost, "there is no %s" % ", ".join(lost))
-
-
-def test_sizes(tally, top):
-    for name, most in BYTES.items():
-        size = os.path.getsize(os.path.join(top, name))
-        tally.holds("the size of %s" % name, size <= most, "it has %d bytes" % size)
 
 
 def test_commands(tally, program, top):
@@ -78,21 +57,6 @@ def test_commands(tally, program, top):
     unmarked = [it for it in others if not it.startswith(MARK)]
     tally.holds("commands of the tutorial that aren't run", not unmarked,
                 "no line %r before %s" % (MARK + "..", ", ".join(unmarked)))
-    walk = [command for command, _ in transcripts.of_markdown(WALK.search(tutorial)[1])]
-    tally.holds("the tutorial's way from images", 0 < len(walk) <= COMMANDS and not re.search(r"\bsed\b", " ".join(walk)),
-                "it has %d commands, or one of sed" % len(walk))
-
-
-def test_picture(tally, program, top):
-    """The numbers in the picture are where lines begin and end on the disk, its length, and where the write reads and writes."""
-    group, picture = os.path.join(top, GROUP), text_of(os.path.join(top, PICTURE))
-    lines = re.findall(r": 0 (\d+) linear \S+ (\d+)", program.run(["table", "lvm", group]).out.decode())
-    copied = re.findall(r" copy \S+ (\d+) \d+ \S+ (\d+)", program.run(["map", "lvm", group], given=WRITE + "\n").out.decode())
-    wanted = {0, int(re.search(r"dev_size = (\d+)", text_of(group))[1])} | {int(it) for pair in copied for it in pair}
-    wanted |= {it for length, start in lines for it in (int(start), int(start) + int(length))}
-    shown = {int(it) for it in re.findall(r">(\d+)</text>", picture)}
-    tally.holds("the numbers in " + PICTURE, shown == wanted, "they are %s, and not %s" % (sorted(shown), sorted(wanted)))
-    tally.holds("the write in " + PICTURE, copied and WRITE in picture, "it is another")
 
 
 def lost_paths(text, top):
@@ -118,24 +82,6 @@ def lost_words(text, top):
             if files and word not in there and not os.path.isdir(os.path.join(top, "crates", word)):
                 lost.append("%s in %s" % (word, name))
     return lost
-
-
-def code_of(top):
-    """The names of crates and modules, and of what they declare."""
-    crates = set(os.listdir(os.path.join(top, "crates")))
-    files = glob.glob(os.path.join(top, "crates", "*", "src", "**", "*.rt"), recursive=True)
-    stems = {os.path.basename(it)[:-len(".rt")] for it in files}
-    return (crates | stems).union(*(ITEM.findall(text_of(it)) for it in files))
-
-
-def lost_code(text, code):
-    """The names in columns for code that no module has and none declares."""
-    named = set()
-    for head, rows in TABLE.findall(text):
-        column = [it.strip() for it in head.split("|")].index("Code") + 1
-        cells = [row.split("|")[column].strip() for row in rows.splitlines()]
-        named |= {it for cell in cells if not cell.startswith("no code") for it in NAME.findall(cell)}
-    return sorted(named - code)
 
 
 def lost_heads(top):

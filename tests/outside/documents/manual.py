@@ -8,7 +8,6 @@ import shutil
 
 import help_words
 import transcripts
-from dmremap_tools import commands
 from harness import run, text_of
 
 SECTIONS = ["NAME", "SYNOPSIS", "DESCRIPTION", "COMMANDS", "FORMATS", "OUTPUT", "EXIT STATUS", "DIAGNOSTICS",
@@ -25,10 +24,8 @@ RULED = re.compile(r"^\|[^|`]*\| ((?:`\w+`(?:, )?)+) \|", re.M)
 NOT_TOP = "not top"
 # The word of a load that has a message of its own.
 MEMORY = "memory"
-# How many columns a help has.
-COLUMNS = 80
 # Messages without a word that another text puts in.
-WHOLE = re.compile(r'"(dmremap: (?!name: )\w+(?:: \w+)?)(?:\\n)?"')
+WHOLE = re.compile(r'"(dmremap: (?!name: |device: )\w+(?:: \w+)?)(?:\\n)?"')
 
 
 def test_page(tally, program, top):
@@ -97,11 +94,3 @@ def parts_of(heading, text):
     """The parts of a text, each with its title, which a pattern finds."""
     found = re.split(heading, text, flags=re.M)
     return list(zip(found[1::2], found[2::2]))
-
-
-def test_columns(tally, top):
-    """The help of the tools fits a terminal."""
-    for name in [None, *(it.name for it in commands.COMMANDS)]:
-        got = run([os.path.join(top, "dmremap-tools"), *filter(None, [name]), "--help"], env=dict(os.environ, COLUMNS=str(COLUMNS)))
-        longest = max(got.out.decode().splitlines(), key=len, default="")
-        tally.holds("the columns of the help of %s" % (name or "the tools"), 0 < len(longest) <= COLUMNS, "it has the line %r" % longest)

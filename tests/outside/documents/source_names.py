@@ -1,5 +1,5 @@
-"""The documents for those who change something: names of code in them are those of sources, each is short, the number
-of must-fail edits is that of the files, and the picture of the crates has the arrows that crates.txt has."""
+"""The documents for those who change something: names of code in them are those of sources, the number of must-fail edits
+is that of the files, and the picture of the crates has the arrows that crates.txt has."""
 
 import glob
 import os
@@ -7,12 +7,9 @@ import re
 
 from harness import text_of
 
-# What these documents have at most, so that each is read at one sitting.
-BYTES = {"ARCHITECTURE.md": 9200, "DECISIONS.md": 4000, "DEVELOPING.md": 8500, "PROMISES.md": 17700}
-# And all pages together, with their pictures.
-ALL_BYTES = 180000
+PAGES = ("ARCHITECTURE.md", "DECISIONS.md", "DEVELOPING.md", "PROMISES.md")
 SOURCES = ("crates/*/*/**/*.rt", "crates/*/*/**/*.antt", "crates/*/must-fail/*", "crates.txt", "HANDLES", "tools/*/*",
-           "tests/benches/*", "tools/**/*.py", "tests/**/*.py", "[a-z]*")
+           "tests/benches/*", "tools/**/*.py", "tests/**/*.py", "docs/*.patch", "[a-z]*")
 # Wrong changes that the gate has to refuse, and how many of them a document says that there are.
 EDITS, SAID = "crates/*/must-fail/*.edit", re.compile(r"at most (\d+) must-fail edits; there are (\d+)\b")
 # A name in marks of code: of one word, or with the type before.
@@ -21,15 +18,10 @@ NAME = re.compile(r"`([\w:]+)`")
 
 def test_pages(tally, top):
     words = words_of_sources(top)
-    for name, most in BYTES.items():
-        path = os.path.join(top, "docs", name)
-        lost = sorted({word for it in NAME.findall(text_of(path)) for word in it.split("::")} - words)
+    for name in PAGES:
+        text = text_of(os.path.join(top, "docs", name))
+        lost = sorted({word for it in NAME.findall(text) for word in it.split("::")} - words)
         tally.holds("names that docs/%s has of the sources" % name, not lost, "there is no %s" % ", ".join(lost))
-        size = os.path.getsize(path)
-        tally.holds("the size of docs/%s" % name, size <= most, "it has %d bytes" % size)
-    pages = [os.path.join(top, "README.md"), os.path.join(top, "CHANGELOG.md"), *glob.glob(os.path.join(top, "docs", "*"))]
-    size = sum(map(os.path.getsize, pages))
-    tally.holds("the size of all pages", size <= ALL_BYTES, "they have %d bytes" % size)
     edits = len(glob.glob(os.path.join(top, EDITS)))
     most, said = map(int, SAID.search(text_of(os.path.join(top, "docs", "DEVELOPING.md"))).groups())
     tally.holds("the number of must-fail edits in docs/DEVELOPING.md", said == edits <= most, "there are %d" % edits)

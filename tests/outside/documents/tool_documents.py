@@ -1,10 +1,8 @@
 """What is made of the texts of the commands of dmremap-tools, the manual and the completions, is made of them as they are,
-shows without a warning, and offers what there is. And one sources' folder packs into the same bytes, which work. Where what
-is made can't be written, a line says so."""
+shows without a warning, and offers what there is. And one sources' folder packs into the same bytes, which work."""
 
 import importlib.util
 import os
-import shutil
 from importlib.machinery import SourceFileLoader
 
 import completions
@@ -34,23 +32,6 @@ def test_offered(tally, program, top, derive):
     rows = [([""], {command.name for command, _, _ in found}), (["met"], {"metadata"})]
     rows += [([command.name, "-"], set(derive.names(parser))) for command, _, parser in found]
     completions.check_rows(tally, top, os.path.dirname(program.file("offered/a file")), TOOL, rows, left_out={"--help"})
-
-
-def test_derived(tally, program, top):
-    """A manual that doesn't fit on the disk, and completions without their folder."""
-    derived = os.path.join(os.path.realpath(program.folder), "derived")
-    shutil.copytree(os.path.join(top, "tools"), os.path.join(derived, "tools"), ignore=shutil.ignore_patterns("completions"))
-    page = os.path.join(derived, "docs", TOOL + ".1")
-    os.makedirs(os.path.dirname(page))
-    shutil.copy(os.path.join(top, "docs", "dmremap.1"), os.path.dirname(page))
-    os.symlink("/dev/full", page)
-    script = [os.path.join(derived, "tools", "derive")]
-    tally.same("tools/derive on a full disk", run(script), 5, "", "derive: %s: No space left on device\n" % page)
-    os.unlink(page)
-    lost = os.path.join(derived, "tools", "packaging", "completions", TOOL + ".bash")
-    tally.same("tools/derive without a folder", run(script), 5, "", "derive: %s: No such file or directory\n" % lost)
-    with open(page, encoding="utf-8") as one, open(os.path.join(top, "docs", TOOL + ".1"), encoding="utf-8") as other:
-        tally.holds("what it wrote before", one.read() == other.read(), "it is another")
 
 
 def test_packed(tally, program, top):

@@ -1,8 +1,8 @@
 """Commands with their output, as the documents show them, are run in a shell and compared.
 
 In a folder of their own the program is `dmremap`, which is also found as a command, and beside it are
-the tool, the repository's examples, and power_cut where the gate leaves it. The commands of one document run one after
-the other, so that a later one finds the files that an earlier one made.
+the tool and the repository's examples. The commands of one document run one after the other, so that a later one finds the
+files that an earlier one made.
 """
 
 import os
@@ -16,7 +16,6 @@ from harness import run
 # A block of a document in Markdown: its kind and its lines.
 BLOCK = re.compile(r"^( *)```(\w*)\n(.*?)^ *```$", re.M | re.S)
 PROMPT, MORE = "$ ", "> "
-POWER_CUT = "crates/power_cut/out/power_cut"
 # What needs debugfs.
 ABOUT_FILES, ADMINISTRATORS = ("debugfs ", "dmremap-tools lost "), ":/sbin:/usr/sbin"
 
@@ -57,15 +56,10 @@ def check(tally, program, top, name, shown):
     os.symlink(program.path, os.path.join(folder, "dmremap"))
     for it in ("dmremap-tools", "examples"):
         os.symlink(os.path.join(top, it), os.path.join(folder, it))
-    os.makedirs(os.path.join(folder, os.path.dirname(POWER_CUT)))
-    os.symlink(os.path.join(top, POWER_CUT), os.path.join(folder, POWER_CUT))
     env = dict(os.environ, PATH=folder + os.pathsep + os.environ["PATH"] + ADMINISTRATORS)
     tally.holds("commands of %s" % name, shown, "it shows none")
     for command, output in shown:
         title = "in %s: %s" % (name, command.splitlines()[0])
-        if POWER_CUT in command and not os.path.exists(os.path.join(top, POWER_CUT)):
-            tally.skip(title, "there is no %s, which the gate leaves" % POWER_CUT)
-            continue
         if any(it in command for it in ABOUT_FILES) and not shutil.which("debugfs", path=env["PATH"]):
             tally.skip(title, "there is no debugfs")
             continue

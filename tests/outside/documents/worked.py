@@ -22,8 +22,6 @@ CHANGED = re.compile(r"([\w.-]+):(\d+): (.*)")
 # A worked example: the command and its options, and its texts.
 EXAMPLE = re.compile(r"^```example ([^\n]*)\n(.*?)^```$", re.M | re.S)
 REMARK = re.compile(r"  +\S.*$")
-# The chunks of data in the picture of a store: from which one to which one, by how many numbers an area has.
-SPAN = re.compile(r">([^<>]+) \.\. ([^<>]+)</text>")
 # The section of examples that are explained, and how many it has.
 WORKED, COUNT = "## 10. Worked examples", 4
 
@@ -42,10 +40,6 @@ def test_mapping(tally, program, top):
     tally.holds("worked examples", len(worked) == COUNT, "there are %d" % len(worked))
     for words, body in examples:
         check_worked(tally, program, words.split(), body)
-
-
-def test_pictures(tally, program, top):
-    check_store(tally, program, text_of(os.path.join(top, "docs", "store.svg")))
 
 
 def check_refused(tally, program, top, text):
@@ -111,21 +105,6 @@ def check_worked(tally, program, words, body):
     requests, answers = ([it for is_answer, it in lines if is_answer == wanted] for wanted in (False, True))
     got = loaded(program, "table", table + "\n", disks + "\n", ended(requests), words[0], words[1:])
     tally.same("in MAPPING: %s .." % table.splitlines()[0], got, 0, ended(answers))
-
-
-def check_store(tally, program, picture):
-    """Where the picture has data, the chunks of a store lie that are taken first: here of one sector, of which an area has 32."""
-    shown = [[place_of(it, 32) for it in span] for span in SPAN.findall(picture)]
-    chunks = [it for first, last in shown for it in range(first, last + 1)]
-    got = loaded(program, "table", "s: 0 64 snapshot base cow P 1\n", "base 64\ncow 99\n", "W s 0 64\n")
-    taken = [int(it) for it in re.findall(r" copy .* (\d+)\n", got.out.decode())]
-    tally.holds("the picture of a store", taken and chunks == taken, "it has %s, and the program %s" % (chunks, taken))
-
-
-def place_of(text, numbers):
-    """A chunk as the picture has it, such as 2e + 1, where an area has that many numbers."""
-    times, more = re.fullmatch(r"(?:(\d*)e(?: \+ )?)?(\d*)", text).groups()
-    return (0 if times is None else int(times or 1) * numbers) + int(more or 0)
 
 
 def ended(lines):

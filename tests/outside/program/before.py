@@ -31,8 +31,7 @@ ROWS = [
     ("reads alone", *SNAPSHOT, "R s 0 32\nR s 8 1\n", "R s 8 8\n", "1 R base 8 8\ns: 0 32 snapshot 16/64 16\n"),
     ("no requests", *SNAPSHOT, "W s 9 1\n", "", "s: 0 32 snapshot 24/64 16\n"),
     ("two snapshots of one origin, by writes to it", *PAIR, "W o 0 1\n", "R s 0 1\nR t 0 1\nR o 0 1\nW o 1 1\n",
-     "1 R c1 16 1\n2 R c2 16 1\n3 R base 0 1\n4 W base 1 1\n"
-     "s: 0 16 snapshot 24/64 16\nt: 0 16 snapshot 24/64 16\n"),
+     "1 R c1 16 1\n2 R c2 16 1\n3 R base 0 1\n4 W base 1 1\n" "s: 0 16 snapshot 24/64 16\nt: 0 16 snapshot 24/64 16\n"),
     ("two snapshots of one origin, by a write to one", *PAIR, "W t 8 1\n", "W o 8 1\nR s 8 1\nR t 8 1\n",
      "1 copy base 8 8 c1 16\n1 W base 8 1\n2 R c1 16 1\n3 R c2 16 1\n"
      "s: 0 16 snapshot 24/64 16\nt: 0 16 snapshot 24/64 16\n"),

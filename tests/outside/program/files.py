@@ -5,40 +5,12 @@ import subprocess
 import threading
 
 from harness import become_nobody
+from lvm_texts import METADATA
 
 TABLE = "a: 0 8 linear sda 4\n"
 DISKS = "sda 12\n"
 REQUESTS = "W a 2 3\n"
 ANSWER = "1 W sda 6 3\n"
-
-METADATA = """\
-contents = "Text Format Volume Group"
-version = 1
-vg0 {
-  extent_size = 8192
-  physical_volumes {
-    pv0 {
-      device = "/dev/sda1"
-      dev_size = 1050624
-      pe_start = 2048
-      pe_count = 128
-    }
-  }
-  logical_volumes {
-    lv0 {
-      status = ["READ", "WRITE", "VISIBLE"]
-      segment_count = 1
-      segment1 {
-        start_extent = 0
-        extent_count = 25
-        type = "striped"
-        stripe_count = 1
-        stripes = ["pv0", 0]
-      }
-    }
-  }
-}
-"""
 
 # A path that a careless shell script would take apart or read as something else.
 ODD_PATHS = ["two words", "  spaces around  ", "*", "$HOME", "a;b", "quote'and\"quote", "café",

@@ -1,21 +1,6 @@
 """Metadata of volume groups: what volumes map to, and each word of a refusal. A row changes a line."""
 
-from files import METADATA
-
-# In place of line 24: the end of the volume, and a read-only one of two stripes in lines 25 to 36.
-SECOND = """    }
-    lv-1 {
-      status = ["READ"]
-      segment_count = 1
-      segment1 {
-        start_extent = 0
-        extent_count = 4
-        type = "striped"
-        stripe_count = 2
-        stripe_size = 128
-        stripes = ["pv0", 25, "pv0", 27]
-      }
-    }"""
+from lvm_texts import BOTH, METADATA
 
 
 def with_line(text, number, line):
@@ -24,7 +9,6 @@ def with_line(text, number, line):
     return "\n".join([line if it == number else old for it, old in enumerate(lines, 1)])
 
 
-BOTH = with_line(METADATA, 24, SECOND)
 READ, WRITE = "R vg0-lv0 0 8\n", "W vg0-lv0 0 8\n"
 ON_DEVICE, ON_KEY = "1 R /dev/sda1 2048 8\n", "1 R pv0 2048 8\n"
 WRITTEN = "1 W /dev/sda1 2048 8\n"

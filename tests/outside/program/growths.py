@@ -12,9 +12,11 @@ import os
 import shutil
 
 import images
-from groups import BOTH
+import lvm_texts
 from harness import is_static, run, text_of
-from stored import put, taken
+from lvm_texts import BOTH
+from store_lists import taken
+from stored import put
 
 MEMORY = "dmremap: memory\n"
 SNAPSHOT = ("s: 0 20 snapshot base cow P 8\n", "base 20\ncow 64\n")
@@ -36,8 +38,7 @@ ROWS = [
     ("map lvm", (BOTH,), [], "R vg0-lv--1 120 16\nW vg0-lv--1 0 8\n",
      "1 R /dev/sda1 206968 8\n1 R /dev/sda1 223232 8\n2 error 8\n"),
     ("map concise", CONCISE, [], "W b 0 8\nR b 0 8\n", "1 error 8\n2 R sda 0 8\n"),
-    ("concise concise", CONCISE, [], "",
-     "a,,,ro,0 8 linear sda 0;b,,,rw,0 8 linear /dev/mapper/a 0\n"),
+    ("concise concise", CONCISE, [], "", "a,,,ro,0 8 linear sda 0;b,,,rw,0 8 linear /dev/mapper/a 0\n"),
     ("table lvm", (BOTH,), [], "", "vg0-lv0: 0 204800 linear /dev/sda1 2048\n"
      "vg0-lv--1: 0 32768 striped 2 128 /dev/sda1 206848 /dev/sda1 223232\n"),
     ("check table", CLASH, [], "", "devices 2\ndisks 1\ndepth 1\nclash sda 4 a b\n"),
@@ -81,6 +82,7 @@ def images_rows(program):
     paths = [images.paths_of(program, images.PAIR)]
     yield "map images", paths, [], images.ASKED, images.ANSWER % ("sda", "sdb")
     yield "metadata images", paths, [], "", images.TEXT[:-1].decode()
+    yield "read images", paths, ["vg0-home"], "", "\0" * 56 * 512
 
 
 def stored_row(program):
@@ -124,7 +126,9 @@ def check_growths(tally, shim, name, words, requests, answers, start="open", lef
             # Where some requests alone ask for fewer growths, these are answered.
             answered = max(0, sum(it < first for it in asked) - 1)
             is_told = (got.status, got.out, got.err) == (6, "".join(answers[:answered]).encode(), MEMORY.encode())
-            if not is_told or got.refused == 0:
+            # A list that isn't given twice its room asks for less.
+            is_whole = not others and (got.status, got.out, got.err) == (0, "".join(answers).encode(), b"")
+            if not (is_told or is_whole) or got.refused == 0:
                 wrong.append((first, got.status, got.out, got.err))
         tally.holds("%s with %s" % (name, which), not wrong, "of %d growths %s" % (asked[-1], wrong[:3]))
     tally.holds("growths of " + name, asked[-1] > left_out, "the shim sees none")
@@ -165,19 +169,13 @@ def check_reads(tally, shim, program):
 def test_volumes(tally, program):
     """Metadata of many volumes of many segments."""
     number = 40
-    segment = ('segment%d { start_extent = %d extent_count = 1 type = "striped" stripe_count = 1 '
-               'stripes = ["pv", %d] }\n')
-    volumes, lines = "", ""
+    volumes, lines = [], ""
     for volume in range(number):
-        segments = [(it + 1, it, (number - it) * number + volume) for it in range(number)]
-        volumes += 'lv%d { status = ["WRITE"] segment_count = %d\n%s}\n' % (
-            volume, number, "".join(segment % it for it in segments))
-        lines += "".join(
-            "vg-lv%d: %d 1 linear /dev/sda %d\n" % (volume, start, 8 + extent) for _, start, extent in segments)
+        extents = [(number - it) * number + volume for it in range(number)]
+        volumes.append(lvm_texts.volume("lv%d" % volume, *(lvm_texts.striped(it, 1, ("pv", extent)) for it, extent in enumerate(extents))))
+        lines += "".join("vg-lv%d: %d 1 linear /dev/sda %d\n" % (volume, it, 8 + extent) for it, extent in enumerate(extents))
     most = number * (number + 1)
-    group = ('contents = "Text Format Volume Group" version = 1\nvg { extent_size = 1 physical_volumes {\n'
-             'pv { device = "/dev/sda" dev_size = %d pe_start = 8 pe_count = %d } }\n'
-             'logical_volumes {\n%s} }\n' % (most + 8, most, volumes))
+    group = lvm_texts.HEAD + lvm_texts.group("vg", 1, [lvm_texts.physical("pv", "/dev/sda", most + 8, 8, most)], volumes)
     got = program.run(["table", "lvm", program.file("group", group)])
     tally.same("%d volumes of %d segments" % (number, number), got, 0, lines)
 

@@ -37,8 +37,7 @@ UNITS = COPIES + origins.CHUNK
 
 # After how many units the longest request is halted: at the borders of copies, of writes and of chunks, and between
 # them. None is late, as a replay goes through all that it stored for each copy.
-LONG_STOPS = [
-    0, 1, 1023, 1024, 1025, COPIES - 1, COPIES, COPIES + 1, UNITS - 1, UNITS, UNITS + 1, UNITS + COPIES + 512,
+LONG_STOPS = [0, 1, 1023, 1024, 1025, COPIES - 1, COPIES, COPIES + 1, UNITS - 1, UNITS, UNITS + 1, UNITS + COPIES + 512,
     2 * UNITS + 3 * 1024, 10 * UNITS + 5 * 1024 + 7, 20 * UNITS - 1, 31 * UNITS + COPIES + 1000, 63 * UNITS + COPIES,
     64 * UNITS, 100 * UNITS + 5000, 300 * UNITS + COPIES + 1,
 ]

@@ -9,9 +9,9 @@ import explanations
 from harness import FULL_OUTPUT, text_of
 
 # What a message may have in place of what its form names.
-NAMED = {"PART": "source", "NUMBER": "20", "WORD": "field", "NAME": "vg0-snap", "LINE": "3", "N": "7"}
-# The bare word that is a command, too, of which help says something else.
-COMMAND = "name"
+NAMED = {"PART": "source", "NUMBER": "20", "SECTOR": "8", "WORD": "field", "NAME": "vg0-snap", "LINE": "3", "N": "7"}
+# The bare words that are commands, too, of which help says something else.
+COMMANDS = {"name", "read"}
 
 
 def test_words(tally, program, top):
@@ -45,7 +45,7 @@ def check_said(tally, program, message, text):
     short = message.partition(": ")[2]
     bare = short.rpartition(": ")[2].partition(" at ")[0]
     forms = {message, short, short.partition(" at ")[0]}
-    said = {it: program.run(["help", it]) for it in forms | {bare} - {COMMAND}}
+    said = {it: program.run(["help", it]) for it in forms | {bare} - COMMANDS}
     for form, got in said.items():
         is_said = (got.status, got.err) == (0, b"") and plain(text) in plain(got.out.decode())
         tally.holds("help on %r" % form, is_said, "status %s, %r, %r" % (got.status, got.out, got.err))
@@ -63,7 +63,8 @@ def help_of(program, word):
 
 def test_command(tally, program):
     """A command is meant where it has the name of a word."""
-    tally.same("help on a command", program.run(["help", COMMAND]), 0, program.run([COMMAND, "--help"]).out)
+    for command in COMMANDS:
+        tally.same("help on the command " + command, program.run(["help", command]), 0, program.run([command, "--help"]).out)
     tally.tells("help on no word", program.run(["help", "no: such: word"]), 2, "", "\n  again, ")
 
 

@@ -16,42 +16,11 @@ from manual import entries_of, parts_of
 
 TABLE, DISKS, REQUEST = "a: 0 8 linear sda 4\n", "sda 12\n", "R a 0 1\n"
 CLASH, CLASH_DISKS = "a: 0 8 linear sda 0\nb: 0 8 linear sda 4\n", "sda 16\n"
-# What a text on a status has to say, wherever it stands.
-MEANT = [
-    ("0", r"help (?:or the version )?was asked for"),
-    ("1", r"FILE.*DISKS.*PATHS.* a store, a name or earlier requests (?:are|were) refused"),
-    ("2", r"[Tt]he command line (?:is|was) wrong"),
-    ("3", r"[Aa] request (?:is|was) bad"),
-    ("4", r"[Tt]he requests (?:can't|could not) be read"),
-    ("5", r"[Tt]he output (?:can't|could not) be written"),
-    ("6", r"[Oo]ut of memory"),
-]
-# The ways to an exit, by what the help of a command says of it.
-WAYS = {
-    "done, or help or the version was asked for": ("good", "help", "version"),
-    "all requests were answered": ("good",),
-    "the tables were printed": ("good",),
-    "the check was printed, also one with a clash": ("good", "clash"),
-    "the text was printed; it is empty if no head has one": ("good",),
-    "the name was printed": ("good",),
-    "the parts were printed": ("good",),
-    "FILE, DISKS, PATHS, a store, a name or earlier requests were refused": (
-        "no file", "bad disks", "bad paths", "bad store", "bad name", "bad earlier"),
-    "FILE, DISKS, PATHS, a disk, a store or earlier requests were refused": (
-        "no file", "bad disks", "bad paths", "bad head", "bad store", "bad earlier"),
-    "FILE or DISKS was refused": ("no file", "bad disks"),
-    "FILE, DISKS, PATHS or a store was refused, or two lines claim one sector": (
-        "no file", "bad disks", "bad paths", "bad store", "clash"),
-    "PATHS or a disk was refused": ("bad paths", "bad head"),
-    "a part was refused, or the name is too long": ("bad name", "long name"),
-    "NAME is not the name of a volume": ("bad name",),
-    "the command line was wrong": ("bad words",),
-    "a request was bad": ("bad request",),
-    "a request was bad, or of no such device": ("bad request", "lower device"),
-    "the requests could not be read": ("closed input",),
-    "the output could not be written": ("full output",),
-    "out of memory": ("small stack",),
-}
+# The status that each way to an exit has; of a command those come that it has a way to.
+WAYS = {"good": 0, "shown clash": 0, "small stack": 6, "full output": 5, "closed input": 4, "bad sector": 7, "bad words": 2,
+        **dict.fromkeys(("bad request", "lower device"), 3),
+        **dict.fromkeys(("no file", "bad disks", "bad paths", "bad store", "bad head", "bad name", "long name", "bad device", "bad range",
+                         "bad earlier", "clash"), 1)}
 # A stack of which requests get every kind of piece, and one of which they get every kind of what was read.
 PIECES = ("o: 0 8 linear base 0\no: 8 8 zero\ns: 0 16 snapshot /dev/mapper/o cow P 8\ne: 0 8 error\nz: 0 8 zero\n", "base 8\ncow 64\n",
           "R s 0 1\nR s 8 1\nW s 0 1\nW s 8 1\nR e 0 1\nW z 0 1\n")
@@ -62,15 +31,6 @@ PARTS = {"NAME:": "a:", "START": "0", "LEN": "8", "DEV": "sda", "OFFSET": "0", "
 # A device of the example's stack that no other one lies on.
 TOP_DEVICE = "fast"
 COMMANDS_WITH_REQUESTS = {"map", "replay"}
-# How many columns a terminal has.
-COLUMNS = 80
-
-
-def test_commands(tally, program, commands):
-    tally.holds("the commands of help", len(commands) > 6, "they are %s" % commands)
-    for command in [*commands, "help", None]:
-        longest = max(help_of(program, command).splitlines(), key=len)
-        tally.holds("the columns of the help of %s" % (command or "the program"), len(longest) <= COLUMNS, "it has the line %r" % longest)
 
 
 def help_of(program, command):
@@ -84,12 +44,10 @@ def outcomes(program, command):
     bad = program.file("help/bad disks", "sda\n")
     lower = [command, "table", program.file("help/lower", TABLE + "b: 0 4 linear /dev/mapper/a 0\n"), disks]
     images = [command, "images", program.file("help/images", images_rows.paths_of(program, images_rows.PAIR))]
-    good = {"name": ["name", "vg0", "lv-1"], "splitname": ["splitname", "vg0-lv--1"], "metadata": images}.get(
-        command, [command, "table", table, disks])
+    good = {"name": ["name", "vg0", "lv-1"], "splitname": ["splitname", "vg0-lv--1"], "metadata": images, "read": ["read", "table", table, disks, "a", "--paths", program.file(
+        "help/read paths", "sda %s\n" % program.file("help/sda", bytes(6144)))]}.get(command, [command, "table", table, disks])
     status = lambda words, **how: program.run(words, **{"given": REQUEST, **how}).status
-    found = {
-        "good": status(good),
-        "bad words": status([command, "--nonsense"]),
+    found = {"good": status(good), "bad words": status([command, "--nonsense"]),
         "small stack": status(good, before=lambda: limit_stack(256 << 10)),
     }
     found["full output"] = status(good, stdout=FULL_OUTPUT)
@@ -98,85 +56,50 @@ def outcomes(program, command):
         if command == "name":
             found["long name"] = status(["name", "a" * 100, "b" * 100])
         return found
+    snapshot = program.file("help/snapshot", "s: 0 8 snapshot sda sdb P 8\n"), program.file("help/two disks", "sda 8\nsdb 64\n")
+    head = [command, "images", program.file("help/paths", "sda %s\n" % bad)]
+    if command == "read":
+        rows = [("no file", [command, "table", "missing", *good[3:]]), ("bad disks", [*good[:3], bad, *good[4:]]), ("bad head", [*head, "a"]),
+                ("bad paths", [*good[:-1], bad]), ("bad device", [*good[:4], "b", *good[5:]]), ("bad range", [*good, "--from", "9"]),
+                ("bad store", [command, "table", *snapshot, "s", "--paths", os.devnull]), ("bad sector", [*good[:-1], os.devnull])]
+        found.update({name: status(words) for name, words in rows})
+        return found
     if command in ("map", "metadata"):
-        found["bad head"] = status([command, "images", program.file("help/paths", "sda %s\n" % bad)])
+        found["bad head"] = status(head)
     if command == "metadata":
         found["bad paths"] = status([command, "images", bad])
         return found
     found.update({"no file": status([command, "table", "missing", disks]), "bad disks": status([command, "table", table, bad])})
     if command in ("check", "replay"):
-        found["clash"] = status(clash, given="")
+        found["clash" if command == "replay" else "shown clash"] = status(clash, given="")
     if command in COMMANDS_WITH_REQUESTS:
         found.update({"bad request": status(good, given="R b 0 1\n"), "closed input": status(good, stdin=-1, before=lambda: os.close(0))})
     if command == "map":
         found["bad earlier"] = status([*good, "--before", bad])
     if command in COMMANDS_WITH_REQUESTS:
         found["bad paths"] = status([*good, "--paths", bad])
-        snapshot = program.file("help/snapshot", "s: 0 8 snapshot sda sdb P 8\n")
-        found["bad store"] = status([command, "table", snapshot, program.file("help/two disks", "sda 8\nsdb 64\n"), "--paths", os.devnull])
+        found["bad store"] = status([command, "table", *snapshot, "--paths", os.devnull])
     if command == "replay":
         found["lower device"] = status(lower)
     return found
 
 
 def test_statuses(tally, program, commands):
-    """Each status comes as the help says, and the help of a command lists each that came."""
-    everything = {}
+    """Each way to an exit has its status, and the help of a command lists each that came."""
     for command in commands:
         found = outcomes(program, command)
-        everything.update(found)
+        for way, status in found.items():
+            tally.holds("%s, by %s" % (way, command), status == WAYS[way], "the status is %s" % status)
         listed = statuses_of(help_of(program, command))
-        check_listed(tally, "the help of " + command, listed, found)
-        tally.holds("the statuses in the help of " + command, {int(it) for it, _ in listed} == {*found.values()},
-                    "they are %s, and there came %s" % (listed, found))
-    everything.update({"help": program.run(["--help"]).status, "version": program.run(["--version"]).status})
-    check_listed(tally, "the help", statuses_of(help_of(program, None)), everything)
+        tally.holds("the statuses in the help of " + command, listed == {*found.values()}, "they are %s, and there came %s" % (listed, found))
+    for word in "help", "version":
+        tally.same("the status of --" + word, program.run(["--" + word]), 0, program.run(["--" + word]).out)
+    listed = statuses_of(help_of(program, None))
+    tally.holds("the statuses in the help", listed == {*WAYS.values()}, "they are %s" % listed)
 
 
 def statuses_of(text):
-    return re.findall(r"^  (\d)  (.*)$", text.partition("\nExit status\n")[2].partition("\n\n")[0], re.M)
-
-
-def check_listed(tally, name, listed, found):
-    for number, text in listed:
-        for way in WAYS.get(text, ["no way"]):
-            tally.holds("%s on status %s, %s: %s" % (name, number, text, way), found.get(way) == int(number),
-                        "the status is %s" % found.get(way))
-
-
-def test_meanings(tally, program, manual):
-    """Help and manual say the same of each status."""
-    entries = re.findall(r"^\.TP\n\.B (\d)\n((?:(?!\.TP|\.PP).*\n)*)", manual, re.M)
-    entries = [(number, re.sub(r"\.\w+ |\n| ,", " ", text).replace("  ", " ")) for number, text in entries]
-    for name, told in ("the help", statuses_of(help_of(program, None))), ("the manual", entries):
-        tally.holds("the statuses of " + name, [it for it, _ in told] == [it for it, _ in MEANT], "they are %s" % told)
-        for (number, text), (_, meant) in zip(told, MEANT):
-            tally.holds("%s on status %s" % (name, number), re.search(meant, text), "it says %r" % text)
-
-
-def test_limits(tally, program, parts):
-    """A number that the help gives is the manual's too, and the program takes it and nothing above."""
-    most = number_in(help_of(program, "map"), r"A request has 1 to (\d+) sectors\.")
-    table, disks = "a: 0 %d zero\n" % (2 * most + 2), "sda 1\n"
-    for length, status in (1, 0), (most, 0), (most + 1, 3), (0, 3):
-        got = program.map(table, disks, "R a 0 %d\n" % length)
-        err = "dmremap: request 1: length\n" if status else ""
-        tally.same("a request of %d sectors" % length, got, status, "" if status else "1 zero %d\n" % length, err)
-    name = number_in(help_of(program, "name"), r"The name has at most (\d+) bytes")
-    for length, status in (name, 0), (name + 1, 1):
-        words = ["a" * (length // 2), "b" * (length - length // 2 - 1)]
-        got = program.run(["name", *words])
-        tally.same("a name of %d bytes" % length, got, status, "" if status else "-".join(words) + "\n", "dmremap: name: long\n" if status else "")
-    for row, number in ("request", most), ("names of devices, disks", name):
-        found = re.search(r"^%s\t(.*)$" % row, parts["LIMITS"], re.M)
-        tally.holds("the manual's limit of %s" % row, found and re.search(r"(?:^|\D)%s\D" % format(number, ","), found[1]), "it says %s" % (found and found[1]))
-    size = number_in(help_of(program, "map"), r"whole sectors of (\d+) bytes")
-    tally.holds("the sectors of the manual", "whole sectors of %d bytes" % size in parts["DESCRIPTION"], "it doesn't say so")
-
-
-def number_in(text, pattern):
-    found = re.search(pattern, text)
-    return int(found[1]) if found else 0
+    return {int(it) for it in re.findall(r"^  (\d)  ", text.partition("\nExit status\n")[2].partition("\n\n")[0], re.M)}
 
 
 def test_lines(tally, program, parts):
@@ -241,7 +164,8 @@ def test_examples(tally, program, top, commands):
         example = re.search(r"^Example\n  (dmremap %s .*)$" % command, help_of(program, command), re.M)
         if tally.holds("the example of %s" % command, example, "there is none"):
             got = transcripts.run(["bash", "-c", example[1]], folder=folder, env=env)
-            tally.holds("the example %s" % example[1], got.status == 0 and got.out and not got.err, "%s, %r" % (got.status, got.err))
+            written = got.out or os.path.getsize(os.path.join(folder, example[1].rpartition("> ")[2]))
+            tally.holds("the example %s" % example[1], got.status == 0 and written and not got.err, "%s, %r" % (got.status, got.err))
 
 
 class HelpTexts(Case):

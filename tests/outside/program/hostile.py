@@ -4,13 +4,14 @@ recursion would take. Small texts that are only wrong are rows of the modules of
 
 import resource
 
+import lvm_texts
+
 MIB = 1048576
 SECONDS = 10
 MEMORY = 256 << 20
 ZERO_LINES = "".join("a: %d 1 zero\n" % it for it in range(65537))
 CHUNKS = 65536
 ORIGIN = "o: 0 {0} snapshot-origin base\ns: 0 {0} snapshot base c N 1\nt: 0 {0} snapshot base d N 1\n".format(CHUNKS)
-HEAD = 'contents = "Text Format Volume Group" version = 1\n'
 
 
 def row(count, last, form):
@@ -50,15 +51,13 @@ def filled(part):
     return part * (MIB // len(part))
 
 
-def group(volumes, extents):
-    """Metadata of these texts of volumes on a physical volume of so many extents of one sector."""
-    return HEAD + ('vg { extent_size = 1 physical_volumes { pv { device = "/dev/sda" dev_size = %d pe_start = 0 '
-                   'pe_count = %d } }\nlogical_volumes {\n%s} }\n' % (extents, extents, volumes))
+def group(extents, *volumes):
+    """Metadata of these volumes on a physical volume of so many extents of one sector."""
+    return lvm_texts.HEAD + lvm_texts.group("vg", 1, [lvm_texts.physical("pv", "/dev/sda", extents, 0, extents)], volumes)
 
 
 def volumes(count):
-    volume = 'v%d { status = [] segment_count = 1 segment1 { start_extent = 0 extent_count = 1 type = "zero" } }\n'
-    return "".join(volume % it for it in range(count))
+    return group(1, *(lvm_texts.volume("v%d" % it, lvm_texts.segment(0, 1, "zero")) for it in range(count)))
 
 
 LINE, DEVICE = "d%d: 0 8 linear %s 0\n", "d%d,,,,0 8 linear %s 0;"
@@ -73,9 +72,8 @@ REFUSED = [
     ("65,537 lines", "table", ZERO_LINES, "", "source: limit at 65537"),
     ("1,025 devices", "table", "".join("d%d: 0 1 zero\n" % it for it in range(1025)), "", "source: limit at 1025"),
     ("a ring of 1,024 devices", "table", row(1024, "/dev/mapper/d1", LINE), "", "source: cycle at 1"),
-    ("1,022 devices over a ring", "table",
-     "".join(NAMED % it for it in range(1, 1023)) + LINE % (1023, "/dev/mapper/d1024") + NAMED % 1024,
-     "", "source: cycle at 1023"),
+    ("1,022 devices over a ring", "table", "".join(NAMED % it for it in range(1, 1023)) + LINE % (1023,
+     "/dev/mapper/d1024") + NAMED % 1024, "", "source: cycle at 1023"),
     ("1,024 devices in a row", "table", row(1024, "sda", LINE), "sda 8\n", "source: deep at 1"),
     ("33 levels of 128 names", "table", many_names(33), "sda 128\n", "source: deep at 33"),
     ("too many bytes", "table", ZERO_LINES + "a" * (MIB + 1 - len(ZERO_LINES)), "", "source: long"),
@@ -84,8 +82,7 @@ REFUSED = [
     ("1 MiB of digits", "table", "a: 0 " + "9" * (MIB - 11) + " zero\n", "", "source: field at 1"),
     ("1 MiB of columns", "table", "a: 0 8 striped 2 4" + " s 0" * 262138 + "\n", "", "source: field at 1"),
     ("1 MiB of disks with a name", "table", "a: 0 8 zero\n", filled("sda 8\n"), "disks: limit at 1025"),
-
-    ("65,537 lines", "concise", "a,,,," + ZERO_LINES[3:-1].replace("\na: ", ","), "", "source: limit at 1"),
+ ("65,537 lines", "concise", "a,,,," + ZERO_LINES[3:-1].replace("\na: ", ","), "", "source: limit at 1"),
     ("1,025 devices", "concise", ";".join("d%d,,,,0 1 zero" % it for it in range(1025)), "", "source: limit at 1025"),
     ("a ring of 1,024 devices", "concise", row(1024, "/dev/mapper/d1", DEVICE)[:-1], "", "source: cycle at 1"),
     ("1,024 devices in a row", "concise", row(1024, "sda", DEVICE)[:-1], "sda 8\n", "source: deep at 1"),
@@ -93,9 +90,8 @@ REFUSED = [
     ("1 MiB of semicolons", "concise", filled(";"), "", "source: syntax at 1"),
     ("1 MiB of commas", "concise", filled(","), "", "source: syntax at 1"),
     ("a uuid of 1 MiB", "concise", "a," + "u" * (MIB - 15) + ",,,0 8 zero", "", "source: name at 1"),
-
-    ("1,025 volumes", "lvm", group(volumes(1025), 1), None, "source: limit at 1028"),
-    ("too many bytes", "lvm", HEAD + "#" * (MIB + 1 - len(HEAD)), None, "source: long"),
+ ("1,025 volumes", "lvm", volumes(1025), None, "source: limit at 9230"),
+    ("too many bytes", "lvm", lvm_texts.HEAD + "#" * (MIB + 1 - len(lvm_texts.HEAD)), None, "source: long"),
     ("sections that are never closed", "lvm", filled("a{"), None, "source: syntax at 1"),
     ("sections inside each other", "lvm", "a{" * 349525 + "}" * 349525, None, "source: deep at 1"),
     ("braces without a key", "lvm", filled("{\n"), None, "source: syntax at 1"),
@@ -109,9 +105,7 @@ REFUSED = [
     ("many keys, the last twice", "lvm", "".join("k%d = 1\n" % it for it in range(90000)) + "k0 = 1\n", None,
      "source: twice at 90001"),
     ("many stripes of no physical volume", "lvm",
-     group('v { status = [] segment_count = 1 segment1 { start_extent = 0 extent_count = 90000 type = "striped" '
-           'stripe_count = 90000 stripe_size = 1 stripes = [%s] } }\n' % ", ".join(['"pw", 0'] * 90000), 1), None,
-     "source: unknown at 4"),
+     group(1, lvm_texts.volume("v", lvm_texts.striped(0, 90000, *[("pw", 0)] * 90000, size=1))), None, "source: unknown at 17"),
 ]
 
 # What is read: the format, FILE, DISKS, the requests and the output.
@@ -133,7 +127,7 @@ TAKEN = [
      "base %d\n" % MIB + "".join("c%d 1\n" % it for it in range(64)), "W o 0 %d\n" % MIB * 200,
      "".join("1 copy base 0 1 c%d 0\n" % it for it in range(64))
      + "".join("%d W base 0 %d\n" % (it, MIB) for it in range(1, 201))),
-    ("1,024 volumes", "lvm", group(volumes(1024), 1), None, "R vg-v1023 0 1\n", "1 zero 1\n"),
+    ("1,024 volumes", "lvm", volumes(1024), None, "R vg-v1023 0 1\n", "1 zero 1\n"),
 ]
 
 # A snapshot on one disk with its store, of which each chunk is copied for one sector, and which is then read.

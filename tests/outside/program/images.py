@@ -5,11 +5,12 @@ import os
 import struct
 
 import physical_volumes
-import stored
+import store_lists
 from harness import become_nobody
-from models import DATA, EXTENT, identity, linear, segment, text, volume
+from piles import DATA, EXTENT, identity, linear, segment, text, volume
 
 SECTOR = 512
+MEMBER = struct.pack("<L", 0xA92B4EFC)
 HOME = volume("home", "h", linear(0, 5, ("pv0", 3)), linear(5, 2, ("pv1", 0)))
 TEXT = text("vg0", "g", 4, "ab", HOME)
 ASKED, ANSWER = "R vg0-home 0 56\n", "1 R %s 2072 40\n1 R %s 2048 16\n"
@@ -82,6 +83,16 @@ def test_maps(tally, program):
         label = physical_volumes.label([(4096, 65536)], place, len(image), identity=identity("a"))
         image = changed(image, place * SECTOR, label)
         tally.same("a label in sector %d" % place, mapped(program, [("sda", image)]), 0, ANSWER % ("sda", "/dev/b"))
+    for size in 0, 511, 1 << 63:
+        image = summed(PAIR[0][1], SECTOR + 64, struct.pack("<Q", size))
+        tally.same("a header that says %d bytes" % size, mapped(program, [("sda", image)]), 0, ANSWER % ("sda", "/dev/b"))
+    tally.same("a longer image", mapped(program, [("sda", PAIR[0][1] + bytes(512))]), 0, ANSWER % ("sda", "/dev/b"))
+    image = disk("a", area(TEXT.replace(b"/dev/a", b"/dev/md0")))
+    tally.same("a leg that is listed as its array", mapped(program, [("/dev/md0", image)]), 0, ANSWER % ("/dev/md0", "/dev/b"))
+    unused = changed(PAIR[0][1], 0, physical_volumes.mbr((0x8E, 8, 0)))
+    tally.same("a partition table without sectors", mapped(program, [("sda", unused)]), 0, ANSWER % ("sda", "/dev/b"))
+    other = changed(PAIR[0][1], 0, physical_volumes.mbr((0x8E, 8, 100)).replace(bytes(447), bytes(446) + b"\1", 1))
+    tally.same("a boot sector that is no table", mapped(program, [("sda", other)]), 0, ANSWER % ("sda", "/dev/b"))
     two = changed(PAIR[0][1], 0, physical_volumes.label([(4096, 65536)], 0, 1 << 20, identity=identity("z")))
     tally.same("the first of two labels", mapped(program, [("sda", two)]), 1, "", told("sda", "foreign"))
 
@@ -96,7 +107,7 @@ def test_commands(tally, program):
                "1 wrote 1 0 1\n2 wrote 1 0 1\n2 old sda 2073 1\n")
     tally.same("metadata", mapped(program, PAIR, "", command="metadata"), 0, TEXT[:-1].decode())
     for command in ("map", "table", "concise", "check", "replay", "metadata"):
-        got = mapped(program, [("sda", bytes(4096))], command=command)
+        got = mapped(program, [("sda", bytes(8192))], command=command)
         tally.same("%s of a disk without a label" % command, got, 1, "", told("sda", "label"))
         got = mapped(program, [("sda", disk("a", area(LOST)))], command=command)
         answer = [0, LOST[:-1].decode()] if command == "metadata" else [1, "", "dmremap: source: extents at 27\n"]
@@ -105,6 +116,12 @@ def test_commands(tally, program):
         tally.same("%s of a bad list" % command, got, 1, "", "dmremap: paths: syntax at 1\n")
         got = program.run([command, "images", "missing"], given=ASKED)
         tally.same("%s of no list" % command, got, 1, "", "dmremap: paths: read\n")
+
+
+def said(letter, field):
+    """The text with another field of a physical volume."""
+    device = b'device = "/dev/%s"\n' % letter.encode()
+    return TEXT.replace(device, device + field.encode() + b"\n")
 
 
 def told(name, word):
@@ -139,9 +156,16 @@ def test_refused(tally, program):
         ("a text with another byte", changed(full, first + 600, b"X"), "text"),
         ("a text that ends with another byte", disk("a", area(TEXT[:-1] + b"X")), "text"),
         ("a text of 1,048,577 bytes", disk("a", area(TEXT.rjust(1048577, b"\n"), size=1 << 21), extents=512), "long"),
-        ("a device of 511 bytes", summed(full, SECTOR + 64, struct.pack("<Q", 511)), "ends"),
-        ("a device of one sector more", summed(full, SECTOR + 64, struct.pack("<Q", len(full) + 512)), "ends"),
+        ("`LVM2 001` alone before the label", changed(full, 24, b"LVM2 001"), "label"),
+        ("a partition table", changed(full, 0, physical_volumes.mbr((0x8E, 8, 100))), "partitions"),
+        ("a GPT", physical_volumes.gpt((34, 90)).ljust(len(full), b"\0"), "partitions"),
+        ("a member of an array of version 1.1", changed(full, 0, MEMBER), "array"),
+        ("a member of an array of version 1.2", changed(full, 4096, MEMBER), "array"),
+        ("three areas", disk("a", area(), area(), area()), "header"),
+        ("a disk that was missing", disk("a", area(said("a", 'flags = ["X", "MISSING"]'))), "missing"),
+        ("a disk that was an array", disk("a", area(TEXT.replace(b"/dev/a", b"/dev/md/x:0"))), "array"),
         ("an image without its last sector", full[:-1], "ends"),
+        ("an image of its metadata alone", full[:physical_volumes.FIRST + size], "ends"),
         ("another text in a second area", disk("a", area(), area(TEXT.replace(b"= 4", b"= 5"))), "differ"),
         ("an id of no physical volume", disk("c", area()), "foreign"),
         ("no metadata", disk("a"), "foreign"),
@@ -161,8 +185,11 @@ def test_groups(tally, program):
             ("a disk of another group", [PAIR[0], ("sdc", disk("c", other))], "sdc", "differ"),
             ("one image twice", [PAIR[0], PAIR[1], ("sdc", PAIR[0][1])], "sdc", "twice"),
             ("a disk without a text, of no group", [PAIR[0], ("sdc", disk("c"))], "sdc", "foreign"),
-            ("the first of two", [("x", bytes(2048)), ("y", b"")], "x", "label"),
-            ("the other order", [("y", b""), ("x", bytes(2048))], "y", "read"),
+            ("the first of two", [("x", bytes(8192)), ("y", b"")], "x", "label"),
+            ("the other order", [("y", b""), ("x", bytes(8192))], "y", "read"),
+            ("an end before a missing one", [PAIR[0], ("sdb", disk("b", area(said("b", 'flags = ["MISSING"]')))[:-512])], "sdb", "differ"),
+            ("the first end", [("sda", PAIR[0][1][:-512]), ("sdb", PAIR[1][1][:-512])], "sda", "ends"),
+            ("the second end", [PAIR[0], ("sdb", PAIR[1][1][:-512])], "sdb", "ends"),
             ("a foreign disk before one that can't be read", [("sdc", disk("c", area())), ("y", b"")], "y", "read")]:
         tally.same(name, mapped(program, images), 1, "", told(disk_told, word))
     got = mapped(program, [PAIR[0], ("sdb", disk("b"))])
@@ -215,7 +242,13 @@ def test_files(tally, program):
                             ("a file that may not be read", secret, {"before": become_nobody})):
         tally.same("%s as an image" % name, mapped(program, [("sda", path)], **how), 1, "", told("sda", "read"))
     many = [("d%d" % number, "missing") for number in range(2000)]
-    tally.same("2,000 images", mapped(program, many), 1, "", told("d0", "read"))
+    tally.same("2,000 images", mapped(program, many), 1, "", "dmremap: paths: limit at 1025\n")
+    tally.same("1,024 images", mapped(program, many[:1024]), 1, "", told("d0", "read"))
+    # The requests aren't read from an image, which a closed standard input leaves its number.
+    asked = disk("a", area())[512:]
+    image = program.file("asked", ASKED.encode().ljust(512, b"\n") + asked)
+    got = mapped(program, [("sda", image)], before=lambda: os.close(0))
+    tally.same("a closed standard input", got, 4, "", "dmremap: requests: read\n")
 
 
 def test_stores(tally, program):
@@ -224,8 +257,7 @@ def test_stores(tally, program):
     at = (DATA + 8 * EXTENT) * SECTOR
     asked = "R vg0-snap 0 16\n"
     fresh = disk("a", area(known))
-    used = changed(fresh, at, struct.pack("<4I", stored.MAGIC, 1, 1, 8))
-    used = changed(used, at + 8 * SECTOR, struct.pack("<2Q", 1, 2))
+    used = physical_volumes.patched(fresh, *((at + place, part) for place, part in store_lists.parts(8, [(1, 2)])))
     cow = DATA + 8 * EXTENT + 16
     both = "1 R sda 2048 8\n1 R sda %d 8\n" % cow
     state = "vg0-snap: 0 16 snapshot 24/48 16\n"
@@ -237,7 +269,12 @@ def test_stores(tally, program):
     tally.same("after earlier requests", got, 0, "1 R sda %d 8\n1 R sda %d 8\n" % (cow + 8, cow))
     got = mapped(program, [("sda", used)], asked, "--before", program.file("earlier", "W vg0-snap 0\n"))
     tally.same("after earlier requests that are bad", got, 1, "", "dmremap: before: form at 1\n")
+    got = mapped(program, [("sda", used)], "R vg0-snap 0 16\nW vg0-snap 9 1\nR vg0-snap 8 2\n", command="replay")
+    tally.same("a replay from a used store", got, 0,
+               "1 old sda 2048 8\n1 old sda %d 8\n2 wrote 2 9 1\n3 old sda %d 1\n3 wrote 2 9 1\n" % (cow, cow))
     bad = changed(used, at, b"X")
+    got = mapped(program, [("sda", bad)], asked, command="replay")
+    tally.same("a replay from a store that is refused", got, 1, "", "dmremap: store vg0-snap: magic\n")
     for name, more in ("a store that is refused", []), ("before earlier requests", ["--before", "missing"]):
         tally.same(name, mapped(program, [("sda", bad)], asked, *more), 1, "", "dmremap: store vg0-snap: magic\n")
     other = text("vg0", "g", 4, "ba", *SNAPSHOT)

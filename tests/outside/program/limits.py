@@ -3,6 +3,7 @@
 import os
 import resource
 
+import lvm_texts
 from harness import Outcome
 from streams import figure_of
 
@@ -74,13 +75,9 @@ def test_rows(tally, program):
 
 def group_of(stripes):
     """Metadata of a volume of so many stripes, each an extent of one sector on a physical volume of its own."""
-    volume = 'pv%d { device = "/dev/s%d" dev_size = 9 pe_start = 8 pe_count = 1 }\n'
-    volumes = "".join(volume % (it, it) for it in range(stripes))
-    pairs = ", ".join('"pv%d", 0' % it for it in range(stripes))
-    segment = ('segment1 { start_extent = 0 extent_count = %d type = "striped" stripe_count = %d stripe_size = 1 '
-               'stripes = [%s] }' % (stripes, stripes, pairs))
-    return ('contents = "Text Format Volume Group" version = 1\nvg { extent_size = 1 physical_volumes {\n%s}\n'
-            'logical_volumes { lv { status = ["READ", "WRITE"] segment_count = 1 %s } } }\n' % (volumes, segment))
+    physicals = [lvm_texts.physical("pv%d" % it, "/dev/s%d" % it, 9, 8, 1) for it in range(stripes)]
+    volume = lvm_texts.volume("lv", lvm_texts.striped(0, stripes, *(("pv%d" % it, 0) for it in range(stripes)), size=1))
+    return lvm_texts.HEAD + lvm_texts.group("vg", 1, physicals, [volume])
 
 
 def test_sizes(tally, program):

@@ -115,13 +115,11 @@ WRITES = [
      "s: 0 16 snapshot 24/32 16\nt: 0 16 snapshot 12/16 8\n"),
     # An origin over a snapshot, which makes its own chunk ready after the copies.
     ("s,,,,0 16 snapshot base cow P 8;o,,,,0 16 snapshot-origin /dev/mapper/s;t,,,,0 16 snapshot /dev/mapper/s cow2 P 4", DISKS,
-     "W o 0 1\nR t 0 8\n",
-     "1 copy base 0 4 cow2 8\n1 copy base 0 8 cow 16\n1 W cow 16 1\n2 R cow2 8 4\n2 R cow 20 4\n"
+     "W o 0 1\nR t 0 8\n", "1 copy base 0 4 cow2 8\n1 copy base 0 8 cow 16\n1 W cow 16 1\n2 R cow2 8 4\n2 R cow 20 4\n"
      "s: 0 16 snapshot 24/32 16\nt: 0 16 snapshot 12/16 8\n"),
     # The same where that snapshot has no place: it is lost, the write fails, and the copies stay.
     ("s,,,,0 16 snapshot base cow P 16;o,,,,0 16 snapshot-origin /dev/mapper/s;t,,,,0 16 snapshot /dev/mapper/s cow2 P 4", DISKS,
-     "W o 0 1\nR t 0 8\nR o 0 1\n",
-     "1 copy base 0 4 cow2 8\n1 error 1\n2 R cow2 8 4\n2 error 4\n3 error 1\n"
+     "W o 0 1\nR t 0 8\nR o 0 1\n", "1 copy base 0 4 cow2 8\n1 error 1\n2 R cow2 8 4\n2 error 4\n3 error 1\n"
      "s: 0 16 snapshot Invalid\nt: 0 16 snapshot 12/16 8\n"),
     # Chunks of 4 and of 16 sectors, over stripes, by one request.
     ("r,,,,0 32 striped 2 8 sda 0 sdb 0;o,,,,0 32 snapshot-origin /dev/mapper/r;s,,,,0 32 snapshot /dev/mapper/r c4 P 4;"

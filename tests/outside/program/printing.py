@@ -2,10 +2,10 @@
 
 import os
 
+import lvm_texts
 from backups import BACKUP
-from files import METADATA
-from groups import BOTH
 from harness import FULL_OUTPUT, failing_input
+from lvm_texts import BOTH, METADATA
 
 TABLE = "a: 0 8 linear sda 0 \nb: 0 8 zero\nb: 8 16 striped 2 4 /dev/mapper/a 0 sda 8\n"
 DISKS = "sda 16\n"
@@ -101,26 +101,8 @@ GROUPS = [
 ]
 
 # A group with a read-only volume of one extent, and what is printed of it in each form.
-READ_ONLY = '''\
-contents = "Text Format Volume Group"
-version = 1
-vg0 {
-  extent_size = 8
-  physical_volumes {
-    pv0 { device = "/dev/sda1" dev_size = 24 pe_start = 8 pe_count = 2 }
-  }
-  logical_volumes {
-    lv-0 {
-      status = ["READ"]
-      segment_count = 1
-      segment1 {
-        start_extent = 0 extent_count = 1
-        type = "striped" stripe_count = 1 stripes = ["pv0", 1]
-      }
-    }
-  }
-}
-'''
+READ_ONLY = lvm_texts.HEAD + lvm_texts.group("vg0", 8, [lvm_texts.physical("pv0", "/dev/sda1", 24, 8, 2)], [
+    lvm_texts.volume("lv-0", lvm_texts.striped(0, 1, ("pv0", 1)), status='"READ"')])
 READ_ONLY_TEXTS = [("table", "vg0-lv--0: 0 8 linear /dev/sda1 16\n"),
                    ("concise", "vg0-lv--0,,,ro,0 8 linear /dev/sda1 16\n")]
 

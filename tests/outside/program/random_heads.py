@@ -20,11 +20,12 @@ if __name__ == "__main__":
 
 import images
 from harness import Program
-from models import identity, text
+from piles import identity, text
 from physical_volumes import MAGIC, checksum
 
 SECTOR, FAR, MOST_TEXT = 512, 1 << 57, 1 << 20
-WORDS = ("read", "label", "header", "long", "text", "ends", "differ", "twice", "foreign")
+WORDS = ("read", "partitions", "array", "label", "header", "long", "text", "differ", "twice", "foreign")
+MEMBER = struct.pack("<L", 0xA92B4EFC)
 
 
 # ---- the reader
@@ -43,14 +44,26 @@ def sector_of(image, number):
     return image[number * SECTOR:(number + 1) * SECTOR]
 
 
+def look_for_others(image):
+    """A partition table, and the superblock of an array."""
+    first = sector_of(image, 0)
+    entries = [first[at:at + 16] for at in range(446, 510, 16)]
+    if first[510:] == b"\x55\xaa" and all(each[0] in (0, 0x80) for each in entries) and any(number_at(each, 12, 4) for each in entries):
+        raise Refused("partitions")
+    if MEMBER in (first[:4], sector_of(image, 8)[:4]):
+        raise Refused("array")
+
+
 def label_of(image):
     """The sector of the label, and where the header begins in it."""
     for number in range(4):
         content = sector_of(image, number)
-        at = number_at(content, 20, 4)
-        if content[:8] == b"LABELONE" and number_at(content, 8, 8) == number and content[24:32] == b"LVM2 001" \
-                and number_at(content, 16, 4) == checksum(content[20:]) and 32 <= at <= 472:
+        at, is_named = number_at(content, 20, 4), content[:8] == b"LABELONE"
+        if content[24:32] != b"LVM2 001" or is_named and (number_at(content, 8, 8), number_at(content, 16, 4)) != (number, checksum(content[20:])):
+            continue
+        if is_named and 32 <= at <= 472:
             return content, at
+        break
     raise Refused("label")
 
 
@@ -58,7 +71,7 @@ def areas_of(label, at):
     """The pairs of the second list."""
     pairs = [struct.unpack_from("<2Q", label, place) for place in range(at + 40, SECTOR - 15, 16)]
     ends = [place for place, (start, _) in enumerate(pairs) if start == 0]
-    if len(ends) < 2:
+    if len(ends) < 2 or ends[1] - ends[0] > 3:
         raise Refused("header")
     return pairs[ends[0] + 1:ends[1]]
 
@@ -71,12 +84,14 @@ def text_of(image, start, size):
     magic, version, begins, ring, offset, length, total, flags = struct.unpack_from("<16sL4Q2L", header, 4)
     if (number_at(header, 0, 4), magic, version, begins) != (checksum(header[4:]), MAGIC, 1, start) or ring > size:
         raise Refused("header")
-    if flags % 2 or not offset or not length:
+    if flags % 2 or not offset:
         return b""
     if not SECTOR <= offset < ring or length > ring - SECTOR:
         raise Refused("header")
     if length > MOST_TEXT:
         raise Refused("long")
+    if not length:
+        raise Refused("text")
     places = [start + (offset + byte if offset + byte < ring else offset + byte - ring + SECTOR) for byte in range(length)]
     for number in {place // SECTOR for place in places}:
         sector_of(image, number)
@@ -95,13 +110,11 @@ def same_of(known, found):
 
 def head_of(image):
     """The id and the text of a disk."""
+    look_for_others(image)
     label, at = label_of(image)
     found = b""
     for area in areas_of(label, at):
         found = same_of(found, text_of(image, *area))
-    size = number_at(label, at + 32, 8)
-    if not SECTOR <= size <= FAR or size // SECTOR > len(image) // SECTOR:
-        raise Refused("ends")
     return label[at:at + 32], found
 
 
@@ -177,15 +190,20 @@ class Maker:
             pairs.append((self.often(len(image), len(image) + 1, len(image) + SECTOR, FAR + SECTOR), size))
             image += content
         pairs += self.often([(0, 0)], [])
-        image += bytes(SECTOR * dice.randrange(3))
+        image += bytes(SECTOR * dice.randrange(1, 4))
         end = len(image)
         at = self.often(32, dice.randrange(28, 490))
-        head = identity(letter) + struct.pack("<Q", self.often(end, 0, 511, 512, end + 1, end + SECTOR, FAR, FAR + 1))
+        head = identity(letter) + struct.pack("<Q", dice.getrandbits(64))
         head += b"".join(struct.pack("<2Q", *pair) for pair in pairs)
         lead = struct.pack("<8sQ4xL8s", self.often(b"LABELONE", b"LABELTWO"), self.often(number, number + 1), at,
                            self.often(b"LVM2 001", b"LVM1 001"))
         # The sum of a label leaves out all before its own four bytes, and these.
         image[number * SECTOR:(number + 1) * SECTOR] = self.summed(16, lead.ljust(at, b"\xff")[:at] + head)
+        if self.often(False, True, odds=20):
+            image[446], image[458], image[510:512] = dice.choice((0, 0x80, 1)), dice.choice((0, 1, 1)), dice.choice((b"\x55\xaa", b"\xaa\x55"))
+        if self.often(False, True):
+            place = dice.choice((0, 8 * SECTOR))
+            image[place:place + 4] = MEMBER
         if self.often(False, True):
             image[dice.randrange(end)] ^= 1 << dice.randrange(8)
         return bytes(image[:self.often(end, dice.randrange(end), end - 1, odds=12)])

@@ -1,44 +1,12 @@
 """Metadata of groups with snapshots: the devices of origins and stores, and what is refused of a record."""
 
-import os
-
-from harness import text_of
-from files import METADATA
+import lvm_texts
 from groups import with_line
-from vgcfgbackup import READABLE, UNSEEN, WRITABLE, backup, created, physical, snapshot, striped, volume
+from lvm_texts import HIDDEN, READABLE, WITH_SNAPSHOT as GROUP, snapshot, striped, volume
 
-EXAMPLE = os.path.join(os.path.dirname(os.path.abspath(__file__)), "..", "..", "..", "examples", "vg0-snapshot.backup")
-
-# A store and the record of a snapshot of lv0 on it. After line 24 of the group of one volume they are lines 25 to 47.
-STORE = """\
-    snap {
-      status = ["READ", "WRITE", "VISIBLE"]
-      segment_count = 1
-      segment1 {
-        start_extent = 0
-        extent_count = 2
-        type = "striped"
-        stripe_count = 1
-        stripes = ["pv0", 25]
-      }
-    }
-"""
-RECORD = """\
-    snapshot0 {
-      status = ["READ", "WRITE"]
-      segment_count = 1
-      segment1 {
-        start_extent = 0
-        extent_count = 25
-        type = "snapshot"
-        chunk_size = 8
-        origin = "lv0"
-        cow_store = "snap"
-      }
-    }
-"""
-LINES = METADATA.splitlines(True)
-HEAD, ORIGIN, TAIL = "".join(LINES[:13]), "".join(LINES[13:24]), "".join(LINES[24:])
+LINES = GROUP.splitlines(True)
+# A volume, and a store and the record of a snapshot on it.
+HEAD, ORIGIN, STORE, RECORD, TAIL = ("".join(LINES[begin:end]) for begin, end in ((0, 13), (13, 24), (24, 35), (35, 47), (47, None)))
 
 
 def group(*volumes):
@@ -46,7 +14,6 @@ def group(*volumes):
     return HEAD + "".join(volumes) + TAIL
 
 
-GROUP = group(ORIGIN, STORE, RECORD)
 # One more snapshot of lv0, which lies behind the first.
 SECOND = STORE.replace("snap", "snap2").replace("25", "27") + RECORD.replace("snapshot0", "snapshot1").replace('"snap"', '"snap2"')
 
@@ -180,16 +147,11 @@ REPLAY = ("W vg0-lv0 0 4\nR vg0-snap 0 8\nR vg0-lv0 0 8\n",
           "1 wrote 1 0 4\n2 old /dev/sda1 2048 8\n3 wrote 1 0 4\n3 old /dev/sda1 2052 4\n")
 
 # As lvm2 writes it: an origin with two snapshots, the second of which was given less room.
-MONDAY, TUESDAY = created(1772535702, "11:01:42"), created(1772535731, "11:02:11")
-BACKUP = backup("data", "w2pF3c-Tq1N-8xVd-0bYk-RrJ5-mA7e-LzUo6H", 12, "11:02:40", 1772535760,
-                [physical("pv0", "Z8sQwK-3nDf-Vc6y-Gt0u-h1Lb-9oXe-PiMa4R", "/dev/vdb", 1048576)], [
-    volume("mail", "c0hVxT-5kQe-A2mB-wY9r-N4fs-uJ7g-DpLz1C", WRITABLE, striped(0, 10, ("pv0", 0)), more=created(1772535601, "11:00:01")),
-    volume("monday", "H6yRtP-Wd2k-m8Xc-Qe1v-Fb5n-0aLo-ZgSj9U", WRITABLE, striped(0, 3, ("pv0", 10)), more=MONDAY),
-    volume("tuesday", "q7TnMz-Lf0s-x3Vb-K9cd-Jw6h-e2Rp-YoUi5G", READABLE, striped(0, 1, ("pv0", 13)), more=TUESDAY),
-    volume("snapshot0", "B4xNvW-Ru7j-t1Zq-Md8f-Oc3y-5hEk-GpTs2A", UNSEEN, snapshot(10, 8, "mail", "monday"), more=MONDAY),
-    volume("snapshot1", "V9rKcL-2eJw-Yx5m-Ph0d-Tb4s-8gQo-NiUz7F", UNSEEN, snapshot(10, 64, "mail", "tuesday"), more=TUESDAY)])
-BACKUP_TABLES = (
-    "data-mail-real,,,rw,0 81920 linear /dev/vdb 2048;"
+BACKUP = lvm_texts.styled(lvm_texts.HEAD + lvm_texts.group("data", 8192, [lvm_texts.physical("pv0", "/dev/vdb", 1048576, 2048, 127)], [
+    volume("mail", striped(0, 10, ("pv0", 0))), volume("monday", striped(0, 3, ("pv0", 10))), volume("tuesday",
+    striped(0, 1, ("pv0", 13)), status=READABLE), volume("snapshot0", snapshot(10, 8, "mail", "monday"), status=HIDDEN),
+    volume("snapshot1", snapshot(10, 64, "mail", "tuesday"), status=HIDDEN)]))
+BACKUP_TABLES = ("data-mail-real,,,rw,0 81920 linear /dev/vdb 2048;"
     "data-mail,,,rw,0 81920 snapshot-origin /dev/mapper/data-mail-real;"
     "data-monday-cow,,,rw,0 24576 linear /dev/vdb 83968;"
     "data-monday,,,rw,0 81920 snapshot /dev/mapper/data-mail-real /dev/mapper/data-monday-cow P 8;"
@@ -197,13 +159,9 @@ BACKUP_TABLES = (
     "data-tuesday,,,ro,0 81920 snapshot /dev/mapper/data-mail-real /dev/mapper/data-tuesday-cow P 64\n")
 # While lvm2 merges a snapshot, its record has another field; snapshots of thin volumes have no record.
 BACKUP_REFUSED = [
-    ('cow_store = "monday"', 'merging_store = "monday"', "field at 109"),
-    ('type = "snapshot"', 'type = "thin"', "field at 113"),
+    ('cow_store = "monday"', 'merging_store = "monday"', "field at 63"),
+    ('type = "snapshot"', 'type = "thin"', "field at 67"),
 ]
-
-
-def test_example(tally):
-    tally.holds("the example of a group with a snapshot", text_of(EXAMPLE) == GROUP, "it is not the group of this module")
 
 
 def test_tables(tally, program):

@@ -19,10 +19,9 @@ OURS = "a function whose only error is that of a growth"
 
 # The module and the function of each place, what was asked there with the arm of a match that it is, and why that
 # was a refused growth.
-PLACES = {
-    ("dm_map/pieces/piece_list", "piece", "self.pieces.push(piece), at Err(_)"): STD,
+PLACES = {("dm_map/pieces/piece_list", "piece", "self.pieces.push(piece), at Err(_)"): STD,
     ("dm_map/state/trie_taken", "for_chunks", "count > 1 << 23"):
-        "none: so many places are refused as too much memory (docs/DECISIONS.md); a load allows 4,194,304",
+        "none: so many places are refused as too much memory; a load allows 4,194,304",
     ("dm_replay/playback", "play_front", "mapper.request(request, device, &mut halting), at Err(_)"):
         "where the sink did not stop at the last unit asked for, its error is that of a growth",
     ("dm_replay/playback", "play_request", "mapper.request(request, device, player), at Err(_)"):
@@ -60,16 +59,8 @@ PLACES = {
     ("dmremap/prepared", "begin", "prepare(alloc, stack), at Err(_)"): OURS,
     ("dmremap/printing", "print_parts", "spaced_parts(alloc, name), at Err(_)"): OURS,
     ("dmremap/printing", "print_report", "check_report(alloc, stack), at Err(_)"): OURS,
-    ("dmremap/replay_run", "replay_fresh", "Mapper::new(alloc, stack.looker()), at Err(_)"): OURS,
     ("dmremap/replay_run", "replay_stack", "Replay::go_on(alloc, stack, mapper), at Err(_)"):
         "claims that meet have an arm of their own, and by its contract it fails for nothing else",
-    ("power_cut/main", "begin", "!has_stack_room(rt)"): "the limit of the stack is lower than what the program may take",
-    ("power_cut/cut", "begin", "Replay::new(alloc, stack), at Err(_)"):
-        "claims that meet have an arm of their own, and by its contract it fails for nothing else",
-    ("power_cut/restart", "restart", "Replay::go_on(alloc, stack, found), at Err(_)"):
-        "no claims meet, as is required, and by its contract it fails for nothing else",
-    ("power_cut/fault", "unplayed", "fault, at _"):
-        "a request of a top device fails for a growth alone, and after that the replay is asked for nothing more",
     ("lvm_volume/checks/extents", "check_extents", "maps_of(alloc, physicals.len())"): OURS,
     ("lvm_volume/checks/extents", "check_segments", "is_misplaced(physicals, maps, end, segment)"): OURS,
     ("lvm_volume/checks/segment_check", "check_snapshots", "roles_of(alloc, volumes)"): OURS,
@@ -95,7 +86,8 @@ PLACES = {
     ("lvm_volume/group/volume", "volumes_in", "Vec::with_capacity(alloc, sections.len())"): STD,
     ("lvm_volume/group/volume", "volumes_in", "volumes.push(volume)"): STD,
     ("lvm_volume/fields/source_line", "memory_fault", ""): "the fault itself, for those that answer it",
-    ("lvm_volume/owned_metadata", "owned_tables", "ids_of(alloc, top)"): OURS,
+    ("lvm_volume/owned_metadata", "owned_tables", "physicals_of(alloc, top)"): OURS,
+    ("lvm_volume/owned_metadata", "owned_tables", "ids_of(alloc, &physicals)"): OURS,
     ("lvm_volume/owned_metadata", "owned_tables", "owned_group(alloc, owners, &ids, group)"): OURS,
     ("lvm_volume/tables", "tables", "devices_of(alloc, &group, &roles)"): OURS,
     ("lvm_volume/tables", "tables", "disks_of(alloc, &self.physicals)"): OURS,

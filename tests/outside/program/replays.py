@@ -8,7 +8,7 @@ import copy
 import random
 
 from harness import FULL_OUTPUT
-from snapshots import Plain, concise, disks_of, small_requests
+from snapshots import Plain, concise, disks_of, place, small_requests
 
 ROUNDS = 100
 REQUESTS = 30
@@ -77,9 +77,7 @@ ROWS = [
 
 def least_store(kind, chunk, length):
     """The least store that has a place for each chunk of a snapshot."""
-    last = (length + chunk - 1) // chunk - 1
-    place = last if kind == "N" else 2 + last + last // (32 * chunk)
-    return (place + 1) * chunk
+    return (place(kind, chunk, (length + chunk - 1) // chunk - 1) + 1) * chunk
 
 
 def tidy_stack(dice, loses_nothing=False):

@@ -5,7 +5,8 @@ what it wrote."""
 
 import random
 
-from stored import place, put, stored
+from store_lists import place
+from stored import put, stored
 
 ROUNDS, CUTS = 4, 20
 CHUNK, LENGTH = 4, 40

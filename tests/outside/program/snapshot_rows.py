@@ -50,25 +50,21 @@ ROWS = [
      "1 W base 4 1\n2 R base 2 3\n2 R base 3 5\n"),
     ("a device on a part of a snapshot", "s: 0 16 snapshot base cow P 8\nt: 0 8 linear /dev/mapper/s 4\n",
      "base 16\ncow 32\n", "W t 2 4\nR t 0 8\nR s 0 16\n",
-     "1 copy base 0 8 cow 16\n1 W cow 22 2\n1 copy base 8 8 cow 24\n1 W cow 24 2\n2 R cow 20 8\n"
-     "3 R cow 16 16\n"),
+     "1 copy base 0 8 cow 16\n1 W cow 22 2\n1 copy base 8 8 cow 24\n1 W cow 24 2\n2 R cow 20 8\n" "3 R cow 16 16\n"),
     # Snapshots of snapshots.
     ("two snapshots of one origin", "s: 0 16 snapshot base cow P 8\nt: 0 16 snapshot base cow2 P 8\n",
      "base 16\ncow 32\ncow2 32\n", "W s 0 1\nR t 0 1\nW t 8 1\n",
      "1 copy base 0 8 cow 16\n1 W cow 16 1\n2 R base 0 1\n3 copy base 8 8 cow2 16\n3 W cow2 16 1\n"),
     ("a snapshot of a snapshot", "s: 0 16 snapshot base cow P 8\nt: 0 16 snapshot /dev/mapper/s cow2 P 8\n",
      "base 16\ncow 32\ncow2 32\n", "W s 0 2\nW t 1 1\nR t 0 16\n",
-     "1 copy base 0 8 cow 16\n1 W cow 16 2\n2 copy cow 16 8 cow2 16\n2 W cow2 17 1\n3 R cow2 16 8\n"
-     "3 R base 8 8\n"),
+     "1 copy base 0 8 cow 16\n1 W cow 16 2\n2 copy cow 16 8 cow2 16\n2 W cow2 17 1\n3 R cow2 16 8\n" "3 R base 8 8\n"),
     ("snapshots three deep, with chunks of two sizes",
-     "s: 0 16 snapshot base c P 8\nt: 0 16 snapshot /dev/mapper/s d P 8\n"
-     "u: 0 16 snapshot /dev/mapper/t e P 4\n", "base 16\nc 32\nd 32\ne 32\n",
-     "W s 0 1\nW t 8 1\nW u 2 4\nR u 0 16\nW s 3 1\nR t 0 8\n",
+     "s: 0 16 snapshot base c P 8\nt: 0 16 snapshot /dev/mapper/s d P 8\n" "u: 0 16 snapshot /dev/mapper/t e P 4\n",
+     "base 16\nc 32\nd 32\ne 32\n", "W s 0 1\nW t 8 1\nW u 2 4\nR u 0 16\nW s 3 1\nR t 0 8\n",
      "1 copy base 0 8 c 16\n1 W c 16 1\n2 copy base 8 8 d 16\n2 W d 16 1\n3 copy c 16 4 e 8\n3 W e 10 2\n"
      "3 copy c 20 4 e 12\n3 W e 12 2\n4 R e 8 8\n4 R d 16 8\n5 W c 19 1\n6 R c 16 8\n"),
-    ("an invalid snapshot below another",
-     "s: 0 16 snapshot base cow P 8\nt: 0 16 snapshot /dev/mapper/s cow2 P 8\n", "base 16\ncow 24\ncow2 64\n",
-     "W t 0 1\nW s 0 16\nR t 0 16\nW t 8 1\nR t 0 1\n",
+    ("an invalid snapshot below another", "s: 0 16 snapshot base cow P 8\nt: 0 16 snapshot /dev/mapper/s cow2 P 8\n",
+     "base 16\ncow 24\ncow2 64\n", "W t 0 1\nW s 0 16\nR t 0 16\nW t 8 1\nR t 0 1\n",
      "1 copy base 0 8 cow2 16\n1 W cow2 16 1\n2 copy base 0 8 cow 16\n2 W cow 16 8\n2 error 8\n3 R cow2 16 8\n"
      "3 error 8\n4 error 1\n5 error 1\n"),
     # Stores that fill up.
@@ -100,8 +96,7 @@ ROWS = [
      "1 copy base 12 4 sdc 12\n1 W sdb 12 2\n2 R sdc 8 4\n2 R sdb 12 2\n3 error 1\n4 error 1\n"),
     ("a store of two lines, and an origin of stripes",
      "c: 0 20 linear sdb 4\nc: 20 20 linear sdc 0\no: 0 16 striped 2 2 sdd 0 sde 0\n"
-     "s: 0 16 snapshot /dev/mapper/o /dev/mapper/c P 8\n", "sdb 24\nsdc 20\nsdd 8\nsde 8\n",
-     "W s 0 1\nR s 0 16\n",
+     "s: 0 16 snapshot /dev/mapper/o /dev/mapper/c P 8\n", "sdb 24\nsdc 20\nsdd 8\nsde 8\n", "W s 0 1\nR s 0 16\n",
      "1 copy sdd 0 2 sdb 20\n1 copy sde 0 2 sdb 22\n1 copy sdd 2 2 sdc 0\n1 copy sde 2 2 sdc 2\n1 W sdb 20 1\n"
      "2 R sdb 20 4\n2 R sdc 0 4\n2 R sdd 4 2\n2 R sde 4 2\n2 R sdd 6 2\n2 R sde 6 2\n"),
     # Status lines that are not asked for.
@@ -160,8 +155,7 @@ STATUS = [
      "1 copy base 0 8 cow 16\n1 W cow 17 1\n", "request 2: unknown", 3),
     ("a rest without a newline", "s: 0 32 snapshot base cow P 8\n", "base 32\ncow 32\n", "W s 1 1\nR s",
      "1 copy base 0 8 cow 16\n1 W cow 17 1\n", "request 2: unended", 3),
-    ("a refused load", "s: 0 32 snapshot base cow P 8\n", "base 32\n", "W s 1 1\n", "", "source: unknown at 1",
-     1),
+    ("a refused load", "s: 0 32 snapshot base cow P 8\n", "base 32\n", "W s 1 1\n", "", "source: unknown at 1", 1),
 ]
 
 # Stores of chunks of 1 sector with all places that a stack may have, with half of them, and each with one
@@ -190,34 +184,28 @@ REFUSED = [
     ("s: 0 64 snapshot base /dev/mapper/s P 8\n", "source: cycle at 1"),
     # Ranges take precedence over snapshots, and these over stores, over all devices.
     ("s: 0 64 snapshot base cow P 3\na: 0 65 linear base 0\n", "source: range at 2"),
-    ("z: 0 64 zero\ns: 0 64 snapshot base /dev/mapper/z P 8\nt: 0 64 snapshot base cow P 3\n",
-     "source: snapshot at 3"),
+    ("z: 0 64 zero\ns: 0 64 snapshot base /dev/mapper/z P 8\nt: 0 64 snapshot base cow P 3\n", "source: snapshot at 3"),
     # Stores.
     ("z: 0 64 zero\ns: 0 64 snapshot base /dev/mapper/z P 1\n", "source: store at 2"),
     ("e: 0 64 error\ns: 0 64 snapshot base /dev/mapper/e P 1\n", "source: store at 2"),
     ("s: 0 64 snapshot base cow P 1\nt: 0 64 snapshot base /dev/mapper/s P 1\n", "source: store at 2"),
     # One line of another kind is enough, and so is one further down.
     ("l: 0 60 linear cow 0\nl: 60 4 zero\ns: 0 64 snapshot base /dev/mapper/l P 1\n", "source: store at 3"),
-    ("z: 0 64 zero\nl: 0 64 linear /dev/mapper/z 0\ns: 0 64 snapshot base /dev/mapper/l P 1\n",
-     "source: store at 3"),
+    ("z: 0 64 zero\nl: 0 64 linear /dev/mapper/z 0\ns: 0 64 snapshot base /dev/mapper/l P 1\n", "source: store at 3"),
     ("s: 0 64 snapshot base /dev/mapper/t P 1\nt: 0 64 striped 2 8 cow 0 /dev/mapper/l 0\n"
      "l: 0 32 linear /dev/mapper/z 0\nz: 0 32 zero\n", "source: store at 1"),
     # Places of all stores together, in the order of the text; a store of two counts twice.
     ("s: 0 64 snapshot base more P 1\n", "source: limit at 1"),
     ("s: 0 64 snapshot base all P 1\nz: 0 8 zero\nt: 0 64 snapshot base one P 1\n", "source: limit at 3"),
     ("s: 0 64 snapshot base over P 1\nt: 0 64 snapshot base over P 1\n", "source: limit at 2"),
-    ("s: 0 64 snapshot base more P 1\nz: 0 64 zero\nt: 0 64 snapshot base /dev/mapper/z P 1\n",
-     "source: store at 3"),
+    ("s: 0 64 snapshot base more P 1\nz: 0 64 zero\nt: 0 64 snapshot base /dev/mapper/z P 1\n", "source: store at 3"),
 ]
 
 # What loads over the same disks.
-LOADED = [
-    "s: 0 64 snapshot base cow P 1\n",
-    "s: 0 64 snapshot base cow P 1024\n",
+LOADED = ["s: 0 64 snapshot base cow P 1\n", "s: 0 64 snapshot base cow P 1024\n",
     "s: 0 64 snapshot base all P 1\nt: 0 64 snapshot base none P 1\n",
     "s: 0 64 snapshot base half P 1\nt: 0 64 snapshot base half P 1\n",
-    "s: 0 64 snapshot base /dev/mapper/t P 1\nt: 0 64 striped 2 8 cow 0 /dev/mapper/l 0\n"
-    "l: 0 32 linear cow 32\n",
+    "s: 0 64 snapshot base /dev/mapper/t P 1\nt: 0 64 striped 2 8 cow 0 /dev/mapper/l 0\n" "l: 0 32 linear cow 32\n",
     "s: 0 64 snapshot base cow P 1\nt: 0 64 snapshot /dev/mapper/s cow P 8\nz: 0 8 zero\n"
     "u: 0 8 snapshot /dev/mapper/z cow P 2\n",
 ]

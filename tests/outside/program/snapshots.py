@@ -6,6 +6,8 @@ one before left. The stacks and requests are made from fixed seeds, so every run
 
 import random
 
+import store_lists
+
 ROUNDS = 200
 REQUESTS = 30
 LONG_STORE = "s,,,,0 8 snapshot base cow P 1024"
@@ -195,7 +197,7 @@ class Plain:
 
 def place(kind, chunk, number):
     """Where in a store the chunk of a number is kept, in chunks."""
-    return number if kind == "N" else 2 + number + number // (32 * chunk)
+    return number if kind == "N" else store_lists.place(chunk, number)
 
 
 def device(to):

@@ -5,22 +5,21 @@ played."""
 import os
 import shutil
 import signal
-import struct
 import subprocess
 import threading
 
 from harness import Outcome, become_nobody, run
+from store_lists import MAGIC, SECTOR, end_of, parts, place, taken
 from streams import figure_of
+from tool_calls import read
 
-SECTOR = 512
-MAGIC = 0x70416E53
 # A snapshot of a length, whose chunks and whose store have these lengths.
 TABLE = "s: 0 %d snapshot base cow P %d\n"
 DISKS = "base %d\ncow %d\n"
 # The same with a store that lies on two disks, in stripes, below a snapshot's device.
 STRIPED = "s: 0 64 snapshot base /dev/mapper/cow P 8\ncow: 0 96 striped 2 8 sda 16 sdb 8\n"
 STRIPED_DISKS = "base 64\nsda 64\nsdb 56\n"
-# How many more reads a list of 1,024 rows takes than one of a single row: 8 blocks, and another one with the free pair.
+# How many more reads a list of 1,024 rows takes than one of a single row: one area more, of 8 blocks.
 MORE_READS = 8
 
 # Texts of paths that are refused, and what is told of them. The stack has the disks base and cow.
@@ -59,8 +58,12 @@ LISTS = [
     ("the greatest old chunk", [(2 ** 64 - 1, 2)], "range"),
     ("the first old chunk again", [(7, 2), (8, 3), (7, 4)], "again"),
     ("an old chunk in a row again", [(7, 2), (7, 3)], "again"),
-    ("an old chunk again after a free pair", [(7, 2), (0, 0), (7, 2)], ""),
-    ("a wrong pair after a free one", [(7, 2), (100, 0), (100, 9)], ""),
+    ("a pair after a free one", [(7, 2), (0, 0), (8, 4)], "gap"),
+    ("a pair after a free one, at the end of the area", [(7, 2)] + [(0, 0)] * 254 + [(8, 257)], "gap"),
+    ("half a pair", [(7, 2), (8, 0)], "gap"),
+    ("half a pair after a free one", [(7, 2), (0, 0), (8, 0)], "gap"),
+    ("a wrong pair after a free one", [(7, 2), (0, 0), (100, 9)], "gap"),
+    ("order, and then a gap", [(7, 9), (0, 0), (8, 4)], "gap"),
     ("again, and then order", [(7, 2), (7, 3), (8, 9)], "order"),
     ("order, and then again", [(7, 9), (7, 3)], "order"),
     ("range, and then order", [(100, 2), (7, 9)], "order"),
@@ -88,33 +91,16 @@ WRONG = [
 ]
 
 
-def place(chunk, number):
-    """Where the chunk of a number is kept: a header and areas of one chunk come before."""
-    return 2 + number + number // (32 * chunk)
-
-
-def end_of(chunk, count):
-    """The sectors up to the end of the area that has the pair of this number."""
-    return (1 + (32 * chunk + 1) * (count // (32 * chunk)) + 1) * chunk
-
-
 def put(program, name, chunk, pairs, header=None, size=None, start=0):
     """Makes an image with a store from a byte on, and returns its path. It has these pairs of an old and a new chunk, and ends
     after some bytes, or with the area that has the pair after them."""
-    path, area = program.file(name), 32 * chunk
+    path = program.file(name)
     with open(path, "wb") as it:
-        it.seek(start)
-        it.write(struct.pack("<4I", *(header or (MAGIC, 1, 1, chunk))))
-        for first in range(0, len(pairs), area):
-            it.seek(start + (1 + (area + 1) * (first // area)) * chunk * SECTOR)
-            it.write(b"".join(struct.pack("<2Q", *pair) for pair in pairs[first:first + area]))
+        for at, part in parts(chunk, pairs, header):
+            it.seek(start + at)
+            it.write(part)
         it.truncate(start + (end_of(chunk, len(pairs)) * SECTOR if size is None else size))
     return path
-
-
-def taken(chunk, count):
-    """The pairs of a snapshot that took its first chunks, the last of them first."""
-    return [(count - 1 - number, place(chunk, number)) for number in range(count)]
 
 
 def stored(program, table, disks, paths, requests="", *more, command="map", **how):
@@ -259,6 +245,23 @@ def test_lists(tally, program):
             tally.same("%d chunks of %d sectors" % (count, chunk), got, 0, wanted + used)
 
 
+def test_gaps(tally, program):
+    """A sector of zeros in a list: a kernel leaves zeros behind the end of a list up to the end of its area, and anything in
+    later areas."""
+    for chunk, count in ((1, 100), (2, 150), (8, 700)):
+        area, whole = 32 * chunk, taken(chunk, count)
+        length, store_len = count * chunk, place(chunk, count + area) * chunk
+        for first in range(0, count, 32):
+            pairs = whole[:first] + [(0, 0)] * len(whole[first:first + 32]) + whole[first + 32:]
+            got = of_store(program, chunk, pairs, "", "--status", length=length, store_len=store_len)
+            name = "%d chunks of %d sectors, with zeros from number %d on" % (count, chunk, first)
+            if any(new for _, new in pairs[first:first // area * area + area]):
+                tally.same(name, got, 1, "", told("gap"))
+            else:
+                metadata = (2 + first // area) * chunk
+                tally.same(name, got, 0, "s: 0 %d snapshot %d/%d %d\n" % (length, metadata + first * chunk, store_len, metadata))
+
+
 def where_of(chunk, count, old):
     """Where a chunk is read after the first ones were taken, the last of them first."""
     return "cow %d" % (place(chunk, count - 1 - old) * chunk) if old < count else "base %d" % (old * chunk)
@@ -286,9 +289,9 @@ def test_ends(tally, program):
 def test_images(tally, program):
     """Images that end, and what can't be opened or read as one."""
     pairs = taken(8, 300)
-    # The header, 8 rows of the first area, and two of the second, of which the last has the free pair.
-    areas = [8 + row for row in range(8)] + [(1 + 257) * 8 + row for row in range(2)]
-    for sectors in (0, 1, 8, 9, 15, 16, 2064, 2065, 2066, 2067, end_of(8, 300)):
+    # The rows of the first area, and of the second, in which the list ends.
+    areas = [area * 8 + row for area in (1, 1 + 257) for row in range(8)]
+    for sectors in (0, 1, 8, 9, 15, 16, 2064, 2065, 2066, 2067, 2071, end_of(8, 300)):
         is_read = sectors >= 1 and all(it < sectors for it in areas)
         for more in (0, 1):
             got = of_store(program, 8, pairs, "R s 0 1\n", length=8000, store_len=8000, size=sectors * SECTOR + more)
@@ -324,17 +327,20 @@ def test_devices(tally, program):
 
 
 def test_blocks(tally, program):
-    """An image that ends inside a block of 128 rows: it is read row by row, as far as the list and the free pair after it go."""
+    """An image that ends inside a block of 128 rows: it is read row by row, up to the first that isn't there or is wrong."""
     chunk = 1024
     for count in (1, 32, 4095, 4096, 5000, 32 * chunk):
-        last = end_of(chunk, count) - chunk + count % (32 * chunk) // 32
-        for less in (0, 1):
+        for less in (0, 1, SECTOR, chunk * SECTOR // 2):
             got = of_store(program, chunk, taken(chunk, count), "R s 0 1\n", length=count * chunk,
-                           store_len=(place(chunk, count) + 1) * chunk, size=(last + 1) * SECTOR - less)
+                           store_len=(place(chunk, count) + 1) * chunk, size=end_of(chunk, count) * SECTOR - less)
             if less:
-                tally.same("an image of %d pairs that ends inside the last row" % count, got, 1, "", told("read"))
+                tally.same("an image of %d pairs that ends %d bytes before the last area" % (count, less), got, 1, "", told("read"))
             else:
-                tally.same("an image of %d pairs that ends with the last row" % count, got, 0, "1 R %s 1\n" % where_of(chunk, count, 0))
+                tally.same("an image of %d pairs that ends with the last area" % count, got, 0, "1 R %s 1\n" % where_of(chunk, count, 0))
+    for row, word in ((99, "gap"), (101, "read")):
+        pairs = taken(chunk, 1) + [(0, 0)] * (32 * row - 1) + [(1, 3)]
+        got = of_store(program, chunk, pairs, "R s 0 1\n", length=4000 * chunk, store_len=4000 * chunk, size=(chunk + 100) * SECTOR)
+        tally.same("a pair in row %d, of which the image has 100" % row, got, 1, "", told(word))
 
 
 def test_reads(tally, program):
@@ -384,8 +390,7 @@ def test_missing(tally, program):
     """Sectors of a store on disks that PATHS doesn't name, or whose image ends: the first in the order of the list."""
     # The header and half of the first area lie on sda, the other half of each on sdb.
     put(program, "whole.img", 8, taken(8, 1), size=96 * SECTOR)
-    with open(os.path.join(program.folder, "whole.img"), "rb") as it:
-        whole = it.read()
+    whole = read(os.path.join(program.folder, "whole.img"))
     program.file("a.img", spread(whole, 16, 0))
     program.file("b.img", spread(whole, 8, 1))
     both = stored(program, STRIPED, STRIPED_DISKS, "sda a.img\nsdb b.img\n", "R s 0 1\n")
@@ -428,11 +433,7 @@ def test_kinds(tally, program):
     # Below another snapshot's origin, and two on one disk.
     table = "s: 0 64 snapshot base /dev/mapper/c P 8\nt: 0 64 snapshot /dev/mapper/s /dev/mapper/d P 8\nc: 0 400 linear sda 0\nd: 0 400 linear sda 400\n"
     images = [put(program, name, 8, pairs, size=400 * SECTOR) for name, pairs in (("c.img", [(1, 2)]), ("d.img", [(2, 2), (1, 3)]))]
-    both = b""
-    for image in images:
-        with open(image, "rb") as it:
-            both += it.read()
-    program.file("a.img", both)
+    program.file("a.img", b"".join(map(read, images)))
     got = stored(program, table, "base 64\nsda 800\n", "sda a.img\n", "R s 8 1\nR t 8 1\nR t 16 1\nR t 24 1\n")
     tally.same("two stores on one disk, one over the other", got, 0, "1 R sda 16 1\n2 R sda 424 1\n3 R sda 416 1\n4 R base 24 1\n")
 

@@ -45,7 +45,7 @@ TOLD = [(line, told) for told, rows in [
     ("'--status' cannot be used multiple times", ["map table a b --status --status"]),
     ("unexpected value 'yes' for '--status'", ["map table a b --status=yes"]),
     ("unexpected argument '--before'", ["--before c map table a b"]),
-    ("unrecognized subcommand 'nonsense'\n\nWords of messages that help knows:\n  again, chunk,", ["help nonsense"]),
+    ("unrecognized subcommand 'nonsense'\n\nWords of messages that help knows:\n  again, array,", ["help nonsense"]),
     ("unexpected argument '-x'", ["map -x table a b"]),
     ("error: unexpected argument '-' found", ["map table - d", "map table f -"]),
     ("unexpected argument '--version'", ["map --version"]),
@@ -55,7 +55,7 @@ TOLD = [(line, told) for told, rows in [
 HELPED = [(line, told) for line, rows in [
     ("--help", ["Usage: dmremap <COMMAND>", "  splitname  Prints"]),
     ("-h", ["Usage: dmremap <COMMAND>", "  concise    Checks", "      --version  Print the version\n"]),
-    ("help", ["Usage: dmremap <COMMAND>", "  6  out of memory\n\nManual: man dmremap\n"]),
+    ("help", ["Usage: dmremap <COMMAND>", "  7  a sector of a device could not be read\n\nManual: man dmremap\n"]),
     ("help map", ["map [OPTIONS] <FORMAT> <FILE> [DISKS]", "FORMAT is one of\n  lvm      the"]),
     ("map --help", ["map [OPTIONS] <FORMAT> <FILE> [DISKS]", "      --status",
                     "      --before <REQUESTS>  First play these requests"]),
@@ -63,6 +63,7 @@ HELPED = [(line, told) for line, rows in [
     ("concise -h", ["concise <FORMAT> <FILE> [DISKS]", "dmremap concise lvm"]),
     ("check -h", ["check <FORMAT> <FILE> [DISKS]", "clash LOWER SECTOR FIRST SECOND"]),
     ("replay -h", ["replay [OPTIONS] <FORMAT> <FILE> [DISKS]", "      --paths <PATHS>", "dmremap replay table"]),
+    ("read -h", ["read [OPTIONS] <FORMAT> <FILE> [DISKS] <DEVICE>\n", "      --from <SECTOR>", "      --count <SECTORS>", "dmremap read images"]),
     ("metadata -h", ["metadata <FORMAT> <PATHS>", "dmremap metadata images"]),
     ("name -h", ["name <VG> <LV> [LAYER]", "dmremap name vg0 lv-1"]),
     ("splitname -h", ["splitname <NAME>", "dmremap splitname vg0-lv--1"]),
@@ -77,8 +78,7 @@ DISKLESS = ["map table a.table", "map lvm vg0.backup a.disks", "table table a.ta
             "check images a.paths a.disks"]
 
 # Words that ask for status lines, of a stack without a snapshot.
-STATUS = [
-    ["map", "table", "TABLE", "DISKS", "--status"],
+STATUS = [["map", "table", "TABLE", "DISKS", "--status"],
     ["map", "--status", "table", "TABLE", "DISKS"],
     ["map", "table", "--status", "TABLE", "--", "DISKS"],
 ]

@@ -13,7 +13,7 @@ from harness import FULL_OUTPUT, Case, Outcome, become_nobody, run, text_of
 from trees import ANEW, BUILD, BUILDING, CRATES, HELD_RT, RT, SLOW_RT, TOOLCHAIN, WAITING, Tree, becomes, runs, told, without_times
 
 # How often the script tells how far it is.
-OFTEN = ("WATCHED, AWAY = 5, 300", "WATCHED, AWAY = 1, 1")
+OFTEN = ("WATCHED, AWAY = 5, 60", "WATCHED, AWAY = 1, 1")
 # A build that was timed: once all functions were checked, it took five minutes more.
 PACE = """\
 low 7 0 0 0 0 0 0 0 0 0 0 0 0

@@ -10,17 +10,19 @@ import re
 import shutil
 import tarfile
 
+import documents
 from harness import Case, is_static, run, text_of
 from tool_calls import read
 from trees import ANSWER, BUILD, DISKS, REQUESTS, SCRIPTS, TABLE
 
 # What is installed besides the program and the documents, and where it is here.
-PLACES = {
-    "share/man/man1/%s.1": "docs/%s.1",
+PLACES = {"share/man/man1/%s.1": "docs/%s.1",
     "share/bash-completion/completions/%s": "tools/packaging/completions/%s.bash",
     "share/zsh/site-functions/_%s": "tools/packaging/completions/_%s",
 }
 DOCUMENTS = "share/doc/dmremap"
+# What a release has besides: the name of its commit.
+COMMIT = DOCUMENTS + "/COMMIT"
 # What packs the tool, and what it makes.
 PACK, TOOL = "tools/pack", "bin/dmremap-tools"
 USAGE = "usage: ./install [--remove] [PREFIX]\n"
@@ -89,7 +91,7 @@ def installed_in(tree):
     """What is installed, and the bytes that it has. Those of the tool aren't looked at."""
     places = {"bin/dmremap": "crates/dmremap/out/dmremap", TOOL: PACK}
     places.update((place % name, path % name) for name in ("dmremap", "dmremap-tools") for place, path in PLACES.items())
-    for pattern in ("README.md", "CHANGELOG.md", "docs/*.md", "docs/*.svg", "tests/benches/RESULTS.md", "examples/*.*", "examples/samples/*.*"):
+    for pattern in ("README.md", "CHANGELOG.md", "docs/*.*", "tests/benches/RESULTS.md", "examples/*.*", "examples/samples/*.*"):
         paths = [os.path.relpath(it, tree) for it in glob.glob(os.path.join(tree, pattern))]
         places.update(("%s/%s" % (DOCUMENTS, it), it) for it in paths)
     return {place: None if place == TOOL else read(os.path.join(tree, path)) for place, path in places.items()}
@@ -328,9 +330,12 @@ def check_unpacked(tally, program, tree, archive, name):
     tally.same("the sums in the archive", sums)
     there = files_below(folder)
     listed = there.pop("SHA256SUMS", b"").count(b"\n")
-    wanted = {**installed_in(tree), "README.md": read(os.path.join(tree, "README.md"))}
-    is_same = {it for it in wanted if there.get(it) != wanted[it]} == {"bin/dmremap"} and set(there) == set(wanted)
+    wanted = {**installed_in(tree), COMMIT: run([*GIT, "rev-parse", "HEAD"], folder=tree).out, "README.md": b""}
+    is_same = {it for it in wanted if there.get(it) != wanted[it]} == {"bin/dmremap", "README.md"} and set(there) == set(wanted)
     tally.holds("what is in the archive", is_same and listed == len(wanted), "it is %s" % sorted(there))
+    pages = [os.path.join(folder, it) for it in sorted(there) if it.endswith(".md")]
+    lost = ["%s: %s" % (os.path.relpath(page, folder), it) for page in pages for it in documents.lost_links(text_of(page), page)]
+    tally.holds("links of the pages in the archive", len(pages) > 9 and not lost, "there is no %s" % ", ".join(lost))
     check_static(tally, os.path.join(folder, "bin", "dmremap"), "the archive's program")
     check_works(tally, program, folder, "the archive")
 

@@ -16,6 +16,7 @@ SOURCES = ["crates/low/src/text", "crates/middle/proofs/text", "crates/dmremap/s
 # Parts of a path that a shell could take for something else.
 ODD = ["a & b", "a&", "with\nnewlines\n", "back\\slash\\", "-x", "%s", "*", "$HOME", "'"]
 CALLS = ["low lib", "middle lib", "dmremap run -- --help"]
+NEVER = "dmremap: no proved program is built of these sources: run tools/building/build first\n"
 
 
 def test_version(tally, top):
@@ -166,6 +167,22 @@ def test_changes(tally, tree):
     tree.write("crates/beside/src/text", "another text\n")
     got = tree.run(words, given=REQUESTS)
     tally.same("./dmremap after a change of a crate that the program doesn't stand on", got, 0, ANSWER)
+
+
+def test_never(tally, tree):
+    """Where nothing may be built, a call without a program is refused at once; one with a program is answered."""
+    tree.remove()
+    got = tree.run(["--version"], variables={"DMREMAP_BUILD": "never"})
+    tally.same("./dmremap that may not build", got, 70, "", NEVER)
+    tally.holds("./dmremap that may not build calls no rt", not tree.called(), "it does: %s" % tree.called())
+    folder = os.path.join(tree.folder, "as PYTHON shows")
+    shutil.copytree(os.path.join(tree.repository, "examples"), os.path.join(folder, "examples"))
+    env = dict(tree.other_environment(), PATH=tree.top + os.pathsep + tree.other_environment()["PATH"])
+    got = run(["python3", "examples/ask.py"], folder=folder, env=env)
+    tally.tells("examples/ask.py where nothing is built", got, 1, "", "RuntimeError: status 70, " + NEVER)
+    tree.put()
+    got = tree.run(tree.words(), variables={"DMREMAP_BUILD": "never"}, given=REQUESTS)
+    tally.same("./dmremap that may not build, once it is built", got, 0, ANSWER)
 
 
 def test_times(tally, tree):

@@ -20,7 +20,7 @@ LINES = "# a comment: low\nlow: memchr\ndmremap: clap low middle\nbeside: low\nm
 BUILD, TOOLCHAIN = "tools/building/build", "tools/building/toolchain"
 SCRIPTS = ["dmremap", "try", "tools/building"]
 BUILDING = ("dmremap: building the proved program; the first time this takes 25 to 40 minutes on four processors, "
-            "and 7 GB, of which 1 GB stays\n")
+            "4.3 GB of memory, and 7 GB of disk, of which 1 GB stays\n")
 ANEW = "dmremap: building the proved program; the sources were changed meanwhile\n"
 WAITING = "dmremap: another call builds the program; waiting for it\n"
 # How long crates took, which no two runs have in common.
@@ -85,7 +85,7 @@ class Tree:
     """A tree with the scripts and a few crates, of one source each."""
 
     def __init__(self, program, top, name="a tree"):
-        self.program, self.folder = program, program.folder
+        self.program, self.folder, self.repository = program, program.folder, top
         self.top = os.path.join(self.folder, name)
         self.calls = os.path.join(self.folder, "calls")
         for crate in [*CRATES, "beside"]:

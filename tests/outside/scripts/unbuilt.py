@@ -6,12 +6,13 @@ import subprocess
 import sys
 
 from harness import Case, run
-from trees import Tree
+from trees import REQUESTS, Tree, becomes
 
 NOT_BUILT = "dmremap: no program is built here: run ./dmremap --version, which builds and proves it, or ./try --version\n"
-NOT_PROVED = "the program that ./try made is asked, of which nothing is proved: ./dmremap --version builds the one to act on\n"
+NOT_PROVED = "dmremap-tools: using the unproved program that ./try made; ./dmremap --version builds and proves the one to act on\n"
 SOURCE = "crates/low/src/text"
 KEEP = "import sources as it; it.keep(it.made_of(it.TOP, it.TRIED), it.os.path.join(it.OUT, 'try'))"
+IS_SEEN = [sys.executable, "-c", "import sources; print(sources.is_seen())"]
 SHOWN = "  vg/home                  60 KiB     striped    %s\n"
 
 
@@ -44,7 +45,7 @@ def test_unbuilt(tally, tools, tree, program):
     tools.finds(tally, "a scan where nothing is built", "?", NOT_BUILT)
     for tool in tools.ways:
         for words, where in ((["save", "vg/home", "out", *tools.samples], "save"), (["serve", "vg/home", *tools.samples], "serve"), (["explain", "map", "lvm", "x"], "explain"),
-                             (["lost", "vg/home", *tools.samples[:2]], "lost"), (["extents", "v", "table", "x", "y"], "extents")):
+                             (["lost", "vg/home", *tools.samples[:2]], "lost"), (["layout", "table", "x", "y"], "layout")):
             got, called = tools.call(tool, *words)
             is_so = got.status == 1 and not got.out and got.err.decode() == "dmremap-tools %s: %s" % (where, NOT_BUILT) and not called
             is_so = is_so or where == "serve" and b"nbdkit: it isn't here" in got.err
@@ -61,10 +62,17 @@ def test_unbuilt(tally, tools, tree, program):
     tools.finds(tally, "a program of unknown sources", "?", NOT_BUILT)
     subprocess.run([sys.executable, "-c", KEEP], cwd=tree.path("tools/building"), check=True)
     tools.finds(tally, "a tried program", "ext2", NOT_PROVED)
+    got, _ = tools.call("bash", "-c", 'for it in 1 2; do "$@"; done', "bash", tools.ways[0], "scan", *tools.samples)
+    tally.holds("a tried program, which is told once in a session", got.err.decode() == NOT_PROVED, got.err)
     tree.write(SOURCE, "another text\n")
     tools.finds(tally, "a tried program of other sources", "?", NOT_BUILT)
     tree.put()
     tools.finds(tally, "a program that is built", "ext2")
+    tally.same("a program that ./dmremap hasn't looked at", run(IS_SEEN, folder=tree.path("tools/building")), 0, "False\n")
+    is_kept = lambda: tree.run(tree.words(), given=REQUESTS).out and os.path.exists(tree.path("out/seen"))
+    tally.holds("what ./dmremap has seen", becomes(is_kept), "it isn't kept")
+    tally.same("what it has seen", run(IS_SEEN, folder=tree.path("tools/building")), 0, "True\n")
+    tools.finds(tally, "a program that ./dmremap has seen", "ext2")
     tree.write(SOURCE, "a third text\n")
     tools.finds(tally, "one of other sources", "?", NOT_BUILT)
     shutil.copy(program.path, os.path.join(elsewhere, "another"))

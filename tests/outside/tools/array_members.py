@@ -6,7 +6,8 @@ import os
 import physical_volumes
 import tool_calls
 from harness import Case
-from physical_volumes import SECTOR, damaged, dashed, md_end_member, md_member, md_old_member, one_volume, patched
+from lvm_texts import dashed
+from physical_volumes import SECTOR, damaged, md_end_member, md_member, md_old_member, one_volume, patched
 from tool_calls import TOOL, read
 
 # The physical volumes of the group here, of which the first has the only volume.
@@ -20,8 +21,7 @@ PARTS = "a member of an md array that isn't raid1, so that no member has all of 
         "`save GROUP/VOLUME OUT IMAGE..`, which puts it together"
 CHANGING = "a member of an md array that is a spare, or is being filled or reshaped, so that it doesn't have the array's bytes: take another member"
 BAD = "a member of an md array that has bad blocks, which a kernel reads from another one: take that"
-DAMAGED = "its md superblock at byte %d is damaged: give the other members alone, or of a mirror this image alone, or make the array anew on copies " \
-          "(mdadm --create --assume-clean)"
+DAMAGED = "its md superblock at byte %d is damaged: give the other members alone, or make the array anew on copies (mdadm --create --assume-clean)"
 OLDER = "a member of an md array that was away when others changed: it has the count of events %d, and %s has %d: take that"
 # What makes a member of each version, and where its data begins.
 VERSIONS = [("0.90", md_old_member, 0), ("1.0", md_end_member, 0), ("1.1", lambda data, **how: md_member(data, 16, **how), 16),
@@ -38,7 +38,7 @@ class ArrayMembers(Case):
     def call(self, *words):
         return tool_calls.call(self.top, list(words), folder=self.folder)
 
-    def refuses(self, name, got, message, status=1, out="refused\n"):
+    def refuses(self, name, got, message, status=1, out=""):
         """It is refused with this message, perhaps after others."""
         lines = got.err.decode().splitlines()
         is_so = got.status == status and got.out.decode() == out and bool(lines) and lines[-1] == message
@@ -106,12 +106,15 @@ class ArrayMembers(Case):
         self.program.file("members/c", other)
         self.program.file("members/paths", "{0} {1}/a?offset=8192\n/dev/sdb1 {1}/c?offset=8192\n".format(NAME, self.folder))
         self.program.file("members/a", md_member(VOLUME, 16, level=1))
-        got = self.call("elsewhere", "--losetup", "--paths", "paths", self.program.file("members/table", "v: 0 8 linear %s 8\n" % NAME))
+        self.program.file("members/table", "v: 0 8 linear %s 8\n" % NAME)
+        self.program.file("members/disks", NAME + " 256\n/dev/sdb1 256\n")
+        words = ["layout", "--program", self.program.path, "--paths", "paths", "--device", "v", "table", "table", "disks"]
+        got = self.call(*words)
         self.holds("halves of two arrays", got.status == 0, got.err)
         self.program.file("members/b", md_member(VOLUME, 16, level=1, events=8))
         self.program.file("members/paths", "{0} {1}/a?offset=8192\n/dev/sdb1 {1}/b\n".format(NAME, self.folder))
-        got = self.call("elsewhere", "--losetup", "--paths", "paths", "table")
-        self.refuses("an older half among disks", got, "{0} elsewhere: {1}/a: {2}".format(TOOL, self.folder, OLDER % (7, self.folder + "/b", 8)))
+        got = self.call(*words)
+        self.refuses("an older half among disks", got, "{0} layout: {1}/a: {2}".format(TOOL, self.folder, OLDER % (7, self.folder + "/b", 8)))
 
     def test_partitions(self):
         """Members on partitions, of which a disk may end with the superblock of its last one."""
@@ -129,12 +132,9 @@ class ArrayMembers(Case):
         """Each command that takes places, of a member of raid5 whose first chunk has the label, and of one of raid1."""
         self.program.file("members/table", "v: 0 8 linear %s 8\n" % NAME)
         self.program.file("members/disks", NAME + " 256\n")
-        self.program.file("members/requests", "R v 0 8\n")
         asked, source = ["--program", self.program.path, "--paths", "paths"], ["table", "table", "disks"]
-        commands = {
-            "save": ["save", *asked, "v", "out", *source],
-            "dd": ["dd", *asked, "--requests", "requests", *source],
-            "elsewhere": ["elsewhere", "--losetup", "--paths", "paths", "table"],
+        commands = {"save": ["save", *asked, "v", "out", *source],
+            "layout": ["layout", *asked, "--device", "v", *source],
         }
         for level, start in ((5, 16), (5, 17), (5, 4), (1, 16)):
             self.program.file("members/a", md_member(VOLUME, 16, level=level, count=3))
@@ -151,7 +151,7 @@ class ArrayMembers(Case):
                 self.holds(title, is_so, "%s, %r" % (got.status, got.err))
 
     def test_tables(self):
-        """Tables that name members by their own paths, as those of `md`, read them; those that name an array read the data alone."""
+        """Tables that name members by their own paths, read them; those that name an array read the data alone."""
         contents = [bytes([65 + it]) * (16 * SECTOR) for it in range(2)]
         for place, content in enumerate(contents):
             self.program.file("members/m%d" % place, bytes(2048 * SECTOR) + md_member(content, 16, level=0, role=place))
@@ -173,7 +173,7 @@ class ArrayMembers(Case):
                 got = self.call("save", "--program", self.program.path, "--paths", "paths", "v", "out", "table", "table", "disks")
                 title = "the disk of an array at sector %d of a member of level %d, version %s" % (place, level, version)
                 if message:
-                    self.refuses(title, got, "%s save: a: %s" % (TOOL, message), out="")
+                    self.refuses(title, got, "%s save: a: %s" % (TOOL, message))
                 else:
                     self.holds(title, got.status == 0 and read(os.path.join(self.folder, "out")) == VOLUME[4096:8192], got.err)
                     os.remove(os.path.join(self.folder, "out"))

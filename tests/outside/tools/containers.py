@@ -1,6 +1,8 @@
 """Headers of LUKS, made from their formats for the tests."""
 
 import hashlib
+import os
+import shutil
 import struct
 
 UUID = "9f0ddaf8-7f12-4f09-98b6-4e4d01cf8b28"
@@ -13,11 +15,17 @@ KEYSLOT = ('"%d":{"type":"luks2","key_size":64,"area":{"type":"raw","offset":"%d
 DATA = 131072
 
 
-def version_1(payload, keys=()):
-    """A header of version 1, whose data begins in this sector. Each key is the sector where its material begins."""
-    head = b"LUKS\xba\xbe\0\1".ljust(104, b"\0") + struct.pack(">LL", payload, 64)
-    head = head.ljust(168, b"\0") + UUID.encode().ljust(40, b"\0")
-    return (head + b"".join(struct.pack(">40xLL", it, 4000) for it in keys)).ljust(1008, b"\0")
+def is_read():
+    """Whether cryptsetup is here, which reads them."""
+    return shutil.which("cryptsetup", path=os.environ["PATH"] + ":/sbin:/usr/sbin") is not None
+
+
+def version_1(payload=2048, uuid=UUID):
+    """A header of version 1 without keys, whose data begins in this sector."""
+    head = b"LUKS\xba\xbe\0\1" + b"".join(it.ljust(32, b"\0") for it in (b"aes", b"xts-plain64", b"sha256")) + struct.pack(">LL", payload, 32)
+    head = head.ljust(164, b"\0") + struct.pack(">L", 1000) + uuid.encode().ljust(40, b"\0")
+    slots = b"".join(struct.pack(">LL32xLL", 0xDEAD, 1000, 8 + 252 * number, 4000) for number in range(8))
+    return (head + slots).ljust(payload * 512, b"\0")
 
 
 def version_2(size="dynamic", segments=1, json=None, second=None, sequences=(3, 3)):

@@ -1,21 +1,20 @@
-"""dmremap-tools explain: of a refusal the place, the cause and the remedy; of an answer its way, level by level, which makes
-dmremap's answer together. The table of mistakes in docs/RECIPES.md says what comes of each of them."""
+"""dmremap-tools explain: of a refusal the place, why it is refused and what is allowed, and no command that answers in place of
+the one that was typed; of an answer its way, level by level, which makes dmremap's answer together."""
 
-import gzip
 import os
 import random
 import re
 import shutil
 
 import explained_rows
+import origins
+import snapshots
 from explained_rows import FILES
-from harness import FULL_OUTPUT, Case
-from tool_calls import TOOL, call, samples
+from harness import FULL_OUTPUT, Case, run
+from tool_calls import TOOL, call, read, samples
 
 STACKS = 120
-# What is said of a command that lists disks.
-MEASURED = "A disk that isn't here gets as many sectors as the tables use of it, which is enough to map."
-REQUEST = re.compile("[RWr] ")
+REQUEST = re.compile("[RW] ")
 # Where the store lies on the disk of the sample.
 STORE = 206848
 # A program that answers about a level other than about the whole.
@@ -25,8 +24,6 @@ case "$*" in
 *) exec %s "$@" ;;
 esac
 """
-ROW = re.compile(r"^\| `(\w+.*? .*?)` \| (.*?) \| (.*) \|$", re.M)
-CODE = re.compile(r"`([^`]*(?:`[^`]*)?)`$|\[`(.*)`\]")
 
 
 class Explain:
@@ -39,20 +36,10 @@ class Explain:
         """Runs it with some words, perhaps over another program."""
         return call(self.top, ["explain", "--program", asked or self._program.path, *words], given=given, folder=self.folder, **how)
 
-    def said(self, words, given=b""):
-        """What dmremap itself says of the same words, and requests."""
-        asked = [it for before, it in zip(["", *words], words) if REQUEST.match(it) and before != "--before"]
-        typed, requests = [it for it in words if it not in asked], "".join(it + "\n" for it in asked) or given
-        return self._program.run(typed, given=requests, folder=self.folder)
-
     def put(self, files):
         """Makes files of a row."""
         for name, content in files.items():
             self._program.file("explained/" + name, content)
-
-    def help(self, message):
-        """What its help says of a message."""
-        return self._program.run(["help", "dmremap: " + message]).out.decode()
 
 
 def make_folder(program, top):
@@ -62,60 +49,45 @@ def make_folder(program, top):
         program.file("explained/" + name, content)
     for name in ("vg0.backup", "vg0-snapshot.backup"):
         shutil.copy(os.path.join(top, "examples", name), folder)
-    for name in ("vgm.backup", "lsblk.txt"):
-        shutil.copy(os.path.join(samples(top), name), folder)
+    shutil.copy(os.path.join(samples(top), "vgm.backup"), folder)
     shutil.copy(os.path.join(samples(top), "vg0-head.img"), os.path.join(folder, "image"))
-    os.truncate(os.path.join(folder, "disk1.img"), 1050624 * 512)
-    with open(os.path.join(folder, "vg0.backup"), "rb") as it:
-        content = it.read()
-    program.file("explained/vg0.backup.gz", gzip.compress(content))
+    content = read(os.path.join(folder, "vg0.backup"))
     for name, (was, now) in explained_rows.CHANGED.items():
         program.file("explained/" + name, content.replace(was, now, 1))
-    program.file("explained/cut.backup", content[:content.index(b"lv0")])
     return folder
 
 
-def test_refusals(tally, explain, top):
-    """What is said of each refusal, what is marked, and the remedy; and that a row stands for each row of the document."""
-    with open(os.path.join(top, "docs", "RECIPES.md"), encoding="utf-8") as it:
-        shown = {(symptom, next(filter(None, CODE.search(command).groups()))) for symptom, _, command in ROW.findall(it.read())}
-    tally.holds("the mistakes in the document", len(shown) > 6, "they are %s" % shown)
-    words = set()
-    for row in explained_rows.rows():
-        explain.put(row.files)
-        got, said = explain.run(row.words, row.given), explain.said(row.words, row.given).err.decode()
+def test_refusals(tally, explain):
+    """What is marked of each refusal; and that nothing of what is printed answers where it is typed, but for help."""
+    environment = dict(os.environ, PATH=put_programs(tally.program, explain.top) + ":/usr/bin:/bin")
+    typed = set()
+    for message, words, given, files, marked in explained_rows.rows():
+        explain.put(files)
+        got = explain.run(words, given)
         first, *others = got.out.decode().splitlines()
-        found = marked_by(others), remedy_in(remedy_of(others).splitlines()), why_of(others)
-        why = row.why.splitlines() if row.why else help_rows(explain, row.message) if row.why == "" else found[2][:-1]
-        why += [MEASURED] * ("|| echo" in row.remedy) if row.why is not None else found[2][-1:]
-        is_first = row.message is None or row.message in first and (first in said.splitlines() or not said)
-        tally.holds("%s by %s" % (row.message, row), got.status == 0 and is_first and found == (row.marked, row.remedy, why),
-                    "dmremap says %r, and explain %s, %s" % (said, got.out.decode(), got.err))
-        words.add(re.sub(r"^request \d+: | at \d+$|^(source|disks|name|before): ", "", row.message or ""))
-        shown -= {it for it in shown if first == "dmremap: " + it[0] and it[1].replace("FILE", row.words[2]) in row.remedy}
-    tally.holds("rows of the document that are run", not shown, "not these: %s" % shown)
-    tally.holds("words with causes", explained_rows.WORDS <= words, "without: %s" % (explained_rows.WORDS - words))
+        is_so = got.status == 0 and not got.err and first == ("" if message.startswith("error") else "dmremap: ") + message
+        are_said = message.startswith("error") or all(any(it.startswith(lead) for it in others) for lead in ("why: ", "allowed: ", "more: dmremap help '"))
+        tally.holds("%s by %s" % (message, words), is_so and are_said and marked_by(others) == marked, "status %s, %r, %r" % (got.status, got.out.decode(), got.err))
+        for row in others:
+            # All of a line, what stands behind the word that begins it, and what is in quotes.
+            commands = {row, re.sub("^[a-z]+: +", "", row), *re.findall("`([^`]+)`", row)} - typed
+            typed |= commands
+            for command in (it for it in commands if not it.startswith("dmremap help")):
+                ran = run(["bash", "-c", command], folder=explain.folder, env=environment)
+                tally.holds("what is typed of %r" % row, ran.status != 0 or not ran.out, "it answers %r" % ran.out)
+            for command in (it for it in commands if it.startswith("dmremap help ")):
+                tally.tells(command, run(["bash", "-c", command], env=environment), 0, "dmremap: ")
+    words = {re.sub(r"^request \d+: | at \d+$|^\w+( \w+)?: ", "", message) for message, *_ in explained_rows.rows()}
+    tally.holds("the words that are tried", len(words) > 25, sorted(words))
 
 
-def why_of(rows):
-    """The lines of an explanation that say why."""
-    return [it[5:] for it in part_of(rows, "why: ")]
-
-
-def remedy_of(rows):
-    """Its commands."""
-    return "\n".join(it[7:] for it in part_of(rows, "do:  "))
-
-
-def remedy_in(commands):
-    """The last of its commands before that of dmremap, if there are others."""
-    return "".join(commands[-2:-1] if len(commands) > 1 and commands[-1].startswith("dmremap ") else commands[-1:])
-
-
-def part_of(rows, lead):
-    """The lines from the one that begins with a lead on, as far as they are indented as it is."""
-    first = next((at for at, it in enumerate(rows) if it.startswith(lead)), len(rows))
-    return [rows[at] for at in range(first, len(rows)) if all(it.startswith("     ") for it in rows[first + 1:at + 1])]
+def put_programs(program, top):
+    """A folder with dmremap and the tools."""
+    folder = os.path.join(program.folder, "programs")
+    os.makedirs(folder, exist_ok=True)
+    for name, path in (("dmremap", program.path), ("dmremap-tools", os.path.join(top, "dmremap-tools"))):
+        os.symlink(path, os.path.join(folder, name))
+    return folder
 
 
 def marked_by(rows):
@@ -124,20 +96,12 @@ def marked_by(rows):
     return rows[1][mark.start(1):mark.end(1)] if mark else None
 
 
-def help_rows(explain, message):
-    """What dmremap's help has below the form of a message."""
-    form = re.sub(r" at \d+$", " at (NUMBER|N|LINE)", re.sub(r"^request \d+", "request N", message))
-    entries = explain.help(message).split("\n\n")
-    return [row.strip() for it in entries if re.search("(?m)^dmremap: %s$" % form, it) for row in it.splitlines() if row.startswith(" ")]
-
-
 def test_ways(tally, explain):
     """Ways as they are shown."""
     for words, shown in explained_rows.WAYS:
         requests = "".join(it + "\n" for it in words if REQUEST.match(it))
         tally.same("the way of %s" % words, explain.run([it for it in words if not REQUEST.match(it)], given=requests), 0, shown)
-        said = "why: dmremap reads requests from its standard input\ndo:    "
-        tally.holds("the way of %s as words" % words, explain.run(words).out.decode().startswith(shown + "\n" + said), shown)
+        tally.same("the way of %s as words" % words, explain.run(words), 0, shown)
 
 
 def test_causes(tally, explain):
@@ -150,67 +114,20 @@ def test_causes(tally, explain):
 def test_stacks(tally, explain, program):
     """Random stacks with snapshots: the levels make dmremap's answer of the whole together, or the command would refuse. Every
     other one begins from its stores, which lie on disks of one image."""
-    dice = random.Random(79)
-    shown = 0
     program.file("explained/image", bytes(64 * 512))
-    program.file("explained/paths", "".join("%s image\n" % it for it in explained_rows.DISKS))
     for number in range(STACKS):
-        devices, lengths = stack(dice)
-        program.file("explained/random", ";".join("%s,,,%s,%s" % (name, flags, ",".join(lines)) for name, flags, lines in devices) + "\n")
-        requests = [request(dice, dice.choice(devices)[0], lengths) for _ in range(dice.randrange(6))]
-        program.file("explained/earlier", "".join(it + "\n" for it in requests))
-        last = request(dice, devices[-1][0], lengths)
+        dice = random.Random(number)
+        stack = origins.small_stack(dice)
+        requests = ["%s %s %d %d\n" % it for it in snapshots.small_requests(dice, stack)]
+        for name, content in (("random", snapshots.concise(stack)), ("random.disks", snapshots.disks_of(stack)),
+                              ("paths", "".join("%s image\n" % it for it in stack.disks)), ("earlier", "".join(requests[:number % 6]))):
+            program.file("explained/" + name, content)
         words = ["map", "concise", "random", "random.disks", "--before", "earlier", *["--paths", "paths"] * (number % 2)]
-        answer = program.run(words, given=last + "\n", folder=explain.folder)
-        got = explain.run(words, given=last + "\n")
-        if answer.status == 1:
-            continue
-        shown += 1
+        answer = program.run(words, given=requests[-1], folder=explain.folder)
+        got = explain.run(words, given=requests[-1])
         wanted = b"answer:\n" + re.sub(rb"(?m)^1 ", b"  ", answer.out)
-        tally.holds("random stack %d" % number, got.status == 0 and got.out.endswith(wanted), "status %s, %r, %r" % (got.status, got.err, got.out))
-    tally.holds("random stacks", shown > STACKS // 2, "only %d load" % shown)
-
-
-def stack(dice):
-    """Devices on each other, some of them snapshots and origins, and the lengths of all and of the disks."""
-    lengths, plain, devices = dict(explained_rows.DISKS), list(explained_rows.DISKS), []
-
-    def lower(least, among):
-        name = dice.choice([it for it in among if lengths[it] >= least])
-        return (name if name in explained_rows.DISKS else "/dev/mapper/" + name), dice.randrange(lengths[name] - least + 1)
-
-    for number in range(dice.randrange(2, 8)):
-        name, lines, at = "d%d" % number, [], 0
-        if dice.random() < 0.5:
-            is_plain = True
-            for _ in range(dice.randrange(1, 4)):
-                kind, count = dice.choice(("linear", "linear", "linear", "striped", "zero", "error")), dice.choice((8, 16, 24))
-                among = plain if is_plain and dice.random() < 0.5 else list(lengths)
-                if kind == "linear":
-                    lines.append("%d %d linear %s %d" % (at, count, *lower(count, among)))
-                elif kind == "striped":
-                    lines.append("%d %d striped 2 4 %s %d %s %d" % (at, count, *lower(count // 2, among), *lower(count // 2, among)))
-                else:
-                    lines.append("%d %d %s" % (at, count, kind))
-                is_plain = is_plain and kind in ("linear", "striped") and among is plain
-                at += count
-            flags = "ro" if dice.random() < 0.1 else ""
-            plain += [name] * (is_plain and not flags)
-        else:
-            origin, flags = dice.choice(list(lengths)), ""
-            at, path = lengths[origin], origin if origin in explained_rows.DISKS else "/dev/mapper/" + origin
-            store = lower(1, plain)[0]
-            lines.append("0 %d snapshot-origin %s" % (at, path) if dice.random() < 0.3 else
-                         "0 %d snapshot %s %s %s %d" % (at, path, store, dice.choice("PNK"), dice.choice((2, 4, 8))))
-        lengths[name] = at
-        devices.append((name, flags, lines))
-    return devices, lengths
-
-
-def request(dice, name, lengths):
-    """A request for a device, which may go past its end."""
-    start = dice.randrange(lengths[name])
-    return "%s %s %d %d" % (dice.choice("RWW"), name, start, dice.randrange(1, min(24, lengths[name] - start + 1) + 1))
+        is_so = answer.status == got.status == 0 and got.out.endswith(wanted)
+        tally.holds("random stack %d" % number, is_so, "status %s, %s, %r, %r" % (answer.status, got.status, got.err, got.out))
 
 
 def test_stores(tally, explain, program):
@@ -224,8 +141,8 @@ def test_stores(tally, explain, program):
     got = explain.run([*words, "--paths", "paths"])
     wanted = b"chunk 1001, taken\n", b"chunk 1000, not taken yet\n"
     tally.holds("ways from a store", got.status == 0 and not got.err and all(it in got.out for it in wanted), "status %s, %r, %r" % (got.status, got.err, got.out))
-    for listed, why in (("", "A part of the store lies on a disk that PATHS doesn't name. Add the disk."),
-                        ("/dev/sda1 tables\n", "can't be opened or read"), ("/dev/sda1 s.img\n", "the folder has: "), ("/dev/sdb sda1.img\n", "No disk has that name")):
+    for listed, why in (("", "A part of the store lies on a disk that PATHS doesn't name"), ("/dev/sda1 tables\n", "can't be opened or read"),
+                        ("/dev/sda1 s.img\n", "can't be opened or read"), ("/dev/sdb sda1.img\n", "No disk has that name")):
         program.file("explained/paths", listed)
         tally.tells("a store by the paths %r" % listed, explain.run([*words, "--paths", "paths"]), out=why)
     with open(os.path.join(explain.folder, "sda1.img"), "r+b") as image:
@@ -235,12 +152,12 @@ def test_stores(tally, explain, program):
     got = explain.run([*words, "--paths", "paths"])
     why = b"the header of vg0-snap's store says that it is invalid: it was full once, so all of the snapshot fails\n"
     tally.holds("a store whose header says that it is invalid", got.status == 0 and got.out.count(why) == 2 and b"no place" not in got.out, "status %s, %r, %r" % (got.status, got.err, got.out))
-    tally.tells("a store without paths", explain.run([*words, "--paths", "nowhere"]), out="nowhere")
+    tally.tells("a store without paths", explain.run([*words, "--paths", "nowhere"]), out="dmremap: paths: read\n")
 
 
 def test_ends(tally, explain, program):
     """What isn't explained is refused, and outputs may fail."""
-    words = ["map", "table", "long.table", "disks"]
+    words = ["map", "table", "tables", "disks"]
     got = explain.run(words, given="R a 0 1\n" * 17)
     tally.same("many requests", got, 1, "", TOOL + " explain: the requests: there are 17: give at most 16, and those before them by --before\n")
     got = explain.run(["map", "table", "chunks.table", "chunks.disks", "W s 0 20000"])

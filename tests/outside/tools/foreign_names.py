@@ -5,8 +5,9 @@ import os
 import shutil
 
 import containers
-import models
-from models import A, DATA, SECTOR, content_of, dashed, disk, linear, member, pile, segment, text, volume
+import piles
+import store_lists
+from piles import A, DATA, SECTOR, content_of, dashed, disk, linear, member, pile, segment, text, volume
 
 ODD = ["two\nlines a 0 8", "esc\x1b[2Jape", "quo'te\"s\\", "image?offset=0", "\u202eright to left\x85"]
 PLAIN = "plain"
@@ -30,9 +31,9 @@ FIELDS = [
     ("the path of an image", lambda name: {name: disk("a", A, GROUP)}),
     ("the path of what isn't known", lambda name: {name: content_of("x", 64)}),
     ("the path of a member", lambda name: {name: mirror("array")}),
-    ("the path of a container", lambda name: {name: containers.version_1(32) + bytes(64 * SECTOR)}),
+    ("the path of a container", lambda name: {name: containers.version_1() + bytes(64 * SECTOR)}),
     ("the name of an array", lambda name: {"disk": mirror(name)}),
-    ("the id of a container", lambda name: {"disk": containers.version_1(32)[:168] + name.encode().ljust(40, b"\0") + containers.version_1(32)[208:] + bytes(64 * SECTOR)}),
+    ("the id of a container", lambda name: {"disk": containers.version_1(uuid=name[:20]) + bytes(64 * SECTOR)}),
     ("the strings of a text", lambda name: {"disk": disk("a", A, with_fields(name))}),
     ("a type of a segment", lambda name: {"disk": disk("a", A, GROUP.replace(b'type = "striped"', b'type = "%s"' % name.replace('"', "").replace("\\", "").encode()))}),
 ]
@@ -43,7 +44,7 @@ def calls(pile, images, name):
     first = images[0]
     yield pile.call("scan", *images)
     yield pile.call("scan", "--json", *images)
-    yield models.tool_calls.call(pile.top, ["owner", "--program", pile.program.path, *images], given="%s 0 99\n" % first if "\n" not in first else "", folder=pile.folder)
+    yield piles.tool_calls.call(pile.top, ["owner", "--program", pile.program.path, *images], given="%s 0 99\n" % first if "\n" not in first else "", folder=pile.folder)
     for asked in ("vg0/home", "vg0/none", "md:" + name, first, name + "/" + name):
         yield pile.call("lost", asked, *images)
         yield pile.call("save", asked, "out", *images)
@@ -52,9 +53,9 @@ def calls(pile, images, name):
     yield pile.call("tables", "vg0", *images, "--to", "made")
     shutil.rmtree(os.path.join(pile.folder, "made"), ignore_errors=True)
     for words in [], ["--list"]:
-        got = models.tool_calls.call(pile.top, ["metadata", *words, *images], folder=pile.folder)
+        got = piles.tool_calls.call(pile.top, ["metadata", *words, *images], folder=pile.folder)
         # Without --list the text itself is printed.
-        yield got if words else models.tool_calls.Outcome(got.status, b"", got.err)
+        yield got if words else piles.tool_calls.Outcome(got.status, b"", got.err)
 
 
 def test_fields(tally, pile):
@@ -78,10 +79,9 @@ def test_paths(tally, pile):
     known = text("vg0", "g", 4, "a", volume("home", "h", linear(0, 2, ("pv0", 3))), volume("snap", "s", linear(0, 4, ("pv0", 10)), status='"READ", "WRITE"'),
                  volume("snapshot0", "n", segment(0, 2, "snapshot", "chunk_size = 4", 'origin = "home"', 'cow_store = "snap"')))
     image = bytearray(disk("a", A, known))
-    store = (DATA + 10 * models.EXTENT) * SECTOR
+    store = (DATA + 10 * piles.EXTENT) * SECTOR
     # Chunk 1 was taken, and lies in the third place.
-    image[store:store + 16] = b"SnAp" + (1).to_bytes(4, "little") * 2 + (4).to_bytes(4, "little")
-    image[store + 2048:store + 4096] = (1).to_bytes(8, "little") + (2).to_bytes(8, "little") + bytes(2032)
+    image[store:store + 4096] = store_lists.store([(1, 2)], 4, 2)
     for name in ["image", "image?offset=0", "image?offset=512", "image?offset=0?offset=0", "two\nlines", os.fsdecode(b"\xff"), "sp ace ", "?offset=0"]:
         pile.hold({"image": bytes(len(image)), "image?offset=0": bytes(len(image)), name: image})
         got = pile.call("tables", "vg0", name, "--to", "made")
@@ -89,9 +89,9 @@ def test_paths(tally, pile):
         is_said = "\n" not in name and "\udcff" not in name
         if tally.holds("tables of %r" % name, got.status == (0 if is_said else 1) and os.path.exists(os.path.join(made, "PATHS")) == is_said, "status %s, %r" % (got.status, got.err)) and is_said:
             read = pile.program.run(["map", "images", os.path.join(made, "PATHS")], given="R vg0-snap 0 8\n")
-            at = DATA + 3 * models.EXTENT, DATA + 10 * models.EXTENT + 8
+            at = DATA + 3 * piles.EXTENT, DATA + 10 * piles.EXTENT + 8
             tally.same("a store in %r" % name, read, 0, "1 R disk0 %d 4\n1 R disk0 %d 4\n" % at)
         shutil.rmtree(made, ignore_errors=True)
-    got = models.tool_calls.call(pile.top, ["metadata", "image?offset=0"], folder=pile.folder)
+    got = piles.tool_calls.call(pile.top, ["metadata", "image?offset=0"], folder=pile.folder)
     tally.same("the text of a file that is called as a place in another", got, 1, "", "dmremap-tools metadata: image?offset=0: a file is called so, and here it means "
                "a byte of image: give the file another name, or a link to it\n")

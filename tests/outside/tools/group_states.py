@@ -6,7 +6,7 @@ import os
 import random
 
 import physical_volumes
-from models import A, B, DATA, EXTENT, HIDDEN, SECTOR, dashed, disk, extents_of, identity, linear, named, pile, segment, text, volume
+from piles import A, B, DATA, EXTENT, HIDDEN, SECTOR, dashed, disk, extents_of, identity, linear, named, pile, segment, text, volume
 
 FIRST = HEADER = physical_volumes.FIRST
 LABEL = SECTOR
@@ -123,7 +123,7 @@ def test_unlabelled(tally, pile):
     pile.put("two", other)
     pile.holds(tally, "a disk whose damaged label has its id", "vg0/home", extents_of(A, 3, 5))
     for name, images, why in (
-            ("beside another of its group", {"one": damaged(disk("a", A, two), (LABEL + 40, 1)), "two": other}, "one may be the disk of this group that isn't found"),
+            ("beside another of its group", {"one": damaged(disk("a", A, two), (LABEL + 40, 1)), "two": other}, "isn't in these images, unless one is its disk"),
             ("of a group of two, alone", {"one": damaged(disk("a", A, two), (LABEL + 40, 1))}, "one: the label in sector 1 has a wrong sum: `metadata` prints a text of vg0 (seqno 4)"),
             ("under other bytes", {"one": b"other" * 100 + sound[500:512] + bytes(SECTOR) + sound[2 * SECTOR:]}, "one: there is no label in the first four sectors: `metadata` prints"),
             ("of a longer disk", {"one": damaged(sound[:-SECTOR], (LABEL + 40, 1))}, "one: the label in sector 1 has a wrong sum: `metadata` prints"),

@@ -141,10 +141,8 @@ UNEVEN = volume("u", striped(3, ("pv0", 30), ("pv0", 40), ("pv0", 50), size="\t\
 EVEN = volume("u", striped(6, ("pv0", 30), ("pv0", 40), ("pv0", 50), size="\t\t\t\tstripe_size = 16\n"))
 LONG = "l" * 126
 FULL = "l" * 125
-VOLUMES = [
-    row("plain volumes", [HOME, plain("3way", 1, 9), plain("data.2+b", 1, 8)], (), (),
-        LINES + lines("3way", 1, 9) + lines("data.2+b", 1, 8)),
-    row("no volumes", (), (), (), "", BARE),
+VOLUMES = [row("plain volumes", [HOME, plain("3way", 1, 9), plain("data.2+b", 1, 8)], (), (),
+        LINES + lines("3way", 1, 9) + lines("data.2+b", 1, 8)), row("no volumes", (), (), (), "", BARE),
     row("a raid volume and its parts", [HOME, RAID] + PARTS, [gone(RAID)], [R1], LINES + PART_LINES),
     row("what lies on a raid volume", [ABOVE, ON_RAID, RAID, HOME], [gone(ABOVE + ON_RAID + RAID)],
         [("c {", "left out: c: it lies on the volume b"), ("b {", "left out: b: it lies on the volume r1"), R1], LINES),
@@ -156,8 +154,8 @@ VOLUMES = [
           [("u {", "left out: u: its segment1 isn't divided evenly by its stripes, so that no kernel takes it")], LINES) for each in (UNEVEN, NO_ROWS)),
     row("stripes that divide one", [HOME, EVEN], (), (), LINES + "g-u: 0 48 striped 3 16 /dev/sda 248 /dev/sda 328 /dev/sda 408\n"),
     row("a name that no device can have", [plain(LONG, 1, 8), plain(FULL, 1, 9)], [gone(plain(LONG, 1, 8))],
-        [(LONG + " {", "left out: %s..: the name of its device has more than 127 bytes" % LONG[:100])], lines(FULL, 1, 9)),
-    row("a volume without segments", [HOME, volume("e")], [gone(volume("e"))], [("e {", "left out: e: it has no segments")], LINES),
+        [(LONG + " {", "left out: %s..: dmremap refuses it (name)" % LONG[:100])], lines(FULL, 1, 9)),
+    row("a volume without segments", [HOME, volume("e")], [gone(volume("e"))], [("e {", "left out: e: dmremap refuses it (empty)")], LINES),
     row("a hidden volume for locks, and one removed", [HOME, plain("lvmlock", 1, 9, status='["READ", "WRITE"]')], (), (),
         LINES + lines("lvmlock", 1, 9), (GROUP % (HOME + plain("lvmlock", 1, 9, status='["READ", "WRITE"]'))).replace(
             "\t}\n}\n", "\t}\n\n\thistorical_logical_volumes {\n\n\t\tgone {\n\t\t\torigin = \"-older\"\n\t\t}\n\t}\n}\n")),
@@ -176,17 +174,16 @@ APART, APART_LINES = plain("apart", 1, 60), lines("apart", 1, 60)
 MERGING_GONE = "left out: snapshot0: the record of a snapshot that is being merged"
 MERGED = [("home {", MIXED % "snap"), ("snap {", "left out: snap: it is being merged into home"), ("snapshot0 {", MERGING_GONE)]
 RESIZED = [("home {", KEPT % ("home", "snap")),
-           ("snap {", "left out: snap: it is a snapshot of home, but not as long, as that was resized since"), ("snapshot0 {", RECORD % (0, "snap"))]
+           ("snap {", "left out: snap: it is a snapshot of home: dmremap refuses it (snapshot)"), ("snapshot0 {", RECORD % (0, "snap"))]
 WIDE, FAR_GROUP = "l" * 121, "g" * 118
-SNAPSHOTS = [
-    row("a snapshot", [HOME, SNAP, GOOD], (), (), "".join(SHOWN)),
+SNAPSHOTS = [row("a snapshot", [HOME, SNAP, GOOD], (), (), "".join(SHOWN)),
     row("a sparse volume", [SNAP, SPARSE, record("s_vorigin", "snap")], (), (),
         lines("snap", 2, 20, "snap-cow") + "g-snap: 0 32 snapshot /dev/mapper/g-s_vorigin-real /dev/mapper/g-snap-cow P 1\n"
         "g-s_vorigin-real: 0 32 zero\ng-s_vorigin: 0 32 snapshot-origin /dev/mapper/g-s_vorigin-real\n"),
     row("a snapshot that is being merged", [HOME, SNAP, MERGING, APART], [gone(HOME + SNAP + MERGING)], MERGED, APART_LINES),
     row("another snapshot of one that is being merged into", [APART, OF_SECOND, SECOND, HOME, SNAP, MERGING],
         [gone(OF_SECOND + SECOND + HOME + SNAP + MERGING)],
-        [("snapshot1 {", RECORD % (1, "two")), ("two {", "left out: two: it is a snapshot of home, into which snap is being merged")] + MERGED, APART_LINES),
+        [("snapshot1 {", RECORD % (1, "two")), ("two {", "left out: two: it is a snapshot of home, which is left out")] + MERGED, APART_LINES),
     row("a snapshot that is being merged, whose volume is gone", [HOME, MERGING, APART], [gone(HOME + MERGING)], MERGED[:1] + MERGED[2:], APART_LINES),
     row("a snapshot that is being merged into a volume that is gone", [SNAP, MERGING, APART], [gone(SNAP + MERGING)], MERGED[1:], APART_LINES),
     row("a snapshot that is being merged into a raid volume", [HOME, RAID, SNAP, record("r1", "snap", kind="merging_store")],
@@ -203,7 +200,7 @@ SNAPSHOTS = [
     row("a snapshot whose store is a raid volume", [HOME, RAID, ON_RAID_STORE], [gone(RAID + ON_RAID_STORE)],
         [("home {", KEPT % ("home", "r1")), R1, ("snapshot0 {", RECORD % (0, "r1"))], LINES),
     row("a snapshot whose store keeps nothing", [HOME, NOTHING, OF_NOTHING], [gone(NOTHING + OF_NOTHING)],
-        [("home {", KEPT % ("home", "none")), ("none {", "left out: none: it is a snapshot of home, but some of its segments keep nothing"),
+        [("home {", KEPT % ("home", "none")), ("none {", "left out: none: it is a snapshot of home: dmremap refuses it (store)"),
          ("snapshot0 {", RECORD % (0, "none"))], LINES),
     # What stands on it is known only after what comes later was looked at.
     row("a snapshot of what lies on a raid volume", [SNAP, record("b", "snap", 8), ON_RAID, RAID, HOME],
@@ -212,7 +209,7 @@ SNAPSHOTS = [
          ("b {", "left out: b: it lies on the volume r1"), R1], LINES),
     row("a name that no layer can have", [plain(WIDE, 4, 0), SNAP, record(WIDE, "snap")], [gone(SNAP + record(WIDE, "snap"))],
         [(WIDE + " {", KEPT % (WIDE[:100] + "..", "snap")),
-         ("snap {", "left out: snap: it is a snapshot of %s.., and the name of one of their devices has more than 127 bytes" % WIDE[:100]),
+         ("snap {", "left out: snap: it is a snapshot of %s..: dmremap refuses it (name)" % WIDE[:100]),
          ("snapshot0 {", RECORD % (0, "snap"))], lines(WIDE, 4, 0)),
     # A record is no device, however long its name.
     row("a record whose name no device can have", (), (), (), "".join(snapshot("a", "b", 4, 0, 2, 20)).replace("g-", FAR_GROUP + "-"),
@@ -224,7 +221,7 @@ SNAPSHOTS = [
 
 FULL_STORE = 4210690
 FAR = (GROUP % "%s").replace("dev_size = 4096", "dev_size = 999999999").replace("pe_count = 200", "pe_count = 99999999")
-MANY = "left out: %s: it is a snapshot of home with places for %d chunks, and dmremap counts 4194304 in all"
+MANY = "left out: %s: it is a snapshot of home: dmremap refuses it (limit)"
 
 
 def stores(*counts):
@@ -240,10 +237,9 @@ def far(volumes, *left):
 
 
 FITTING, PASSING = stores(FULL_STORE), stores(1000, FULL_STORE, 3)
-PLACES = [
-    row("a store with as many places as dmremap counts", (), (), (), *far(FITTING, (0, FULL_STORE))),
+PLACES = [row("a store with as many places as dmremap counts", (), (), (), *far(FITTING, (0, FULL_STORE))),
     row("stores with too many places in all", (), [gone(PASSING[2]), gone(PASSING[5])],
-        [("home {", KEPT % ("home", "b")), ("b {", MANY % ("b", 4194304)), ("snapshot1 {", RECORD % (1, "b"))],
+        [("home {", KEPT % ("home", "b")), ("b {", MANY % "b"), ("snapshot1 {", RECORD % (1, "b"))],
         *far(PASSING, (0, 1000), (2, 3))),
 ]
 
@@ -254,8 +250,7 @@ GROWN = (GROUP % HOME).replace("dev_size = 4096", "dev_size = 1600")
 AT_LEAST = "pv0 is at least 1608 sectors long, where its extents end"
 NO_SIZE = "changed: dev_size: pv0 has none, and is at least 1608 sectors long, where its extents end"
 NO_DEVICE = "changed: device: pv0 has none, so that the disk has this name"
-DISKS = [
-    row("a disk after pvresize", (), [("dev_size = 1600", "dev_size = 1608")],
+DISKS = [row("a disk after pvresize", (), [("dev_size = 1600", "dev_size = 1608")],
         [("dev_size", "changed: dev_size: " + AT_LEAST + ", and not 1600")], LINES, GROWN),
     row("a disk that lacks a sector", (), [("dev_size = 1607", "dev_size = 1608")],
         [("dev_size", "changed: dev_size: " + AT_LEAST + ", and not 1607")], LINES, GROWN.replace("1600", "1607")),
@@ -281,17 +276,14 @@ ODD = plain("r1_rimage_0", 4, 10, status='"READ"')
 EMPTY = plain("r1_rmeta_0", 1, 14, status="[]")
 LOCKED = plain("r1_rmeta_0", 1, 14, status='["READ"]', more='\t\t\tflags = ["WRITE_LOCKED"]\n')
 WRITABLE = "changed: status: %s is part of a raid volume, which lvm2 loads as writable"
-RAID_PARTS = [
-    row("parts of a raid volume that are read-only", [RAID, PART, EMPTY],
+RAID_PARTS = [row("parts of a raid volume that are read-only", [RAID, PART, EMPTY],
         [gone(RAID), ('["READ"]\n\t\t\tsegment_count', '["READ", "WRITE"]\n\t\t\tsegment_count'), ("status = []", 'status = ["WRITE"]')],
         [R1, ('status = ["READ"]', WRITABLE % "r1_rimage_0"), ("status = []", WRITABLE % "r1_rmeta_0")], PART_LINES),
     row("a part whose status is no list", [RAID, ODD], [gone(RAID), ('status = "READ"', 'status = ["READ", "WRITE"]')],
-        [R1, ('status = "READ"', WRITABLE % "r1_rimage_0")],
-        lines("r1_rimage_0", 4, 10)),
+        [R1, ('status = "READ"', WRITABLE % "r1_rimage_0")], lines("r1_rimage_0", 4, 10)),
     row("a part whose status ends with a comma", [RAID, PART.replace('"READ"]', '"READ",]')],
         [gone(RAID), ('["READ",]\n\t\t\tsegment_count', '["READ", "WRITE"]\n\t\t\tsegment_count')],
-        [R1, ('status = ["READ",]', WRITABLE % "r1_rimage_0")],
-        lines("r1_rimage_0", 4, 10)),
+        [R1, ('status = ["READ",]', WRITABLE % "r1_rimage_0")], lines("r1_rimage_0", 4, 10)),
     row("a part whose right to write is locked", [RAID, LOCKED], [gone(RAID)], [R1], lines("r1_rmeta_0", 1, 14)),
 ]
 
@@ -323,21 +315,13 @@ def spelled(name, old, new, changes=(), messages=(), table=LINES):
     return row(name, (), changes, messages, table, TEXT.replace(old, new))
 
 
-LANGUAGE = [
-    field("with a list", 'tags = ["a", "b"]'),
-    field("with a zero in front", "minor = 0007"),
+LANGUAGE = [field("with a list", 'tags = ["a", "b"]'), field("with a zero in front", "minor = 0007"),
     field("with an escape, a comment and a letter outside ASCII", 'x = "a \\" \\\\ { # \u00e9"'),
     *(field("that is written as " + each, each) for each in (
         "x = +1", "x = 00000000000000000001", "x = auto", "x = @a", "x = 'it\"s'", 'device_id = "a\\x20b"', 'x = ["a", ]', 'x = ["a" "b"]',
-        "x = 1 y = 2", "x=1y=2")),
-    unread("read_ahead = -1\t# None", "-1"),
-    unread("x = [1, -2]", "-2"),
-    unread("x = .5", ".5"),
-    unread("x=1.", "1."),
-    unread("creation_time = 18446744073709551615", "18446744073709551615"),
-    unread("a:b = 1"),
-    unread('"x y" = 1', key="x y"),
-    unread("-x = 1"),
+        "x = 1 y = 2", "x=1y=2")), unread("read_ahead = -1\t# None", "-1"), unread("x = [1, -2]", "-2"),
+    unread("x = .5", ".5"), unread("x=1.", "1."), unread("creation_time = 18446744073709551615",
+    "18446744073709551615"), unread("a:b = 1"), unread('"x y" = 1', key="x y"), unread("-x = 1"),
     spelled("a field behind another one", "pe_start", "x = 1 read_ahead = -1 pe_start", [("read_ahead = -1", "")],
             [("x = 1 ", UNREAD % ("read_ahead", "the number -1"))]),
     spelled("two fields without a space", "version = 1\n", "version=1x=2\n"),
@@ -352,8 +336,6 @@ LANGUAGE = [
     spelled("one value in place of a list", 'status = ["READ", "WRITE", "VISIBLE"]', 'status = "WRITE"'),
     spelled("a list of one value", '= "striped"', '= [ "striped" ]'),
     spelled("a comma that is missing", '"READ", "WRITE", "VISIBLE"', '"READ" "WRITE", "VISIBLE"'),
-    spelled("a field that is there twice", "\t\t\tpe_start = 8\n", "\t\t\tpe_start = 16\n\t\t\tpe_start = 8\n", [("pe_start = 16", "")],
-            [("pe_start = 16", "left out: pe_start: it is there again in line %d, which counts" % (at("pe_start") + 1))]),
     spelled("a second group", "\t}\n}\n", "\t}\n}\nh { x = 1\n}\n", [("h { x = 1\n}", "\n")],
             [("h {", "left out: h: lvm2 reads one section of a text, the first")]),
     spelled("a section with such a field", "\textent_size", "\tx { y {\n\tz = -1 } }\n\textent_size", [("z = -1", "")],
@@ -364,8 +346,7 @@ LANGUAGE = [
 
 # Bytes.
 
-BYTES = [
-    row("a byte order mark", (), [("\ufeff", "")], (), LINES, "\ufeff" + TEXT),
+BYTES = [row("a byte order mark", (), [("\ufeff", "")], (), LINES, "\ufeff" + TEXT),
     row("a text from a metadata area, up to its NUL", (), [("\n\0rest {", "\n")], [("\0rest", "left out: the NUL here, and what comes after it")],
         LINES, TEXT + "\0rest {"),
     row("bytes that are no UTF-8", (), [(b"sto\xe9 \xff", "sto\ufffd \ufffd")], (), LINES,
@@ -374,26 +355,6 @@ BYTES = [
 ]
 
 ROWS = VOLUMES + SNAPSHOTS + PLACES + DISKS + RAID_PARTS + LANGUAGE + BYTES
-
-# Texts of which some volumes are asked for: these, the text, the changes, the messages and the table.
-
-PV0 = GROUP[GROUP.index("\n\t\tpv0"):GROUP.index("\t}\n\n\tlogical")]
-PV1 = PV0.replace("pv0", "pv1").replace("sda", "sdb").replace("pe_count = 200", "pe_count = 100").replace("\t# Hint only", "")
-NOTHING = other("empty", "zero")
-ONLY = [
-    (["home"], GROUP % (HOME + APART), [gone(APART)], (), LINES),
-    (["snap"], GROUP % (HOME + APART + SNAP + GOOD), [gone(APART)], (), "".join(SHOWN)),
-    (["home"], GROUP % (HOME + SNAP + GOOD), [gone(SNAP + GOOD)], [("home {", KEPT % ("home", "snap"))], LINES),
-    (["home", "apart"], GROUP % (HOME + RAID + APART), [gone(RAID)], (), LINES + APART_LINES),
-    # A physical volume that nothing needs is left out, unless its path is that of one that is needed.
-    (["home"], (GROUP % (HOME + APART)).replace(PV0, PV0 + PV1), [gone(APART), gone(PV1)], (), LINES),
-    (["home"], (GROUP % (HOME + APART)).replace(PV0, PV1.replace("pe_count = 100", "pe_count = 900") + PV0),
-     [gone(APART), gone(PV1.replace("pe_count = 100", "pe_count = 900"))], (), LINES),
-    (["home"], (GROUP % (HOME + APART)).replace(PV0, PV0 + PV1.replace("sdb", "sda")), [gone(APART)], (), LINES.replace(DISK, "pv0")),
-    (["empty"], (GROUP % (HOME + NOTHING)).replace(PV0, PV0 + PV1), [gone(HOME)], (), "g-empty: 0 32 zero\n"),
-    (["two"], GROUP % (HOME + SNAP + GOOD + SECOND + OF_SECOND), [gone(SNAP + GOOD)], [("home {", KEPT % ("home", "snap"))],
-     "".join(snapshot("home", "two", 4, 0, 2, 23))),
-]
 
 # Texts that are refused, each with its messages from the name of the text on. What is put behind the text is in line `AFTER`.
 
@@ -414,7 +375,7 @@ def no_number(old, new, number, place):
     key = old.split(" ")[0]
     return "the text of " + new, TEXT.replace(old, new), (
         ":%d: %s\n: dmremap refuses the copy, whose lines have the same numbers (dmremap: source: field at %d): take an older text, from "
-        "/etc/lvm/archive or by `metadata --list`, or leave this out by --only" % (at(key), UNREAD % (key, "the number " + number), place))
+        "/etc/lvm/archive or by `metadata --list`" % (at(key), UNREAD % (key, "the number " + number), place))
 
 
 REFUSED = [
@@ -437,6 +398,8 @@ REFUSED = [
     after("a key of two parts", "a/b = 1\n", "a key that lvm2 never writes, take the text anew, from /etc/lvm/backup: a/b"),
     instead("a section that is there twice", "\tlogical", "\tlogical_volumes {\n\t}\n\tlogical",
             "logical_volumes is there twice, first in line %d: put the two together" % at("logical"), 2),
+    instead("a field that is there twice", "\t\t\tpe_start", "\t\t\tpe_start = 16\n\t\t\tpe_start",
+            "pe_start is there twice, first in line %d: put the two together" % at("pe_start"), 1),
     instead("a value and a section of one key", "\t\t\tsegment1", "\t\t\tsegment1 = 1\n\t\t\tsegment1",
             "segment1 is there twice, first in line %d: put the two together" % at("segment1"), 1),
     *(no_number("pe_start = 8", "pe_start = " + number, number, at("pv0")) for number in ("-8", "9223372036854775808", "-")),

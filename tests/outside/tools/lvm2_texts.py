@@ -12,13 +12,13 @@ import re
 import tool_calls
 from dmremap_tools.model.config_text import Document
 from harness import FULL_OUTPUT, run
-from lvm2_rows import BARE, GROUP, ONLY, REFUSED, ROWS, other
+from lvm2_rows import BARE, GROUP, REFUSED, ROWS, other
 from tool_calls import read
 
 PLAIN = ("vg0.backup", "vg0-snapshot.backup")
 SEEDS = 20
 DAMAGES, MEMORY = 60, 200 << 20
-USAGE = "usage: dmremap-tools lvm2-text [-h] [--only NAME] [--program PROGRAM] TEXT\ndmremap-tools lvm2-text: "
+USAGE = "usage: dmremap-tools lvm2-text [-h] [--program PROGRAM] TEXT\ndmremap-tools lvm2-text: "
 
 
 def test_rows(tally, program, top):
@@ -26,10 +26,6 @@ def test_rows(tally, program, top):
         check_row(tally, program, top, name, text, changes, messages, table)
     for name, text, message in REFUSED:
         tally.same("the text of " + name, copied(program, top, text), 1, "", refused(message))
-    for names, text, changes, messages, table in ONLY:
-        check_row(tally, program, top, "only " + " ".join(names), text, changes, messages, table, ["--only=" + it for it in names])
-    got = tool_calls.call(top, ["lvm2-text", "--program", program.path, "--only", "x", program.file("lvm2/text", BARE)])
-    tally.same("only a volume that isn't there", got, 1, "", "dmremap-tools lvm2-text: %s: no volume x: give a name that the text has\n" % program.file("lvm2/text", BARE))
 
 
 def test_plain(tally, program, top):

@@ -9,7 +9,7 @@ import struct
 import tool_calls
 from dmremap_tools.base.refusal import Refusal
 from dmremap_tools.model.pile import Pile as Images
-from models import CLEAN, DATA, EXTENT, HIDDEN, SECTOR, content_of, disk, leg_bitmap, linear, named, pile, segment, text, volume
+from piles import CLEAN, DATA, EXTENT, HIDDEN, SECTOR, content_of, disk, leg_bitmap, linear, named, pile, segment, text, volume
 from plain_model import PARITY_KINDS, parity_legs, stripe_of
 
 # Sectors of a chunk, rows of chunks, extents of a leg's superblock and of its data, and those that a volume takes of a disk.

@@ -15,12 +15,12 @@ SDA1 = "/dev/sda1 2048\n"
 NO_COPIES = ("kept: orig, without snap, which %s a snapshot of it: on the machine, a write to it also copies what it overwrites, "
              "which the answers don't show\n")
 COPIED = "its store has copies, and nothing says of which chunks"
-NO_STORE = "its store is read-only, or not made of linear and striped lines"
+NO_STORE = "dmremap refuses it (store)"
 WORDS = ["--disks", "disks"]
 
 
-def machine(tables, output, message="", disks=SDA1, names=NUMBERS, status=FRESH, sizes=SIZES, only=(), more=()):
-    return "machine", WORDS + ["--only=" + it for it in only] + list(more), [names, status, sizes, tables], output, message, 0, disks
+def machine(tables, output, message="", disks=SDA1, names=NUMBERS, status=FRESH, sizes=SIZES, more=()):
+    return "machine", WORDS + list(more), [names, status, sizes, tables], output, message, 0, disks
 
 
 def no_machine(tables, message, names=NUMBERS, status=FRESH, sizes=SIZES):
@@ -48,28 +48,24 @@ def left(line, why, odd=None, **how):
     return beside(line, "", odd + "left out: a (%s)\n" % why, **how)
 
 
-SNAPSHOTS = [
-    machine(ALL, LOWER_OUT + SNAP_OUT + ORIG_OUT),
+SNAPSHOTS = [machine(ALL, LOWER_OUT + SNAP_OUT + ORIG_OUT),
     machine(ALL.replace("P 8", "N 8"), LOWER_OUT + SNAP_OUT.replace("P 8", "N 8") + ORIG_OUT, status=FRESH.replace("16/64 16", "0/64 0")),
     without(COPIED, ALL, status=FRESH.replace("16/64 16", "24/64 16")),
     without(COPIED, ALL, status=FRESH.replace("16/64 16", "Invalid")),
     machine(ALL, LOWER_OUT + SNAP_OUT + ORIG_OUT, status=FRESH.replace("16/64 16", "24/64 16"), more=["--store", "snap=cow.img"]),
     without("`dmsetup status` says nothing of it", ALL, status="base: 0 16 linear \n"),
-    without("0 16 snapshot 253:0 253:1 PO 8", ALL.replace("P 8", "PO 8")),
-    without("0 16 snapshot 253:0 253:1 P 8 1 discard_zeroes_cow", ALL.replace("P 8", "P 8 1 discard_zeroes_cow")),
-    without("its chunks have 12 sectors", ALL.replace("P 8", "P 12")),
-    without("its chunks have 2048 sectors", ALL.replace("P 8", "P 2048")),
-    without("its chunks have 0 sectors", ALL.replace("P 8", "P 0")),
+    without("dmremap refuses it (field)", ALL.replace("P 8", "PO 8")),
+    without("dmremap refuses it (snapshot)", ALL.replace("P 8", "P 12")),
     machine(ALL.replace("snapshot-origin 253:0", "snapshot-merge 253:0 253:1 P 8"), LOWER_OUT + SNAP_OUT,
             "left out: orig (snapshot-merge)\n"),
     # An origin that was extended under its snapshot, or under its own line.
-    without("it is not as long as its origin", ALL.replace("base: 0 16", "base: 0 24").replace("orig: 0 16", "orig: 0 24"),
+    without("dmremap refuses it (snapshot)", ALL.replace("base: 0 16", "base: 0 24").replace("orig: 0 16", "orig: 0 24"),
             LOWER_OUT.replace("base: 0 16", "base: 0 24"), ORIG_OUT.replace("16", "24"),
             sizes=SIZES.replace("8192 dm-0", "12288 dm-0").replace("8192 dm-3", "12288 dm-3")),
-    machine(ALL.replace("orig: 0 16", "orig: 0 8"), LOWER_OUT + SNAP_OUT, "left out: orig (it is not as long as its origin)\n",
+    machine(ALL.replace("orig: 0 16", "orig: 0 8"), LOWER_OUT + SNAP_OUT, "left out: orig (dmremap refuses it (snapshot))\n",
             sizes=SIZES.replace("8192 dm-3", "4096 dm-3")),
     machine(ALL.replace("orig: 0 16", "orig: 0 16 zero \norig: 16 16"), LOWER_OUT + SNAP_OUT,
-            "left out: orig (a snapshot beside other lines)\n", sizes=SIZES.replace("8192 dm-3", "16384 dm-3")),
+            "left out: orig (dmremap refuses it (snapshot))\n", sizes=SIZES.replace("8192 dm-3", "16384 dm-3")),
     # A part of the store is on a disk that is missing, also one level below; and a store that is read-only.
     without(NO_STORE, ALL.replace("cow: 0 64", "cow: 0 32 error \ncow: 32 32"), LOWER_OUT.replace("cow: 0 64", "cow: 0 32 error\ncow: 32 32")),
     machine("base: 0 16 linear 8:1 0\ncow: 0 64 linear 253:3 0\nsnap: 0 16 snapshot 253:0 253:1 P 8\norig: 0 64 error \n",
@@ -85,7 +81,7 @@ SNAPSHOTS = [
     # A store with as many chunks as dmremap takes, and with one more.
     machine(ALL.replace("P 8", "P 1").replace("0 64", "0 4325378"), (LOWER_OUT + SNAP_OUT + ORIG_OUT).replace("P 8", "P 1").replace("0 64", "0 4325378"),
             "", "/dev/sda1 8388608\n", sizes=SIZES.replace("8:1 1048576", "8:1 4294967296").replace("32768", "2214593536")),
-    without("dmremap counts 4194304 chunks of stores in all", ALL.replace("P 8", "P 1").replace("0 64", "0 4325379"), LOWER_OUT.replace("0 64", "0 4325379"),
+    without("dmremap refuses it (limit)", ALL.replace("P 8", "P 1").replace("0 64", "0 4325379"), LOWER_OUT.replace("0 64", "0 4325379"),
             disks="/dev/sda1 8388608\n", sizes=SIZES.replace("8:1 1048576", "8:1 4294967296").replace("32768", "2214594048")),
     # Without its table a device may be a snapshot, but not where it is said that it has none.
     machine(ALL.replace("snap: 0 16 snapshot 253:0 253:1 P 8\n", ""), LOWER_OUT + ORIG_OUT, "left out: snap (no table)\n" + NO_COPIES % "may be"),
@@ -94,41 +90,28 @@ SNAPSHOTS = [
 
 CRYPT = "0 8 crypt aes-xts-plain64 :64:logon:cryptsetup:5d2a 0 8:1 "
 ENCRYPTED = "encrypted: the sectors below a, whose lines of crypt are linear here\n"
-TARGETS = [
-    beside(CRYPT + "40", "a: 0 8 linear /dev/sda1 40\n", ENCRYPTED),
+TARGETS = [beside(CRYPT + "40", "a: 0 8 linear /dev/sda1 40\n", ENCRYPTED),
     beside(CRYPT + "40 3 allow_discards sector_size:4096 iv_large_sectors", "a: 0 8 linear /dev/sda1 40\n", ENCRYPTED),
     beside(CRYPT + "40\na: 8 8 zero ", "a: 0 8 linear /dev/sda1 40\na: 8 8 zero\n", ENCRYPTED),
     # A line of it that isn't whole is not shown, as it may have a key.
-    left("0 8 crypt aes-xts-plain64 0123456789abcdef 0", "crypt"),
-    left(CRYPT + "2041", "it goes past the end of /dev/sda1"),
+    left("0 8 crypt aes-xts-plain64 0123456789abcdef 0", "crypt"), left(CRYPT + "2041", "dmremap refuses it (range)"),
     # What lies on a device that is left out ends there; 253:10 is not 253:1.
     machine("a: 0 8 thin 8:1 7\nb: 0 8 linear 253:1 0\nb: 8 8 linear 253:10 4\nc: 0 16 zero \n",
             "b: 0 8 linear /dev/dm-1 0\nb: 8 8 linear /dev/mapper/c 4\nc: 0 16 zero\n", "left out: a (thin), the disk /dev/dm-1\n",
             "/dev/dm-1 8\n", names="a\t(253:1)\nb\t(253:2)\nc\t(253:10)\n",
             sizes="8:1 4096 sda \n253:1 4096 dm-1 sda\n253:2 8192 dm-2 dm-1\n253:10 8192 dm-10 \n"),
-    left("0 8 linear 8:1 0\na: 8 8 thin 8:1 1", "thin"),
-    left("0 8 linear 8:1 0 9", "0 8 linear 8:1 0 9"),
+    left("0 8 linear 8:1 0\na: 8 8 thin 8:1 1", "thin"), left("0 8 linear 8:1 0 9", "dmremap refuses it (field)"),
     left("0 8 linear /dev/sda1 0", "0 8 linear /dev/sda1 0"),
-    left("0 8 striped 2 4 8:1 0", "0 8 striped 2 4 8:1 0"),
-    left("0 9 striped 2 4 8:1 0 8:1 8", "0 9 striped 2 4 8:1 0 8:1 8"),
-    left("0 8 linear 8:1 0\na: 9 8 zero ", "its lines don't follow each other"),
-    left("0 0 zero ", "0 0 zero "),
-    beside("0 1125899906842624 zero ", "a: 0 1125899906842624 zero\n"),
-    left("0 1125899906842625 zero ", "0 1125899906842625 zero "),
-    left("8 8 zero ", "its lines don't follow each other"),
-    left("", "no table"),
-    left("0 8 striped 2 4 8:1 0 8:1 2045", "it goes past the end of /dev/sda1"),
+    left("0 1125899906842625 zero ", "dmremap refuses it (limit)"), left("", "no table"),
     beside("0 8 striped 2 4 8:1 0 8:1 2044", "a: 0 8 striped 2 4 /dev/sda1 0 /dev/sda1 2044\n"),
-    left("0 8 linear 8:2 0", "lsblk has no length of 8:2"),
-    left("0 8 linear 253:1 0", "it stands on itself, or on too many others"),
+    left("0 8 linear 8:2 0", "lsblk has no length of 8:2"), left("0 8 linear 253:1 0", "dmremap refuses it (cycle)"),
     machine("a: 0 8 linear 253:2 0\nb: 0 8 linear 253:1 0\nc: 0 8 zero \n", "a: 0 8 linear 253:2 0\nc: 0 8 zero\n",
-            "left out: b (it stands on itself, or on too many others), the disk 253:2\n", "253:2 8\n",
+            "left out: b (dmremap refuses it (cycle)), the disk 253:2\n", "253:2 8\n",
             names=names_of("a", "b", "c"), sizes="8:1 512 sda \n"),
     machine("".join("d%d: 0 8 linear %s 0\n" % (it, "253:%d" % (it - 1) if it > 1 else "8:1") for it in range(1, 35)),
             "".join("d%d: 0 8 linear %s 0\n" % (it, {1: "/dev/sda1", 34: "253:33"}.get(it, "/dev/mapper/d%d" % (it - 1)))
-                    for it in range(1, 35) if it != 33),
-            "left out: d33 (it stands on itself, or on too many others), the disk 253:33\n", SDA1 + "253:33 8\n",
-            names=names_of(*["d%d" % it for it in range(1, 35)]), sizes=DISK),
+                    for it in range(1, 35) if it != 33), "left out: d33 (dmremap refuses it (deep)), the disk 253:33\n",
+            SDA1 + "253:33 8\n", names=names_of(*["d%d" % it for it in range(1, 35)]), sizes=DISK),
 ]
 
 # Names and lines that are not as they should be cost nothing but themselves.
@@ -140,9 +123,9 @@ NAMES = [
     machine("a,LVM-x,1,ro,0 8 striped 2 4 8:1 0 8:1 8;my disk,,2,rw,0 8 zero ;c,CRYPT-y,3,rw,0 8 crypt capi:xts(aes,sha256)-x y 0 8:1 0,8 8 zero ;"
             "empty,,4,rw;f\\,g\\;h,,5,rw,0 8 zero ;i,j,UU,6,rw,0 8 zero ;k;a,,7,rw,0 8 zero \n",
             "a,,,ro,0 8 striped 2 4 /dev/sda1 0 /dev/sda1 8;c,,,rw,0 8 linear /dev/sda1 0,8 8 zero\n",
-            "left out: device 6 of 4, which `dmsetup ls` has not: i,j,UU,6,rw,0 8 zero \n"
-            "left out: device 7 of 4, which `dmsetup ls` has not: k\n"
-            "left out: device 8 of 4, which `dmsetup ls` has not: a,,7,rw,0 8 zero \n"
+            "left out: device 6 of 4, which `dmsetup ls` does not list: i,j,UU,6,rw,0 8 zero \n"
+            "left out: device 7 of 4, which `dmsetup ls` does not list: k\n"
+            "left out: device 8 of 4, which `dmsetup ls` does not list: a,,7,rw,0 8 zero \n"
             "left out: my disk (dmremap takes no such name)\n"
             "encrypted: the sectors below c, whose lines of crypt are linear here\n"
             "left out: empty (no table)\nleft out: f,g;h (dmremap takes no such name)\n"
@@ -152,7 +135,7 @@ NAMES = [
             names=names_of("caf\u00e9", "b"), sizes=DISK),
     # The line of a device that appeared between two commands, a line of something else, and one with too much.
     beside("0 8 zero \nnew: 0 8 zero \nWhat is this?", "a: 0 8 zero\n",
-           "left out: line 3 of 4: What is this?\nleft out: new, which `dmsetup ls` has not\n"),
+           "left out: line 3 of 4: What is this?\nleft out: new, which `dmsetup ls` does not list\n"),
     beside("0 8 zero ", "a: 0 8 zero\n", "left out: line 1 of 1: Command failed.\n", names="Command failed.\n" + names_of("a", "b")),
     machine("a,,1,rw,0 8k zero ;b,,2,rw,0 8 zero \n", "b,,,rw,0 8 zero\n", "left out: a (a line of its table is none: 0 8k zero )\n", "",
             names=names_of("a", "b"), sizes=DISK),
@@ -172,20 +155,13 @@ LENGTHS = [
     left("0 8 zero ", "lsblk and its table differ in its length", sizes=DISK + "253:1 4096 dm-1 \n253:1 8192 dm-1 \n", odd="253:1"),
     left("0 8 linear 8:2 0", "lsblk has no length of 8:2", sizes=DISK + "8:2 0 sda2 sda\n"),
     beside("0 8 linear 8:2 0", "a: 0 8 linear /dev/sdb 0\n", "", "/dev/sdb 1125899906842624\n" + SDA1, sizes=DISK + "8:2 576460752303423488 sdb \n"),
-    left("0 8 linear 8:2 0", "dmremap takes no disk as long as 8:2", sizes=DISK + "8:2 576460752303424000 sdb \n"),
+    left("0 8 linear 8:2 0", "dmremap refuses the disk 8:2 (limit)", sizes=DISK + "8:2 576460752303424000 sdb \n"),
     left("0 8 linear 8:2 0", "lsblk has no length of 8:2", sizes=DISK + "8:2 4097 sda2 sda\n", odd="8:2"),
 ]
 
-ONLY = [
-    machine(ALL, LOWER_OUT + SNAP_OUT, only=["snap"]),
-    machine(ALL, LOWER_OUT, only=["base", "cow"]),
-    machine(ALL, LOWER_OUT[:LOWER_OUT.index("cow")] + ORIG_OUT, NO_COPIES % "is", only=["orig"]),
-    machine(ALL.replace("cow: 0 64 linear", "cow: 0 64 thin"), LOWER_OUT[:LOWER_OUT.index("cow")], only=["base"]),
-    machine(ALL.replace("cow: 0 64 linear 8:1 16", "cow: 0 64 thin 8:1 16"), LOWER_OUT[:LOWER_OUT.index("cow")] + SNAP_OUT.replace("mapper/cow", "dm-1"),
-            "left out: cow (thin), the disk /dev/dm-1\n", SDA1 + "/dev/dm-1 64\n", only=["snap"]),
+STORES = [
     # A line without its words.
-    machine("a: 0 8 linear \nb: 0 8 zero \n", "b: 0 8 zero\n", "left out: a (0 8 linear )\n", "", names=names_of("a", "b"), sizes=DISK, only=["a", "b"]),
-    ("machine", WORDS + ["--only", "x"], [NUMBERS, FRESH, SIZES, ALL], "refused\n", "--only: no device x: give a name that LS has", 1, None),
+    machine("a: 0 8 linear \nb: 0 8 zero \n", "b: 0 8 zero\n", "left out: a (dmremap refuses it (field))\n", "", names=names_of("a", "b"), sizes=DISK),
     ("machine", WORDS + ["--store", "x=cow.img"], [NUMBERS, FRESH, SIZES, ALL], "refused\n", "--store: no snapshot x: give a name that LS has", 1, None),
     ("machine", WORDS + ["--store", "base=cow.img"], [NUMBERS, FRESH, SIZES, ALL], "refused\n", "--store: no snapshot base: give a name that LS has", 1, None),
 ]
@@ -200,8 +176,7 @@ WRAPPED = [
     no_machine(b"BZh91AY", "4: it is compressed (bzip2): unpack it"),
 ]
 
-REFUSED = [
-    no_machine(ALL, "1: not what `dmsetup ls` prints of devices", names="No devices found\n"),
+REFUSED = [no_machine(ALL, "1: not what `dmsetup ls` prints of devices", names="No devices found\n"),
     no_machine(ALL, "1: not what `dmsetup ls` prints of devices", names=""),
     no_machine(ALL, "2: not what `dmsetup status` prints of devices", status="No devices found\n"),
     no_machine(ALL, "2: not what `dmsetup status` prints of devices", status=SIZES),
@@ -211,8 +186,8 @@ REFUSED = [
     no_machine("0 16 linear 8:1 0\n", "4: not what `dmsetup table` prints of devices"),
     no_machine("base,,0,xx,0 16 linear 8:1 0\n", "4: not what `dmsetup table` prints of devices"),
     no_machine("a: 0 8 thin 8:1 0\n", "left out: a (thin)\n4: no device is left that dmremap can follow: see above what was left out", names=names_of("a")),
-    no_machine("a,,1,rw,0 8 zero \nb,,2,rw,0 8 zero \n", "left out: device 1 of 4, which `dmsetup ls` has not: a,,1,rw,0 8 zero "
+    no_machine("a,,1,rw,0 8 zero \nb,,2,rw,0 8 zero \n", "left out: device 1 of 4, which `dmsetup ls` does not list: a,,1,rw,0 8 zero "
                "\\nb,,2,rw,0 8 zero \nleft out: a (no table)\n4: no device is left that dmremap can follow: see above what was left out", names=names_of("a")),
 ]
 
-ROWS = SNAPSHOTS + TARGETS + NAMES + LENGTHS + ONLY + WRAPPED + REFUSED
+ROWS = SNAPSHOTS + TARGETS + NAMES + LENGTHS + STORES + WRAPPED + REFUSED

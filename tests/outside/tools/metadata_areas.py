@@ -5,8 +5,10 @@ import contextlib
 import importlib
 import os
 
+import containers
 import images
 import tool_calls
+from dmremap_tools.formats import luks_header
 from harness import FULL_OUTPUT, NOBODY, Case, run
 from physical_volumes import (FIRST, MAGIC, SECTOR, area, gpt, label, mbr, md_member, patched, text_of_area, volume,
                               with_backup)
@@ -24,7 +26,7 @@ TEXT = b'vg0 {\nid = "AAAAAA"\nseqno = 7\n}\ncontents = "x"\n\0'
 NEWER = TEXT.replace(b"7", b"10")
 SEARCHED = "metadata areas were looked for in the first and last 4 MiB\n"
 NOTHING, UNLABELLED = "no physical volume is found", "there is no label in the first four sectors"
-USAGE = "usage: dmremap-tools metadata [-h] [--list | --seqno N | --at BYTE]"
+USAGE = "usage: dmremap-tools metadata [-h] [--list | --at BYTE]"
 SAID = "dmremap-tools metadata: "
 
 
@@ -197,7 +199,7 @@ REFUSED = [
     ("an image of VMDK", b"KDMV" + bytes(8188), "it is an image of VMDK: convert it with qemu-img convert -O raw"),
     ("an image that is compressed", b"\x28\xb5\x2f\xfd" + bytes(8188), "it is compressed (zstd): unpack it"),
     ("an encrypted disk", b"LUKS\xba\xbe" + bytes(8186), NOTHING
-     + " (head: its header of LUKS is damaged: restore it in a copy by `cryptsetup luksHeaderRestore`)" + OTHER),
+     + " (head: %s)" % (luks_header.DAMAGED if containers.is_read() else luks_header.UNASKED) + OTHER),
 ]
 
 TAKEN = [
@@ -218,8 +220,8 @@ TAKEN = [
      "passed over: the metadata area at byte 4096: the sum of its text is wrong\n"),
     ("two areas, of which the second is damaged", with_flip(TWO_AREAS, SECOND + 40), TEXT,
      "passed over: the metadata area at byte 65536: the sum of its header is wrong\n"),
-    ("two areas, of which the first isn't used", volume((FIRST, area(TEXT, flags=1)), (SECOND, area(NEWER, start=SECOND))), NEWER,
-     "passed over: the metadata area at byte 4096: lvm2 keeps no text in it\n"),
+    # Of this one, dmremap itself answers.
+    ("two areas, of which the first isn't used", volume((FIRST, area(TEXT, flags=1)), (SECOND, area(NEWER, start=SECOND))), NEWER, ""),
     ("two areas, of which the image has one", TWO_AREAS[:SECOND], TEXT,
      "passed over: the metadata area at byte 65536: the image ends before it does\n"),
     ("two areas with one text of different times", volume((FIRST, area(TEXT)), (SECOND, area(TEXT.replace(b"x", b"y"), start=SECOND))),
@@ -254,7 +256,7 @@ def test_disks(command):
         command.takes(name, disk, text, "", ("head?offset=%d" % (start * SECTOR),))
     for name, disk in WHOLE:
         command.takes(name, disk, TEXT)
-    for words in ("--list",), ("--seqno", "7"), ("--at", "4608"):
+    for words in ("--list",), ("--at", "4608"):
         command.refuses("one of two volumes", TWO_VOLUMES, "it has several physical volumes: take one, as HEAD?offset=BYTES", (*words, "head"))
 
 
@@ -368,6 +370,8 @@ def test_files(tally, program, command):
             tally.same("%s of %s" % (words, name), command.run(*words, name), 1, "", SAID + "%s: %s\n" % (name, message))
     program.file("head", "")
     tally.same("the text of an empty file", command.run("head"), 1, "", SAID + "head: it is empty: give the image of a disk\n")
+    program.file("head", bytes(74))
+    tally.same("the text of a short file", command.run("head"), 1, "", SAID + "head: it is too short: it has 74 bytes: give the image of a disk\n")
     program.file("head", with_flip(ONE_AREA, FIRST + SECTOR))
     tally.same("a damaged text, as from a shell", command.run("head"), 1, "", SAID + "head: " + ONE + "the sum of its text is wrong" + LISTED + "\n")
     program.file("head", ONE_AREA)
@@ -382,14 +386,14 @@ def test_files(tally, program, command):
         tally.same("the text of standard input", command.run("-", stdin=given), 0, TEXT[:-1])
     got = command.run("head", stdout=FULL_OUTPUT)
     tally.same("the text on a full disk", got, 5, "", SAID + "standard output: No space left on device\n")
-    for words in ([], ["--seqno", "x", "head"], ["--part"], ["--list", "--seqno", "3", "head"]):
+    for words in ([], ["--at", "x", "head"], ["--part"], ["--list", "--at", "3", "head"]):
         got = command.run(*words)
         tally.holds("the words %s" % words, got.status == 2 and got.out == b"" and got.err.decode().startswith(USAGE),
                     "status %s, %r" % (got.status, got.err))
 
 
     got = command.run("--list", "head", "head")
-    tally.same("the list of two heads", got, 2, "", SAID + "--list, --seqno and --at take one HEAD\n")
+    tally.same("the list of two heads", got, 2, "", SAID + "--list and --at take one HEAD\n")
 
 
 @contextlib.contextmanager
@@ -416,21 +420,13 @@ def test_texts(tally, command, group):
     listed = "%d vg0 AAAAAA seqno 13 - Tue Nov 14 22:13:20 2023\n%d vg0 BBBBBB seqno 2 - Tue Nov 14 22:13:20 2023\n" % (FIRST + OLD, FIRST + VALID)
     tally.same("the texts of an area", texts(lost, "--list"), 0, listed)
     tally.same("one of them", texts(lost, "--at", str(FIRST + OLD)), 0, old)
-    tally.same("one of them by its number", texts(lost, "--seqno", "13"), 0, old)
-    tally.same("one that goes round the ring", texts(lost, "--seqno", "2"), 0, valid)
+    tally.same("one that goes round the ring", texts(lost, "--at", str(FIRST + VALID)), 0, valid)
     tally.same("the texts of a group that was removed", texts(no_group(head), "--list"), 0, listed)
     nowhere = with_bytes(lost, SECTOR, bytes(SECTOR))
     cut = listed.replace("2 - Tue Nov 14 22:13:20 2023", "2 - cut")
     tally.same("the texts of an area that nothing tells of", texts(nowhere, "--list"), 0, cut)
-    rows = [("--at", FIRST + VALID, "the text at that place is cut: see with --list which are whole"), ("--at", FIRST + OLD + 1, "there is no text at that place: see the places with --list"),
-            ("--seqno", 2, "the text with the seqno 2 is cut: see with --list which are whole"), ("--seqno", 3, "there is no text with the seqno 3: see those there are with --list")]
-    for word, place, message in rows:
-        tally.same("the text with %s %d" % (word, place), texts(nowhere, word, str(place)), 1, "", SAID + "head: %s\n" % message)
-    twice = with_bytes(lost, FIRST + SECTOR, old.replace(b"AAAAAA", b"CCCCCC"))
-    tally.same("two texts with one number", texts(twice, "--seqno", "13"), 1, "", SAID + "head: there are several texts with the "
-               "seqno 13, at the bytes %d, %d: take one with --at BYTE\n" % (FIRST + SECTOR, FIRST + OLD))
-    again = with_bytes(lost, FIRST + SECTOR, old)
-    tally.same("one text that is there twice", texts(again, "--seqno", "13"), 0, old)
+    for place, message in (FIRST + VALID, "the text is cut"), (FIRST + OLD + 1, "there is no text"):
+        tally.same("the text at %d" % place, texts(nowhere, "--at", str(place)), 1, "", SAID + "head: %s at byte %d: see with --list which are whole\n" % (message, place))
     tally.same("the texts of no area", texts(bytes(8192), "--list"), 1, "", SAID + "head: there is no text of a group: take another physical volume, or a file in /etc/lvm/archive\n")
     escapes = with_bytes(lost, FIRST + OLD, old.replace(b"AAAAAA", b"A\x1b[7mA"))
     tally.same("a text with an escape", texts(escapes, "--list"), 0, listed.replace("AAAAAA", "A\\x1b[7mA"))

@@ -2,8 +2,8 @@
 
 import itertools
 
-import models
-from models import EXTENT, HIDDEN, SECTOR, content_of, disk, leg_bitmap, leg_superblock, linear, member, pile, segment, text, volume
+import piles
+from piles import EXTENT, HIDDEN, SECTOR, content_of, disk, leg_bitmap, leg_superblock, linear, member, pile, segment, text, volume
 from physical_volumes import patched
 from plain_comparison import changed
 from plain_model import parity_legs
@@ -12,14 +12,15 @@ DROPPED, CHUNK = 0xFFFE, 8
 
 
 def test_pairs(tally, pile):
-    """raid6 without each pair of its members, and without three of them."""
+    """raid6 without each pair of its members, and without three of them; the same with the second parity on the last one."""
     data = content_of("raid6", 3 * 5 * CHUNK)
-    legs = parity_legs(data, 6, 2, 5, CHUNK)
-    pile.hold({"m%d" % role: member(leg, 6, role, range(5), 7, layout=2, size=5 * CHUNK) for role, leg in enumerate(legs)})
-    for pair in itertools.combinations(range(5), 2):
-        others = ["m%d" % role for role in range(5) if role not in pair]
-        pile.holds(tally, "raid6 without the members %d and %d" % pair, "md:array", data, *others)
-    pile.refuses(tally, "raid6 without three members", "md:array", "is missing", "m0", "m1")
+    for layout in (2, 18):
+        legs = parity_legs(data, 6, layout, 5, CHUNK)
+        pile.hold({"m%d" % role: member(leg, 6, role, range(5), 7, layout=layout, size=5 * CHUNK) for role, leg in enumerate(legs)})
+        for pair in itertools.combinations(range(5), 2):
+            others = ["m%d" % role for role in range(5) if role not in pair]
+            pile.holds(tally, "raid6 of layout %d without the members %d and %d" % (layout, *pair), "md:array", data, *others)
+        pile.refuses(tally, "raid6 of layout %d without three members" % layout, "md:array", "is missing", "m0", "m1")
 
 
 def test_dropped(tally, pile):
@@ -107,9 +108,9 @@ def test_trees(tally, pile):
     chunk, extents = 384, 160
     content = content_of("pool", extents * EXTENT)
     blocks = [content[(10 * EXTENT + number * chunk) * SECTOR:][:chunk * SECTOR] for number in range(3)]
-    leaves = models.node(4, [(0, 1 << 24), (2, 0)]) + models.node(5, [(85, 2 << 24)])
-    tree = models.node(3, [(0, 4), (85, 5)], is_leaf=False) + leaves
-    meta = models.pool_superblock(chunk) + models.node(1, [(1, 3)]) + models.node(2, []) + tree
+    leaves = piles.node(4, [(0, 1 << 24), (2, 0)]) + piles.node(5, [(85, 2 << 24)])
+    tree = piles.node(3, [(0, 4), (85, 5)], is_leaf=False) + leaves
+    meta = piles.pool_superblock(chunk) + piles.node(1, [(1, 3)]) + piles.node(2, []) + tree
     pool = segment(0, 144, "thin-pool", 'metadata = "meta"', 'pool = "data"', "transaction_id = 1", "chunk_size = %d" % chunk)
     thin = segment(0, 5000, "thin", 'thin_pool = "pool"', "transaction_id = 0", "device_id = 1")
     known = text("vg0", "g", 9, "a", volume("pool", "p", pool), volume("meta", "m", linear(0, 6, ("pv0", 0)), status=HIDDEN),

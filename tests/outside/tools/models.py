@@ -1,174 +1,23 @@
-"""The commands `scan`, `save`, `serve`, `lost` and `tables` over piles of images, which are made here from their formats: what is
-found in them, and the bytes of volumes, which are known as they were put there sector by sector."""
+"""The commands `scan`, `save`, `serve`, `lost` and `tables` over piles of images: what is found in them, and the bytes of volumes,
+which are known as they were put there sector by sector."""
 
 import importlib
 import json
 import os
-import pickle
 import random
 import re
 import shutil
 import signal
-import socket
-import struct
 import subprocess
-import sys
-import tempfile
-import types
 
 import physical_volumes
+import store_lists
 import tool_calls
-import used
-from physical_volumes import damaged, patched, section
+from physical_volumes import damaged, patched
+from piles import (A, B, CHUNK, DATA, EXTENT, HIDDEN, HOME, MIB, PLAIN, SECTION, SECTOR, TAG, WIDE, content_of,
+                   dashed, disk, extents_of, identity, journal, leg_superblock, linear, member, named, pile,
+                   put_pools, segment, served, store, striped, taken, text, volume)
 from plain_model import parity_legs
-
-SECTOR = 512
-MIB = 1 << 20
-# Sectors of an extent, and the sector at which the data of a physical volume begins.
-EXTENT, DATA = 8, 2048
-STRIPE = 8
-
-
-class Pile:
-    """Images in a folder, and the calls over them."""
-
-    def __init__(self, program, top, folder):
-        self.program, self.top, self.folder = program, top, folder
-
-    def put(self, name, content):
-        with open(os.path.join(self.folder, name), "wb") as image:
-            image.write(content)
-
-    def remove(self, *names):
-        for name in names:
-            os.unlink(os.path.join(self.folder, name))
-
-    def hold(self, images):
-        """Has these images, by their names, and no others."""
-        self.remove(*self.images())
-        for name, content in images.items():
-            self.put(name, content)
-
-    def read(self, name):
-        return tool_calls.read(os.path.join(self.folder, name))
-
-    def call(self, *words):
-        return tool_calls.call(self.top, [words[0], "--program", self.program.path, *words[1:]], folder=self.folder)
-
-    def scan(self, *images):
-        got = self.call("scan", "--json", *(images or self.images()))
-        return json.loads(got.out) if got.status == 0 else {"groups": [], "arrays": [], "luks": [], "failed": got.err.decode()}
-
-    def images(self):
-        return sorted(name for name in os.listdir(self.folder) if not name.startswith("out"))
-
-    def save(self, volume, *images, more=()):
-        """The outcome, and what was saved."""
-        path = os.path.join(self.folder, "out")
-        if os.path.exists(path):
-            os.unlink(path)
-        return self.call("save", volume, "out", *(images or self.images()), *more), tool_calls.read(path)
-
-    def holds(self, tally, name, volume, content, *images):
-        """A volume that is saved whole."""
-        got, saved = self.save(volume, *images)
-        tally.holds(name, got.status == 0 and saved == content, "status %s, %r, %s bytes" % (got.status, got.err, saved and len(saved)))
-
-    def refuses(self, tally, name, volume, why, *images, more=()):
-        """A volume that is refused with these words, and leaves no file."""
-        got, saved = self.save(volume, *images, more=more)
-        left = [other for other in os.listdir(self.folder) if other.startswith("out")]
-        is_so = got.status == 1 and why in got.err.decode() and saved is None and not left
-        tally.holds(name, is_so, "status %s, %r, left %s" % (got.status, got.err, left))
-
-
-def pile(tally):
-    """The pile of a test."""
-    return empty_pile(tally, "pile")
-
-
-def empty_pile(case, name):
-    """A pile in a folder of that name, without an image."""
-    folder = os.path.join(case.own_folder, name)
-    shutil.rmtree(folder, ignore_errors=True)
-    os.makedirs(folder)
-    return Pile(case.program, case.top, folder)
-
-
-def content_of(name, sectors):
-    """Sectors that say where they are."""
-    return b"".join((b"%s %d\n" % (name.encode(), number) * SECTOR)[:SECTOR] for number in range(sectors))
-
-
-def identity(letter):
-    """The id of a physical volume, as its label has it."""
-    return (letter * 32).encode()
-
-
-def dashed(letter):
-    """The same, as a text has it."""
-    return physical_volumes.dashed(letter * 32)
-
-
-def linear(first, count, *areas, kind="striped", more=()):
-    """A segment whose areas are pairs of a name and an extent."""
-    stripes = ", ".join('"%s", %d' % area for area in areas)
-    return ["start_extent = %d" % first, "extent_count = %d" % count, 'type = "%s"' % kind, "stripe_count = %d" % len(areas),
-            "stripe_size = %d" % STRIPE, "stripes = [%s]" % stripes, *more]
-
-
-def segment(first, count, kind, *fields):
-    return ["start_extent = %d" % first, "extent_count = %d" % count, 'type = "%s"' % kind, *fields]
-
-
-def volume(name, letter, *segments, status='"READ", "WRITE", "VISIBLE"'):
-    numbered = [section("segment%d" % number, *fields) for number, fields in enumerate(segments, 1)]
-    return section(name, 'id = "%s"' % dashed(letter), "status = [%s]" % status, "segment_count = %d" % len(segments), *numbered)
-
-
-HIDDEN = '"READ", "WRITE"'
-
-
-def text(group, letter, seqno, disks, *volumes, extents=64):
-    """The text of a group, as lvm2 writes it to a disk."""
-    physical = [section("pv%d" % number, 'id = "%s"' % dashed(disk), 'device = "/dev/%s"' % disk, "dev_size = %d" % (DATA + extents * EXTENT),
-                        "pe_start = %d" % DATA, "pe_count = %d" % extents) for number, disk in enumerate(disks)]
-    body = section(group, 'id = "%s"' % dashed(letter), "seqno = %d" % seqno, 'status = ["RESIZEABLE", "READ", "WRITE"]', "extent_size = %d" % EXTENT,
-                   section("physical_volumes", *physical), section("logical_volumes", *volumes))
-    return (body + '# Generated by a test\ncontents = "Text Format Volume Group"\nversion = 1\ncreation_host = "here"\ncreation_time = %d\n' % (1700000000 + seqno)).encode() + b"\0"
-
-
-def disk(letter, content, *texts, is_current=True):
-    """A physical volume with these texts in its ring, of which the last is the current one."""
-    places, at = [], SECTOR
-    for each in texts:
-        places.append((at, each))
-        at += -(-len(each) // SECTOR) * SECTOR
-    offset, current = places[-1] if is_current else (0, b"")
-    ring = physical_volumes.area(current, offset, size=64 * 1024, others=places)
-    head = physical_volumes.volume((physical_volumes.FIRST, ring), length=DATA * SECTOR, identity=identity(letter), size=DATA * SECTOR + len(content))
-    return head + content
-
-
-def extents_of(content, first, count):
-    return content[first * EXTENT * SECTOR:(first + count) * EXTENT * SECTOR]
-
-
-def striped(contents, chunk):
-    """Chunks of some contents in turn, in sectors."""
-    size = chunk * SECTOR
-    return b"".join(each[at:at + size] for at in range(0, len(contents[0]), size) for each in contents)
-
-
-A, B = content_of("a", 64 * EXTENT), content_of("b", 64 * EXTENT)
-PLAIN = [volume("home", "h", linear(0, 5, ("pv0", 3)), linear(5, 2, ("pv1", 0))),
-         volume("wide-one", "w", linear(0, 8, ("pv0", 10), ("pv1", 20)))]
-HOME = extents_of(A, 3, 5) + extents_of(B, 0, 2)
-WIDE = striped([extents_of(A, 10, 4), extents_of(B, 20, 4)], STRIPE)
-
-
-def named(rows, key, value):
-    return next((row for row in rows if row[key] == value), {})
 
 
 def test_groups(tally, pile):
@@ -242,20 +91,10 @@ def test_partitions(tally, pile):
     tally.holds("what is told of it", "looking through" in json.dumps(found["images"]), found)
 
 
-CHUNK = 2
-
-
-def store(origin_sectors, pairs, is_valid=1):
-    """The store of a snapshot, with chunks of 2 sectors, and what it has of each chunk."""
-    area = b"".join(struct.pack("<QQ", old, 2 + number) for number, (old, _) in enumerate(pairs)).ljust(CHUNK * SECTOR, b"\0")
-    head = struct.pack("<4L", 0x70416E53, is_valid, 1, CHUNK).ljust(CHUNK * SECTOR, b"\0")
-    return head + area + b"".join(new for _, new in pairs)
-
-
 def test_layers(tally, pile):
     """Snapshots, one that is invalid, one that is being merged; pvmove in progress; mirrors; what isn't followed."""
     new = [(number, content_of("new %d" % number, CHUNK)) for number in (7, 0, 19)]
-    stores = (20, store(40, new)), (30, store(40, new, 0)), (40, store(40, new[:2]))
+    stores = (20, store(new)), (30, store(new, 0)), (40, store(new[:2]))
     data = patched(A, *stores, unit=EXTENT * SECTOR)
     def record(number, origin, of, key="cow_store"):
         return volume("snapshot%d" % number, str(number), segment(0, 5, "snapshot", "chunk_size = %d" % CHUNK, 'origin = "%s"' % origin, '%s = "%s"' % (key, of)),
@@ -302,7 +141,7 @@ def test_stores(tally, pile):
         Some bytes of the store are wiped."""
         each, data = 32 * chunk, bytearray(A)
         pairs = [(number * 7 % (80 // chunk), 2 + number + number // each) for number in range(count)]
-        content = bytearray(used.store(head.pop("pairs", pairs), chunk, 96 // chunk, **head))
+        content = bytearray(store_lists.store(head.pop("pairs", pairs), chunk, 96 // chunk, **head))
         wanted, size = bytearray(extents_of(A, 0, 10)), chunk * SECTOR
         for old, new in pairs:
             content[new * size:(new + 1) * size] = wanted[old * size:(old + 1) * size] = content_of("%d in %d" % (old, new), chunk)
@@ -386,43 +225,6 @@ def test_levels(tally, pile):
             tally.holds("what is told of them", rows == {"level0": "not followed", "lowest": "whole"}, rows)
 
 
-CLEAN = (1 << 64) - 1
-
-
-def leg_superblock(number, events=4, count=2, level=1, layout=0, chunk=0, failed=0, recovered=CLEAN, resynced=CLEAN):
-    """A superblock of dm-raid, of a mirror of two if no more is said."""
-    fields = 0x64526D44, 0, count, number, events, failed, recovered, resynced, level, layout, chunk, 0, CLEAN
-    return struct.pack("<4L4Q4LQ", *fields).ljust(4096, b"\0")
-
-
-def leg_bitmap(sectors, region, dirty=()):
-    """The bitmap behind it, of so many sectors in regions of so many, of which these were being written."""
-    bits = sum(1 << number for number in dirty).to_bytes(2048, "little")
-    head = struct.pack("<LL16sQQQLLLLLL", 0x6D746962, 4, b"", 4, 4, sectors, 0, region * SECTOR, 5, 0, 0, 0)
-    return head.ljust(256, b"\0") + bits
-
-
-# The bytes of a sum in the test's journal, so that a section has few blocks, and the sectors of a section.
-TAG, SECTION = 200, 24
-
-
-def journal(blocks):
-    """The metadata of dm-integrity, with a journal of two sections, of which the second one is older and has these blocks."""
-    sectors = [bytearray(SECTOR) for _ in range(2 * SECTION)]
-    for at in range(16):
-        for section_number in range(2):
-            sectors[section_number * SECTION + at % 8][at // 8 * 216:at // 8 * 216 + 8] = b"\xff" * 8
-    for at, (number, content) in enumerate(blocks):
-        entry = struct.pack("<Q", number) + content[-8:] + struct.pack("<L", summed(struct.pack("<Q", number) + content) ^ 0xFFFFFFFF)
-        sectors[SECTION + at % 8][at // 8 * 216:at // 8 * 216 + len(entry)] = entry
-        sectors[SECTION + 8 + at][:504] = content[:504]
-    for at, sector in enumerate(sectors):
-        commit = (1 - at // SECTION + 1) * 0x1111111111111111
-        sector[504:] = struct.pack("<Q", commit ^ at // SECTION << 32 ^ at % SECTION)
-    head = struct.pack("<8sBBHLQLBB2xQ8x16s", b"integrt\0", 5, 0, TAG, 2, 40, 8, 0, 0, 0, b"").ljust(4096, b"\0")
-    return head + b"".join(map(bytes, sectors))
-
-
 def test_legs(tally, pile):
     """A mirror of LVM over dm-integrity, whose journal has newer blocks; damaged journals and superblocks."""
     held = [(3, content_of("held", 1)), (17, content_of("kept", 1))]
@@ -457,28 +259,6 @@ def test_legs(tally, pile):
     legged(1, superblock=bytes(4096))
     pile.refuses(tally, "a leg whose superblock is gone", "vg0/home", "leave its disk out to take the other one")
     pile.holds(tally, "the other leg", "vg0/home", wanted, "leg0")
-
-
-def member(data, level, number, roles, events, layout=0, chunk=8, size=64, disks=None, version=2, resync=CLEAN, name=b"array",
-           bad=(), shift=0, start=64, recovered=None, tail_sectors=0):
-    """A member of an md array, whose data begins at sector 64 (1.1, 1.2) or 0 (1.0). It may lack runs of its sectors, which its
-    log has in units of a power of two, be rebuilt only up to one, and end with more sectors than the superblock needs."""
-    start = start if version else 0
-    place = 8 * (version - 1) if version else (len(data) // SECTOR + 64 + tail_sectors - 16) & ~7
-    features = 8 * bool(bad) + 2 * (recovered is not None)
-    names, shape = (name.rjust(16, b"n"), b"here:" + name), (level, layout, size, chunk, disks or len(roles))
-    head = struct.pack("<4L16s32sQlLQLLlLQlLLl", 0xA92B4EFC, 1, features, 0, *names, 0, *shape, 0, 0, 0, 0, 0, 0, 0)
-    places = start, len(data) // SECTOR, place, recovered or 0
-    head += struct.pack("<QQQQLL16sBBHl", *places, number, 0, b"amember", 0, shift, bool(bad), 8)
-    tail = struct.pack("<QQQ", 0, events, resync)
-    table = struct.pack("<%dH" % len(roles), *roles)
-    superblock = physical_volumes.md_summed(bytearray(head + tail + struct.pack("<LL32x", 0, len(roles)) + table), 216)
-    image = bytearray(start * SECTOR) + data + bytes((tail_sectors if version else 64 + tail_sectors) * SECTOR)
-    image[place * SECTOR:place * SECTOR + len(superblock)] = superblock
-    if bad:
-        log = b"".join(struct.pack("<Q", first << 10 | count) for first, count in bad)
-        image[(place + 8) * SECTOR:(place + 9) * SECTOR] = log.ljust(SECTOR, b"\xff")
-    return bytes(image)
 
 
 def test_arrays(tally, pile):
@@ -562,11 +342,11 @@ def test_lost_superblocks(tally, pile):
         pile.put("new", damaged(new, place))
         pile.refuses(tally, "a mirror whose newer half has a damaged superblock", "vg0/home", "leave that out to take what is here")
     pile.holds(tally, "the other half", "vg0/home", extents_of(B, 3, 5), "old")
-    pile.holds(tally, "the half with the damaged superblock alone", "vg0/home", extents_of(A, 3, 5), "new")
+    pile.refuses(tally, "the half with the damaged superblock alone", "vg0/home", "was on an array or on another volume, as a text says", "new")
     pile.put("new", bytes(64 * SECTOR) + new[64 * SECTOR:])
-    pile.refuses(tally, "a mirror whose newer half has no superblock", "vg0/home", "both are the physical volume")
+    pile.refuses(tally, "a mirror whose newer half has no superblock", "vg0/home", "new may be one with newer data")
     pile.remove("old")
-    pile.holds(tally, "that half", "vg0/home", extents_of(A, 3, 5))
+    pile.refuses(tally, "that half", "vg0/home", "was on an array or on another volume, as a text says")
     pile.remove("new")
     half = b"".join(inside[at:at + 256 * SECTOR] for at in range(0, len(inside), 512 * SECTOR))
     found = member(half, 0, 0, (0, 1), 0, layout=2, size=0, chunk=256)
@@ -577,84 +357,6 @@ def test_lost_superblocks(tally, pile):
     pile.put("half", half)
     pile.refuses(tally, "a member of raid0 whose end is cut off", "vg0/home", "one member of an array whose md superblock is lost")
     pile.remove("half")
-
-
-def shifted(value):
-    """A byte of CRC-32C, bit by bit."""
-    for _ in range(8):
-        value = value >> 1 ^ (0x82F63B78 if value & 1 else 0)
-    return value
-
-
-SHIFTED = [shifted(byte) for byte in range(256)]
-
-
-def summed(content):
-    """The CRC-32C of some bytes, as persistent-data begins it."""
-    value = 0xFFFFFFFF
-    for byte in content:
-        value = value >> 8 ^ SHIFTED[(value ^ byte) & 0xFF]
-    return value
-
-
-def block(number, mark, rest, number_at=8):
-    """A block of persistent-data: its sum, and its number."""
-    content = bytearray(bytes(4) + rest)
-    content[number_at:number_at + 8] = struct.pack("<Q", number)
-    content = content.ljust(4096, b"\0")
-    return struct.pack("<L", summed(bytes(content[4:])) ^ mark) + bytes(content[4:])
-
-
-def node(number, pairs, is_leaf=True):
-    """A node of a tree."""
-    most = 252
-    keys = struct.pack("<%dQ" % len(pairs), *(key for key, _ in pairs)).ljust(8 * most, b"\0")
-    head = struct.pack("<LQLLLL", 1 + is_leaf, 0, len(pairs), most, 8, 0)
-    return block(number, 121107, head + keys + struct.pack("<%dQ" % len(pairs), *(value for _, value in pairs)))
-
-
-def pool_superblock(chunk, blocks=0, held=0, number=0, root=1):
-    """The superblock of a thin pool with so many blocks of data, whose tree of devices is in block 1, and that of their details in
-    block 2; or a copy of it in another block, which is held."""
-    fields = 0, 0, b"", 27022010, 2, 0, 1, held, struct.pack("<Q", blocks), b"", root, 2, chunk, 8, 8, 0, 0, 0
-    return block(number, 160774, struct.pack("<LQ16sQLLQQ128s128sQQLLQLLL", *fields)[:4092])
-
-
-def cache_metadata(chunk, entries):
-    """The metadata of a cache, with what each of its blocks has."""
-    fields = 0, 0, b"", 0o6142003, 2, b"smq", 0, b"", 1, 0, 0, 0, 0, chunk, 8, len(entries), 0, 0, 0
-    held = struct.pack("<LQ16sQL16sL128sQQQQQLLLLLL", *fields)
-    parts = [entries[at:at + 509] for at in range(0, len(entries), 509)]
-    contents = [struct.pack("<LLLQ%dQ" % len(part), 509, len(part), 8, 0, *part) for part in parts]
-    blocks = [block(2 + number, 595846735, content, 16) for number, content in enumerate(contents)]
-    return block(0, 9031977, held) + node(1, [(number, 2 + number) for number in range(len(parts))]) + b"".join(blocks)
-
-
-def put_pools(pile):
-    """Puts a disk with a pool and a cache, and returns its data, its text, and what its volumes have."""
-    chunk = 16
-    meta = pool_superblock(chunk) + node(1, [(1, 3), (2, 4)]) + node(2, [])
-    meta += node(3, [(0, 5 << 24), (2, 1 << 24 | 7), (3, 2 << 24)]) + node(4, [(1, 1 << 24)])
-    cache = cache_metadata(chunk, [1 << 16 | 1, 2 << 16 | 6, 3 << 16 | 3])
-    data = bytearray(A)
-    data[:len(meta)] = meta
-    data[20 * EXTENT * SECTOR:20 * EXTENT * SECTOR + len(cache)] = cache
-    pool = segment(0, 12, "thin-pool", 'metadata = "meta"', 'pool = "data"', "transaction_id = 1", "chunk_size = %d" % chunk)
-    def thin(number):
-        return segment(0, 8, "thin", 'thin_pool = "pool"', "transaction_id = 0", "device_id = %d" % number)
-    known = text("vg0", "g", 9, "a", volume("pool", "p", pool), volume("meta", "m", linear(0, 5, ("pv0", 0)), status=HIDDEN),
-                 volume("data", "d", linear(0, 12, ("pv0", 5)), status=HIDDEN), volume("one", "o", thin(1)), volume("two", "t", thin(2)), volume("none", "n", thin(3)),
-                 volume("quick", "q", segment(0, 8, "cache+CACHE_USES_CACHEVOL", 'cache_pool = "fast"', 'origin = "slow"', 'cache_mode = "writeback"', "chunk_size = %d" % chunk,
-                                              "metadata_start = 0", "metadata_len = 24", "data_start = 32", "data_len = 48")),
-                 volume("fast", "f", linear(0, 10, ("pv0", 20)), status=HIDDEN), volume("slow", "s", linear(0, 8, ("pv0", 40)), status=HIDDEN))
-    pile.put("disk", disk("a", bytes(data), known))
-    size = chunk * SECTOR
-    pooled, hole = extents_of(data, 5, 12), bytes(size)
-    def of_pool(number):
-        return pooled[number * size:(number + 1) * size]
-    slow, fast = extents_of(data, 40, 8), extents_of(data, 20, 10)[32 * SECTOR:]
-    return bytes(data), known, {"vg0/one": of_pool(5) + hole + of_pool(1) + of_pool(2), "vg0/two": hole + of_pool(1) + hole + hole,
-                                "vg0/quick": slow[:size] + fast[:size] + slow[2 * size:3 * size] + fast[2 * size:3 * size]}
 
 
 def test_thin(tally, pile):
@@ -777,7 +479,7 @@ def test_saving(tally, pile):
         tally.holds("an image " + name, got.status in (1, 2) and pile.read("one") == before, "status %s, %r" % (got.status, got.err))
     pile.call("save", "vg0/home", "out", "one", "--resume", "map")
     own = pile.read("map").splitlines(True)[0]
-    tally.holds("what a map is of", own.startswith(b"# Of vg0/home of 40 sectors, from %s %s " % (dashed("h").encode(), dashed("a").encode())), own)
+    tally.holds("what a map is of", own.startswith(b"# Of vg0/home of 40 sectors, from %s " % dashed("h").encode()), own)
     pile.put("out", bytes(4096) + wanted[4096:8192] + bytes(size - 8192))
     pile.put("map", own + b"0x0 ?\n0x0 0x1000 ?\n0x1000 0x1000 +\n0x2000 0x%x ?\n" % (size - 0x2000))
     got = pile.call("save", "vg0/home", "out", "one", "--resume", "map")
@@ -801,8 +503,8 @@ def test_saving(tally, pile):
     tally.holds("a file in no folder", got.status == 5, got.err)
     os.rename(os.path.join(pile.folder, "one"), os.path.join(pile.folder, "table"))
     pile.holds(tally, "an image that is called as a format", "vg0/home", wanted, "./table")
-    got = pile.call("save", "vg0/home", "out", "./table", "--extents", "table")
-    tally.tells("a word of the other form", got, 2, err="--extents is for FORMAT FILE")
+    got = pile.call("save", "vg0/home", "out", "./table", "--fresh")
+    tally.tells("a word of the other form", got, 2, err="--fresh is for FORMAT FILE")
     tally.tells("an image that isn't there", pile.call("scan", "nowhere"), 1, err="nowhere: No such file or directory")
 
 
@@ -840,12 +542,51 @@ def test_files(tally, pile):
     tally.holds("a map of no image", got.status == 2, got.err)
 
 
+def test_read(tally, pile):
+    """A plain group is read by dmremap itself, and a terminal is told so. A volume with a map, one to go on with, and another group aren't;
+    here what dmremap reads is changed on its way, or ends early."""
+    known = text("vg-0", "g", 4, "ab", *PLAIN)
+    images = {"one": disk("a", A, known), "two": disk("b", B, known)}
+    pile.hold(images)
+    changed = bytes((byte + 1) % 256 for byte in HOME)
+    ways = {"changes": ("", "tr '\\000-\\377' '\\001-\\377\\000'"), "ends": ("--from 0", "head -c 5000")}
+    for name, (form, way) in ways.items():
+        script = '#!/bin/sh\ncase "$*" in read*"%s"*) {0} "$@" > /dev/null && {0} "$@" | %s;; *) exec {0} "$@";; esac\n'
+        os.chmod(pile.program.file(name, script.format(pile.program.path) % (form, way)), 0o755)
+    pile.put("map", b"0x0 ?\n0x0 0x200 -\n0x200 0x%x +\n" % (len(images["one"]) - 512))
+    other = text("vg-0", "g", 4, "ab", *PLAIN, volume("odd", "o", segment(0, 1, "error", "x = 1"), segment(1, 1, "thin-pool")))
+    for name, way, content, wanted, more in (
+            ("a plain group", "changes", images, changed, []), ("a plain group, that ends early once", "ends", images, HOME, []),
+            ("one with a map of an image", "changes", images, HOME, ["--map", "one=map"]), ("one to go on with", "changes", images, HOME, ["--resume", "out.map"]),
+            ("another group", "changes", {"one": disk("a", A, other), "two": disk("b", B, other)}, HOME, [])):
+        pile.hold({**content, "map": pile.read("map")})
+        here, there = os.openpty()
+        path = os.path.join(pile.program.folder, way)
+        got = tool_calls.call(pile.top, ["save", "--program", path, "vg-0/home", "out", "one", "two", *more], folder=pile.folder, stderr=there)
+        os.close(there)
+        told = b"".join(iter(lambda: reading(here), b""))
+        os.close(here)
+        is_told = (b"read by dmremap, proved" in told) == (name.startswith("a plain"))
+        tally.holds("what is read of " + name, got.status == 0 and pile.read("out") == wanted and is_told, (got.status, told))
+        pile.remove("out", *["out.map"] * ("--resume" in more))
+    pile.hold(images)
+    tally.same("what else is told of a plain group", pile.call("save", "vg-0/home", "out", "one", "two"), 0)
+
+
+def reading(descriptor):
+    """What comes next of a terminal, or nothing at its end."""
+    try:
+        return os.read(descriptor, 65536)
+    except OSError:
+        return b""
+
+
 # What mounts a file system, where one is known that can be mounted.
 MOUNTS = {"ext2": "ro,loop", "ext3": "ro,loop,noload", "ext4": "ro,loop,noload", "xfs": "ro,loop,norecovery", "btrfs": "ro,loop", "luks": None, None: None}
 
 
 def test_served(tally, pile):
-    """`serve` refuses what can't be served, needs nbdkit, replaces a socket only if nobody listens on it, and prints what fits the volume."""
+    """`serve` refuses what can't be served, needs nbdkit, takes the place of nothing, and prints what fits the volume."""
     serve = importlib.import_module("dmremap_tools.images.serve")
     for system, options in MOUNTS.items():
         lines = serve.lines_of("s", system)
@@ -861,60 +602,16 @@ def test_served(tally, pile):
         return
     words = [os.path.join(pile.top, "dmremap-tools"), "serve", "--program", pile.program.path, "--socket", "out.sock", "vg0/home", "one"]
     path = os.path.join(pile.folder, "out.sock")
-    with socket.socket(socket.AF_UNIX) as dead:
-        dead.bind(path)
     server = subprocess.Popen(words, stdout=subprocess.PIPE, cwd=pile.folder)
     uri = server.stdout.readline().decode().strip().strip("'")
     got = pile.call(*words[1:2], *words[4:])
-    tally.tells("a socket on which a server listens", got, 1,
-                err="another server listens there: end it, or give another --socket")
+    tally.tells("a socket that is there", got, 1, err="out.sock: it is there already: give another --socket, or end its server")
     subprocess.run(["nbdcopy", uri, "out"], cwd=pile.folder, check=False)
     server.terminate()
     status = server.wait(30)
     server.stdout.close()
     tally.holds("a copy from a server", pile.read("out") == extents_of(A, 3, 5), uri)
     tally.holds("how a server ends", status in (130, 143) and not os.path.exists(path), status)
-    pile.put("out.sock", b"kept")
-    got = pile.call(*words[1:2], *words[4:])
-    tally.holds("a file in place of a socket", got.status == 1 and b"it is there already, and is no socket" in got.err and os.path.getsize(path) == 4, got.err)
-
-
-def served(pile, volume_name, image, do, more=()):
-    """What a function gets of the plugin's module, in a process of its own, with something in the place of nbdkit."""
-    with tempfile.TemporaryFile() as kept, tempfile.TemporaryFile() as said:
-        sys.stdout.flush()
-        child = os.fork()
-        if child == 0:
-            try:
-                os.dup2(said.fileno(), 2)
-                os.chdir(pile.folder)
-                sys.modules["nbdkit"] = types.SimpleNamespace(THREAD_MODEL_SERIALIZE_ALL_REQUESTS=1, EXTENT_HOLE=1, EXTENT_ZERO=2, set_error=lambda _: None)
-                plugin = importlib.import_module("dmremap_tools.images.plugin")
-                signal.alarm(60)
-                for key, value in (("program", pile.program.path), ("volume", volume_name), ("image", image), *more):
-                    plugin.config(key, value)
-                plugin.get_ready()
-                pickle.dump(do(plugin), kept)
-                kept.flush()
-                os._exit(0)
-            except BaseException as fault:
-                os.write(2, repr(fault).encode())
-            finally:
-                os._exit(1)
-        status = os.waitpid(child, 0)[1]
-        kept.seek(0)
-        said.seek(0)
-        return (pickle.load(kept) if status == 0 else None), said.read().decode()
-
-
-def taken(plugin, at, count):
-    """Bytes that the plugin reads, or None."""
-    buffer = bytearray(count)
-    try:
-        plugin.pread(1, buffer, at, 0)
-    except RuntimeError:
-        return None
-    return bytes(buffer)
 
 
 def kill_children():

@@ -9,11 +9,12 @@ import struct
 
 import containers
 import models
+import piles
 import physical_volumes
 import tool_calls
-from dmremap_tools.formats import disk_image, signatures
+from dmremap_tools.formats import disk_image, luks_header, signatures
 from dmremap_tools.model.device import Image, Lenient
-from models import A, B, DATA, EXTENT, MIB, SECTOR, content_of, disk, empty_pile, extents_of, linear, member, named, pile, text, volume
+from piles import A, B, DATA, EXTENT, MIB, SECTOR, content_of, disk, empty_pile, extents_of, linear, member, named, pile, text, volume
 from physical_volumes import damaged, patched
 from plain_model import parity_legs
 
@@ -252,45 +253,34 @@ def test_headless(tally, pile):
 
 
 def test_containers(tally, pile):
-    """Headers of LUKS that cryptsetup refuses are told as that, and a sound one is not."""
-    def slots(*areas):
-        return containers.text_of(keys=areas)
-    def changed(old, new):
-        assert old in slots((32768, 16384))
-        return containers.version_2(json=slots((32768, 16384)).replace(old, new))
-    room = bytes(containers.DATA + MIB)
-    for label, header, why in (
-            ("a sound header", containers.version_2(json=slots((32768, 16384), (49152, 16384))), None),
-            ("areas that overlap", containers.version_2(json=slots((32768, 16384), (40960, 16384))), "the areas for keys"),
-            ("an area within the headers", containers.version_2(json=slots((16384, 16384))), "the areas for keys"),
-            ("an area past its room", containers.version_2(json=slots((65536, 16384))), "the areas for keys"),
-            ("a digest of a key that isn't there", changed(b'"keyslots":["0"]', b'"keyslots":["0","7"]'), "breaks a rule of the format (in digests)"),
-            ("a key without a digest", changed(b'"keyslots":["0"]', b'"keyslots":[]'), "breaks a rule of the format (in keyslots)"),
-            ("a token of a key that isn't there", changed(b'"tokens":{}', b'"tokens":{"0":{"type":"any","keyslots":["7"]}}'), "breaks a rule of the format (in tokens)"),
-            ("tokens that are none", changed(b'"tokens":{}', b'"tokens":42'), "breaks a rule of the format (in its parts)"),
-            ("a size that is no string", changed(b'"size":"dynamic"', b'"size":4096'), "breaks a rule of the format (in segments)"),
-            ("flags that are no array", changed(b'"size":"dynamic"', b'"size":"dynamic","flags":"hello"'), "breaks a rule of the format (in segments)"),
-            ("odd sectors", changed(b'"sector_size":512', b'"sector_size":1023'), "breaks a rule of the format (in segments)"),
-            ("no encryption", changed(b'"encryption":"aes-xts-plain64","sector', b'"encryption":"","sector'), "breaks a rule of the format (in segments)"),
-            ("data without a digest", changed(b'"segments":["0"]', b'"segments":[]'), "breaks a rule of the format (in segments)"),
-            ("a key of no form", changed(b'"af":{"type":"luks1"', b'"af":{"type":42'), "breaks a rule of the format (in keyslots)"),
-            ("another length of the text", changed(b'"json_size":"12288"', b'"json_size":"12287"'), "breaks a rule of the format (in config)"),
-            ("more keys than have room", changed(b'"keyslots_size":"32768"', b'"keyslots_size":"102400"'), "breaks a rule of the format (in config)"),
-            ("a text with more behind it", containers.version_2(json=containers.text_of() + b"\0x"), "goes on behind its end")):
-        pile.put("sda", header + room[len(header):])
+    """Containers of LUKS: where cryptsetup says that data begins and how much there is, or what is wrong. Without it, they are told alone."""
+    room, whole, two = bytes(containers.DATA + 2 * MIB), containers.version_2(), containers.version_2(segments=2)
+    gone, bad, short = "its first header is gone", "cryptsetup can't read its header", "it ends before the data of its container does"
+    for label, content, version, start, sectors, why in (
+            ("version 1", containers.version_1(), 1, 2048, None, None), ("version 2", whole, 2, 256, None, None),
+            ("version 2 of a fixed size", containers.version_2(size="4096"), 2, 256, 8, None), ("a newer second header", containers.version_2(second=262144, sequences=(3, 4)), 2, 512, None, None),
+            ("a second header alone", bytes(4096) + whole[4096:], 2, None, None, gone), ("two headers that are damaged", containers.flipped(containers.flipped(whole, 300), containers.SIZE + 300), 2, None, None, bad),
+            ("one that is encrypted anew", two, 2, None, None, bad), ("no segments", containers.version_2(json=b"{}"), 2, None, None, bad),
+            ("data elsewhere", containers.version_2(json=containers.text_of(data=0)), 2, 0, None, None)):
+        pile.put("sda", content + room[len(content):])
+        if containers.is_read():
+            found = [(row["version"], row["start"], row["sectors"], (row["why"] or "").startswith(why or "") and bool(row["why"]) == bool(why)) for row in pile.scan("sda")["luks"]]
+            tally.holds("a container of " + label, found == [(version, start, sectors, True)], "%s, %s" % (found, pile.scan("sda")["luks"]))
+        luks_header.CRYPTSETUP = "a program that isn't here"
+        found = [(row["version"], row["start"], row["why"].split(":")[0]) for row in pile.scan("sda")["luks"]]
+        luks_header.CRYPTSETUP = "cryptsetup"
+        told = gone + ", and a second one is there" if why == gone else "its header isn't looked into"
+        tally.holds("a container that nobody reads, of " + label, found == [(version, None, told)], found)
+    for label, header in (("version 1", containers.version_1()), ("version 2", whole)) if containers.is_read() else ():
+        pile.put("sda", header.ljust(65536, b"\0")[:1 << 20])
         row = (pile.scan("sda")["luks"] or [{"why": "none is found"}])[0]
-        tally.holds(label, row["why"] is None if why is None else why in (row["why"] or ""), row)
-    for label, header in (("version 1", containers.version_1(4096)), ("version 2", containers.version_2())):
-        pile.put("sda", header.ljust(65536, b"\0"))
-        row = (pile.scan("sda")["luks"] or [{"why": "none is found"}])[0]
-        tally.holds("a device that is too small, of " + label, "ends before the data" in (row["why"] or ""), row)
+        tally.holds("a device that is too small, of " + label, (row["why"] or "").startswith(short), row)
 
 
 def test_kinds(tally, pile):
     """Names of what is like something else."""
     bcache = bytes.fromhex("c68573f64e1a45ca8265f57f48ba6d81")
-    for name, wanted, places in (
-            ("bcache", "bcache", [(0x1008, b"\x08" + bytes(7)), (0x1018, bcache)]),
+    for name, wanted, places in (("bcache", "bcache", [(0x1008, b"\x08" + bytes(7)), (0x1018, bcache)]),
             ("bcachefs", "bcachefs", [(0x1008, b"\x99" * 8), (0x1018, bytes.fromhex("c68573f666ce90a9d96a60cf803df7ef"))]),
             ("an old bcachefs", "bcachefs", [(0x1008, b"\x99" * 8), (0x1018, bcache)]),
             ("iso9660", "iso9660", [(0x8001, b"CD001"), (0x8801, b"CD001")]),
@@ -321,7 +311,7 @@ def test_tables_within(tally, pile):
     tally.holds("BSD in a partition", row["table"] and "partition table (BSD) that isn't followed" in whys[0], row)
 
 
-class ShuffledPile(models.Pile):
+class ShuffledPile(piles.Pile):
     """A pile that saves all volumes twice: the other time with its images under other names, and in another order."""
 
     def __init__(self, tally, program, top, folder):

@@ -2,14 +2,17 @@
 bytes that are there; no sector is without an answer, and nobody has only what nothing claims."""
 
 import os
+import shutil
 import struct
 
 import containers
-import models
+import piles
 import physical_volumes
-from models import A, DATA, EXTENT, HIDDEN, SECTOR, content_of, disk, extents_of, linear, member, pile, segment, text, volume
+from dmremap_tools.base import program
+from piles import A, DATA, EXTENT, HIDDEN, SECTOR, content_of, disk, extents_of, linear, member, pile, segment, text, volume
 from physical_volumes import damaged, gpt, mbr, patched
 from plain_model import parity_legs
+from tool_calls import samples
 
 UNMAPPED = b"no map was given: only what the images lack counts as missing\n"
 
@@ -17,7 +20,7 @@ UNMAPPED = b"no map was given: only what the images lack counts as missing\n"
 def asked(pile, given, *words):
     """What the command prints, or why it doesn't."""
     images = words or pile.images()
-    got = models.tool_calls.call(pile.top, ["owner", "--program", pile.program.path, *images], given=given, folder=pile.folder)
+    got = piles.tool_calls.call(pile.top, ["owner", "--program", pile.program.path, *images], given=given, folder=pile.folder)
     if got.status == 0 and "--map" not in words:
         got.err = got.err[:-len(UNMAPPED)] if got.err.endswith(UNMAPPED) else got.err + b"nothing is said of maps"
     return got
@@ -89,12 +92,13 @@ def test_tables(tally, pile):
 
 
 LABELLED = physical_volumes.volume((4096, physical_volumes.area(b"x {\n}\n\0")), length=64 << 9)
-KEYED = containers.version_1(32) + bytes(64 << 9)
+SWAP = (bytes(4086) + b"SWAPSPACE2").ljust(64 << 9, b"\0")
+DAMAGED = "cryptsetup can't read its header of LUKS: restore it in a copy by `cryptsetup luksHeaderRestore`"
 PARITY = physical_volumes.md_member(LABELLED, 16, 4096, level=5, count=3)
 ARRAY = b"an array of disk".hex()
 HELD = [
-    ("a GPT", laid(400, (0, gpt((64, 127), (128, 191), (300, 350), last=399)), (64, KEYED[:64 << 9]), (128, LABELLED), (260, b"boot")),
-     ["disk 0 34 = GPT", "disk 34 30 = nobody", "disk 64 32 = disk:1 0 = LUKS1 header", "disk 96 32 = disk:1 32 = LUKS1 data, encrypted",
+    ("a GPT", laid(400, (0, gpt((64, 127), (128, 191), (300, 350), last=399)), (64, SWAP), (128, LABELLED), (260, b"boot")),
+     ["disk 0 34 = GPT", "disk 34 30 = nobody", "disk 64 64 = disk:1 0 = swap",
       "disk 128 1 = disk:2 0 = unknown: the metadata area at byte 4096: its text doesn't begin as that of a group",
       "disk 129 1 = disk:2 1 = label of LVM", "disk 136 8 = disk:2 8 = metadata area of LVM",
       "disk 192 108 = unknown: no partition has it, and yet something is written there", "disk 300 51 = disk:3 0 = unknown: nothing is found in it"]),
@@ -104,10 +108,10 @@ HELD = [
     ("a GPT that is damaged", laid(100, (0, gpt((64, 71), damage=512 + 60))), ["disk 0 100 = unknown: both copies of its partition table (GPT) are damaged: repair it in a copy with gdisk, or cut the partition out with dd"]),
     ("a member of an array with parity", PARITY, ["disk 0 16 = superblock of md:%s, with what it keeps free" % ARRAY, "disk 17 1 = md:%s 1 = label of LVM" % ARRAY,
                                                   "disk 48 16 = parity of md:" + ARRAY]),
-    ("a container", KEYED[:64 << 9], ["disk 0 32 = LUKS1 header", "disk 32 32 = LUKS1 data, encrypted"]),
-    ("a container whose header is damaged", containers.flipped(containers.version_2()[:1 << 14], 300),
-     ["disk 0 32 = LUKS2 container: its header of LUKS is damaged: restore it in a copy by `cryptsetup luksHeaderRestore`"]),
-    ("a container whose data is elsewhere", containers.version_2(json=containers.text_of(data=0)) + bytes(1 << 16), ["disk 0 128 = LUKS2 header"]),
+    *([("a container", containers.version_1() + SWAP, ["disk 0 2048 = LUKS1 header", "disk 2048 64 = LUKS1 data, encrypted"]),
+       ("a container whose header is damaged", containers.flipped(containers.version_2()[:1 << 14], 300), ["disk 0 32 = LUKS2 container: " + DAMAGED]),
+       ("a container whose data is elsewhere", containers.version_2(json=containers.text_of(data=0)) + bytes(1 << 16), ["disk 0 128 = LUKS2 header"])]
+      if containers.is_read() else []),
     ("nothing that is known", b"x" * (64 << 9), ["disk 0 64 = unknown: nothing is found in it"]),
     ("nothing", bytes(64 << 9), ["disk 0 64 = unknown: nothing is found in it"]),
     ("swap", bytes(4086) + b"SWAPSPACE2" + bytes(4096), ["disk 0 16 = swap"]),
@@ -131,13 +135,21 @@ def test_words(tally, pile):
     pile.put("a disk", laid(100, (0, mbr((0x83, 8, 8)))))
     inside = "a disk %d %d = a disk:1 %d = unknown: nothing is found in it\n"
     for given, words, wanted in [
-            ("a disk 9\n", [], inside % (9, 1, 1)), ("a disk 9 2\n", [], inside % (9, 2, 1)), ("a disk 4608 513\n", ["--bytes"], inside % (9, 2, 1)),
+            ("a disk 9\n", [], inside % (9, 1, 1)), ("a disk 9 2\n", [], inside % (9, 2, 1)),
             ("a disk 1 1\n", ["--sector-size", "4096"], inside % (8, 8, 0)), ("a disk:1 1\n", [], "a disk:1 1 1 = unknown: nothing is found in it\n"),
             ("a disk 98 4\n", [], "a disk 98 2 = nobody\na disk 100 2 = unknown: a disk ends at byte 51200: give an image of the whole disk\n")]:
         tally.same("who has %r %s" % (given, words), asked(pile, given, "a disk", *words), 0, wanted)
     os.rename(os.path.join(pile.folder, "a disk"), os.path.join(pile.folder, "sda"))
     got = asked(pile, "[ 1.5] I/O error, dev sda, sector 9 op 0x0:(READ)\n[ 1.6] x\n", "sda")
-    tally.same("who has a sector of a kernel's log", got, 0, "sda 9 1 = sda:1 1 = unknown: nothing is found in it\n", "left out: 1 lines of a kernel's log that name no sector\n")
+    tally.same("who has a sector of a kernel's log", got, 0, "sda 9 1 = sda:1 1 = unknown: nothing is found in it\n", "left out: lines of a kernel's log that name no sector: 1\n")
+    shutil.copy(os.path.join(pile.folder, "sda"), os.path.join(pile.folder, "sdb.img"))
+    for name in ("sda", "sdb"):
+        got = asked(pile, "[ 1.5] I/O error, dev %s, sector 9 op 0x0:(READ)\n" % name, "sda", "sdb.img")
+        tally.same("who has a sector of %s by a kernel's log" % name, got, 0, "{0} 9 1 = {0}:1 1 = unknown: nothing is found in it\n".format({"sdb": "sdb.img"}.get(name, name)))
+    shutil.copy(os.path.join(pile.folder, "sda"), os.path.join(pile.folder, "sdb.raw"))
+    got = asked(pile, "[ 1.5] I/O error, dev sdb, sector 9 op 0x0:(READ)\n", "sdb.raw", "sdb.img")
+    tally.same("who has a sector of one of two", got, 1, "", "dmremap-tools owner: standard input:1: several images may be sdb, give one: sdb.raw, sdb.img\n")
+    pile.remove("sdb.img", "sdb.raw")
     pile.put("map", b"0x0 ?\n0x0 0x1200 +\n0x1200 0x100 -\n0x1300 0xB500 +\n")
     tally.same("who has what a map lacks", asked(pile, "", "sda", "--map", "sda=map"), 0, "sda 9 1 = sda:1 1 = unknown: nothing is found in it\n")
     for given, why in [("sdb 1\n", "sdb: no image is called so, and no partition or array of one: see `scan` for their names"), ("sda\n", "standard input:1: give IMAGE FIRST or IMAGE FIRST COUNT, and not: sda"),
@@ -146,12 +158,43 @@ def test_words(tally, pile):
     tally.holds("a map of no image", asked(pile, "", "sda", "--map", "sdb=map").status == 2, "it is taken")
 
 
+def test_files(tally, pile):
+    """From a sector to the file: on a volume of LVM, on a partition, and in an opened container, whose length has to fit."""
+    for name in ("a.img", "b.img", "c.img", "home.img"):
+        shutil.copy(os.path.join(samples(pile.top), name), pile.folder)
+    file_system, images = pile.read("home.img"), ("a.img", "b.img", "c.img", "--files")
+    if not program.found("debugfs").startswith("/"):
+        tally.skip("files of sectors", "there is no debugfs")
+        return
+    found = [line for line in asked(pile, "c.img 46 4\na.img 1 1\n", *images).out.decode().splitlines()]
+    both = ["c.img 46 4 = vg/home 54 = /old/%s.txt" % it for it in ("copy", "list")]
+    tally.holds("files on a volume", found == [*both, "a.img 1 1 = GPT"], found)
+    disk = laid(2048, (0, mbr((0x83, 64, len(file_system) // SECTOR), (0x83, 512, 1536)))).ljust(2048 * SECTOR, b"\0")
+    pile.put("sdb.img", patched(disk, (64 * SECTOR, file_system)))
+    found = asked(pile, "[ 1.5] I/O error, dev sdb, sector %d op 0x0:(READ)\n" % (64 + 54), "sdb.img", "--files").out.decode().splitlines()
+    tally.holds("a file on a partition", [it.rsplit(" = ", 1)[-1] for it in found] == ["/old/copy.txt", "/old/list.txt"] and "= sdb.img:1 54 = ext2 = " in found[0], found)
+    if not containers.is_read():
+        tally.skip("files in an opened container", "there is no cryptsetup")
+        return
+    data = len(file_system) // SECTOR
+    pile.put("sdc.img", patched(laid(64, (0, mbr((0x83, 64, 2048 + data)))).ljust((64 + 2048 + data) * SECTOR, b"\0"), (64 * SECTOR, containers.version_1())))
+    given, words = "sdc.img %d 4\nsdc.img 70 1\n" % (64 + 2048 + 54), ("sdc.img", "home.img", "--files", "--opened", "sdc.img:1=home.img")
+    wanted = ["sdc.img %d 4 = sdc.img:1 %d = home.img 54 = ext2 = /old/%s.txt" % (64 + 2048 + 54, 2048 + 54, it) for it in ("copy", "list")]
+    found = asked(pile, given, *words).out.decode().splitlines()
+    tally.holds("files in an opened container", found == [*wanted, "sdc.img 70 1 = sdc.img:1 6 = LUKS1 header"], found)
+    pile.put("home.img", file_system + bytes(16 * SECTOR))
+    why = "dmremap-tools owner: home.img: it has %d sectors, and the data of sdc.img:1 %d: give the device that cryptsetup opened\n" % (data + 16, data)
+    tally.same("an opened device of another length", asked(pile, given, *words), 1, "", why)
+    tally.tells("what is no container", asked(pile, given, "sdc.img", "home.img", "--opened", "home.img=home.img"), 1, "", "no LUKS container begins it")
+    tally.tells("no opened image", asked(pile, given, "sdc.img", "home.img", "--opened", "sdc.img:1"), 2, "", "--opened: not NAME=IMAGE")
+
+
 def test_groups(tally, pile):
     """Volumes that nobody activated; what is free, was once taken, or isn't known, as the text is lost, damaged or of another time."""
-    known = text("vg0", "g", 4, "ab", *models.PLAIN)
+    known = text("vg0", "g", 4, "ab", *piles.PLAIN)
     pile.put("one", disk("a", A, known))
-    pile.put("two", disk("b", models.B, known))
-    contents = {"vg0/home": models.HOME, "vg0/wide-one": models.WIDE}
+    pile.put("two", disk("b", piles.B, known))
+    contents = {"vg0/home": piles.HOME, "vg0/wide-one": piles.WIDE}
     found = {}
     for name in ("one", "two"):
         here, besides = agrees(tally, "volumes on " + name, pile, name, contents)
@@ -162,7 +205,7 @@ def test_groups(tally, pile):
     tally.same("what is free", asked(pile, free), 0, "two %d 1 = free in vg0\n" % (DATA + 63 * EXTENT))
     place = DATA + 3 * EXTENT
     later = text("vg0", "g", 5, "a", volume("other", "o", linear(0, 1, ("pv0", 40))))
-    pile.put("one", disk("a", A, text("vg0", "g", 4, "a", models.PLAIN[0].replace('"pv1", 0', '"pv0", 30')), later))
+    pile.put("one", disk("a", A, text("vg0", "g", 4, "a", piles.PLAIN[0].replace('"pv1", 0', '"pv0", 30')), later))
     tally.same("what was once taken", asked(pile, "one %d 2\n" % place, "one"), 0, "one %d 2 = free in vg0\none %d 2 = vg0/home, removed\n" % (place, place))
     sound = disk("a", A, known)
     odd = text("vg0", "g", 4, "a", volume("odd", "o", segment(0, 1, "newer", 'there = ["pv0", 3]')))
@@ -194,11 +237,11 @@ def test_ladder(tally, pile):
 
 def test_layers(tally, pile):
     """Snapshots with what their stores have, one that is being merged, pvmove, raid of LVM."""
-    new = [(number, content_of("new %d" % number, models.CHUNK)) for number in (7, 0, 19)]
-    data = patched(A, (20, models.store(40, new)), (30, models.store(40, new[:2])), unit=EXTENT * SECTOR)
+    new = [(number, content_of("new %d" % number, piles.CHUNK)) for number in (7, 0, 19)]
+    data = patched(A, (20, piles.store(new)), (30, piles.store(new[:2])), unit=EXTENT * SECTOR)
 
     def record(number, origin, of, key):
-        return volume("snapshot%d" % number, str(number), segment(0, 5, "snapshot", "chunk_size = %d" % models.CHUNK, 'origin = "%s"' % origin, '%s = "%s"' % (key, of)), status=HIDDEN)
+        return volume("snapshot%d" % number, str(number), segment(0, 5, "snapshot", "chunk_size = %d" % piles.CHUNK, 'origin = "%s"' % origin, '%s = "%s"' % (key, of)), status=HIDDEN)
     moved = volume("pvmove0", "p", segment(0, 5, "mirror", "mirror_count = 2", "extents_moved = 5", 'mirrors = ["pv0", 50, "pv0", 55]'), status='"READ", "WRITE", "PVMOVE", "LOCKED"')
     raid = volume("five", "v", segment(0, 2, "raid5_ls", "device_count = 3", "stripe_size = 8", "region_size = 1024",
                                        'raids = ["m0", "d0", "m1", "d1", "m2", "d2"]'))
@@ -209,7 +252,7 @@ def test_layers(tally, pile):
                  moved, volume("moving", "m", linear(0, 5, ("pvmove0", 0))), volume("odd", "d", segment(0, 2, "vdo", 'vdo_pool = "hidden"')),
                  volume("hidden", "q", linear(0, 1, ("pv0", 60)), status=HIDDEN), raid, *legs)
     pile.put("disk", disk("a", data, known))
-    size, home = models.CHUNK * SECTOR, extents_of(data, 0, 5)
+    size, home = piles.CHUNK * SECTOR, extents_of(data, 0, 5)
     back = patched(extents_of(data, 10, 5), *new[:2], unit=size)
     old = patched(home, *new, unit=size)
     contents = {"vg0/home": home, "vg0/old": old, "store of vg0/old": extents_of(data, 20, 5)}
@@ -228,7 +271,7 @@ def test_layers(tally, pile):
 
 def test_pools(tally, pile):
     """Blocks of a pool and of a cache, and what is kept of them."""
-    _, _, contents = models.put_pools(pile)
+    _, _, contents = piles.put_pools(pile)
     found, besides = agrees(tally, "thin volumes and a cached one", pile, "disk", contents)
     tally.holds("their sectors", found.get("vg0/one") == {*range(0, 16), *range(32, 64)} and found.get("vg0/quick") == set(range(64)), found)
     tally.holds("what pools keep", {"metadata of vg0/pool, below one, two, none", "data of vg0/pool, below one, two, none", "cache of vg0/quick"} <= set(besides), besides)

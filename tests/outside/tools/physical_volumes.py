@@ -3,6 +3,8 @@
 import struct
 import zlib
 
+import lvm_texts
+
 SECTOR = 512
 MAGIC = b" LVM2 x[5A%r0N*>"
 # Where the first metadata area of a physical volume lies.
@@ -36,26 +38,14 @@ def text_of_area(group, identity, number):
     return b'vg0 {\nid = "%s"\nseqno = %d\n' % (identity, number) + body + head + TIME + b"\0"
 
 
-def section(name, *fields):
-    """A section of a text of lvm2, of fields and sections."""
-    return "%s {\n%s}\n" % (name, "".join(field if field.endswith("\n") else field + "\n" for field in fields))
-
-
-def dashed(letters):
-    """An id of 32 letters as a text has it."""
-    return "-".join(letters[begin:end] for begin, end in ((0, 6), (6, 10), (10, 14), (14, 18), (18, 22), (22, 26), (26, 32)))
-
-
 def one_volume(*physicals):
     """The text of a group `g`, whose volume `v` is the first extent of the first of these physical volumes. Each is its key, its
     path, its sectors, those before its extents, and perhaps its id."""
-    listed = [section(key, *('id = "%s"' % it for it in identity), 'device = "%s"' % path, "dev_size = %d" % size, "pe_start = %d" % start,
-                      "pe_count = %d" % ((size - start) // 8)) for key, path, size, start, *identity in physicals]
-    segment = section("segment1", "start_extent = 0", "extent_count = 1", 'type = "striped"', "stripe_count = 1", 'stripes = ["%s", 0]' % physicals[0][0])
-    held = section("v", 'status = ["READ", "WRITE", "VISIBLE"]', "segment_count = 1", segment)
-    fields = 'id = "%s"' % dashed("theone".ljust(32, "x")), "seqno = 1", 'status = ["RESIZEABLE", "READ", "WRITE"]', "extent_size = 8"
-    group = section("g", *fields, section("physical_volumes", *listed), section("logical_volumes", held))
-    return group + 'contents = "Text Format Volume Group"\nversion = 1\n'
+    listed = [lvm_texts.physical(key, path, size, start, (size - start) // 8, *('id = "%s"' % it for it in identity))
+              for key, path, size, start, *identity in physicals]
+    held = lvm_texts.volume("v", lvm_texts.striped(0, 1, (physicals[0][0], 0)))
+    fields = 'id = "%s"' % lvm_texts.dashed("theone".ljust(32, "x")), "seqno = 1", 'status = ["RESIZEABLE", "READ", "WRITE"]'
+    return lvm_texts.group("g", 8, listed, [held], *fields) + lvm_texts.HEAD
 
 
 def label(areas, place=1, size=64 << 20, is_used=True, identity=b"anidentityof32bytesforthislabel0", version=2):

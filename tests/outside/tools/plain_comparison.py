@@ -19,11 +19,11 @@ TOP = os.path.abspath(os.path.join(os.path.dirname(__file__), *[os.pardir] * 3))
 if __name__ == "__main__":
     sys.path[:0] = [os.path.join(TOP, *names) for names in (("tests", "outside"), ("tests", "outside", "tools"), ("tools",))]
 
-import models
+import piles
 import plain_model
-import used
+import store_lists
 from dmremap_tools.model.pile import Pile
-from models import CLEAN, DATA, EXTENT, HIDDEN, SECTOR, segment, volume
+from piles import CLEAN, DATA, EXTENT, HIDDEN, SECTOR, segment, volume
 
 SECTORS = 200
 FAULTY = 0xFFFE
@@ -42,6 +42,11 @@ def changed(content, runs):
     for first, end in runs:
         made[first * SECTOR:end * SECTOR] = made[first * SECTOR:end * SECTOR].translate(OPPOSITE)
     return bytes(made)
+
+
+def changed_to_zeros(content, first, end):
+    """Content with zeros in a run of sectors."""
+    return content[:first * SECTOR] + bytes(len(content[first * SECTOR:end * SECTOR])) + content[end * SECTOR:]
 
 
 def some_runs(dice, sectors, most=3):
@@ -80,7 +85,7 @@ def array(dice, machine, data=None):
     """An array of any level, of which members are missing, behind, dropped, being rebuilt, cut short or have bad sectors."""
     level = dice.choice([0, 1, 4, 5, 5, 6, 6, 6, 10, 10, -1] if data is None else [1, 1, 5, 6, 10])
     chunk, disks = dice.choice([8, 16]), dice.randrange(3 if level in (4, 5) else 4 if level == 6 else 2, 8)
-    layout, size = 0, dice.randrange(chunk, 12 * chunk)
+    layout, size, is_alone = 0, dice.randrange(chunk, 12 * chunk), data is None
     if data is not None:
         disks, size = min(disks, 4), -(-len(data) // SECTOR // chunk) * chunk if level == 1 else None
     if level in (0, -1):
@@ -121,18 +126,19 @@ def array(dice, machine, data=None):
             size = -(-len(data) // SECTOR // chunk // columns) * chunk
             data = data.ljust(size * columns * SECTOR, b"\0")
         legs = [leg.ljust(size * SECTOR, b"\0") for leg in plain_model.parity_legs(data, level, layout, disks, chunk)]
-    put_members(dice, machine, data, legs, level, layout, chunk, size)
+    put_members(dice, machine, data, legs, level, layout, chunk, size, is_alone)
     return level
 
 
-def put_members(dice, machine, data, legs, level, layout, chunk, size):
-    """Puts the legs of an array into images, most of them."""
+def put_members(dice, machine, data, legs, level, layout, chunk, size, is_alone):
+    """Puts the legs of an array into images, most of them. Of one that `is_alone` on its disks superblocks can be lost."""
     disks, version, events = len(legs), dice.randrange(3), dice.randrange(10, 1000)
     can_lack = level not in (0, -1)
     fates = dict.fromkeys(range(disks), "sound")
     lacking = min(dice.choice([0, 0, 1, 1, 2, 3]), disks) if can_lack or dice.random() < 0.2 else 0
     for role in dice.sample(range(disks), lacking):
-        fates[role] = dice.choice(["missing", "missing", "behind", "dropped", "rebuilt"] if can_lack else ["missing"])
+        ways = ["missing", "missing", "behind", "dropped", "rebuilt", *["lost"] * is_alone] if can_lack else ["missing"]
+        fates[role] = dice.choice(ways)
     if "sound" not in fates.values():
         fates[0] = "sound"
     # A member has its number in the table as long as it is in the array, wherever it is.
@@ -163,7 +169,7 @@ def put_members(dice, machine, data, legs, level, layout, chunk, size):
         if fate == "missing":
             continue
         if fate in ("behind", "dropped"):
-            machine.add(models.member(changed(leg, [(0, size)]), level, numbers[role], old_table,
+            machine.add(piles.member(changed(leg, [(0, size)]), level, numbers[role], old_table,
                                       events - (1 if fate == "dropped" else dice.randrange(2, 9)), layout, chunk, size, **fields))
             continue
         if is_dirty and level == 1 and role != source:
@@ -179,11 +185,17 @@ def put_members(dice, machine, data, legs, level, layout, chunk, size):
             leg = changed(leg, [(max(0, (first << shift) - start), (first + count << shift) - start) for first, count in runs])
         # The first one that is sound has the most events.
         is_behind = dice.random() < 0.2 and can_lack and "sound" in list(fates.values())[:role]
-        content = models.member(leg, level, numbers[role], table, events - is_behind, layout, chunk, size, **fields)
+        content = piles.member(leg, level, numbers[role], table, events - is_behind, layout, chunk, size, **fields)
         if dice.random() < 0.2:
             unread = [(start + first, start + end) for first, end in some_runs(dice, len(leg) // SECTOR)]
         if version and dice.random() < 0.1:
             content = content[:(start + dice.randrange(len(leg) // SECTOR + 1)) * SECTOR]
+        if fate == "lost":
+            # The others may have run on, or this one, and nothing of it says so: by zeros, or by a map.
+            at = 8 * (version - 1) if version else (len(leg) // SECTOR + 64 + fields["tail_sectors"] - 16) & ~7
+            content, runs = (changed_to_zeros(content, at, at + 8), []) if dice.random() < 0.5 else (content, [(at, at + 8)])
+            unread = [] if unread and runs else unread
+            unread = unread + runs
         machine.add(content, unread)
     machine.names["md:" + name.decode()] = data
 
@@ -199,6 +211,8 @@ class Builder:
         self.dice = dice
         self.disks = [bytearray(noise(dice, PER_DISK * EXTENT)) for _ in range(dice.randrange(1, 5))]
         self.free = [0] * len(self.disks)
+        # The disk without which the group went on, if there is one, and the areas of volumes by their names.
+        self.gone, self.areas_of = ("pv%d" % dice.randrange(len(self.disks)) if dice.random() < 0.2 else None), {}
         self.texts, self.shown, self.made = [], [], 0
 
     def area(self, count):
@@ -248,9 +262,15 @@ class Builder:
             self.write(areas, content)
         segments, first = [], 0
         for name, extent, size in areas:
-            segments.append(models.linear(first, size, (name, extent)))
+            segments.append(piles.linear(first, size, (name, extent)))
             first += size
-        return self.volume(*segments, is_shown=is_shown)
+        name = self.volume(*segments, is_shown=is_shown)
+        self.areas_of[name] = areas
+        return name
+
+    def is_on_gone(self, name):
+        """Whether a linear volume has areas on the disk without which the group went on."""
+        return any(area[0] == self.gone for area in self.areas_of[name])
 
     def store_of(self, snapshot_key, origin, count, content):
         """A snapshot of so many extents of an origin with this store."""
@@ -281,7 +301,7 @@ def striped_kind(dice, group):
         first += columns * rows
     lower = group.volume(*segments, is_shown=True)
     if dice.random() < 0.3:
-        group.volume(models.linear(0, first, (lower, 0)), is_shown=True)
+        group.volume(piles.linear(0, first, (lower, 0)), is_shown=True)
 
 
 RAIDS = [*["raid1", "raid5"] * 4, "raid0", "raid0_meta", "raid10", "raid10_near", *plain_model.PARITY_KINDS]
@@ -319,9 +339,11 @@ def raid_kind(dice, group):
             leg = changed(leg, [(0 if role in failed else recovered, length)])
         failed_by = 0 if role in failed else sum(1 << other for other in failed)
         events, size = 3 if role in failed else 9, 0 if level == 1 else chunk
-        head = models.leg_superblock(role, events, disks, 5 if level == 4 else level, layout, size, failed_by, recovered)
-        metas.append(group.linear(2, head + models.leg_bitmap(length, region, dirty), pieces=1))
+        head = piles.leg_superblock(role, events, disks, 5 if level == 4 else level, layout, size, failed_by, recovered)
+        metas.append(group.linear(2, head + piles.leg_bitmap(length, region, dirty), pieces=1))
         images.append(group.linear(rows, leg))
+        if level and group.is_on_gone(images[-1]):
+            group.write(group.areas_of[images[-1]], changed(leg, [(0, length)]))
     fields = ["device_count = %d" % disks, "region_size = %d" % region] + ["stripe_size = %d" % chunk] * (level != 1)
     pairs = ", ".join('"%s", "%s"' % pair for pair in zip(metas, images))
     names = ", ".join('"%s"' % name for name in images)
@@ -339,11 +361,10 @@ def snapshot_kind(dice, group):
     for number in range(dice.randrange(1, 3)):
         chunk = dice.choice([1, 2, 4, 8])
         chunks = count * EXTENT // chunk
-        each = 32 * chunk
         taken = dice.sample(range(chunks), dice.randrange(min(chunks, 40) + 1))
-        pairs = [(old, 2 + place + place // each) for place, old in enumerate(taken)]
+        pairs = [(old, store_lists.place(chunk, number)) for number, old in enumerate(taken)]
         size = -(-(pairs[-1][1] + 2 if pairs else 2) * chunk // EXTENT) + dice.randrange(2)
-        content = bytearray(used.store(pairs, chunk, size * EXTENT // chunk, valid=dice.random() > 0.1))
+        content = bytearray(store_lists.store(pairs, chunk, size * EXTENT // chunk, valid=dice.random() > 0.1))
         for _, new in pairs:
             content[new * chunk * SECTOR:(new + 1) * chunk * SECTOR] = noise(dice, chunk)
         group.store_of("merging_store" if is_merging and not number else "cow_store", origin, count, bytes(content))
@@ -352,7 +373,7 @@ def snapshot_kind(dice, group):
 def tree_of(dice, pairs, first, value=lambda value: value):
     """The blocks of a tree from a block on, of which the first is the root."""
     if len(pairs) < 2 or dice.random() < 0.4:
-        return [models.node(first, pairs)]
+        return [piles.node(first, pairs)]
     parts, at = [], 0
     while at < len(pairs):
         size = dice.randrange(1, len(pairs))
@@ -362,7 +383,7 @@ def tree_of(dice, pairs, first, value=lambda value: value):
     for part in parts:
         heads.append((part[0][0], first + 1 + len(blocks)))
         blocks += tree_of(dice, part, first + 1 + len(blocks))
-    return [models.node(first, heads, is_leaf=False), *blocks]
+    return [piles.node(first, heads, is_leaf=False), *blocks]
 
 
 def thin_kind(dice, group):
@@ -379,7 +400,7 @@ def thin_kind(dice, group):
         tree = tree_of(dice, pairs, first)
         parts += tree
         first += len(tree)
-    head = models.pool_superblock(chunk) + models.node(1, roots) + models.node(2, [])
+    head = piles.pool_superblock(chunk) + piles.node(1, roots) + piles.node(2, [])
     metadata = group.linear(first, head + b"".join(parts))
     size = -(-blocks * chunk // EXTENT)
     names = 'metadata = "%s"' % metadata, 'pool = "%s"' % group.linear(size)
@@ -398,7 +419,7 @@ def cache_kind(dice, group):
     olds = dice.sample(range(count * EXTENT // chunk), min(blocks, dice.randrange(count * EXTENT // chunk + 1)))
     entries = [0] * (blocks - len(olds)) + [old << 16 | dice.choice([1, 3]) for old in olds]
     dice.shuffle(entries)
-    content, size = models.cache_metadata(chunk, entries), -(-blocks * chunk // EXTENT)
+    content, size = piles.cache_metadata(chunk, entries), -(-blocks * chunk // EXTENT)
     origin = group.linear(count)
     begin = -(-len(content) // EXTENT // SECTOR)
     if dice.random() < 0.5:
@@ -429,7 +450,7 @@ def move_kind(dice, group):
     moved = "pvmove%d" % group.made
     group.named(lambda _, letter: volume(moved, letter, *segments, status='"READ", "WRITE", "PVMOVE", "LOCKED"'), False)
     start = dice.randrange(first)
-    group.volume(models.linear(0, first - start, (moved, start)), is_shown=True)
+    group.volume(piles.linear(0, first - start, (moved, start)), is_shown=True)
 
 
 GROUP_KINDS = {"striped": striped_kind, "raid": raid_kind, "snapshot": snapshot_kind, "thin": thin_kind, "cache": cache_kind,
@@ -446,14 +467,19 @@ def group_machine(dice, machine, kinds, on_array=False):
         except IndexError:
             break
     letters = LETTERS[-len(group.disks):]
-    known = models.text("vg0", "g", 4, letters, *group.texts, extents=PER_DISK)
-    lacking = dice.randrange(len(group.disks)) if dice.random() < 0.3 else None
+    known = piles.text("vg0", "g", 4, letters, *group.texts, extents=PER_DISK)
+    if group.gone:
+        known = known.replace(b"%s {\n" % group.gone.encode(), b'%s {\nflags = ["MISSING"]\n' % group.gone.encode(), 1)
+    lacking, dark = (dice.randrange(len(group.disks)) if dice.random() < part else None for part in (0.3, 0.2 * (not on_array)))
     for place, (letter, content) in enumerate(zip(letters, group.disks)):
-        whole = models.disk(letter, bytes(content), known)
+        whole = piles.disk(letter, bytes(content), known)
         if on_array and not place:
             array(dice, machine, whole)
         elif place != lacking or len(group.disks) == 1:
             runs = some_runs(dice, PER_DISK * EXTENT) if dice.random() < 0.3 else []
+            if place == dark and len(group.disks) > 1:
+                machine.add(bytes(DATA * SECTOR) + whole[DATA * SECTOR:], [] if dice.random() < 0.5 else [(0, DATA)])
+                continue
             size = DATA + dice.randrange(PER_DISK * EXTENT) if dice.random() < 0.1 else len(whole)
             machine.add(whole[:size * SECTOR], [(DATA + first, DATA + end) for first, end in runs])
     machine.names.update(("vg0/" + name, None) for name in group.shown)

@@ -232,16 +232,28 @@ def superblock_of(disk):
     return None
 
 
-def array_of(members, is_careful):
+def can_run(level, layout, disks, count):
+    """Whether so many members of an array may go on without the others, as far as their number tells."""
+    copies = (layout & 255) * (layout >> 8 & 255) if level == 10 else 1
+    least = {1: 1, 4: disks - 1, 5: disks - 1, 6: disks - 2, 10: -(-disks // copies)}.get(level, disks)
+    return count >= least
+
+
+def array_of(members, is_careful, has_dark):
     """The array of some members, which are pairs of a disk and its superblock. Those count whose events are the highest, or one
-    less; which role each has is said by the newest. Of one that is being rebuilt that counts which is rebuilt."""
+    less; which role each has is said by the newest. Of one that is being rebuilt that counts which is rebuilt. Where nothing can be
+    read of another disk, that may be one of those that are missing, with newer data."""
     newest = max((superblock for _, superblock in members), key=lambda superblock: superblock.events)
+    level, layout, chunk, disks, size = newest.level, newest.layout, newest.chunk, newest.disks, newest.size
     here = {}
     for disk, superblock in members:
         role = newest.roles[superblock.device]
         is_read = superblock.recovered == NEVER or not is_careful
         if superblock.events + 1 >= newest.events and role < FAULTY and is_read:
             here[role] = disk, superblock
+    whole = [role for role, (_, superblock) in here.items() if superblock.recovered == NEVER]
+    if has_dark and can_run(level, layout, disks, disks - len(whole)):
+        raise Gap("a disk that can't be read may be newer")
 
     def read(role, at):
         if role not in here:
@@ -252,9 +264,9 @@ def array_of(members, is_careful):
             raise Gap("member %d, sector %d" % (role, at))
         return disk.sector(place)
 
-    level, layout, chunk, disks, size = newest.level, newest.layout, newest.chunk, newest.disks, newest.size
     # Of these the tools read the first copy alone where all members are there, or have no rule for parity.
-    reads_one = is_careful and (level in (4, 10) and len(here) == disks or level == 6 and layout != LEFT_SYMMETRIC)
+    is_known = layout in (LEFT_SYMMETRIC, LEFT_SYMMETRIC + Q_LAST)
+    reads_one = is_careful and (level in (4, 10) and len(here) == disks or level == 6 and not is_known)
     if level in (0, -1):
         if len(here) < disks:
             raise Gap("a member is missing")
@@ -343,8 +355,8 @@ PARITY_KINDS = {
 class Group:
     """A volume group: its newest text, and the physical volumes that are here by their ids."""
 
-    def __init__(self, text, physical, is_careful):
-        self.is_careful = is_careful
+    def __init__(self, text, physical, is_careful, has_dark):
+        self.is_careful, self.has_dark = is_careful, has_dark
         self.name, self.text = next((name, body) for name, body in text.items() if isinstance(body, dict))
         self.extent, self.volumes = self.text["extent_size"], self.text["logical_volumes"]
         self.physical = physical
@@ -361,18 +373,34 @@ class Group:
 
     def volume(self, name):
         """What a volume reads as: a snapshot through its store, an origin that is merged into as that snapshot."""
+        # A disk without which the group went on, and in which nothing can be read, may have another state of it.
+        gone = [record for record in self.text["physical_volumes"].values() if "MISSING" in record.get("flags", ())]
+        if self.has_dark and any(record["id"].replace("-", "") not in self.physical for record in gone):
+            raise Gap("a disk may have another state of the group")
         for record in self.records("cow_store", name):
-            return self.snapshot(self.origin(record["origin"]), name, record["extent_count"] * self.extent)
+            return self.snapshot(self.origin(record["origin"]), name, record["extent_count"] * self.extent, record["origin"])
         return self.origin(name)
 
     def origin(self, name):
         for record in self.records("origin", name):
             if "merging_store" in record:
-                return self.snapshot(self.plain(name), record["merging_store"], self.size_of(name))
+                return self.snapshot(self.plain(name), record["merging_store"], self.size_of(name), name)
         return self.plain(name)
 
-    def snapshot(self, origin, store, count):
-        return Disk(count, lambda at: snapshot_sector(origin, self.plain(store), at, self.is_careful))
+    def disks_of(self, name):
+        """The records of the physical volumes that a linear volume lies on."""
+        return [self.text["physical_volumes"][area] for segment in self.segments[name] for area in segment["stripes"][::2]]
+
+    def is_left_behind(self, name):
+        """Whether the group went on without a disk of a volume."""
+        return any("MISSING" in record.get("flags", ()) for record in self.disks_of(name))
+
+    def snapshot(self, origin, store, count, name):
+        def sector(at):
+            if self.is_left_behind(store) or self.is_left_behind(name):
+                raise Gap("a store or an origin that is older than the other")
+            return snapshot_sector(origin, self.plain(store), at, self.is_careful)
+        return Disk(count, sector)
 
     def plain(self, name):
         """A volume's own sectors, by its segments."""
@@ -427,11 +455,21 @@ class Group:
         """A sector of a raid volume: data lies at the start of the volumes of its legs, and superblocks on those beside them."""
         images = segment.get("raid0_lvs") or segment["raids"][1::2]
         # Without copies or parity the text alone says where all lies.
-        legs = [] if kind.startswith("raid0") else [leg_of(self.volume(name)) for name in segment["raids"][0::2]]
+        metas = [] if kind.startswith("raid0") else segment["raids"][0::2]
+        is_old = [self.is_left_behind(name) or self.is_split_off(name) for name in (images if metas else ())]
+        legs = [None if old else leg_of(self.volume(name)) for name, old in zip(metas, is_old)]
+        # A leg whose superblock isn't here may be newer. That its disk is here is said by the disk, or may be.
+        lost = [role for role, leg in enumerate(legs) if leg is None and not is_old[role]]
+        is_here = lambda record: self.has_dark or record["id"].replace("-", "") in self.physical
+        is_dark = any(all(map(is_here, self.disks_of(metas[role]))) for role in lost)
         newest = max(filter(None, legs), key=lambda leg: leg.events, default=None)
         if legs and (not newest or self.is_careful and newest.is_dirty(0) is None):
             raise Gap("no leg has a superblock")
         disks, length = len(images), self.size_of(images[0])
+        sets = len({role // 2 if kind.startswith("raid10") else 0 if kind == "raid1" else role for role in lost})
+        least = {"raid1": 1 if kind == "raid1" else disks // 2, "raid6": disks - 2}.get(kind[:5], disks - 1)
+        if is_dark and sets >= least:
+            raise Gap("a leg that can't be read may be newer")
 
         def read(role, sector):
             leg = legs[role] if legs else None
@@ -450,6 +488,10 @@ class Group:
         was_out = newest.failed or any(leg and leg.recovered != NEVER for leg in legs)
         computes = lambda row: row < newest.resynced and (was_out and not self.is_careful or not newest.is_dirty(row))
         return parity_sector(read, *PARITY_KINDS[kind], disks, segment["stripe_size"], at, computes)
+
+    def is_split_off(self, name):
+        """Whether a leg was split off, so that its user sees it, and doesn't write to it."""
+        return "VISIBLE" in self.volumes[name]["status"] and "WRITE" not in self.volumes[name]["status"]
 
     def cached(self, segment, at):
         name, origin, chunk = segment["cache_pool"], self.volume(segment["origin"]), segment.get("chunk_size")
@@ -491,15 +533,17 @@ def leg_of(disk):
 
 
 def exceptions_of(store, chunk):
-    """The pairs of a store's list, of an old and a new chunk, up to the first free place."""
+    """The pairs of a store's list, of an old and a new chunk, up to the first free place, behind which its area has none."""
     area = 1
     while True:
-        for place in range(chunk * SECTOR // 16):
-            old, new = struct.unpack("<QQ", bytes_of(store, area * chunk * SECTOR + 16 * place, 16))
-            if not new:
-                return
-            yield old, new
-        area += chunk * SECTOR // 16 + 1
+        pairs = list(struct.iter_unpack("<QQ", bytes_of(store, area * chunk * SECTOR, chunk * SECTOR)))
+        used = [pair for pair in pairs if pair[1]]
+        if pairs[:len(used)] != used:
+            raise Gap("a pair behind a free place")
+        yield from used
+        if len(used) < len(pairs):
+            return
+        area += len(pairs) + 1
 
 
 def snapshot_sector(origin, store, at, is_careful):
@@ -572,12 +616,21 @@ def thin_sector(metadata, data, device, at, is_careful):
 
 # All of some images.
 
+def is_dark(disk):
+    """Whether nothing can be read of what a disk is."""
+    try:
+        return not superblock_of(disk) and not physical_volume_of(disk)
+    except Gap:
+        return True
+
+
 class Machine:
     """The arrays and groups in some images, which are pairs of their bytes and the runs of sectors that weren't read. A
     careful one reads no member that is being rebuilt, and nothing where metadata is missing that other sectors need."""
 
     def __init__(self, images, is_careful=False):
         waiting, self.arrays, groups, physical = [image_of(*image) for image in images], {}, {}, {}
+        has_dark = any(map(is_dark, waiting))
         while waiting:
             members, waiting_next = {}, []
             for disk in waiting:
@@ -597,7 +650,7 @@ class Machine:
                         groups.setdefault(group["id"], []).append((group["seqno"], text))
             for each in members.values():
                 try:
-                    array = array_of(each, is_careful)
+                    array = array_of(each, is_careful, has_dark)
                 except Gap:
                     continue
                 self.arrays[each[0][1].name] = array
@@ -605,7 +658,7 @@ class Machine:
             waiting = waiting_next
         self.groups = {}
         for each in groups.values():
-            group = Group(max(each, key=lambda row: row[0])[1], physical, is_careful)
+            group = Group(max(each, key=lambda row: row[0])[1], physical, is_careful, has_dark)
             self.groups[group.name] = group
 
     def device(self, name):
@@ -613,4 +666,7 @@ class Machine:
         if name.startswith("md:"):
             return self.arrays.get(name[3:])
         group, _, volume = name.partition("/")
-        return self.groups[group].volume(volume) if group in self.groups else None
+        try:
+            return self.groups[group].volume(volume) if group in self.groups else None
+        except Gap:
+            return None

@@ -6,9 +6,10 @@ import fcntl
 import os
 import shutil
 
-import models
+import piles
+import store_lists
 import tool_calls
-from models import A, DATA, EXTENT, SECTOR, content_of, disk, extents_of, linear, member, pile, text, volume
+from piles import A, DATA, EXTENT, SECTOR, content_of, disk, extents_of, linear, member, pile, text, volume
 from physical_volumes import patched
 from plain_model import parity_legs
 
@@ -56,7 +57,7 @@ def test_copies(tally, pile):
             tally.holds("tables of it, of which a half is whole", got.status == 0 and listed.read().endswith("/m1\n"), "%s, %r" % (got.status, got.err))
         shutil.rmtree(os.path.join(pile.folder, "out.made"))
     given = [(word, "map") for word in words[1::2]]
-    found, said = models.served(pile, "vg0/home", "m0", lambda plugin: models.taken(plugin, 0, len(HOME)), [("image", "m1"), *((key, value) for value, key in given)])
+    found, said = piles.served(pile, "vg0/home", "m0", lambda plugin: piles.taken(plugin, 0, len(HOME)), [("image", "m1"), *((key, value) for value, key in given)])
     tally.holds("a server of it", found == HOME, said)
     # The same sector of both.
     pile.put("map.m1", rescue(len(images[1]) // SECTOR, (start + 3, 1)))
@@ -85,7 +86,7 @@ def test_gaps(tally, pile):
     os.remove(os.path.join(pile.folder, "one.map"))
     got = pile.call("tables", "vg0", "one", "--to", "out.made", *words)
     tally.tells("tables of it", got, err="home: one lacks its bytes")
-    found, said = models.served(pile, "vg0/home", "one", lambda plugin: [models.taken(plugin, at * SECTOR, SECTOR) for at in (6, 7, 9, 10)], [("map", words[1])])
+    found, said = piles.served(pile, "vg0/home", "one", lambda plugin: [piles.taken(plugin, at * SECTOR, SECTOR) for at in (6, 7, 9, 10)], [("map", words[1])])
     tally.holds("a server of it", found == [HOME[6 * SECTOR:7 * SECTOR], None, None, HOME[10 * SECTOR:11 * SECTOR]], said)
     os.link(os.path.join(pile.folder, "one"), os.path.join(pile.folder, "again"))
     tally.same("under another name", pile.call("lost", "vg0/home", "again", "one", *words), 0, "3 sectors: no file system\n3 sectors lost of 40\n")
@@ -116,6 +117,21 @@ def test_lengths(tally, pile):
             tally.tells("a map %s that is meant" % name, got, 1, err="no group is called vg0")
 
 
+def test_unused(tally, pile):
+    """Commands that take maps name those that lie beside the images, and weren't given; what is no map isn't one."""
+    content = disk("a", A, GROUP)
+    pile.put("one.img", content)
+    pile.put("one.map", rescue(len(content) // SECTOR))
+    pile.put("one.img.log", b"no map\n")
+    for command, *words in (["save", "vg0/home", "out"], ["lost", "vg0/home"]):
+        typed = "with the maps that are here: dmremap-tools %s one.img --map one.img=one.map\n" % " ".join([command, *words])
+        tally.tells("%s beside a map" % command, pile.call(command, *words, "one.img"), 0, err=typed)
+        if command == "save":
+            os.unlink(os.path.join(pile.folder, "out"))
+        got = pile.call(command, *words, "one.img", "--map", "one.img=one.map")
+        tally.tells("%s with a map" % command, got, 0, err="")
+
+
 def test_rows(tally, pile):
     """A raid5 without a member, of which another lacks one sector: that of the missing one is lost as well, and not the chunk."""
     data = content_of("array", 128)
@@ -133,10 +149,10 @@ def test_rows(tally, pile):
 def test_owners(tally, pile):
     """Who has what a map lacks, of which a snapshot reads some from its origin."""
     known = text("vg0", "g", 4, "a", volume("home", "h", linear(0, 2, ("pv0", 3))), volume("snap", "s", linear(0, 4, ("pv0", 10)), status='"READ", "WRITE"'),
-                 volume("snapshot0", "n", models.segment(0, 2, "snapshot", "chunk_size = 4", 'origin = "home"', 'cow_store = "snap"')))
+                 volume("snapshot0", "n", piles.segment(0, 2, "snapshot", "chunk_size = 4", 'origin = "home"', 'cow_store = "snap"')))
     content, at = bytearray(disk("a", A, known)), DATA + 3 * EXTENT + 2
     store = (DATA + 10 * EXTENT) * SECTOR
-    content[store:store + 4096] = b"SnAp" + (1).to_bytes(4, "little") * 2 + (4).to_bytes(4, "little") + bytes(4096 - 16)
+    content[store:store + 4096] = store_lists.store([], 4, 2)
     words = put(pile, "one", bytes(content), (at, 1))
     got = tool_calls.call(pile.top, ["owner", "--program", pile.program.path, "one", *words], folder=pile.folder)
     tally.same("who has a sector that a snapshot reads, too", got, 0, "one %d 1 = vg0/home 2\none %d 1 = vg0/home 2 = vg0/snap 2\n" % (at, at))
@@ -180,7 +196,7 @@ def test_sources(tally, pile):
         tally.holds(name, got.status == 1 and b"out.map: it is the map of vg0/home of 40 sectors" in got.err and b"give a new name as --resume, and another OUT" in got.err, got.err)
         tally.holds("what that leaves", [pile.read(each) for each in first] == kept, "something else")
     pile.put("one", disk("a", A, GROUP))
-    for asked in ("home", models.dashed("g") + "/home"):
+    for asked in ("home", piles.dashed("g") + "/home"):
         tally.same("the same as " + asked, pile.call("save", asked, "out", "one", "--resume", "out.map"), 0)
     for number, name in enumerate(("one", "two")):
         pile.put(name, content_of("volume of %d" % number, 40))

@@ -1,4 +1,4 @@
-"""The command `save` by tables: volumes and files that are put together from images, with what is missing told, as a map of ddrescue,
+"""The command `save` by tables: volumes that are put together from images, with what is missing told, as a map of ddrescue,
 by which a later run goes on."""
 
 import contextlib
@@ -21,25 +21,18 @@ SECTOR = 512
 @contextlib.contextmanager
 def unreadable(*bad):
     """Lets no read of these sectors of a disk succeed, as where the disk is damaged."""
-    read_at, read_into = os.pread, os.preadv
-
-    def check(at, size):
-        if any(at < 512 * it.stop and 512 * it.start < at + size for it in bad):
-            raise OSError(errno.EIO, os.strerror(errno.EIO))
+    read_at = os.pread
 
     def read_checked(descriptor, size, at):
-        check(at, size)
+        if any(at < 512 * it.stop and 512 * it.start < at + size for it in bad):
+            raise OSError(errno.EIO, os.strerror(errno.EIO))
         return read_at(descriptor, size, at)
 
-    def read_into_checked(descriptor, views, at):
-        check(at, sum(map(len, views)))
-        return read_into(descriptor, views, at)
-
-    os.pread, os.preadv = read_checked, read_into_checked
+    os.pread = read_checked
     try:
         yield
     finally:
-        os.pread, os.preadv = read_at, read_into
+        os.pread = read_at
 
 
 TABLE = "v: 0 16 striped 2 4 a 8 b 0\nv: 16 8 zero\nv: 24 8 linear b 32\nv: 32 8 error\nv: 40 8 linear c 0\n"
@@ -204,8 +197,7 @@ def test_labels(tally, program, top):
             ("a label beside a partition", above + BESIDE, 0, None),
             ("another label", below + PHYSICAL, 0, "it isn't p, whose id is %s, but has the id %s: give the path of that" % (OWN, OTHER)),
             ("no label", gpt + plain, None, UNLABELLED), ("a partition without a label", gpt + plain, 40, None),
-            ("a label elsewhere", gpt + plain + bytes(8 * SECTOR) + PHYSICAL, None,
-             UNLABELLED),
+            ("a label elsewhere", gpt + plain + bytes(8 * SECTOR) + PHYSICAL, None, UNLABELLED),
             ("a volume elsewhere", gpt + plain + bytes(8 * SECTOR) + PHYSICAL, 104, None),
             ("the head of a disk", physical_volumes.mbr((0x83, 8, 8), (0x8E, 400, 56)) + bytes(99 * SECTOR), None,
              UNLABELLED.replace("GPT", "MBR").replace("1", "1, 2"))):
@@ -224,46 +216,6 @@ def test_labels(tally, program, top):
         got = tool_calls.call(top, ["save", "--program", program.path, "--paths", listed, "v", target, "table", *words])
         tally.same("saving from a place of %d figures" % figures, got, 1, "", "dmremap-tools save: v: %s; or give --resume MAP to save the rest: the map says "
                    "then what is missing\n" % told)
-
-
-def test_file(tally, program, top):
-    """A file of the volume, by what filefrag printed of it: its extents, its hole, and its length."""
-    disks = Disks(program)
-    extents = ("Filesystem type is: ef53\nFile size of /f is 9000 (18 blocks of 512 bytes)\n"
-               " ext:     logical_offset:        physical_offset: length:   expected: flags:\n"
-               "   0:        0..       3:         26..        29:      4:            \n"
-               "   1:        8..      17:          2..        11:     10:         30: last,eof\n/f: 2 extents found\n")
-    tally.same("a file", disks.save(top, "file", "--extents", program.file("save/extents", extents)), 0)
-    volume = disks.volume()
-    wanted = (volume[26 * SECTOR:30 * SECTOR] + bytes(4 * SECTOR) + volume[2 * SECTOR:12 * SECTOR])[:9000]
-    tally.holds("what it has", read(disks.target("file")) == wanted, "it is another")
-    two = program.file("save/extents", extents + extents.split("\n", 1)[1])
-    tally.same("two files", disks.save(top, "files", "--extents", two), 1, "", "dmremap-tools save: %s: more than one file: give the extents of one\n" % two)
-
-
-def test_odd_file(tally, program, top):
-    """A file of an odd number of bytes, which is saved once without a disk and then with it, by its map."""
-    disks = Disks(program)
-    program.file("save/table", TABLE.replace("error", "zero"))
-    extents = ("Filesystem type is: ef53\nFile size of /f is 5001 (10 blocks of 512 bytes)\n"
-               " ext:     logical_offset:        physical_offset: length:   expected: flags:\n"
-               "   0:        0..       4:          1..         5:      5:            \n"
-               "   1:        5..       9:         42..        46:      5:         30: last,eof\n/f: 2 extents found\n")
-    words = ["odd", "--extents", program.file("save/extents", extents)]
-    sectors, ids = said_of(disks, top, *words[1:])
-    words += ["--resume", disks.target("odd.map")]
-    os.rename(disks.paths["c"], disks.paths["c"] + ".away")
-    gone = "%s: No such file or directory\n" % disks.paths["c"]
-    tally.same("an odd file without a disk", disks.save(top, *words), 4, "", "v: %smissing: c: %s" % (gone, gone) + LOST % (5, 5))
-    text = "0x%08X  0x%08X  +\n0x%08X  0x%08X  ?\n" % (0, 5 * SECTOR, 5 * SECTOR, 5001 - 5 * SECTOR)
-    tally.holds("its map", read(disks.target("odd.map")).decode() == MAP % (sectors, re.sub("c:[0-9a-f]+", "c:?", ids), 5 * SECTOR, "?") + text, read(disks.target("odd.map")))
-    os.rename(disks.paths["c"] + ".away", disks.paths["c"])
-    for _ in range(2):
-        tally.same("an odd file that goes on", disks.save(top, *words), 0)
-        volume = disks.volume()
-        tally.holds("what it has", read(disks.target("odd")) == (volume[SECTOR:6 * SECTOR] + volume[42 * SECTOR:47 * SECTOR])[:5001], "it is another")
-        text = MAP % (sectors, ids, 5001, "+") + "0x%08X  0x%08X  +\n" % (0, 5001)
-        tally.holds("its last map", read(disks.target("odd.map")).decode() == text, read(disks.target("odd.map")))
 
 
 def test_edges(tally, program, top):
@@ -428,16 +380,12 @@ BITS = [b"0", b"18446744073709551615", b"9" * 40, b"-1", b"\0", b"\xff", b"\n", 
 def test_mutations(tally, program, top):
     """Inputs with random changes: a file, or a refusal in words after which there is none."""
     disks = Disks(program)
-    extents = ("Filesystem type is: ef53\nFile size of /f is 5001 (10 blocks of 512 bytes)\n"
-               " ext:     logical_offset:        physical_offset: length:   expected: flags:\n"
-               "   0:        0..       4:          1..         5:      5:            \n"
-               "   1:        5..       9:         42..        46:      5:         30: last,eof\n/f: 2 extents found\n")
     own = "# Of v of %d sectors, from %s\n" % said_of(disks, top)
-    texts = {"extents": extents.encode(), "paths": read(os.path.join(program.folder, "save/paths")), "map": own.encode() + b"0x0 ?\n0x0 0x2000 +\n0x2000 0x4000 ?\n"}
+    texts = {"paths": read(os.path.join(program.folder, "save/paths")), "map": own.encode() + b"0x0 ?\n0x0 0x2000 +\n0x2000 0x4000 ?\n"}
     words = ["save", "--program", program.path, "--paths", "paths", "v", "out", *disks.source]
     dice = random.Random(1)
     for number in range(TRIES):
-        more, changed = (["--extents", "extents"], dice.choice(["extents", "paths"])) if number % 2 else (["--resume", "map"], dice.choice(["paths", "map"]))
+        more, changed = ([], "paths") if number % 2 else (["--resume", "map"], dice.choice(["paths", "map"]))
         for name, text in texts.items():
             program.file("changed/" + name, mutated(text, dice) if name == changed else text)
         out = program.file("changed/out", bytes(0x6000))

@@ -16,6 +16,9 @@ from tool_calls import read
 ODD = ["plain", "sp ace ", "two\nlines", "esc\x1b[2Jape", 'q"uote \\back', b"bad\xff".decode("utf-8", "surrogateescape")]
 
 
+UNCOMPARED = b": nothing of the volume is there with which it could be compared\n"
+
+
 def found(name):
     """The path of a program, which may stand where only the administrator's programs do."""
     return shutil.which(name) or shutil.which(name, path="/usr/sbin:/sbin")
@@ -29,7 +32,9 @@ def files(program, top, asked, image):
         at = first + count
     rows = "".join("0x%x 0x%x %s\n" % (512 * begin, 512 * (end - begin), status) for begin, end, status in [*areas, (at, size, "+")] if begin < end)
     rescue = program.file("files/map", "0x0 ?\n" + rows)
-    return tool_calls.call(top, ["lost", "--program", program.path, image, image, "--saved", image, "--map", "%s=%s" % (image, rescue)])
+    got = tool_calls.call(top, ["lost", "--program", program.path, image, image, "--saved", image, "--map", "%s=%s" % (image, rescue)])
+    got.err = got.err.replace(image.encode() + UNCOMPARED, b"")
+    return got
 
 
 def said(*rows, sectors, lost):
@@ -57,6 +62,22 @@ def test_refusals(tally, program, top):
     got = files(program, top, [(0, 1)], image)
     begins = ("dmremap-tools lost: %s: debugfs says: " % image).encode()
     tally.holds("files of a damaged file system", (got.status, got.out) == (1, b"") and got.err.startswith(begins), got.err)
+
+
+def test_saved(tally, program, top):
+    """What --saved names is the copy of the volume, by its length and by its first bytes, where these are there."""
+    sample, size = read(os.path.join(tool_calls.samples(top), "home.img")), os.path.getsize(os.path.join(tool_calls.samples(top), "home.img"))
+    image, rescue = program.file("files/volume", sample), "0x0 ?\n0x0 %s +\n%s 0x200 -\n%s %s +\n" % (hex(size - 1024), hex(size - 1024), hex(size - 512), hex(512))
+    other = sample[:1024 + 104] + b"another id......" + sample[1024 + 120:]
+    give = "give the copy of %s that `save` made, or leave --saved out" % image
+    for name, content, why in (
+            ("the copy", sample, ""), ("a copy in which the lost sector is zeros", sample[:-1024] + bytes(512) + sample[-512:], ""),
+            ("a longer file", sample + bytes(512), "it has %d bytes, and the volume %d: %s" % (size + 512, size, give)),
+            ("another file system", other, "it has other bytes than the volume, from byte 0 on: " + give),
+            ("no file system", bytes(size), "it has other bytes than the volume, from byte 0 on: " + give)):
+        saved = program.file("files/saved", content)
+        got = tool_calls.call(top, ["lost", "--program", program.path, image, image, "--saved", saved, "--map", "%s=%s" % (image, program.file("files/map", rescue))])
+        tally.tells("files by " + name, got, 1 if why else 0, "" if why else "1 sectors lost of", "dmremap-tools lost: %s: %s\n" % (saved, why) if why else "")
 
 
 def test_large_inodes(tally, program, top):

@@ -1,14 +1,12 @@
-"""Whatever reads through a snapshot: `save`, `dd`, `extents` and `elsewhere`. Three snapshots of one origin were written to, and their
+"""Whatever reads through a snapshot: `save` and `layout --device`. Three snapshots of one origin were written to, and their
 stores lie on devices of the stack. What each holds is put together here from the disks."""
 
 import itertools
 import os
-import random
 
 import lvm2_rows
-from harness import run
 from tool_calls import TOOL, call, read
-from used import store
+from store_lists import store
 
 SECTOR, CHUNK, LENGTH = 512, 8, 64
 # The lines of what lies below. The stores have room for a second area, which nobody has to read.
@@ -80,17 +78,6 @@ SOURCE = ["table", "table", "disks"]
 PATHS = ["--paths", "paths"]
 
 
-def test_orders(case):
-    """All three, in each order of their lines."""
-    for order in itertools.permutations(SNAPSHOTS):
-        case.put("ordered", BELOW + "".join(order))
-        names = [it.split(":")[0] for it in order]
-        got = case.call("dd", *PATHS, "table", "ordered", "disks", given="".join("R %s 0 64\n" % it for it in names))
-        made = run(["sh"], given=got.out, folder=case.folder)
-        case.tally.same("used snapshots in the order %s" % names, made, 0, b"".join(case.content[it] for it in names))
-        case.tally.holds("what is told of them", got.err.decode() == "".join(map(case.told, names)), got.err)
-
-
 # The stores of a group's snapshots: the extents that they lie on, and their pairs. All else of their areas is zeros.
 OF_GROUP = {"one": (range(10, 20), [(5, 2)]), "two": ([*range(20, 24), *range(60, 66)], [(63, 2), (0, 3)]), "three": (range(30, 40), [(9, 2), (8, 3), (7, 4)])}
 
@@ -134,7 +121,7 @@ def test_saved(case):
 
 INVALID = "the store of s1: it is invalid, as it was full once: what the origin overwrote since is lost, and nothing of the snapshot is read; --fresh takes " \
           "what the origin has"
-NOT_HERE = "the store of s1: a disk that its header or its list lies on isn't here (d); --paths says where disks are, and --fresh takes every snapshot as new"
+NOT_HERE = "the store of s1: a disk that its header or its list lies on isn't here (d); --paths says where disks are"
 
 
 def test_not_read(case):
@@ -150,40 +137,14 @@ def test_not_read(case):
             ("one whose disk is a pipe", ["--paths", "pipe.paths"], SOURCE, "pipe: neither a file nor a disk: give an image of the disk"),
             ("one whose disk is a device of zeros", ["--paths", "zero.paths"], SOURCE, "/dev/zero: neither a file nor a disk: give an image of the disk"),
             ("one that isn't persistent", PATHS, ["table", "n", "disks"], "the store of s1: it isn't persistent, so no disk says what is in it; --fresh takes it as new")):
-        for command, more, given in (("save", ["s1", "out", *source], ""), ("extents", ["s1", *source], ""), ("dd", source, "R s1 0 8\n")):
-            got = case.call(command, *words, *more, given=given)
-            case.tally.same("%s of %s" % (command, name), got, 1, "refused\n" if command == "dd" else "", "%s %s: %s\n" % (TOOL, command, why))
+        for command, more in (("save", ["s1", "out", *source]), ("layout", ["--device", "s1", *source])):
+            got = case.call(command, *words, *more)
+            case.tally.same("%s of %s" % (command, name), got, 1, "", "%s %s: %s\n" % (TOOL, command, why))
             case.tally.holds("what %s leaves of %s" % (command, name), case.read("out") is None, "it is there")
 
 
 def remove(case, name):
     os.unlink(os.path.join(case.folder, name))
-
-
-def test_lines(case):
-    """The lines for dd, of reads and of writes."""
-    got = case.call("dd", *PATHS, *SOURCE, given="R s2 5 50\nR base 0 3\n")
-    made = run(["sh"], given=got.out, folder=case.folder)
-    case.tally.same("the lines of dd for a snapshot", made, 0, case.content["s2"][5 * SECTOR:55 * SECTOR] + case.content["base"][:3 * SECTOR])
-    case.tally.holds("how dd ends", got.status == 0 and got.err.decode() == TOLD["s2"], "%s, %r" % (got.status, got.err))
-    # `dd` itself says nothing where an image ends too soon, and what follows would move up.
-    case.put("cut.img", bytes(case.disks["d"][:2 * SECTOR]))
-    case.put("cut.paths", "d cut.img\ne e.img\n")
-    case.put("base.table", "base: 0 64 linear d 0\n")
-    got = case.call("dd", "--paths", "cut.paths", "table", "base.table", "disks", given="R base 0 3\n")
-    why = "cut.img: it ends at byte 1024, before sector 3: give an image of the whole disk\n"
-    case.tally.same("dd of an image that is cut", got, 1, "set -e\nrefused\n", TOOL + " dd: " + why)
-    # A write to the origin is copied to the store of the snapshot that has no such chunk yet, and no other.
-    new = random.Random(2).getrandbits(8 * 8 * SECTOR).to_bytes(8 * SECTOR, "little")
-    case.put("new", new)
-    got = case.call("dd", *PATHS, "--image", "new", *SOURCE, given="W o 24 8\n")
-    rows = got.out.decode().splitlines()
-    case.tally.holds("the lines of dd for a write", got.status == 0 and len(rows) == 4 and "of='d.img' seek=24" in rows[-1], "%s, %r" % (rows, got.err))
-    got = case.call("dd", *PATHS, "--image", "./d.img", *SOURCE, given="R base 0 1\n")
-    is_told = got.err.decode().endswith("%s dd: --image: ./d.img is the disk d, too: give another file\n" % TOOL)
-    case.tally.holds("dd with an image that is a disk", got.status == 2 and is_told, "%s, %r" % (got.status, got.err))
-    got = case.call("dd", *PATHS, "--image", "-", *SOURCE, given="R base 0 1\n")
-    case.tally.same("dd with an image on standard output", got, 2, "refused\n", TOOL + " dd: '-' is no file to write: give it a name\n")
 
 
 def test_extents(case):
@@ -195,28 +156,13 @@ def test_extents(case):
                 wanted[-1][1] += 1
             else:
                 wanted.append([at, 1, disk, sector])
-        got = case.call("extents", *PATHS, name, *SOURCE)
+        got = case.call("layout", *PATHS, "--device", name, *SOURCE)
         case.tally.same("the extents of " + name, got, 0, "".join("%d %d %s %d\n" % tuple(it) for it in wanted), case.told(name))
     case.put("lines", "v: 0 16 linear d 0\nv: 16 8 zero\nv: 24 1 linear d 16\nv: 25 1 linear e 17\nv: 26 2 error\nv: 28 2097152 linear f 0\nv: 2097180 2097152 zero\n")
     case.put("lines.disks", DISKS + "f 2097152\n")
-    case.tally.same("extents of other lines", case.call("extents", "v", "table", "lines", "lines.disks"), 0,
+    case.tally.same("extents of other lines", case.call("layout", "--device", "v", "table", "lines", "lines.disks"), 0,
                     "0 16 d 0\n16 8 zero\n24 1 d 16\n25 1 e 17\n26 2 error\n28 2097152 f 0\n2097180 2097152 zero\n")
-    case.tally.same("extents of no device", case.call("extents", "w", "table", "lines", "lines.disks"), 1, "", TOOL + " extents: lines: no device w: `dmremap table` prints their names\n")
-
-
-def test_elsewhere(case):
-    """A store that would read as zeros, which a kernel takes for one that has nothing in it."""
-    text = "base,,,rw,0 64 linear d 0;c1,,,rw,0 80 linear e 64;s1,,,rw,0 64 snapshot /dev/mapper/base /dev/mapper/c1 P 8\n"
-    case.put("concise", text)
-    case.put("some", "d /d\n")
-    got = call(case.top, ["elsewhere", "--paths", "some", "--missing", "zero", "concise"], folder=case.folder)
-    case.tally.same("a store of zeros elsewhere", got, 1, "refused\n", TOOL + " elsewhere: concise:1: the store of s1 lies on e, and would read as one that has "
-                    "nothing in it: give --missing error\n")
-    got = call(case.top, ["elsewhere", "--paths", "some", "--missing", "error", "concise"], folder=case.folder)
-    case.tally.tells("a store that fails elsewhere", got, out="missing0,,,ro,0 144 error;")
-    case.put("some", "e /e\n")
-    got = call(case.top, ["elsewhere", "--paths", "some", "--missing", "zero", "concise"], folder=case.folder)
-    case.tally.holds("an origin of zeros elsewhere", got.status == 0, "%s, %r" % (got.status, got.err))
+    case.tally.same("extents of no device", case.call("layout", "--device", "w", "table", "lines", "lines.disks"), 1, "", TOOL + " layout: lines: no device w: `dmremap table` prints their names\n")
 
 
 def case(tally):

@@ -3,7 +3,6 @@
 import os
 import random
 
-from harness import run
 from tool_calls import call, check_rows, good, lost, read
 
 # What is made of answers.
@@ -12,9 +11,8 @@ MEMORY, SMALL = 200 << 20, 40 << 20
 ANSWERS = "1 R sda 0 3\n2 copy sda 8 8 sdb 16\n2 W sdb 16 1\n3 zero 4\n4 fill 2 sdb 3\n5 drop 1\n6 error 9\ns: 0 8 snapshot 24/64 16\n"
 LONG = 18446744073709551615
 REPLAYED = "1 wrote 1 18 1"
-BAR = "#" * 40
 FIGURES = ("total - drop 1 1 512\ntotal - error 1 9 4608\ntotal - zero 1 4 2048\ntotal sda R 2 11 5632\ntotal sdb W 3 11 5632\n"
-           f"length sda R 2 1 {BAR}\nlength sda R 8 1 {BAR}\nlength sdb W 1 1 {BAR}\nlength sdb W 2 1 {BAR}\nlength sdb W 8 1 {BAR}\nsplit 1 2\n")
+           f"length sda R 2 1\nlength sda R 8 1\nlength sdb W 1 1\nlength sdb W 2 1\nlength sdb W 8 1\nsplit 1 2\n")
 # The lower requests that make the same of the disks, otherwise cut and in another order.
 LOWER = "W sdb 3 2\nR sda 8 4\nR sda 12 4\nR sda 0 3\nW sdb 16 8\nW sdb 16 1\n"
 OTHER = "it isn't what was answered: %d sectors were answered only, and %d are only in it; the lines that are printed say which"
@@ -25,40 +23,28 @@ def some(total, length, *rest):
     return f"total a R {total}\nlength a R {length}\n" + "".join(it + "\n" for it in rest)
 
 
-ANSWERED = [
-    good("report", [], [ANSWERS], FIGURES),
-    good("report", ["--lengths", "2"], [ANSWERS, "sdb 32\nsda 32\n"],
-         "".join(sorted(FIGURES.splitlines(True), key=lambda it: (it[:2] != "to", it[:2] == "sp", it.split()[1] != "-", it.split()[1] != "sdb")))),
-    good("report", [], ["1 R a 0 1048576\n" * 3], some("3 3145728 1610612736", "1048576 3 " + BAR, "seek a 1048576", "split 3 1")),
-    good("report", [], [f"1 R a 0 {LONG}\n" * 3], some("3 55340232221128654845 28334198897217871280640", f"{1 << 63} 3 {BAR}", f"seek a {LONG}", "split 3 1")),
+ANSWERED = [good("report", [], [ANSWERS], FIGURES),
+    good("report", [], ["1 R a 0 1048576\n" * 3], some("3 3145728 1610612736", "1048576 3", "seek a 1048576", "split 3 1")),
+    good("report", [], [f"1 R a 0 {LONG}\n" * 3], some("3 55340232221128654845 28334198897217871280640", f"{1 << 63} 3", f"seek a {LONG}", "split 3 1")),
     good("report", [], [""], "", "no piece came\n"),
     good("report", [], ["1 R a 0 8\n" * 81 + "1 R a 0 16\n" * 2 + "1 R a 0 15\n"],
-         some("84 695 355840", "8 82 " + BAR, "length a R 16 2 #", "seek a 8", "split 84 1")),
+         some("84 695 355840", "8 82", "length a R 16 2", "seek a 8", "split 84 1")),
     good("report", [], [ANSWERS + "7 R a 0 1\n7 R b 0 1\n7 W a 0 1\n"],
          FIGURES.replace("total sda", "total a R 1 1 512\ntotal a W 1 1 512\ntotal b R 1 1 512\ntotal sda").replace(
-             "length sda R 2", f"length a R 1 1 {BAR}\nlength a W 1 1 {BAR}\nlength b R 1 1 {BAR}\nlength sda R 2").replace("split 1 2\n", "seek a 1\nsplit 1 2\nsplit 3 1\n")),
+             "length sda R 2", f"length a R 1 1\nlength a W 1 1\nlength b R 1 1\nlength sda R 2").replace("split 1 2\n", "seek a 1\nsplit 1 2\nsplit 3 1\n")),
     lost("report", [], ["2 R a 0 1\n1 R a 0 1\n"], "1:2: out of order, give the answers as `dmremap map` prints them: 1 R a 0 1"),
     lost("report", [], ["1 zero 1\n3 copy a 0 1 b 0\n2 error 1\n"], "1:3: out of order, give the answers as `dmremap map` prints them: 2 error 1"),
     good("report", [], ["1 R a 0 8\n2 R b 0 1\n3 W a 108 8\n4 R a 16 1\n5 copy a 900 1 a 9\n"],
-         f"total a R 3 10 5120\ntotal a W 2 9 4608\ntotal b R 1 1 512\nlength a R 1 2 {BAR}\nlength a R 8 1 {BAR[:20]}\nlength a W 1 1 {BAR[:20]}\n"
-         f"length a W 8 1 {BAR[:20]}\nlength b R 1 1 {BAR[:20]}\nseek a 100\nsplit 1 4\n"),
-    good("report", [], [b"1 R \xffa\xe4 0 8\n"], b"total \xffa\xe4 R 1 8 4096\nlength \xffa\xe4 R 8 1 " + BAR.encode() + b"\nsplit 1 1\n"),
-    # Times, of which one goes back.
-    good("report", ["--times", "2"], ["1 zero 1\n2 zero 1\n4 zero 1\n", "5.5\n6\n8\n7.25\n"], "total - zero 3 3 1536\ntime 2.5\n"),
-    lost("report", ["--times", "2"], ["1 R a 0 1\n2 R b 0 1\n", "0.5\n"], "1:2: no time of the request, give what `trace --write-times` wrote: 2 R b 0 1"),
-    lost("report", ["--times", "2"], ["1 R a 0 1\n2 R b 0 1\n", "0.5\nrefused\n"], "1:2: no time of the request, give what `trace --write-times` wrote: 2 R b 0 1"),
-    lost("report", ["--lengths", "2"], ["1 R a 0 8\n2 zero 8\n2 copy a 0 8 b 0\n", "a 8\n"], "1:3: DISKS has no b, give those of the answers: 2 copy a 0 8 b 0"),
-    lost("report", ["--lengths", "2"], ["1 R a 0 8\n2 fill 2 a 7\n", "a 8\n"], "1:2: past the end of the disk, give the DISKS of the answers: 2 fill 2 a 7"),
-    ("report", ["--plot", "3"], [ANSWERS], "", "dmremap-tools report: --plot needs --lengths\n", 2),
-    lost("report", ["--lengths", "2"], ["1 R a 0 8\n", b"\xfd7zXZ\0\n"], "2: it is compressed (xz): unpack it"),
-    lost("report", ["--lengths", "2"], ["1 R a 0 8\n", b"sda\0 1\n"], "2: it is no text: see by `file` what it is"),
+         f"total a R 3 10 5120\ntotal a W 2 9 4608\ntotal b R 1 1 512\nlength a R 1 2\nlength a R 8 1\nlength a W 1 1\n"
+         f"length a W 8 1\nlength b R 1 1\nseek a 100\nsplit 1 4\n"),
+    good("report", [], [b"1 R \xffa\xe4 0 8\n"], b"total \xffa\xe4 R 1 8 4096\nlength \xffa\xe4 R 8 1\nsplit 1 1\n"),
     # What a trace of the disks has.
     good("report", ["--compare", "2"], [ANSWERS, LOWER], FIGURES),
     lost("report", ["--compare", "2"], [ANSWERS, LOWER + "W sdb 0 4\n"], "2: " + OTHER % (0, 4), FIGURES + "unanswered W sdb 0 4 1\n"),
     lost("report", ["--compare", "2"], [ANSWERS, LOWER.replace("R sda 0 3\n", "R sda 1 3\n")], "2: " + OTHER % (1, 1),
          FIGURES + "untraced R sda 0 1 1\nunanswered R sda 3 1 1\n"),
     lost("report", ["--compare", "2"], ["1 W a 0 4\n2 W a 0 4\n3 W a 2 2\n", "W a 0 4\nR a 0 4\n"], "2: " + OTHER % (6, 4),
-         f"total a W 3 10 5120\nlength a W 2 1 {BAR[:20]}\nlength a W 4 2 {BAR}\nseek a 3\nsplit 1 3\nunanswered R a 0 4 1\nuntraced W a 0 2 1\nuntraced W a 2 2 2\n"),
+         f"total a W 3 10 5120\nlength a W 2 1\nlength a W 4 2\nseek a 3\nsplit 1 3\nunanswered R a 0 4 1\nuntraced W a 0 2 1\nuntraced W a 2 2 2\n"),
     lost("report", ["--compare", "2"], ["1 W a 0 4\n", "W a 0\n"], "2:1: give R or W, a disk, a sector and how many, and not: W a 0"),
     lost("report", ["--compare", "2"], ["1 W a 0 4\n", "W a 0 0\n"], "2:1: no sectors, leave such lines out: W a 0 0"),
     lost("report", ["--compare", "2"], ["".join("%d W a %d 1\n" % (it, 3 * it) for it in range(1, 1 << 19)) + f"{1 << 19} W a 0 2\n{1 << 19} W a 9999999 1\n", "R a 0 9999999\n"],
@@ -135,8 +121,7 @@ def figures_of(rows):
             heads[row[2]] = row[3] + row[4]
             splits[row[0]] = splits.get(row[0], 0) + 1
     found = [f"total {disk} {what} {count} {sectors} {sectors * 512}\n" for (disk, what), (count, sectors) in sorted(totals.items())]
-    most = max(lengths.values())
-    found += [f"length {disk} {what} {1 << size} {count} {'#' * -(-40 * count // most)}\n" for (disk, what, size), count in sorted(lengths.items())]
+    found += [f"length {disk} {what} {1 << size} {count}\n" for (disk, what, size), count in sorted(lengths.items())]
     found += [f"seek {disk} {sum(each) // len(each)}\n" for disk, each in sorted(moves.items())]
     counts = sorted(splits.values())
     return "".join(found + [f"split {count} {counts.count(count)}\n" for count in sorted(set(counts))])
@@ -153,43 +138,3 @@ def test_costs(tally, program, top):
     got = call(top, ["report", "--compare", lower, path], memory=SMALL)
     tally.tells("a long trace that is equal", got, out=f"total a R {rows} {rows} ")
 
-
-DD_TABLE = ("v: 0 3 linear it's 2\nv: 3 4 zero\nv: 7 3 error\nw: 0 8 linear a 3\nw: 8 8 linear it's 0\nw: 16 4 linear a 11\n")
-DD_DISKS = "it's 64\na 64\n"
-DD = [
-    ([], "R v 0 7\n", 0, "set -e\ndd if='it'\\''s' bs=512 skip=2 count=3 status=none\ndd if='/dev/zero' bs=512 skip=0 count=4 status=none\n", ""),
-    (["--paths", "here"], "R w 0 3\nR v 0 1\n", 0, "set -e\ndd if='/dev/sdx' bs=512 skip=3 count=3 status=none\ndd if='it'\\''s' bs=512 skip=2 count=1 status=none\n", ""),
-    (["--paths", "placed"], "R w 0 3\n", 0, "set -e\ndd if='/dev/sdx' bs=512 skip=5 count=3 status=none\n", ""),
-    (["--paths", "within"], "R w 0 3\n", 1, "set -e\nrefused\n", "--paths: a begins at byte 100, within a sector: give a multiple of 512"),
-    ([], "W w 0 3\n", 1, "set -e\nrefused\n", "PROGRAM:1: a write, give --image: 1 W a 3 3"),
-    (["--image", "i"], "R v 7 3\n", 1, "set -e\nrefused\n", "PROGRAM:1: no sectors of a disk, leave them out: 1 error 3"),
-    (["--image", "i"], "R v 3 4\nR w 0 2\n", 0, "set -e\ndd if='/dev/zero' bs=512 skip=0 count=4 status=none of='i' seek=0 conv=notrunc\n"
-     "dd if='a' bs=512 skip=3 count=2 status=none of='i' seek=4 conv=notrunc\n", ""),
-    (["--paths", "twice"], "R w 0 1\n", 1, "refused\n", "twice:2: named before, give each name and path once: a c"),
-    (["--paths", "half"], "R w 0 1\n", 1, "refused\n", "half:1: not a line of PATHS, give NAME PATH: a"),
-    ([], "R w 0\n", 1, "refused\n", "standard input:1: not a request, give R or W, a device, a sector and how many: R w 0"),
-    (["--image", "-"], "", 2, "refused\n", "'-' is no file to write: give it a name"),
-]
-
-
-def test_dd(tally, program, top):
-    """The lines for dd, and that what is written to a volume through them is read from it again."""
-    folder = os.path.dirname(program.file("dd/table", DD_TABLE))
-    for name, text in (("disks", DD_DISKS), ("here", "a /dev/sdx\n"), ("placed", "a /dev/sdx?offset=1024\n"), ("within", "a /dev/sdx?offset=100\n"),
-                       ("twice", "a b\na c\n"), ("half", "a\n")):
-        program.file("dd/" + name, text)
-    source = ["--program", program.path, "table", "table", "disks"]
-    for words, given, status, out, why in DD:
-        got = call(top, ["dd", *words, *source], given=given, folder=folder)
-        said = "dmremap-tools dd: %s\n" % why.replace("PROGRAM", program.path) if why else ""
-        tally.same("dd %s of %r" % (words, given), got, status, out, said)
-    image = b"".join(b"%-511d\n" % it for it in range(20))
-    program.file("dd/in", image)
-    for name in ("a", "it's"):
-        program.file("dd/" + name)
-    for operation, words in (("W", ["--image", "in"]), ("R", ["--image", "out"]), ("R", [])):
-        made = call(top, ["dd", *words, *source], given="%s w 0 20\n" % operation, folder=folder)
-        got = run(["sh"], given=made.out, folder=folder)
-        tally.same("the lines of dd %s %s" % (operation, words), got, 0, b"" if words else image)
-    tally.holds("what dd read", read(os.path.join(folder, "out")) == image, "it is something else")
-    tally.holds("where dd wrote", read(os.path.join(folder, "a"))[3 * 512:] == image[:4096] + image[8192:], "it is elsewhere")

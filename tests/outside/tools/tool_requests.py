@@ -9,7 +9,7 @@ LAST = 1048576
 
 
 def test_requests(tally, program, top):
-    check_rows(tally, program, top, FILEFRAG + DEBUGFS + DEVICES + TRACE + LOGS + TABLES)
+    check_rows(tally, program, top, FILEFRAG + TRACE + REQUESTS + TABLES)
 
 
 def test_times(tally, program, top):
@@ -21,7 +21,7 @@ def test_times(tally, program, top):
     got = call(top, ["trace", "--write-times", "beside", "ls", "tables"], given=lines, folder=folder)
     cut = "R vg0-lv0 0 1048576\nR vg0-lv0 1048576 1048576\nR vg0-lv0 2097152 1048576\nR vg0-lv0 3145728 1\n"
     tally.same("a trace with long requests", got, 0, "R vg0-lv0 8 16\n%sW vg0-lv0 0 1048576\nW vg0-lv0 1048576 1\nR vg0-lv0 8 1048576\n" % cut,
-               "left out: 1 requests that are neither reads nor writes\n")
+               "left out: requests that are neither reads nor writes: 1\n")
     found = text_of(os.path.join(folder, "beside")).splitlines()
     tally.holds("the times of long requests", list(map(float, found)) == [0.5] + 4 * [0.75] + 2 * [1.5] + [2.0], found)
 
@@ -49,9 +49,7 @@ def no_frags(text, message, output=""):
 TWO = ("   0:        0..      15:       8000..      8015:     16:            \n"
        "   1:       16..      23:      40960..     40967:      8:       8016: last,eof\n")
 WHOLE = "   0:        0..       1:          8..         9:      2:             last,eof\n"
-FILEFRAG = [
-    frags(TWO, "R v 8000 16\nR v 40960 8\n", size=12288),
-    frags(WHOLE, "R v 64 16\n", size=8192, block=4096),
+FILEFRAG = [frags(TWO, "R v 8000 16\nR v 40960 8\n", size=12288), frags(WHOLE, "R v 64 16\n", size=8192, block=4096),
     frags(WHOLE, "R v 16 4\n", size=2048, block=1024),
     frags("   0: 0.. 1048575: 0..1048575: 1048576: last\n", "R v 0 1048576\n"),
     frags("   0: 0.. 1048576: 0..1048576: 1048577: last\n", "R v 0 1048576\nR v 1048576 1\n"),
@@ -61,23 +59,21 @@ FILEFRAG = [
     frags(TWO.replace("last,eof", "") + "   2:       24..      31:      50000..     50007:      8:      40968: last,unwritten,eof\n",
           "R v 8000 16\nR v 40960 8\n",
           "unwritten, so that it reads as zeros: 2:       24..      31:      50000..     50007:      8:      40968: last,unwritten,eof\n",
-          size=16384),
-    frags("", "", found=0),
+          size=16384), frags("", "", found=0),
     good("filefrag", V, ["Filesystem type is: ef53\nFilesystem cylinder groups approximately 3\n" +
                          "File size of a b (3 blocks of 7 bytes) is 9 is 5 (2 block of 512 bytes)\n" + LIST + "a: 0 extents found\n"], ""),
     good("filefrag", V, [frag(WHOLE, 1024) + frag(WHOLE, 8192, 4096)], "R v 8 2\nR v 64 16\n"),
     good("filefrag", ["/dev/vg-0/lv"], [frag(WHOLE, 1024)], "R vg--0-lv 8 2\n"),
     bad("filefrag", [""], [frag(WHOLE, 1024)], "VOLUME: no name of a device, give it as dmsetup ls prints it: ''"),
     bad("filefrag", ["v w"], [frag(WHOLE, 1024)], "VOLUME: no name of a device, give it as dmsetup ls prints it: 'v w'"),
-    bad("filefrag", ["/dev/dm-1"], [frag(WHOLE, 1024)], "VOLUME: which device is /dev/dm-1? Give --ls LS"),
-    good("filefrag", ["/dev/dm-1", "--ls", "1"], ["x\t(253:1)\n", frag(WHOLE, 1024)], "R x 8 2\n"),
+    bad("filefrag", ["/dev/dm-1"], [frag(WHOLE, 1024)], "VOLUME: no name of a device, give it as dmsetup ls prints it: '/dev/dm-1'"),
     no_frags("\n", "1: not a line of filefrag -v, make the text anew by `filefrag -s -v -b512`: "),
     no_frags("Filesystem type is: ef53\n", "1: no file: make the text anew by `filefrag -s -v -b512`"),
     no_frags(WHOLE, "1: not a line of filefrag -v, make the text anew by `filefrag -s -v -b512`: " + WHOLE[:-1]),
     no_frags(LIST + WHOLE, "1: not a line of filefrag -v, make the text anew by `filefrag -s -v -b512`: " + LIST[:-1]),
     no_frags(HEAD.split("\n")[1] % (8192, 2, 4096) + "\n" + LIST + WHOLE,
              "1: the line comes too early, make the text anew by `filefrag -s -v -b512`: File size of /f is 8192 (2 blocks of 4096 bytes)"),
-    no_frags("Filesystem type is: 9123683e\n", "1: neither ext2, ext3, ext4 nor XFS, see `btrfs` and --addresses: Filesystem type is: 9123683e"),
+    no_frags("Filesystem type is: 9123683e\n", "1: neither ext2, ext3, ext4 nor XFS, whose extents alone are places on the device: Filesystem type is: 9123683e"),
     no_frags(frag(WHOLE, 1000, 500), "4: blocks of 500 bytes, which are no whole sectors: give a multiple of 512"),
     no_frags(frag(WHOLE, 1024).replace("/f: 1 extents found\n", ""),
              "4: the end is missing, make the text anew by `filefrag -s -v -b512`: File size of /f is 1024 (2 blocks of 512 bytes)", "R v 8 2\n"),
@@ -109,91 +105,14 @@ FILEFRAG = [
              "4: it goes past sector 2^64, give fewer:    0: 0.. 0: 999999999999999999..999999999999999999: 1: last"),
     no_frags(HEAD % (10 ** 20, 1, 512), "2: give a whole number below 2^64, and not '100000000000000000000'"),
     # A name of a file may hold anything, and be long.
-    no_frags("Filesystem type is: \x1b[2J\n", "1: neither ext2, ext3, ext4 nor XFS, see `btrfs` and --addresses: Filesystem type is: \\x1b[2J"),
+    no_frags("Filesystem type is: \x1b[2J\n", "1: neither ext2, ext3, ext4 nor XFS, whose extents alone are places on the device: Filesystem type is: \\x1b[2J"),
     no_frags("Filesystem type is: ef53\n" + "\u202e" * 200 + "\n", "2: not a line of filefrag -v, make the text anew by `filefrag -s -v -b512`: " + "\\u202e" * 100 + ".."),
     # A name with a newline that looks like an extent.
     no_frags("Filesystem type is: ef53\nFile size of /x\n   0:        0..     119:   1..  120:    120:            \n"
              " is 0 (0 blocks of 4096 bytes)\n", "2: not a line of filefrag -v, make the text anew by `filefrag -s -v -b512`: File size of /x"),
 ]
 
-# Extents that debugfs lists.
-
-SUPER = "Filesystem volume name:   <none>\nBlock size:               %s\nFragment size:            4096\n"
-TREE = "Level Entries       Logical      Physical Length Flags\n"
-BY_DEBUGFS = ["--debugfs", "1"]
-LEAF = " 0/ 0   1/  1     0 -  2197  2070 -  4267   2198 \n"
-
-
-def ex(lines, message=None, output="", block=4096, variables=V, said=""):
-    inputs = [SUPER % block, TREE + lines]
-    if message is None:
-        return good("filefrag", BY_DEBUGFS + variables, inputs, output, said)
-    return bad("filefrag", BY_DEBUGFS + variables, inputs, message, output)
-
-
-DEBUGFS = [
-    ex(LEAF, output="R v 16560 17584\n"),
-    ex(LEAF, output="R v 4140 4396\n", block=1024),
-    ex(LEAF, output="R vg--0-lv 16560 17584\n", variables=["/dev/vg-0/lv"]),
-    ex(LEAF, output="R v 264960 281344\n", block=65536),
-    ex(" 0/ 1   1/  2     0 -  9  16            10\n 1/ 1   1/  1     0 -  9  20 -  29   10 \n"
-       " 0/ 1   2/  2    10 -  19  17            10\n 1/ 1   1/  1    10 -  19  50 -  59   10 Uninit\n",
-       output="R v 160 80\n", said="unwritten, so that it reads as zeros: 1/ 1   1/  1    10 -  19  50 -  59   10 Uninit\n"),
-    ex(LEAF.replace("1/  1", "1/  2"), "2:2: entries are missing at the end, make the text anew by `debugfs -R 'ex /FILE' IMAGE`", "R v 16560 17584\n"),
-    ex(LEAF.replace("1/  1", "2/  2"), "2:2: an entry is missing, make the text anew by `debugfs -R 'ex /FILE' IMAGE`: 0/ 0   2/  2     0 -  2197  2070 -  4267   2198"),
-    ex(LEAF.replace("   2198", "   2197"), "2:2: ends and length differ, make the text anew by `debugfs -R 'ex /FILE' IMAGE`: 0/ 0   1/  1     0 -  2197  2070 -  4267   2197"),
-    ex(LEAF.replace("4267", "4266"), "2:2: ends and length differ, make the text anew by `debugfs -R 'ex /FILE' IMAGE`: 0/ 0   1/  1     0 -  2197  2070 -  4266   2198"),
-    ex(LEAF.replace("2198", "2198 Strange"), "2:2: not a line of ex, make the text anew by `debugfs -R 'ex /FILE' IMAGE`: 0/ 0   1/  1     0 -  2197  2070 -  4267   2198 Strange"),
-    ex("/a: does not uses extent block maps\n", "2:2: not a line of ex, make the text anew by `debugfs -R 'ex /FILE' IMAGE`: /a: does not uses extent block maps"),
-    ex(LEAF, "2:2: blocks of 100 bytes, which are no whole sectors: give a multiple of 512", block=100),
-    bad("filefrag", BY_DEBUGFS + V, [SUPER % 4096, ""], "2: no list of extents, which only files with extents have: make the text anew by `debugfs -R 'ex /FILE' IMAGE`"),
-    bad("filefrag", BY_DEBUGFS + V, ["Fragment size:  4096\n", TREE + LEAF], "1:1: no line 'Block size': give what `dumpe2fs -h` prints"),
-    bad("filefrag", BY_DEBUGFS + V, [SUPER % 4096, TREE + LEAF + TREE + LEAF], "2:3: more than one file: give the list of one", "R v 16560 17584\n"),
-    ("filefrag", BY_DEBUGFS + V + ["--name", "i", "--size", ""], [SUPER % 4096, TREE + LEAF], "refused\n",
-     "dmremap-tools filefrag: --size: give a whole number below 2^64, and not ''\n", 2),
-]
-
-# A file as a device.
-
-FILE = ["--name", "i"]
-HOLES = ("   0:        8..      15:       1000..      1007:      8:             \n"
-         "   1:       20..      35:       5000..      5015:     16:       1008: last,eof\n")
-UNWRITTEN = ("   0:        0..       7:       1000..      1007:      8:             unwritten\n"
-             "   1:        8..      15:       5000..      5007:      8:       1008: last,eof\n")
-TOLD = "unwritten, so that it reads as zeros: " + UNWRITTEN.split("\n")[0].lstrip() + "\n"
-
-
-def filed(words, text, output, message=""):
-    return good("filefrag", V + FILE + words, [text], output, message)
-
-
-def no_file(words, message):
-    return "filefrag", V + words, [frag(TWO, 12288)], "refused\n", "dmremap-tools filefrag: %s\n" % message, 2
-
-
-DEVICES = [
-    filed([], frag(TWO, 12288), "i: 0 16 linear /dev/mapper/v 8000\ni: 16 8 linear /dev/mapper/v 40960\n"),
-    filed(["--on", "sda"], frag(HOLES, 20001 - 4000), "i: 0 8 zero\ni: 8 8 linear sda 1000\ni: 16 4 zero\ni: 20 16 linear sda 5000\n"),
-    filed(["--on", "sda"], frag(UNWRITTEN, 8192), "i: 0 8 zero\ni: 8 8 linear sda 5000\n", TOLD),
-    filed([], frag("", 10241, found=0), "i: 0 21 zero\n"),
-    filed(["--part", "16", "8"], frag(TWO, 12288), "i: 0 16 error\ni: 16 8 linear /dev/mapper/v 40960\n"),
-    filed(["--part", "17", "2"], frag(TWO, 12288), "i: 0 16 error\ni: 16 8 linear /dev/mapper/v 40960\n"),
-    good("filefrag", BY_DEBUGFS + V + FILE + ["--size", "9000001"], [SUPER % 4096, TREE + LEAF], "i: 0 17584 linear /dev/mapper/v 16560\n"),
-    good("filefrag", BY_DEBUGFS + V + FILE + ["--size", "9003009", "--on", "sda"], [SUPER % 4096, TREE + LEAF], "i: 0 17584 linear sda 16560\ni: 17584 1 zero\n"),
-    bad("filefrag", V + FILE, [frag(WHOLE, 1024) + frag("", 0, found=0)], "1:9: more than one file: give the extents of one"),
-    bad("filefrag", V + FILE, [frag("", 0, found=0)], "i: it has no sectors: give the whole text of it"),
-    bad("filefrag", V + FILE, [frag(TWO, 12288).rpartition("/f")[0]], "1:5: the end is missing, make the text anew by `filefrag -s -v -b512`: File size of /f is 12288 (24 blocks of 512 bytes)"),
-    bad("filefrag", V + FILE + ["--on", "d,e"], [frag(TWO, 12288)], "--on: no name of a disk, give one without spaces, commas and semicolons: 'd,e'"),
-    # A line for every second sector is more than dmremap takes.
-    bad("filefrag", V + FILE, [frag("".join("%d: %d.. %d: 5.. 5: 1:\n" % (it, 2 * it, 2 * it) for it in range(40000)), 80000 * 512)],
-        "i: it has more than 65536 lines, or 1048576 bytes of them, which is all that dmremap takes: ask for a part, with --part START SECTORS"),
-    no_file(["--on", "sda"], "--on, --size and --part are for --name"),
-    no_file(FILE + ["--size", "8"], "--name needs --size with --debugfs, and has the size without it"),
-    ("filefrag", BY_DEBUGFS + V + FILE, [SUPER % 4096, TREE + LEAF], "refused\n",
-     "dmremap-tools filefrag: --name needs --size with --debugfs, and has the size without it\n", 2),
-]
-
-# Requests of traces, logs and bytes.
+# Requests of traces and bytes.
 
 LS = "vg0-lv0\t(253:0)\nvg0-lv--1\t(253:1)\nmy disk\t(253:2)\nvg0-thin\t(253:3)\n"
 KEPT = "vg0-lv0: 0 8 zero\nvg0-lv0: 8 8 error\nvg0-lv--1: 0 8 zero\n"
@@ -211,19 +130,18 @@ def no_trace(lines, message, output="", names=LS, tables=KEPT):
     return bad("trace", [], [names, tables, lines], message, output)
 
 
-TRACE = [
-    traced(QUEUED % "  R 8 + 16", "R vg0-lv0 8 16\n"),
+TRACE = [traced(QUEUED % "  R 8 + 16", "R vg0-lv0 8 16\n"),
     traced(QUEUED % "FWS 8 + 16" + QUEUED % "WFS 24 + 8" + QUEUED % " RA 0 + 8", "W vg0-lv0 8 16\nW vg0-lv0 24 8\nR vg0-lv0 0 8\n"),
     traced((QUEUED % "  R 8 + 16").replace("[fio]", "[Q R 0 + 8 a]"), "R vg0-lv0 8 16\n"),
-    traced((QUEUED % "  R 8 + 16").replace("253,0 ", "  8,0 "), "", "left out: 1 requests to 8,0, which dmsetup ls has not\n"),
+    traced((QUEUED % "  R 8 + 16").replace("253,0 ", "  8,0 "), "", "left out: requests to 8,0, which is not in the output of dmsetup ls: 1\n"),
     traced(QUEUED % "  R 8 + 16", "R a 8 16\n", names="a\t(253, 0)\n", tables="a: 0 8 zero\n"),
     # Devices that were left out are told, in the order in which they come.
     traced("".join((QUEUED % "  R 8 + 16").replace("253,0", "253,%d" % it) for it in (3, 0, 2, 3, 1, 9)),
-           "R vg0-lv0 8 16\nR vg0-lv--1 8 16\n", "left out: 2 requests to vg0-thin (253,3), which the tables have not\n"
-           "left out: 1 requests to my disk (253,2), which the tables have not\nleft out: 1 requests to 253,9, which dmsetup ls has not\n"),
+           "R vg0-lv0 8 16\nR vg0-lv--1 8 16\n", "left out: requests to vg0-thin (253,3), which is not in the tables: 2\n"
+           "left out: requests to my disk (253,2), which is not in the tables: 1\nleft out: requests to 253,9, which is not in the output of dmsetup ls: 1\n"),
     no_trace(QUEUED % "  R 8 + 16", "2:1: not table text, give NAME: START LENGTH TARGET ..: No devices found", tables="No devices found\n"),
     no_trace(QUEUED % "  R 8 + 16", "2: no device in it: give what `dmremap table` prints", tables=""),
-    traced(QUEUED % "  D 8 + 16" + QUEUED % "  N 8 + 16", "", "left out: 2 requests that are neither reads nor writes\n"),
+    traced(QUEUED % "  D 8 + 16" + QUEUED % "  N 8 + 16", "", "left out: requests that are neither reads nor writes: 2\n"),
     traced(QUEUED % "  R 0 + 1048577", "R vg0-lv0 0 1048576\nR vg0-lv0 1048576 1\n"),
     traced("  fio-1 [002] ..... 12.5: block_bio_queue: 253,1 RA 8 + 16 [x]\n", "R vg0-lv--1 8 16\n"),
     traced("fio 1 [002] 12.5: block:block_bio_queue: 253,1 W 8 + 16 [x]\n", "W vg0-lv--1 8 16\n"),
@@ -253,98 +171,59 @@ TRACE = [
     # Lines that tell of no request are counted, but not what a tracer prints beside its lines.
     traced("# tracer: nop\n\nhello\n" + QUEUED % "  R 8 + 16" + "a-1 [002] ..... 12.5: sched_switch: prev_comm=a\nTotal (253,0):\n Reads Queued:   1,  8KiB\n"
            "Throughput (R/W): 1KiB/s / 0KiB/s\nEvents (253,0): 2 entries\n" + (QUEUED % "  R 8 + 16").replace("Q", "X Q"), "R vg0-lv0 8 16\n",
-           "left out: 2 lines that tell of no request\n"),
+           "left out: lines without a request: 2\n"),
     no_trace("", "3: no request in the trace: give what `blkparse` prints of the devices"),
     # A line that is refused among others.
     no_trace(QUEUED % "  R 8 + 16" + QUEUED % "  W 8 + 0" + QUEUED % "  R 8 + 8", "3:2: no sectors, give at least one: " + (QUEUED % "  W 8 + 0")[:-1], "R vg0-lv0 8 16\n"),
     no_trace("a-1 [002] 12.5: block_bio_queue: 253,1 R 8 + 16\na-1 [002] 12.5: block_bio_queue: 253,1 X 8 + 16\n",
              "3:2: neither a read nor a write, leave it out: a-1 [002] 12.5: block_bio_queue: 253,1 X 8 + 16", "R vg0-lv--1 8 16\n"),
     no_trace("hello\n", "1: not what `dmsetup ls` prints of devices", names="No devices found\n"),
-    traced(QUEUED % "  R 8 + 16", "", "left out: 1 requests to a\\x20b (253,0), which the tables have not\n", names="a\\x20b\t(253:0)\n"),
+    traced(QUEUED % "  R 8 + 16", "", "left out: requests to a\\x20b (253,0), which is not in the tables: 1\n", names="a\\x20b\t(253:0)\n"),
 ]
 
 # Traces of the disks below.
 LSBLK = "  8:0 512 sda \n8:1 512 sda1 sda\n8:16 512 sdb \n".lstrip()
 LOWER = (QUEUED % "  R 8 + 16").replace("253,0 ", "  8,0 ") + (QUEUED % " WS 8 + 8").replace("253,0 ", " 8,16 ")
-TRACE += [
-    good("trace", ["--lower"], [LSBLK, "/dev/sda 99\n/dev/sdb 99\n", LOWER], "R /dev/sda 8 16\nW /dev/sdb 8 8\n"),
+TRACE += [good("trace", ["--lower"], [LSBLK, "/dev/sda 99\n/dev/sdb 99\n", LOWER], "R /dev/sda 8 16\nW /dev/sdb 8 8\n"),
     good("trace", ["--lower"], [LSBLK, "/dev/sdb 99\n", LOWER + QUEUED % "  R 8 + 16"], "W /dev/sdb 8 8\n",
-         "left out: 1 requests to /dev/sda (8,0), which DISKS has not\nleft out: 1 requests to 253,0, which lsblk has not\n"),
+         "left out: requests to /dev/sda (8,0), which is not in DISKS: 1\nleft out: requests to 253,0, which is not in the output of lsblk: 1\n"),
     good("trace", ["--lower"], [LSBLK, "/dev/sdc 99\n", QUEUED % "  D 8 + 16"], "",
-         "left out: 1 requests to 253,0, which lsblk has not\nno request came to a disk of DISKS\n"),
+         "left out: requests to 253,0, which is not in the output of lsblk: 1\nno request came to a disk of DISKS\n"),
     bad("trace", ["--lower"], [LSBLK, "", LOWER], "2: no disk in it: give lines NAME SECTORS"),
     bad("trace", ["--lower"], [LS, "/dev/sda 99\n", LOWER], "1: not what `lsblk -brno MAJ:MIN,SIZE,KNAME,PKNAME` prints of devices"),
-    ("trace", ["--fio", "--write-times", "times"], [LS, KEPT, ""], "refused\n", "dmremap-tools trace: --write-times isn't for the logs of fio\n", 2),
+    ("trace", ["--cut", "--write-times", "times"], [""], "refused\n", "dmremap-tools trace: --write-times is for traces that have times: leave it out\n", 2),
+    ("trace", ["--bytes"], [LS, KEPT], "refused\n", "dmremap-tools trace: give REQUESTS alone\n", 2),
+    ("trace", [], [LS], "refused\n", "dmremap-tools trace: give LS, TABLES and perhaps TRACE\n", 2),
 ]
 
-FIO = "fio version 2 iolog\n/dev/mapper/a add\n/dev/mapper/a open\n"
-
-
-def logged(log, output, message="", ls="nothing is read\n"):
-    message += "" if output else "no request came to a device of the tables\n"
-    return good("trace", ["--fio"], [ls, "a: 0 8 zero\nb--c-d: 0 8 zero\n", log], output, message)
-
-
-def no_log(log, message, output="", tables="a: 0 8 zero\n"):
-    return bad("trace", ["--fio"], ["", tables, log], message, output)
-
-
-LOGS = [
-    logged(FIO + "/dev/mapper/a read 4096 8192\n/dev/mapper/a trim 0 512\n/dev/mapper/a sync 0 0\n"
-           "/dev/mapper/a wait 5 0\n/dev/mapper/a write 0 1\n/dev/mapper/a close\n", "R a 8 16\nW a 0 1\n", "left out: 1 trims\n"),
-    logged("fio version 3 iolog\n1 /dev/mapper/a read 4095 2\n2 /dev/mapper/a datasync 0 0\n", "R a 7 2\n"),
-    logged(FIO + "/dev/b-c/d read 0 512\n/dev/sda read 0 512\n/mnt/file read 0 512\n/dev/mapper/b--c-d read 0 1\n/dev/sda write 0 512\n",
-           "R b--c-d 0 1\nR b--c-d 0 1\n", "left out: 2 requests to /dev/sda, which the tables have not\n"
-           "left out: 1 requests to /mnt/file, which the tables have not\n"),
-    logged(FIO + "/dev/dm-5 read 0 512\n/dev/dm-7 read 0 512\n/dev/dm-6 read 0 512\n", "R a 0 1\n",
-           "left out: 1 requests to /dev/dm-7, which the tables have not\nleft out: 1 requests to /dev/dm-6, which the tables have not\n",
-           "a\t(253:5)\nz\t(253:6)\n"),
-    no_log(FIO + "/dev/dm-5 read 0 512\n", "1: not what `dmsetup ls` prints of devices"),
-    logged("fio version 3 iolog\n", ""),
-    no_log(FIO + "/dev/mapper/a read 0 512\n/dev/mapper/a read 0 0\n/dev/mapper/a read 0 512\n", "3:5: no bytes, give at least one: /dev/mapper/a read 0 0", "R a 0 1\n"),
-    no_log("fio version 1 iolog\n", "3:1: not the first line of a log, give what fio wrote: fio version 1 iolog"),
-    no_log(FIO + "1 /dev/mapper/a read 0 512\n", "3:4: not a line of a log, leave it out: 1 /dev/mapper/a read 0 512"),
-    no_log(FIO.replace("2", "3"), "3:2: not a line of a log, leave it out: /dev/mapper/a add"),
-    no_log(FIO + "/dev/mapper/a read 0\n", "3:4: not a line of a log, leave it out: /dev/mapper/a read 0"),
-    no_log(FIO + "/dev/mapper/a read 0 4k\n", "3:4: give a whole number below 2^64, and not '4k'"),
-    logged(FIO + "/dev/mapper/a write 18446744073709551615 1\n", "W a 36028797018963967 1\n"),
-    no_log(FIO + "/dev/mapper/a write 18446744073709551616 1\n", "3:4: give a whole number below 2^64, and not '18446744073709551616'"),
-    no_log("fio version 3 iolog\n/dev/mapper/a read 0 512\n", "3:2: not a line of a log, leave it out: /dev/mapper/a read 0 512"),
-    no_log("/dev/mapper/a read 0 512\n", "3:1: not the first line of a log, give what fio wrote: /dev/mapper/a read 0 512"),
-    no_log("", "2:1: not table text, give NAME: START LENGTH TARGET ..: fio version 2 iolog", tables=FIO),
-    no_log(FIO, "2: no device in it: give what `dmremap table` prints", tables=""),
-    no_log("", "3: the log is empty: give what fio wrote"),
+REQUESTS = [
     # Names of devices as paths.
-    good("cut", ["--bytes"], ["R /dev/mapper/a 0 1\nW /dev/b-c/d-e 511 2\n"], "R a 0 1\nW b--c-d--e 0 2\n"),
-    good("cut", ["--bytes", "--ls", "1"], ["x\t(253:0)\ny\t(253:12)\n", "R /dev/dm-12 0 1\nR /dev/dm-0 0 1\n"], "R y 0 1\nR x 0 1\n"),
-    bad("cut", ["--bytes", "--ls", "1"], ["x\t(253:0)\n", "R /dev/dm-12 0 1\n"], "2:1: no name of a device, give it as dmsetup ls prints it: '/dev/dm-12'"),
-    bad("cut", ["--bytes", "--ls", "nowhere"], ["R /dev/dm-12 0 1\n"], "nowhere: No such file or directory"),
-    bad("cut", ["--bytes"], ["R /dev/dm-12 0 1\n"], "1:1: which device is /dev/dm-12? Give --ls LS"),
-    bad("cut", ["--bytes"], ["R /dev/sda 0 1\n"], "1:1: no name of a device, give it as dmsetup ls prints it: '/dev/sda'"),
-    bad("cut", ["--bytes"], ["R /dev/disk/by-id/x 0 1\n"], "1:1: no name of a device, give it as dmsetup ls prints it: '/dev/disk/by-id/x'"),
-    good("cut", [], ["R /dev/mapper/a 0 1\n"], "R a 0 1\n"),
-    good("cut", ["--bytes"], ["R a 0 1\nW a 511 2\nR a 1024 512\n"], "R a 0 1\nW a 0 2\nR a 2 1\n"),
-    good("cut", ["--bytes"], ["R a 4503599627370496 1024\n"], "R a 8796093022208 2\n"),
-    bad("cut", ["--bytes"], ["R a 0 0\n"], "1:1: no bytes, give at least one: R a 0 0"),
-    bad("cut", ["--bytes"], ["R a -1 8\n"], "1:1: give a whole number below 2^64, and not '-1'"),
-    bad("cut", ["--bytes"], ["R a 1e3 8\n"], "1:1: give a whole number below 2^64, and not '1e3'"),
-    bad("cut", ["--bytes"], ["R a 0x10 8\n"], "1:1: give a whole number below 2^64, and not '0x10'"),
-    bad("cut", ["--bytes"], ["R a 010 8\n"], "1:1: give a whole number below 2^64, and not '010'"),
-    bad("cut", ["--bytes"], ["R a 8\n"], "1:1: give R or W, a device, an offset and a length, and not: R a 8"),
-    good("cut", [], ["R a 0 1048576\nW b 5 1048577\n"], "R a 0 1048576\nW b 5 1048576\nW b 1048581 1\n"),
-    bad("cut", [], ["R a 0 4398046511105\n"], "1:1: longer than 2 PiB, give it in parts: R a 0 4398046511105"),
-    bad("cut", [], ["R a 0 1\nR a 0 0\n"], "1:2: no sectors, give at least one: R a 0 0", "R a 0 1\n"),
-    good("cut", [], [""], "", "no line came\n"),
-    good("cut", ["--bytes"], [""], "", "no line came\n"),
-    bad("cut", [], ["r a 0 1\n"], "1:1: not a request, give R or W, a device, a sector and how many: r a 0 1"),
+    good("trace", ["--bytes"], ["R /dev/mapper/a 0 1\nW /dev/b-c/d-e 511 2\n"], "R a 0 1\nW b--c-d--e 0 2\n"),
+    bad("trace", ["--bytes"], ["R /dev/dm-12 0 1\n"], "1:1: no name of a device, give it as dmsetup ls prints it: '/dev/dm-12'"),
+    bad("trace", ["--bytes"], ["R /dev/sda 0 1\n"], "1:1: no name of a device, give it as dmsetup ls prints it: '/dev/sda'"),
+    bad("trace", ["--bytes"], ["R /dev/disk/by-id/x 0 1\n"], "1:1: no name of a device, give it as dmsetup ls prints it: '/dev/disk/by-id/x'"),
+    good("trace", ["--cut"], ["R /dev/mapper/a 0 1\n"], "R a 0 1\n"),
+    good("trace", ["--bytes"], ["R a 0 1\nW a 511 2\nR a 1024 512\n"], "R a 0 1\nW a 0 2\nR a 2 1\n"),
+    good("trace", ["--bytes"], ["R a 4503599627370496 1024\n"], "R a 8796093022208 2\n"),
+    bad("trace", ["--bytes"], ["R a 0 0\n"], "1:1: no bytes, give at least one: R a 0 0"),
+    bad("trace", ["--bytes"], ["R a -1 8\n"], "1:1: give a whole number below 2^64, and not '-1'"),
+    bad("trace", ["--bytes"], ["R a 1e3 8\n"], "1:1: give a whole number below 2^64, and not '1e3'"),
+    bad("trace", ["--bytes"], ["R a 0x10 8\n"], "1:1: give a whole number below 2^64, and not '0x10'"),
+    bad("trace", ["--bytes"], ["R a 010 8\n"], "1:1: give a whole number below 2^64, and not '010'"),
+    bad("trace", ["--bytes"], ["R a 8\n"], "1:1: give R or W, a device, an offset and a length, and not: R a 8"),
+    good("trace", ["--cut"], ["R a 0 1048576\nW b 5 1048577\n"], "R a 0 1048576\nW b 5 1048576\nW b 1048581 1\n"),
+    bad("trace", ["--cut"], ["R a 0 4398046511105\n"], "1:1: longer than 2 PiB, give it in parts: R a 0 4398046511105"),
+    bad("trace", ["--cut"], ["R a 0 1\nR a 0 0\n"], "1:2: no sectors, give at least one: R a 0 0", "R a 0 1\n"),
+    good("trace", ["--cut"], [""], "", "no line came\n"), good("trace", ["--bytes"], [""], "", "no line came\n"),
+    bad("trace", ["--cut"], ["r a 0 1\n"], "1:1: not a request, give R or W, a device, a sector and how many: r a 0 1"),
     # Letters at which some would begin a line anew.
-    bad("cut", [], ["R a\x85b\u2028 0 1\n"], "1:1: not a request, give R or W, a device, a sector and how many: R a\\x85b\\u2028 0 1"),
-    bad("cut", [], ["R a,b 0 1\n"], "1:1: no name of a device, give it as dmsetup ls prints it: 'a,b'"),
+    bad("trace", ["--cut"], ["R a\x85b\u2028 0 1\n"], "1:1: not a request, give R or W, a device, a sector and how many: R a\\x85b\\u2028 0 1"),
+    bad("trace", ["--cut"], ["R a,b 0 1\n"], "1:1: no name of a device, give it as dmsetup ls prints it: 'a,b'"),
 ]
 
 # Texts of tables that are none.
 
 TABLES = [
-    lost("tree", [], ["a: 0 8 linear sda 12"], "1:1: the text ends within a line, give all of it: a: 0 8 linear sda 12"),
-    lost("tree", [], ["a,,,rw,0 8 linear sda 12"], "1:1: the text ends within a line, give all of it: a,,,rw,0 8 linear sda 12"),
+    bad("trace", [], [LS, "a: 0 8 linear sda 12"], "2:1: the text ends within a line, give all of it: a: 0 8 linear sda 12"),
+    bad("trace", [], [LS, "a,,,rw,0 8 linear sda 12"], "2:1: the text ends within a line, give all of it: a,,,rw,0 8 linear sda 12"),
 ]

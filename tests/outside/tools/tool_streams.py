@@ -17,64 +17,40 @@ from tool_calls import TOOL, call, read, samples
 
 # For each command the words of a call that has an answer, in a folder with the samples and what is made of them here. Words
 # that end in `<` are given as standard input.
-CALLS = {
-    "filefrag": ["vg0-lv0", "extents.txt"],
-    "trace": ["--write-times", "beside", "ls.txt", "vg0.table", "blkparse.txt"],
-    "cut": ["in-bytes"],
-    "machine": ["--disks", "beside", "ls.txt", "status.txt", "lsblk.txt", "concise.txt"],
-    "elsewhere": ["--paths", "paths.txt", "vg0.concise"],
-    "metadata": ["vg0-head.img"],
-    "lvm2-text": ["--program", "./dmremap", "vgm.backup"],
-    "report": ["--times", "times", "--lengths", "stack.disks", "--plot", "beside", "pieces.txt"],
-    "dd": ["--program", "./dmremap", "--image", "image", "--requests", "image.requests", "table", "image.table", "image.disks"],
-    "spans": ["stack.disks", "stack.table"],
-    "tree": ["stack.table"],
-    "extents": ["--program", "./dmremap", "vol", "table", "image.table", "image.disks"],
+CALLS = {"filefrag": ["vg0-lv0", "extents.txt"], "trace": ["--write-times", "beside", "ls.txt", "vg0.table",
+    "blkparse.txt"], "machine": ["--program", "./dmremap", "--disks", "beside", "ls.txt", "status.txt", "lsblk.txt",
+    "concise.txt"], "metadata": ["vg0-head.img"], "lvm2-text": ["--program", "./dmremap", "vgm.backup"],
+    "report": ["pieces.txt"], "layout": ["--program", "./dmremap", "table", "stack.table", "stack.disks"],
     "store": ["--program", "./dmremap", "--fresh", "--requests", "writes", "table", "snap.table", "snap.disks"],
-    "md": ["--name", "md0", "raid1.txt"],
-    "thin": ["--data", "tdata", "--device", "1", "vg0-thin1", "4000", "thin.meta"],
-    "btrfs": ["--name", "fs", "--disk", "1", "/dev/sda", "--disk", "2", "/dev/sdb", "chunks.txt"],
-    "picture": ["spans"],
 }
 # Other ways to call a command, in which it reads other inputs.
 WAYS = [
-    ("filefrag", ["--debugfs", "super.txt", "--name", "i", "--size", "31981568", "vg0-lv0", "ex.txt"]),
-    ("cut", ["--bytes", "in-bytes"]),
-    ("trace", ["--fio", "ls.txt", "vg0.table", "fio.log"]),
+    ("trace", ["--cut", "in-bytes"]),
+    ("trace", ["--bytes", "in-bytes"]),
     ("trace", ["--lower", "--write-times", "beside", "lower.lsblk", "lower.disks", "lower.txt"]),
     ("report", ["--compare", "lower.requests", "lower.pieces"]),
-    ("spans", ["--free", "stack.disks", "stack.table"]),
-    ("spans", ["--clashes", "clashes.disks", "clashes.table"]),
-    ("spans", ["--align", "--multiple", "4096", "stack.disks", "stack.table"]),
-    ("tree", ["--dot", "stack.table"]),
-    ("store", ["--writes", "writes"]),
-    ("thin", ["--cache", "cdata", "--origin", "corig", "--name", "home", "--sectors", "1000", "cache.meta"]),
+    ("layout", ["--program", "./dmremap", "--free", "table", "stack.table", "stack.disks"]),
+    ("layout", ["--program", "./dmremap", "--clashes", "table", "clashes.table", "clashes.disks"]),
+    ("layout", ["--program", "./dmremap", "--dot", "table", "stack.table", "stack.disks"]),
+    ("layout", ["--program", "./dmremap", "--device", "vol", "table", "image.table", "image.disks"]),
 ]
 # What is made beside the samples.
-MADE = {
-    "in-bytes": "R vg0-lv0 1000 3000\nW vg0-lv0 4096 2500000000\n",
+MADE = {"in-bytes": "R vg0-lv0 1000 3000\nW vg0-lv0 4096 2500000000\n",
     "vg0.table": "vg0-lv0: 0 204800 linear /dev/sda1 2048\nvg0-lv--1: 0 32768 striped 2 128 /dev/sda1 206848 /dev/sda1 223232\n",
-    "vg0.concise": "vg0-lv0,,,rw,0 204800 linear /dev/sda1 2048\n",
-    "times": "0.5\n0.6\n0.75\n1.0\n12.5\n",
-    "lower.lsblk": "8:0 1048576 sda \n8:1 524288 sda1 sda\n",
-    "lower.disks": "/dev/sda 2048\n",
+    "lower.lsblk": "8:0 1048576 sda \n8:1 524288 sda1 sda\n", "lower.disks": "/dev/sda 2048\n",
     "lower.txt": "8,0 0 7 0.5 4101 Q R 8 + 16 [fio]\n8,0 0 8 0.6 4101 C R 8 + 16 [0]\n8,0 0 9 0.7 4101 Q WS 100 + 8 [fio]\n",
     "lower.requests": "W /dev/sda 100 8\nR /dev/sda 8 8\nR /dev/sda 16 8\n",
-    "lower.pieces": "1 R /dev/sda 8 16\n2 W /dev/sda 100 8\n",
-    "clashes.disks": "sda 100\n",
+    "lower.pieces": "1 R /dev/sda 8 16\n2 W /dev/sda 100 8\n", "clashes.disks": "sda 100\n",
     "clashes.table": "a: 0 8 linear sda 4\nb: 0 8 linear sda 8\n",
-    "image.table": "vol: 0 64 linear sda 4096\nvol: 64 8 zero\n",
-    "image.disks": "sda 1052672\n",
-    "image.requests": "W vol 0 16\nR vol 60 12\n",
-    "writes": "W snap 0 8\nW snap 4096 8\nR snap 0 8\n",
-    "snap.table": "snap: 0 819200 snapshot base cow P 8\n",
+    "image.table": "vol: 0 64 linear sda 4096\nvol: 64 8 zero\n", "image.disks": "sda 1052672\n",
+    "writes": "W snap 0 8\nW snap 4096 8\nR snap 0 8\n", "snap.table": "snap: 0 819200 snapshot base cow P 8\n",
     "snap.disks": "base 819200\ncow 32\n",
 }
 # Commands that make a file in place of printing, pass on what dmremap prints, or have images or files for its words. They are
 # tried in `layouts`, `saves`, `used`, `models` and `explained`.
 UNPRINTED = {"save", "scan", "serve", "lost", "owner", "tables", "explain"}
 # Words of these calls that name files, but none that a text is put into.
-NO_INPUTS = ("beside", "image", "./dmremap")
+NO_INPUTS = ("beside", "./dmremap")
 CUTS, MUTATIONS, MEMORY, MANY = 8, 500, 1 << 30, 3000
 FULL, GONE = 5, 141
 ENDS = ((signal.SIGINT, 130), (signal.SIGTERM, 143), (signal.SIGHUP, 129))
@@ -109,7 +85,6 @@ def make_folder(program, top):
     os.symlink(program.path, os.path.join(folder, "dmremap"))
     for name, text in MADE.items():
         program.file(os.path.join("streams", name), text)
-    program.file(os.path.join("streams", "spans"), call(top, ["spans", *CALLS["spans"]], folder=folder).out)
     return folder
 
 
@@ -238,10 +213,9 @@ def mutated(content, dice):
 
 def test_terminal(tally, top, folder):
     """What a foreign text holds reaches no terminal as it is."""
-    with open(os.path.join(folder, "foreign"), "wb") as it:
-        it.write(b"1 R \x1b[2Jsda\xff\xe2\x80\xae 4096 256\n")
+    tally.program.file(os.path.join(folder, "foreign"), b"1 R \x1b[2Jsda\xff\xe2\x80\xae 4096 256\n")
     words = ["report", "foreign"]
-    lines = b"total %s R 1 256 131072\nlength %s R 256 1 " + b"#" * 40 + b"\nsplit 1 1\n"
+    lines = b"total %s R 1 256 131072\nlength %s R 256 1\nsplit 1 1\n"
     plain = call(top, words, folder=folder)
     tally.same("a foreign name to a file", plain, 0, lines % ((b"\x1b[2Jsda\xff\xe2\x80\xae",) * 2))
     here, there = pty.openpty()
@@ -255,7 +229,7 @@ def test_terminal(tally, top, folder):
 
 def test_live(tally, top, folder):
     """A command in a pipe answers what it was given before it waits for more."""
-    for words, given, wanted in ((["cut"], b"R a 0 1\n", b"R a 0 1\n"),
+    for words, given, wanted in ((["trace", "--cut"], b"R a 0 1\n", b"R a 0 1\n"),
                                  (["trace", "ls.txt", "vg0.table"], b"253,0 0 7 0.5 4101 Q R 8 + 16 [fio]\n", b"R vg0-lv0 8 16\n")):
         ran = subprocess.Popen(tool(top) + words, stdin=subprocess.PIPE, stdout=subprocess.PIPE, cwd=folder)
         for _ in range(2):
@@ -275,20 +249,14 @@ def test_many(tally, top, folder):
     queued = [queued_line(dice) for _ in range(MANY)]
     events = ["  kworker/u8:2-377 [002] .....  %d.5: block_bio_queue: 253,%d %s %d + %d [fio]\n"
               % (it, dice.choice((0, 0, 1, 9)), dice.choice(("R", "WS", "D")), dice.randrange(1 << 40), dice.choice((0, 8, 256))) for it in range(MANY)]
-    logged = ["/dev/mapper/%s %s %d %d\n" % (dice.choice(("vg0-lv0", "vg0-lv0", "other")), dice.choice(("read", "write")), dice.randrange(1 << 40),
-                                              dice.choice((512, 1000, 1 << 20))) for _ in range(MANY)]
     answers = ["%d %s /dev/sd%s %d %d\n" % (1 + it // 2, dice.choice("RW"), dice.choice("abc"), dice.randrange(1 << 40), dice.choice((1, 8, 256)))
                for it in range(MANY)]
-    with open(os.path.join(folder, "moments"), "w") as it:
-        it.writelines("%d.25\n" % number for number in range(MANY))
     traced = [(["trace", "--write-times", "beside", "ls.txt", "vg0.table"], lines, "hello\n") for lines in (queued, events)]
-    made = [(words, answers, "s: 0 8 snapshot 16/64 16\n") for words in (["report"], ["report", "--times", "moments"])]
-    fio = ["trace", "--fio", "ls.txt", "vg0.table"]
-    for words, lines, other in [*traced, (fio, ["fio version 2 iolog\n"] + logged, "/dev/mapper/vg0-lv0 sync\n"), *made]:
+    for words, lines, other in [*traced, (["report"], answers, "s: 0 8 snapshot 16/64 16\n")]:
         many = call(top, words, given="".join(lines), folder=folder)
         beside = read(os.path.join(folder, "beside")) if "beside" in words else b""
         single = call(top, words, given=other.join(lines), folder=folder)
-        passed = b"left out: %d lines that tell of no request\n" % (len(lines) - 1) if other == "hello\n" else b""
+        passed = b"left out: lines without a request: %d\n" % (len(lines) - 1) if other == "hello\n" else b""
         tally.same("%s of many lines, and of each by itself" % words[0], single, 0, many.out, passed + many.err)
         tally.holds("%s of many lines" % words[0], many.out, "nothing is printed")
         if "beside" in words:
@@ -309,7 +277,7 @@ def test_interrupt(tally, top, folder):
     for before in None, b"as before\n":
         for number, status in ENDS:
             if before:
-                write(folder, "times beside", before)
+                tally.program.file(os.path.join(folder, "times beside"), before)
             ran = begun(tool(top) + words, folder)
             first = ran.stdout.readline()
             ran.send_signal(number)
@@ -340,11 +308,6 @@ def left_beside(folder):
     return found or None
 
 
-def write(folder, name, content):
-    with open(os.path.join(folder, name), "wb") as it:
-        it.write(content)
-
-
 def test_outputs(tally, top, folder):
     """A file beside is never one that is read, whatever it is called, nor another output; a refusal leaves it as it was, and it
     is written through the link that was given."""
@@ -359,8 +322,8 @@ def test_outputs(tally, top, folder):
         tally.holds("what is left of it", read(os.path.join(folder, "e")) == kept, "it is another")
     got = call(top, ["trace", "--write-times", "e", "ls.txt", "vg0.table", "-"], given=kept, folder=folder)
     tally.holds("times of standard input", got.status == 0 and got.out.startswith(b"R vg0-lv0 "), "status %s, %r" % (got.status, got.err))
-    write(folder, "damaged", kept.replace(b" + 8 ", b" x 8 "))
-    write(folder, "precious", b"precious\n")
+    tally.program.file(os.path.join(folder, "damaged"), kept.replace(b" + 8 ", b" x 8 "))
+    tally.program.file(os.path.join(folder, "precious"), b"precious\n")
     os.chmod(os.path.join(folder, "precious"), 0o640)
     os.symlink("precious", os.path.join(folder, "to precious"))
     got = call(top, ["trace", "--write-times", "to precious", "ls.txt", "vg0.table", "damaged"], folder=folder)
@@ -388,13 +351,13 @@ def test_unsaid(tally, top, folder):
     """Where the message of a refusal can't be written either, what was printed is spoiled all the same."""
     words = ["trace", "--write-times", "beside", "ls.txt", "vg0.table"]
     for closed, wanted in (2, b"refused\n"), (1, b""):
-        write(folder, "beside", b"as before\n")
+        tally.program.file(os.path.join(folder, "beside"), b"as before\n")
         got = run(tool(top) + words, given=b"253,0 0 7 0.5 4101 Q R x + 16 [fio]\n", folder=folder, before=lambda it=closed: os.close(it))
         tally.holds("a refusal without stream %d" % closed, (got.status, got.out) == (FULL, wanted), "%s, %r" % (got.status, got.out))
         found = read(os.path.join(folder, "beside"))
         tally.holds("what it leaves beside", found == b"as before\n", "it is %r" % found)
-    got = run(tool(top) + ["cut"], folder=folder, stdin=subprocess.DEVNULL, before=lambda: os.close(0))
-    tally.same("no input", got, REFUSED, "refused\n", TOOL + " cut: standard input: Bad file descriptor\n")
+    got = run(tool(top) + ["trace", "--bytes"], folder=folder, stdin=subprocess.DEVNULL, before=lambda: os.close(0))
+    tally.same("no input", got, REFUSED, "refused\n", TOOL + " trace: standard input: Bad file descriptor\n")
 
 
 def test_locale(tally, program, top, folder):
@@ -418,7 +381,7 @@ def test_rooms(tally, top, folder):
     """No room for what is kept in files meanwhile."""
     none = lambda: resource.setrlimit(resource.RLIMIT_FSIZE, (0, 0))
     stack = ["table", "snap.table", "snap.disks"]
-    for command, words in (("store", ["--requests", "writes", *stack]), ("extents", ["--fresh", "snap", *stack]), ("save", ["snap", "saved", *stack])):
+    for command, words in (("store", ["--requests", "writes", *stack]), ("layout", ["--fresh", "--device", "snap", *stack]), ("save", ["snap", "saved", *stack])):
         got = run(tool(top) + [command, "--program", "./dmremap", *words], folder=folder, before=none)
         said = "%s %s: a temporary file: " % (TOOL, command)
         is_so = got.status == FULL and got.err.startswith(said.encode()) and got.err.count(b"\n") == 1
@@ -427,12 +390,11 @@ def test_rooms(tally, top, folder):
 
 def test_killed(tally, top, folder):
     """A dmremap that is killed is an output that failed."""
-    with open(os.path.join(folder, "dies"), "w") as it:
-        it.write('#!/bin/sh\n[ "$1" = "$DIES_AT" ] && kill -9 $$\nexec ./dmremap "$@"\n')
+    tally.program.file(os.path.join(folder, "dies"), '#!/bin/sh\n[ "$1" = "$DIES_AT" ] && kill -9 $$\nexec ./dmremap "$@"\n')
     os.chmod(os.path.join(folder, "dies"), 0o755)
     stack = ["table", "snap.table", "snap.disks"]
-    for command, at, words in (("store", "map", ["--requests", "writes", *stack]), ("extents", "concise", ["snap", *stack]), ("extents", "map", ["snap", *stack]),
-                               ("save", "concise", ["snap", "saved", *stack])):
+    for command, at, words in (("store", "map", ["--requests", "writes", *stack]), ("layout", "concise", ["--device", "snap", *stack]),
+                               ("layout", "map", ["--device", "snap", *stack]), ("save", "concise", ["snap", "saved", *stack])):
         got = run(tool(top) + [command, "--program", "./dies", "--fresh", *words], given="R snap 0 8\n", folder=folder, env=dict(os.environ, DIES_AT=at))
         said = "%s %s: ./dies: it was ended by signal 9\n" % (TOOL, command)
         is_so = (got.status, got.out) == (FULL, b"") and got.err.decode().endswith(said)
@@ -443,8 +405,8 @@ def test_killed(tally, top, folder):
         tally.holds("a save to " + name, got.status == (2 if name == "-" else 0) and os.path.exists(os.path.join(folder, "-")) == (name != "-"),
                     "status %s, %r" % (got.status, got.err))
         tally.holds("what is said of it", name != "-" or got.err.decode().endswith("\n%s save: %s\n" % (TOOL, NO_FILE)), got.err)
-    got = call(top, ["dd", "--program", "./dmremap", "table", "-", "snap.disks"], folder=folder)
-    tally.same("requests and tables from one input", got, 2, "refused\n", TOOL + " dd: standard input can't be two files: give the path of one\n")
+    got = call(top, ["layout", "--program", "./dmremap", "table", "-", "-"], folder=folder)
+    tally.same("tables and disks from one input", got, 2, "", TOOL + " layout: standard input can't be two files: give the path of one\n")
 
 
 def test_long(tally, top, folder, commands):
@@ -463,21 +425,22 @@ def test_long(tally, top, folder, commands):
             tally.holds("long words of %s: %s" % (command.name, [it[:20] for it in words]), is_so, said[:500])
 
 
-def test_words(tally, top):
+def test_words(tally, program, top):
     """Words that make no sense."""
     usage = "usage: %s COMMAND ..\n%s: " % (TOOL, TOOL)
     tally.same("no command", call(top, []), 2, "", usage + "--help lists the commands\n")
     tally.same("another command", call(top, ["x\x1b"]), 2, "", usage + "no command 'x\\x1b'; --help lists them\n")
     tally.same("a command of two lines", call(top, ["x\ny"]), 2, "", usage + "no command 'x\\ny'; --help lists them\n")
-    for words, reason in ((["cut", "--nothing"], "unrecognized arguments: --nothing"),
-                          (["cut", "a", "b"], "unrecognized arguments: b"),
-                          (["cut", "a", *"bcdefghijklmnopqrs"], "unrecognized arguments: b c d e f g h i j k l m n o p q .."),
-                          (["tree"], "the following arguments are required: FILE")):
+    for words, reason in ((["report", "--nothing"], "unrecognized arguments: --nothing"),
+                          (["report", "a", "b"], "unrecognized arguments: b"),
+                          (["report", "a", *"bcdefghijklmnopqrs"], "unrecognized arguments: b c d e f g h i j k l m n o p q .."),
+                          (["filefrag"], "the following arguments are required: VOLUME")):
         got = call(top, words)
-        is_so = (got.status, got.out) == (2, b"refused\n" * (words[0] == "cut")) and got.err.decode().endswith("\n%s %s: %s\n" % (TOOL, words[0], reason))
+        is_so = (got.status, got.out) == (2, b"refused\n" * (words[0] == "filefrag")) and got.err.decode().endswith("\n%s %s: %s\n" % (TOOL, words[0], reason))
         tally.holds(" ".join(words), is_so, "%s, %r, %r" % (got.status, got.out, got.err))
-    tally.same("two files from one input", call(top, ["report", "--times", "-", "-"]), 2, "", TOOL + " report: standard input can't be two files: give the path of one\n")
+    tally.same("two files from one input", call(top, ["report", "--compare", "-", "-"]), 2, "", TOOL + " report: standard input can't be two files: give the path of one\n")
     tally.tells("--help", run(tool(top) + ["--help"]), out="\nanswers:\n", err="")
+    tally.same("--version", call(top, ["--version"]), 0, TOOL + program.run(["--version"]).out.decode()[len("dmremap"):])
 
 
 class ToolStreams(Case):

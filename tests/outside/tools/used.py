@@ -1,18 +1,19 @@
-"""Snapshots that were written to, as the tools read them: `extents` by stores that are made here. What a kernel finds in such stores
+"""Snapshots that were written to, as the tools read them: `layout --device` by stores that are made here. What a kernel finds in such stores
 is compared by tests/kernel, and what dmremap does with them by `stored`."""
 
 import importlib
 import os
 import random
-import struct
 
 import tool_streams
 import walks
 from harness import run, text_of
-from physical_volumes import dashed, gpt, volume
+from lvm_texts import dashed
+from physical_volumes import gpt, volume
+from store_lists import SECTOR, store
 from tool_calls import TOOL, call
 
-MAGIC, CHUNK, SECTOR = 0x70416E53, 8, 512
+CHUNK = 8
 TABLE = "o: 0 64 snapshot-origin base\ns: 0 64 snapshot base cow P 8\n"
 DISKS = "base 64\ncow 160\nlost 64\n"
 PAIRS = [(3, 2), (0, 3)]
@@ -20,18 +21,8 @@ USED = "0 8 cow 24\n8 16 base 8\n24 8 cow 16\n32 32 base 32\n"
 FRESH = "0 64 base 0\n"
 TOLD = "s: its store has 2 chunks\n"
 PATHS = ["--paths", "paths"]
-NEXT = "; --paths says where disks are, and --fresh takes every snapshot as new"
+NEXT = "; --paths says where disks are"
 CHANGES = 80
-
-
-def store(pairs, chunk=CHUNK, chunks=20, magic=MAGIC, valid=1, version=1, said=None):
-    """The content of a store with these pairs of an old and a new chunk."""
-    content = bytearray(chunks * chunk * SECTOR)
-    struct.pack_into("<4I", content, 0, magic, valid, version, said or chunk)
-    for number, pair in enumerate(pairs):
-        area, at = divmod(number, 32 * chunk)
-        struct.pack_into("<2Q", content, (1 + (32 * chunk + 1) * area) * chunk * SECTOR + 16 * at, *pair)
-    return bytes(content)
 
 
 class Stores:
@@ -48,13 +39,13 @@ class Stores:
         self.program.file("used/" + name, content)
 
     def call(self, words, source, device="s"):
-        return call(self.top, ["extents", "--program", self.program.path, *words, device, *source], folder=self.folder)
+        return call(self.top, ["layout", "--program", self.program.path, *words, "--device", device, *source], folder=self.folder)
 
     def same(self, name, out, err=TOLD, words=PATHS, source=("table", "table", "disks"), device="s"):
         self.tally.same("used: " + name, self.call(words, source, device), 0, out, err)
 
     def refused(self, name, why, words=PATHS, source=("table", "table", "disks"), device="s", told=""):
-        self.tally.same("used: " + name, self.call(words, source, device), 1, "", "%s%s extents: %s\n" % (told, TOOL, why))
+        self.tally.same("used: " + name, self.call(words, source, device), 1, "", "%s%s layout: %s\n" % (told, TOOL, why))
 
 
 def test_states(case):
@@ -63,7 +54,6 @@ def test_states(case):
     for name, content, out, count in (
             ("a store of zeros", bytes(80 * SECTOR), FRESH, "0 chunks"), ("a store without pairs", store([]), FRESH, "0 chunks"),
             ("a store with one", store(PAIRS[:1]), "0 24 base 0\n24 8 cow 16\n32 32 base 32\n", "1 chunk"),
-            ("a free pair before others", store([(0, 0), (3, 2)]), FRESH, "0 chunks"),
             ("a store that is valid by another number", store(PAIRS, valid=2), USED, "2 chunks")):
         case.put("image", content)
         case.same(name, out, "s: its store has %s\n" % count)
@@ -97,15 +87,18 @@ def test_refused(case):
             ("another chunk", store(PAIRS, said=16), "its chunks have another length than the tables say, and a kernel goes by the store: `od -An -tu4 -j12 -N4` "
              "of its first sector prints how many sectors they have, so write that there" + NEXT),
             ("a place left out", store([(3, 2), (0, 5)]), "its list has chunks in another order than that of their places, or more than there is room for, " + damaged),
+            ("a free pair before others", store([(0, 0), (3, 2)]), "its list goes on behind a free place, " + damaged),
             ("a chunk past the end", store([(3, 2), (9, 3)]), "its list has a chunk past the end of the snapshot, " + damaged),
             ("a chunk twice", store([(3, 2), (3, 3)]), "its list has a chunk twice, " + damaged),
             ("a store that isn't valid", store(PAIRS, valid=0), "it is invalid, as it was full once: what the origin overwrote since is lost, and nothing of the "
              "snapshot is read; --fresh takes what the origin has"),
-            ("a short image", store(PAIRS)[:20], unread), ("an image without an area", store(PAIRS)[:8 * SECTOR + 100], unread)):
+            ("an image without an area", store(PAIRS)[:8 * SECTOR + 100], unread)):
         case.put("image", content)
         case.refused(name, where + why)
     case.put("image", b"BZh" + store(PAIRS))
     case.refused("a compressed image", "image: it is compressed (bzip2): unpack it")
+    case.put("image", store(PAIRS)[:20])
+    case.refused("a short image", "image: it is too short: it has 20 bytes: give the image of a disk")
     case.put("image", store(PAIRS))
     missing = "a disk that its header or its list lies on isn't here (%s)" + NEXT
     case.put("away", "cow nothing\n")
@@ -149,10 +142,10 @@ def test_places(case):
     case.put("striped.paths", "x x.img\ny y.img?offset=1024\n")
     case.same("a store on two disks", "0 4 x 22\n4 4 y 12\n8 16 base 8\n24 4 x 18\n28 4 y 8\n32 32 base 32\n",
               words=["--paths", "striped.paths"], source=("table", "striped", "striped.disks"))
-    # Neither the header nor the list lies on y.
+    # Of the area of the list, the first sectors lie on x and the others on y.
     case.put("striped.paths", "x x.img\ny away/y.img\n")
-    case.same("a store of whose disks another is away", "0 4 x 22\n4 4 y 12\n8 16 base 8\n24 4 x 18\n28 4 y 8\n32 32 base 32\n",
-              words=["--paths", "striped.paths"], source=("table", "striped", "striped.disks"))
+    case.refused("a store of whose disks another is away", "the store of s: a disk that its header or its list lies on isn't here (y)" + NEXT,
+                 ["--paths", "striped.paths"], ("table", "striped", "striped.disks"))
     case.put("striped.paths", "x away/x.img\ny y.img\n")
     case.refused("a store of whose disks one is away", "the store of s: a disk that its header or its list lies on isn't here (x)" + NEXT,
                  ["--paths", "striped.paths"], ("table", "striped", "striped.disks"))
@@ -212,21 +205,17 @@ def test_stacks(case):
 
 
 def test_words(case):
-    for words, why in ((["--fresh", "s", "s", "table", "table", "disks"], "argument FORMAT: invalid choice: 's'"), (["--store", "s=image", "s", "table", "table", "disks"],
-                        "argument FORMAT: invalid choice: 's'")):
-        got = call(case.top, ["extents", *words], folder=case.folder)
-        case.tally.tells("used: the words " + " ".join(words), got, 2, "", "%s extents: %s" % (TOOL, why))
-    piped = ["bash", "-c", '"$@" s table <(cat table) <(cat disks)', "bash", os.path.join(case.top, TOOL), "extents", "--program", case.program.path, *PATHS]
+    piped = ["bash", "-c", '"$@" --device s table <(cat table) <(cat disks)', "bash", os.path.join(case.top, TOOL), "layout", "--program", case.program.path, *PATHS]
     case.tally.same("used: over pipes", run(piped, folder=case.folder), 0, USED, TOLD)
     dies = case.program.file("used/dies", '#!/bin/sh\ncase "$*" in *--status) kill -9 $$;; esac\nexec %s "$@"\n' % case.program.path)
     os.chmod(dies, 0o755)
-    got = call(case.top, ["extents", "--program", dies, *PATHS, "s", "table", "table", "disks"], folder=case.folder)
-    case.tally.same("used: by a dmremap that dies", got, 5, "", "%s extents: %s: it was ended by signal 9\n" % (TOOL, dies))
+    got = call(case.top, ["layout", "--program", dies, *PATHS, "--device", "s", "table", "table", "disks"], folder=case.folder)
+    case.tally.same("used: by a dmremap that dies", got, 5, "", "%s layout: %s: it was ended by signal 9\n" % (TOOL, dies))
 
 
 def test_changed(case):
     """Random changes of the image of a store: an answer, or a refusal in words."""
-    command = importlib.import_module("dmremap_tools.commands").find("extents")
+    command = importlib.import_module("dmremap_tools.commands").find("layout")
     dice, content = random.Random(7), store(PAIRS)
     # The header and the list, where nearly all else is zeros.
     spots = [it for at in (0, CHUNK * SECTOR) for it in range(at, at + 40)]

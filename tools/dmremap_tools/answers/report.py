@@ -1,19 +1,14 @@
-"""Reports what answers do on each disk, in figures and as a picture.
+"""Reports what answers do on each disk, in figures.
 
 Takes the output of `dmremap map`. Prints lines that begin with what they say:
 
     total DISK WHAT PIECES SECTORS BYTES    what is done there, R or W; `-` is no disk, with zero, drop or error
-    length DISK WHAT SECTORS PIECES BAR     how many pieces have from SECTORS up to less than twice as many
+    length DISK WHAT SECTORS PIECES         how many pieces have from SECTORS up to less than twice as many
     seek DISK SECTORS                       the mean distance from the end of a piece to the next one there
     split PIECES REQUESTS                   how many requests have so many pieces that are R or W
-    time SECONDS                            with --times: from the first request to the last
 
 A copy is a read and a write, and a fill a write; neither counts for `seek` and `split`. A kernel also writes the list
-of a snapshot's store, which answers leave out: the disk of a store does more than is counted here. With --lengths the
-lines are in the order of DISKS; disks that it lacks are refused, and so are pieces past their ends.
-
---plot draws a field for each disk: to the right the numbers of the requests, or with --times their times; upwards the
-sectors. Reads are blue and writes red, the more the darker.
+of a snapshot's store, which answers leave out: the disk of a store does more than is counted here.
 
 --compare checks whether a trace of the disks has what was answered. LOWER has lines `R DISK START SECTORS` or `W ..`,
 with the names of the answers, as `trace --lower` prints them. If they differ, lines follow, and the status is 1:
@@ -28,52 +23,35 @@ of order.
 from argparse import ArgumentParser, Namespace
 from collections import Counter, defaultdict
 from operator import add, sub
-from typing import Dict, List, Optional, Sequence, Tuple
+from typing import Dict, Iterator, List, Optional, Sequence, Tuple
 
-from dmremap_tools.answers.plot import DiskFields, Moments
-from dmremap_tools.base import Refusal, WrongWords, numbers, pieces, quoting, requests, streams, tables
+from dmremap_tools.base import Refusal, numbers, pieces, requests, streams
 
 EXAMPLE = "dmremap map lvm vg0.backup < requests | dmremap-tools report"
-LONGEST_BAR = 40
 # Reads and writes of more disks than DISKS has in a text that dmremap takes, unless their names are very short.
 MOST_TOTALS = 1 << 17
 # At how many sectors a trace may differ from the answers at once.
 MOST_PLACES = 1 << 20
-# A disk, what is done there, and the first sectors of pieces and those behind them.
-Use = Tuple[str, str, List[int], List[int]]
 
 
 def add_words(parser: ArgumentParser) -> None:
     parser.add_argument("file", metavar="PIECES", nargs="?", default="-",
                         help="the output of dmremap map; by default standard input")
-    parser.add_argument("--lengths", metavar="DISKS",
-                        help="a list of disks with their lengths, which orders the figures")
-    parser.add_argument("--plot", metavar="OUT.svg", help="draw a picture into this file; this needs --lengths")
-    parser.add_argument("--times", metavar="TIMES",
-                        help="the file of times that trace --write-times wrote")
     parser.add_argument("--compare", metavar="LOWER", help="compare the answers with requests that trace --lower made")
 
 
 def run(words: Namespace) -> None:
-    if words.plot is not None and words.lengths is None:
-        raise WrongWords("--plot needs --lengths")
-    picture = streams.beside(words.plot) if words.plot is not None else None
-    sizes = tables.read_disks(words.lengths) if words.lengths is not None else None
-    moments = Moments(words.times)
-    fields = DiskFields(sizes, moments) if picture and sizes is not None else None
     compared = Compared(words.compare) if words.compare is not None else None
     source = pieces.Answers(words.file)
-    report = Report(source, sizes, fields, compared)
-    for asked, moves, copied, others in source.by_blocks():
-        moments.take_moments(source, asked)
-        report.count_pieces(moves, copied, others)
+    report = Report(source, compared)
+    for moves, copied, others in source.by_blocks():
+        report.count_splits(moves.requests)
+        report.count_moves(moves, True)
+        report.count_moves(copied)
+        report.count_others(others)
     if source.number == source.statuses:
         streams.tell("no piece came")
     report.write()
-    if words.times is not None:
-        streams.out.write(f"time {moments.last:g}\n")
-    if picture and fields:
-        fields.draw(picture)
     if compared:
         compared.refuse_if_different()
 
@@ -81,101 +59,74 @@ def run(words: Namespace) -> None:
 class Report:
     """The figures of answers."""
 
-    def __init__(self, source: pieces.Answers, sizes: Optional[Dict[str, int]], fields: Optional[DiskFields],
-                 compared: "Optional[Compared]") -> None:
-        self._source, self._sizes, self._fields, self._compared = source, sizes, fields, compared
+    def __init__(self, source: pieces.Answers, compared: "Optional[Compared]") -> None:
+        self._source, self._compared = source, compared
         # By disk and what is done, the sectors; and how many pieces have a length of so many binary digits, or no disk.
         self._sectors: Dict[Tuple[str, str], int] = Counter()
         self._lengths: Dict[Tuple[str, str], "Counter[int]"] = defaultdict(Counter)
         # By disk: the end of the last piece, how far all moves were together, and how many there were.
-        self._heads: Dict[str, List[int]] = {}
+        self._heads: Dict[str, int] = {}
+        self._far: Dict[str, int] = Counter()
+        self._seeks: Dict[str, int] = Counter()
         self._splits: "Counter[int]" = Counter()
         # The last request, and its pieces so far.
         self._request = self._pieces = 0
 
-    def count_pieces(self, moves: pieces.Moves, copied: pieces.Moves, others: List[Tuple[str, str]]) -> None:
-        """Counts the pieces of some requests: those for which heads move, those that copy, and those without a disk."""
-        if moves.requests:
-            counts = Counter(moves.requests)
+    def count_splits(self, numbers: List[int]) -> None:
+        """Counts the pieces of each request, by the numbers that pieces have; the last request may go on."""
+        if numbers:
+            counts = Counter(numbers)
             counts[self._request] += self._pieces
-            self._request = moves.requests[-1]
+            self._request = numbers[-1]
             self._pieces = counts.pop(self._request)
             self._splits.update(counts.values())
-            self._take_moves(moves, self._heads)
-        if copied.requests:
-            self._take_moves(copied, {})
+
+    def count_moves(self, moves: pieces.Moves, are_seeks: bool = False) -> None:
+        """Counts reads and writes, and moves the heads of disks there if they are seeks."""
+        for (disk, what, length), times in Counter(zip(moves.disks, moves.whats, moves.counts)).items():
+            self._sectors[disk, what] += times * length
+            self._lengths[disk, what][length.bit_length()] += times
+        ends = list(map(add, moves.starts, moves.counts))
+        for disk, (starts, lasts) in by_key(moves.disks, moves.starts, ends) if are_seeks else ():
+            distances = map(abs, map(sub, starts, [self._heads.get(disk, starts[0]), *lasts]))
+            self._heads[disk], self._far[disk] = lasts[-1], self._far[disk] + sum(distances)
+            self._seeks[disk] += len(starts)
+        if self._compared:
+            self._compared.add_answers(moves.disks, moves.whats, moves.starts, ends)
+        if len(self._sectors) > MOST_TOTALS:
+            raise Refusal(self._source.name, f"pieces on more than {MOST_TOTALS // 2} disks: give those of fewer")
+
+    def count_others(self, others: List[Tuple[str, str]]) -> None:
+        """Counts what is done without a disk, each with its sectors."""
         for (what, length), times in Counter(others).items():
             self._lengths["-", what][0] += times
             self._sectors["-", what] += times * int(length)
 
     def write(self) -> None:
         """Writes the lines: totals, lengths, seeks and splits."""
-        rank = {disk: place for place, disk in enumerate(self._sizes or ())}
-        uses = sorted(self._sectors, key=lambda use: (rank.get(use[0], -1), use))
+        uses = sorted(self._sectors)
         for disk, what in uses:
             count, sectors = sum(self._lengths[disk, what].values()), self._sectors[disk, what]
             streams.out.write(f"total {disk} {what} {count} {sectors} {sectors * numbers.SECTOR}\n")
-        lengths = [(*use, *row) for use in uses for row in sorted(self._lengths[use].items()) if row[0]]
-        greatest = max((count for *_, count in lengths), default=0)
-        for disk, what, digits, count in lengths:
-            bar = "#" * -(-LONGEST_BAR * count // greatest)
-            streams.out.write(f"length {disk} {what} {1 << (digits - 1)} {count} {bar}\n")
+        for disk, what in uses:
+            for digits, count in sorted(self._lengths[disk, what].items()):
+                if digits:
+                    streams.out.write(f"length {disk} {what} {1 << (digits - 1)} {count}\n")
         for disk in dict.fromkeys(disk for disk, _ in uses):
-            _, far, count = self._heads.get(disk, (0, 0, 0))
-            if count:
-                streams.out.write(f"seek {disk} {far // count}\n")
+            if self._seeks[disk] > 1:
+                streams.out.write(f"seek {disk} {self._far[disk] // (self._seeks[disk] - 1)}\n")
         self._splits[self._pieces] += 1
         for count in sorted(self._splits.keys() - {0}):
             streams.out.write(f"split {count} {self._splits[count]}\n")
 
-    def _take_moves(self, moves: pieces.Moves, heads: Dict[str, List[int]]) -> None:
-        """Counts reads and writes, and moves heads."""
-        places = self._fields.columns(moves.requests) if self._fields else [(0, len(moves.requests), 0)]
-        for begin, end, place in places:
-            whats, disks, starts = moves.whats[begin:end], moves.disks[begin:end], moves.starts[begin:end]
-            ends = list(map(add, starts, moves.counts[begin:end]))
-            uses = grouped(heads, whats, disks, starts, ends)
-            if self._sizes is not None:
-                check_disks(self._source, self._sizes, uses)
-            for disk, what, firsts, lasts in uses:
-                counts = list(map(sub, lasts, firsts))
-                heads[disk][2] += len(counts)
-                self._sectors[disk, what] += sum(counts)
-                self._lengths[disk, what].update(map(int.bit_length, counts))
-                if self._fields:
-                    self._fields.mark(self._source, place, disk, what, firsts, lasts)
-            if self._compared:
-                self._compared.add_answers(disks, whats, starts, ends)
-        if len(self._sectors) > MOST_TOTALS:
-            raise Refusal(self._source.name, f"pieces on more than {MOST_TOTALS // 2} disks: give those of fewer")
 
-
-def grouped(heads: Dict[str, List[int]], whats: Sequence[str], disks: Sequence[str], starts: List[int],
-            ends: List[int]) -> List[Use]:
-    """What is done, by disks, and moves heads; how often each moves is counted by who asks."""
-    for disk in set(disks) - heads.keys():
-        heads[disk] = [starts[disks.index(disk)], 0, -1]
-    groups: Dict[str, Dict[str, Tuple[List[int], List[int]]]] = {what: defaultdict(lambda: ([], [])) for what in "RW"}
-    for what, disk, start, end in zip(whats, disks, starts, ends):
-        head = heads[disk]
-        head[1] += abs(start - head[0])
-        head[0] = end
-        firsts, lasts = groups[what][disk]
-        firsts.append(start)
-        lasts.append(end)
-    return [(disk, what, *both) for what, group in groups.items() for disk, both in group.items()]
-
-
-def check_disks(source: pieces.Answers, sizes: Dict[str, int], uses: List[Use]) -> None:
-    """Refuses disks that DISKS lacks, and pieces past their ends."""
-    unknown = next((disk for disk, *_ in uses if disk not in sizes), None)
-    if unknown:
-        source.refuse_where(f"DISKS has no {quoting.shown(unknown)}, give those of the answers",
-                            lambda it: unknown in (it.disk, it.to))
-    if any(max(ends) > sizes[disk] for disk, _, _, ends in uses):
-        source.refuse_where("past the end of the disk, give the DISKS of the answers",
-                            lambda it: bool(it.disk) and it.start + it.count > sizes[it.disk]
-                            or bool(it.to) and it.to_start + it.count > sizes[it.to])
+def by_key(keys: Sequence[str], *columns: Sequence[int]) -> Iterator[Tuple[str, List[List[int]]]]:
+    """Each key among some, with what the columns have beside it."""
+    places: Dict[str, List[int]] = {key: [] for key in dict.fromkeys(keys)}
+    for place, key in enumerate(keys):
+        places[key].append(place)
+    for key, some in places.items():
+        yield key, [list(map(column.__getitem__, some)) for column in columns]
 
 
 class Compared:

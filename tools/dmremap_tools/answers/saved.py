@@ -3,35 +3,36 @@ first of which volume it is, so that no other one goes on by it, and is locked w
 
 import contextlib
 import fcntl
-import functools
 import hashlib
 import os
 import re
 import stat
 import time
-from typing import Dict, Generator, Iterable, Iterator, List, NamedTuple, Optional, Sequence, Set, Tuple
+from typing import Generator, Iterable, Iterator, List, NamedTuple, Optional, Sequence, Tuple
 
 from dmremap_tools.base import quoting, streams, written
 from dmremap_tools.base.numbers import SECTOR
 from dmremap_tools.base.refusal import Refusal
 from dmremap_tools.formats import rescue_map
 from dmremap_tools.formats.rescue_map import BAD, FINISHED, UNTRIED, Area
-from dmremap_tools.model.device import BLOCK, ZEROS, Device, Extent, Image, Lenient, Missing, Run, cut, read_blocks
+from dmremap_tools.model.device import ANY, BLOCK, Device, Extent, Gap, Image, Lenient, Missing, Run, cut, read_blocks
 
 OF = re.compile(r"# Of (.*) of ([0-9]+) sectors, from (.*?)(?:, with ([0-9]+) maps)?")
 HEAD = "# Mapfile. Created by dmremap-tools save\n# current_pos  current_status  current_pass\n"
-# Bytes in which labels, superblocks and partition tables have ids, and an id of what can't be read.
-HEAD_BYTES, ANY = 8192, "?"
+# Bytes in which labels, superblocks and partition tables have ids.
+HEAD_BYTES = 8192
 NEW = "give a new name as --resume, and another OUT"
 TAKEN = "another save goes on by it, or began it just now: wait until that has ended, or give another name"
 LATER = "it was begun without some map of an image, and what that lacks may be in OUT as zeros"
 PARTLY = "give --resume MAP to save the rest: the map says then what is missing"
 NOTHING = bytes(BLOCK)
-UNREADABLE, END = Missing("it can't be read"), Extent(Missing("it ends"), 0, 1)
+UNREADABLE = Missing("it can't be read")
 # How often a map is written, in seconds.
 STEP = 30
 # Bytes of a file: the first one, and where they and those after it come from.
 Transfer = Tuple[int, Iterable[Extent]]
+# From which byte up to which one, what they are, or nothing where they are zeros, and what is missing there.
+Content = Tuple[int, int, bytes, Optional[Missing]]
 
 
 class Absent(Missing):
@@ -64,17 +65,15 @@ def merged(one: str, other: str) -> Optional[str]:
 
 
 class SavedMap:
-    """The areas of a file of so many bytes, of which only some, given by begin and end, have to be put together; of the
-    map at `path`, if there is one, which has to be of the same source. It is locked as long as this run goes on."""
+    """The areas of a file of so many bytes; of the map at `path`, if there is one, which has to be of the same source.
+    It is locked as long as this run goes on."""
 
-    def __init__(self, path: Optional[str], source: Source, size: int, wanted: Sequence[Run]) -> None:
+    def __init__(self, path: Optional[str], source: Source, size: int) -> None:
         self.size, self.is_begun, self.is_made = size, path is not None and os.path.lexists(path), False
         self.place = None if path is None else written.Place(path)
         self._shown = self.place.shown if self.place else ""
         self._source, self._lock, self.has_more_maps = source, -1, False
-        # What isn't wanted reads as zeros.
-        self._areas = joined(Area(begin, end, UNTRIED if run else FINISHED) for begin, end, run in cut(wanted, 0, size))
-        self._marks: List[Area] = []
+        self._areas, self._marks = append([], Area(0, size, UNTRIED)), []  # type: List[Area], List[Area]
         if self.place and path is not None and self.is_begun:
             self._lock = self._locked(self.place, path)
             self._areas = rescue_map.read(path, is_written=True)
@@ -131,14 +130,16 @@ class SavedMap:
         """Gives a status to bytes that weren't finished, and that lie after those that were marked before."""
         if self._marks:
             begin = max(begin, self._marks[-1].end)
-        self._marks = append(self._marks, Area(begin, min(end, self.size), status))
+        append(self._marks, Area(begin, end, status))
 
     def write(self) -> None:
         """Writes the map, if one is asked for, in place of the one that was there."""
         if not self.place:
             return
-        areas = joined(Area(begin, end, mark.status if mark and area.status != FINISHED else area.status)
-                       for area in self._areas for begin, end, mark in cut(self._marks, area.begin, area.end))
+        areas: List[Area] = []
+        for area in self._areas:
+            for begin, end, mark in cut(self._marks, area.begin, area.end):
+                append(areas, Area(begin, end, mark.status if mark and area.status != FINISHED else area.status))
         left = next((area for area in areas if area.status != FINISHED), None)
         now, status = (left.begin, UNTRIED) if left else (self.size, FINISHED)
         rows = "".join(f"0x{area.begin:08X}  0x{area.end - area.begin:08X}  {area.status}\n" for area in areas)
@@ -178,16 +179,12 @@ def append(areas: List[Area], area: Area) -> List[Area]:
     return areas
 
 
-def joined(areas: Iterable[Area]) -> List[Area]:
-    return functools.reduce(append, areas, [])
-
-
 class Target:
     """A file of so many bytes. One that is made anew has zeros without a place on its disk until others are written,
     and is made beside its place; one that `is_begun` is there already, of this length. It follows no link."""
 
     def __init__(self, path: str, size: int, is_begun: bool) -> None:
-        self.place, self._size, self._is_begun = written.Place(path, is_word=False), size, is_begun
+        self.place, self._is_begun = written.Place(path, is_word=False), is_begun
         if not is_begun:
             self.place.check_new()
         elif not os.path.lexists(path):
@@ -201,17 +198,16 @@ class Target:
                 raise Refusal(self.place.shown, why + "give that, or another --resume")
             os.ftruncate(self._descriptor, size)
 
-    def has(self, at: int, content: memoryview) -> bool:
-        """Whether bytes, at most a BLOCK, needn't be written at a place, as they are zeros and the file has zeros there
-        already, which may be a hole. It is false of all other bytes."""
+    def has(self, at: int, content: bytes) -> bool:
+        """Whether bytes, at most a BLOCK, needn't be written at a place, as they are zeros as what the file has."""
         if not NOTHING.startswith(content):
             return False
         with self.place.failing():
             return not self._is_begun or NOTHING.startswith(os.pread(self._descriptor, len(content), at))
 
-    def write(self, at: int, content: memoryview) -> None:
-        """Writes bytes at a place, as far as the file goes."""
-        left = content[:max(self._size - at, 0)]
+    def write(self, at: int, content: bytes) -> None:
+        """Writes bytes at a place."""
+        left = memoryview(content)
         with self.place.failing():
             while left:
                 count = os.pwrite(self._descriptor, left, at)
@@ -230,22 +226,23 @@ def put_together(path: str, saved: SavedMap, transfers: Generator[Transfer, None
     target = Target(path, saved.size, saved.is_begun)
     if saved.place:
         put_begun(target, saved)
-    gap, due, absent, buffer = range(0), time.monotonic() + STEP, {""}, memoryview(bytearray(BLOCK))
+    gap, due, absent = range(0), time.monotonic() + STEP, {""}
     try:
         with contextlib.closing(transfers):
-            for first, window in (it for start, extents in transfers for it in windows(start, extents)):
-                for begin, end, lack in results(first, window, buffer, target):
-                    if lack:
-                        told = f"missing: {quoting.shown(lack.disk)}: {lack.name}" if isinstance(lack, Absent) else ""
-                        if told not in absent:
-                            streams.tell(told)
-                            absent.add(told)
-                        first = begin // SECTOR
-                        if first != gap.stop:
-                            tell(gap)
-                        gap = range(gap.start if first == gap.stop else first, end // SECTOR)
-                    saved.mark(begin, end, UNTRIED if isinstance(lack, Absent) else BAD if lack else FINISHED)
-                    streams.show_progress(f"{end >> 20} of {saved.size >> 20} MiB")
+            contents = (it for start, extents in transfers for it in contents_of(start, extents))
+            for begin, end, content, lack in gathered(contents, target):
+                target.write(begin, content)
+                if lack:
+                    told = f"missing: {quoting.shown(lack.disk)}: {lack.name}" if isinstance(lack, Absent) else ""
+                    if told not in absent:
+                        streams.tell(told)
+                        absent.add(told)
+                    first = begin // SECTOR
+                    if first != gap.stop:
+                        tell(gap)
+                    gap = range(gap.start if first == gap.stop else first, end // SECTOR)
+                saved.mark(begin, end, UNTRIED if isinstance(lack, Absent) else BAD if lack else FINISHED)
+                streams.show_progress(f"{end >> 20} of {saved.size >> 20} MiB")
                 if saved.place and time.monotonic() > due:
                     target.sync()
                     saved.write()
@@ -263,15 +260,15 @@ def put_together(path: str, saved: SavedMap, transfers: Generator[Transfer, None
 
 
 def put_begun(target: Target, saved: SavedMap) -> None:
-    """Puts a file in its place, once its map is there: without that it would look whole. A map of this run alone is
-    removed where that fails."""
+    """Puts a file in its place once its map is there, as it would look whole. Where that fails, a new map goes."""
     try:
         saved.write()
         if not saved.is_begun:
             target.place.put(is_new=True)
     except BaseException:
         if saved.place and not saved.is_begun and saved.is_made:
-            saved.place.remove()
+            with contextlib.suppress(OSError):
+                os.unlink(saved.place.path)
         raise
 
 
@@ -280,91 +277,39 @@ def tell(gap: range) -> None:
         streams.tell(f"{len(gap)} sectors of the file from {gap.start} on can't be read")
 
 
-def parts_of(extents: Iterable[Extent]) -> Iterator[Extent]:
-    """The same in blocks, of which some are holes: zeros, and what is missing."""
-    for extent in extents:
-        source, begin, size = extent
-        why = None if isinstance(source, Image) or source is ZEROS else source.lack(begin, size)
-        if why is None and (size < BLOCK or source.is_hole):
-            yield extent
-        elif why is not None:
-            yield Extent(source if source.is_hole else Missing(why), begin, size)
+def gathered(contents: Iterable[Content], target: Target) -> Iterator[Content]:
+    """The same, with those that go on in each other in one, up to a BLOCK; without those that a file has already."""
+    parts: List[bytes] = []
+    begin = end = 0
+    for first, stop, content, lack in contents:
+        is_hole = lack is not None or target.has(first, content)
+        if parts and (is_hole or first != end or stop - begin > BLOCK):
+            yield begin, end, b"".join(parts), None
+            parts = []
+        if is_hole:
+            yield first, stop, b"", lack
         else:
-            # Holes of an image aren't read.
-            runs = list(source.runs(begin, begin + size)) if isinstance(source, Image) else [(begin, begin + size)]
-            for first, stop, run in cut(runs, begin, begin + size):
-                step = BLOCK if run else stop - first
-                for start in range(first, stop, step):
-                    yield Extent(source if run else ZEROS, start, min(step, stop - start))
+            begin, end = begin if parts else first, stop
+            parts.append(content)
+    if parts:
+        yield begin, end, b"".join(parts), None
 
 
-def windows(first: int, extents: Iterable[Extent]) -> Iterator[Tuple[int, List[Extent]]]:
-    """Parts of a file from a byte on, as many as a BLOCK has room for, or a longer one that isn't read, each time with the first
-    byte: larger windows go through the processor's cache twice."""
-    window: List[Extent] = []
-    length, refused = 0, None
-    try:
-        for part in parts_of(extents):
-            if length + part.size > BLOCK and window:
-                yield first, window
-                first, window, length = first + length, [], 0
-            window.append(part)
-            length += part.size
-    except Refusal as refusal:
-        # What came before it is saved, and the map says so.
-        refused = refusal
-    if window:
-        yield first, window
-    if refused:
-        raise refused
-
-
-def results(first: int, window: List[Extent], buffer: memoryview, target: Target) -> Iterator[Tuple[int, int, Optional[Missing]]]:
-    """Puts the parts of a window into a file: from where to where, and what lacks there."""
-    before: Optional[Device] = None
-    begin = end = first
-    for source, _, size in [*read(window, buffer), END]:
-        what = source if source.is_hole else None
-        if what is None and not buffer[end - first] and target.has(end, buffer[end - first:end - first + size]):
-            what = ZEROS
-        if what is not before:
-            if before is None:
-                target.write(begin, buffer[begin - first:end - first])
-            if begin < end:
-                yield begin, end, before if isinstance(before, Missing) else None
-            begin, before = end, what
-        end += size
-
-
-def read(window: List[Extent], buffer: memoryview) -> List[Extent]:
-    """Reads parts to their places in a window, by one call where they go on in an image. Returns them, with what can't be
-    read as missing."""
-    runs: List[Tuple[Device, int, List[memoryview]]] = []
-    views: Dict[Device, List[memoryview]] = {}
-    ends: Dict[Device, int] = {}
-    at = 0
-    for source, start, size in window:
-        if not source.is_hole:
-            if ends.get(source) != start:
-                views[source] = []
-                runs.append((source, start, views[source]))
-            views[source].append(buffer[at:at + size])
-            ends[source] = start + size
-        at += size
-    failed = {source for source, start, places in runs if not (isinstance(source, Image) and source.fill(start, places))}
-    return list(read_singly(window, failed, buffer)) if failed else window
-
-
-def read_singly(window: List[Extent], failed: Set[Device], buffer: memoryview) -> Iterator[Extent]:
-    """The same with those parts that lie in some devices, of which each is read as far as it can be."""
-    at = 0
-    for part in window:
-        source, start, size = part
-        if source not in failed:
-            yield part
-            at += size
-            continue
-        for count, content, is_there in read_blocks(source.load, start, start + size):
-            buffer[at:at + len(content)] = content
-            yield Extent(source if is_there else UNREADABLE, start, count)
-            at += count
+def contents_of(at: int, extents: Iterable[Extent]) -> Iterator[Content]:
+    """What extents have that begin at a byte, in blocks. Neither a hole of an image is read, nor what lacks bytes."""
+    for source, begin, size in extents:
+        if size < BLOCK and isinstance(source, Image):
+            with contextlib.suppress(Gap):
+                yield at, at + size, source.load(begin, size), None
+                at += size
+                continue
+        is_held = isinstance(source, Image) or source.is_hole
+        why = None if is_held else source.lack(begin, size)
+        runs: Sequence[Run] = [] if source.is_hole or why else [(begin, begin + size)]
+        lack = Missing(why) if why else source if isinstance(source, Missing) else None
+        for first, stop, run in cut(list(source.runs(*runs[0])) if isinstance(source, Image) else runs,
+                                    begin, begin + size):
+            blocks = read_blocks(source.load, first, stop) if run else [(stop - first, b"", not lack)]
+            for count, content, is_there in blocks:
+                yield at, at + count, content, None if is_there else lack or UNREADABLE
+                at += count

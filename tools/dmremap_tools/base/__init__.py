@@ -1,4 +1,4 @@
-"""What all folders use: words, streams, texts and pictures, and how dmremap is asked."""
+"""What all folders use: words, streams and texts, and how dmremap is asked."""
 
 from dmremap_tools.base.numbers import SECTOR
 from dmremap_tools.base.refusal import INCOMPLETE, Refusal, WrongWords

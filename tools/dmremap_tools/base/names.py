@@ -2,14 +2,12 @@
 
 import functools
 import re
-from argparse import ArgumentParser
-from typing import Dict, List, NoReturn, Optional, Pattern, Tuple, Union
+from typing import Dict, List, Optional, Pattern, Tuple, Union
 
 from dmremap_tools.base import SECTOR, Refusal, quoting, streams
 
 FORM = re.compile(r"[-A-Za-z0-9#+.:=@_]{1,127}")
 DISK = re.compile(r"(?!/dev/mapper/)(?!.*[,;\\])[!-~]{1,255}")
-MINOR = re.compile(r"/dev/dm-([0-9]{1,10})")
 MAPPER = "/dev/mapper/"
 LS = re.compile(r"(.*\S)[ \t]+\((\d{1,10})[:,] ?(\d{1,10})\)")
 # A number and a size, then perhaps the kernel's name and that of what it lies on.
@@ -28,42 +26,25 @@ def of_path(path: str) -> str:
     return parts[3] if parts[2] == "mapper" else "-".join(it.replace("-", "--") for it in parts[2:])
 
 
-class Names:
-    """Knows the name of a device by its path. For /dev/dm-N it needs what `dmsetup ls` prints, in a file."""
-
-    def __init__(self, ls: Optional[str] = None) -> None:
-        self._ls = ls
-
-    @functools.cached_property
-    def _of_minor(self) -> Dict[str, str]:
-        """The names of devices by their minor numbers, as digits."""
-        return {number.partition(":")[2]: name for name, number in read_ls(self._ls or "")}
-
-    def known(self, path: str, place: NamePlace) -> str:
-        """The name that a path stands for, or the path; empty for a /dev/dm-N that `dmsetup ls` has not."""
-        minor = MINOR.fullmatch(path) if path.startswith("/dev/dm-") else None
-        if minor and self._ls is None:
-            refuse_at(place, f"which device is {path}? Give --ls LS")
-        return self._of_minor.get(minor[1], "") if minor else of_path(path)
-
-    @functools.lru_cache(MOST_KEPT)
-    def device(self, path: str, place: NamePlace) -> str:
-        """The name that a path stands for, which is refused if it is none of a device."""
-        name = self.known(path, place)
-        if not FORM.fullmatch(name):
-            refuse_at(place, f"no name of a device, give it as dmsetup ls prints it: '{quoting.shown(path)}'")
-        return name
+def volume_path(path: str) -> str:
+    """GROUP/VOLUME of a volume whose device is given by /dev/GROUP/VOLUME, /dev/mapper/NAME or NAME; "" for others."""
+    if path.startswith("/dev/") and not path.startswith(MAPPER):
+        return path[len("/dev/"):] if path.count("/") == 3 else ""
+    # Hyphens within a part are doubled.
+    parts = path[len(MAPPER) * path.startswith(MAPPER):].replace("--", "\0").split("-")
+    return "/".join(parts).replace("\0", "-") if len(parts) == 2 and all(parts) else ""
 
 
-def refuse_at(place: NamePlace, reason: str) -> NoReturn:
-    """Refuses what stands at a place."""
-    if isinstance(place, str):
-        raise Refusal(place, reason)
-    place.refuse(reason)
-
-
-def add_words(parser: ArgumentParser) -> None:
-    parser.add_argument("--ls", metavar="LS", help="the output of `dmsetup ls`, if devices are given as /dev/dm-N")
+@functools.lru_cache(MOST_KEPT)
+def device(path: str, place: NamePlace) -> str:
+    """The name that a path stands for. Refuses one that is none of a device, as /dev/dm-N, at its place."""
+    name = of_path(path)
+    if not FORM.fullmatch(name):
+        why = f"no name of a device, give it as dmsetup ls prints it: '{quoting.shown(path)}'"
+        if isinstance(place, str):
+            raise Refusal(place, why)
+        place.refuse(why)
+    return name
 
 
 def read_ls(path: str) -> List[Tuple[str, str]]:

@@ -1,13 +1,14 @@
 """Where disks are on this machine: lines `NAME PATH`, for --paths."""
 
+import os
 import re
 from argparse import ArgumentParser
-from typing import Dict, NamedTuple, Optional, Pattern
+from typing import Dict, NamedTuple, Optional
 
 from dmremap_tools.base import SECTOR, Refusal, quoting, streams
 
 # With more figures, a system couldn't say where a sector after it is.
-PLACED = re.compile(r"(.*)\?offset=([0-9]{1,18})", re.S)
+PLACED = re.compile(r"(.*)\?offset=([0-9]{1,18})(?:&length=[0-9]{1,18})?", re.S)
 
 
 class DiskPlace(NamedTuple):
@@ -17,12 +18,6 @@ class DiskPlace(NamedTuple):
     start: int = 0
     is_said: bool = False
 
-    def check_sectors(self, disk: str) -> None:
-        """Refuses a place of a disk within a sector."""
-        if self.start % SECTOR:
-            raise Refusal("--paths", f"{quoting.shown(disk)} begins at byte {self.start}, within a sector: "
-                          "give a multiple of 512")
-
 
 def place_of(path: str) -> DiskPlace:
     """The place that a path of PATHS says, with or without an offset in bytes."""
@@ -30,11 +25,18 @@ def place_of(path: str) -> DiskPlace:
     return DiskPlace(match[1], int(match[2]), True) if match else DiskPlace(path)
 
 
+def part(path: str, start: int, size: int) -> str:
+    """A part of a file as PATHS names it, by where it begins and how long it is, in bytes."""
+    return f"{path}?offset={start}&length={size}"
+
+
 def line(name: str, path: str, start: int = 0) -> str:
     """The line of PATHS by which a disk is read in this file from this byte on. A path that no line says is refused."""
     place = DiskPlace(path, start)
     said = path if not start and place_of(path) == place else f"{path}?offset={start}"
-    place.check_sectors(name)
+    if start % SECTOR:
+        raise Refusal("--paths", f"{quoting.shown(name)} begins at byte {start}, within a sector: "
+                      "give a multiple of 512")
     if "\n" in path or place_of(said)[:2] != place[:2]:
         raise Refusal(quoting.shown(path), "no line of PATHS can say this path: give the file another name, or a link "
                       "to it")
@@ -47,21 +49,17 @@ def add_words(parser: ArgumentParser) -> None:
                              "if it begins there in PATH")
 
 
-def read(path: str, form: Optional[Pattern[str]] = None, are_apart: bool = True) -> Dict[str, str]:
-    """The path of each name, which may have spaces, and has a form that is given; if they `are_apart`, none twice."""
-    paths: Dict[str, str] = {}
-    taken, source = set(), streams.Lines(path)
+def places(path: Optional[str], are_apart: bool = True) -> Dict[str, DiskPlace]:
+    """The place of each name, which may have spaces, of a file that may not be given; if they `are_apart`, no path
+    stands twice."""
+    found: Dict[str, DiskPlace] = {}
+    taken, source = set(), streams.Lines(os.devnull if path is None else path)
     for line in source:
         name, _, place = line.partition(" ")
-        if not name or not place or "\0" in line or (form and not form.fullmatch(place)):
+        if not name or not place or "\0" in line:
             source.refuse_line("not a line of PATHS, give NAME PATH")
-        if name in paths or are_apart and place in taken:
+        if name in found or are_apart and place in taken:
             source.refuse_line("named before, give each name and path once")
-        paths[name] = place
+        found[name] = place_of(place)
         taken.add(place)
-    return paths
-
-
-def places(path: Optional[str], are_apart: bool = True) -> Dict[str, DiskPlace]:
-    """The place of each name, of a file that may not be given."""
-    return {name: place_of(it) for name, it in read(path, None, are_apart).items()} if path is not None else {}
+    return found

@@ -1,12 +1,13 @@
 """Pieces, as `dmremap map` answers."""
 
 import contextlib
+import itertools
 import os
 import re
 import select
 import subprocess
 import tempfile
-from typing import Callable, Iterable, Iterator, List, NamedTuple, Optional, Pattern, Sequence, Tuple, Type
+from typing import Iterable, Iterator, List, NamedTuple, Optional, Pattern, Sequence, Tuple, Type
 
 from dmremap_tools.base import numbers, program, streams
 from dmremap_tools.base.refusal import Refusal
@@ -51,9 +52,9 @@ class Moves(NamedTuple):
     counts: List[int]
 
 
-# Many pieces at once: the requests of all, those that are R or W, what copies and fills do as such, and what else is
-# done, with how many sectors.
-Block = Tuple[List[int], Moves, Moves, List[Tuple[str, str]]]
+# Many pieces at once: those that are R or W, what copies and fills do as such, and what else is done, with how many
+# sectors.
+Block = Tuple[Moves, Moves, List[Tuple[str, str]]]
 
 
 class Answers(streams.Lines):
@@ -62,46 +63,34 @@ class Answers(streams.Lines):
     statuses = 0
 
     def __iter__(self) -> Iterator[Piece]:  # type: ignore[override]
-        return map(_piece, filter(None, map(self._fields, super().__iter__())))
+        return map(_piece, self.rows())
+
+    def rows(self) -> Iterator[Fields]:
+        """What the groups of the lines have."""
+        return itertools.chain.from_iterable(map(self._rows_of, self.blocks()))
+
+    def _rows_of(self, text: str) -> Sequence[Fields]:
+        """The same of a block, all at once where its numbers are short."""
+        rows = _SHORT.findall(text)
+        return rows if len(rows) == text.count("\n") else list(filter(None, map(self._fields, self.again())))
 
     def by_blocks(self) -> Iterator[Block]:
         """The pieces, many at once. Refuses those that are out of order."""
         last = 0
         for text in self.blocks():
             if _MOVES.fullmatch(text):
-                moves = _columns(text)
-                block: Block = moves.requests, moves, _moves(), []
+                words = text.split()
+                block: Block = _moves(*(words[column::5] for column in range(5))), _moves(), []
+                requests = [last, *block[0].requests]
             else:
-                block = self._mixed(text)
-            requests = [last, *block[0]]
+                rows = self._rows_of(text)
+                block, requests = _mixed(rows), [last, *(int(it[0]) for it in rows)]
             if requests != sorted(requests):
-                before = iter(requests)
-                self.refuse_where("out of order, give the answers as `dmremap map` prints them",
-                                  lambda it: it.request < next(before))
+                for before, fields in zip(requests, filter(None, map(self._fields, self.again()))):
+                    if int(fields[0]) < before:
+                        self.refuse_line("out of order, give the answers as `dmremap map` prints them")
             last = requests[-1]
             yield block
-
-    def refuse_where(self, reason: str, is_bad: Callable[[Piece], bool]) -> None:
-        """Refuses the first line of the block whose piece is one that is bad."""
-        for piece in map(_piece, filter(None, map(self._fields, self.again()))):
-            if is_bad(piece):
-                self.refuse_line(reason)
-
-    def _mixed(self, text: str) -> Block:
-        """A block with other pieces than R and W, or with lines that are none."""
-        rows = _SHORT.findall(text)
-        if len(rows) < text.count("\n"):
-            rows = list(filter(None, map(self._fields, self.again())))
-        moves, copied, others = [], [], []
-        for request, _, what, disk, start, other, count, to, to_start in rows:
-            if to:
-                copied += [(request, "R", disk, start, count)] if disk else []
-                copied.append((request, "W", to, to_start, count))
-            elif what:
-                moves.append((request, what, disk, start, count))
-            else:
-                others.append((other, count))
-        return [int(it[0]) for it in rows], _moves(*zip(*moves)), _moves(*zip(*copied)), others
 
     def _fields(self, line: str) -> Optional[Fields]:
         """What the groups of a line have, or None for a status."""
@@ -119,10 +108,18 @@ def _piece(fields: Fields) -> Piece:
     return Piece(int(request), what or other, int(count), disk, int(start or 0), to, int(to_start or 0))
 
 
-def _columns(text: str) -> Moves:
-    """Lines that are moves alone."""
-    words = text.split()
-    return _moves(*(words[column::5] for column in range(5)))
+def _mixed(rows: Sequence[Fields]) -> Block:
+    """A block with other pieces than R and W."""
+    moves, copied, others = [], [], []
+    for request, _, what, disk, start, other, count, to, to_start in rows:
+        if to:
+            copied += [(request, "R", disk, start, count)] if disk else []
+            copied.append((request, "W", to, to_start, count))
+        elif what:
+            moves.append((request, what, disk, start, count))
+        else:
+            others.append((other, count))
+    return _moves(*zip(*moves)), _moves(*zip(*copied)), others
 
 
 def _moves(requests: Sequence[str] = (), whats: Sequence[str] = (), disks: Sequence[str] = (),

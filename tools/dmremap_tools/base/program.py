@@ -1,5 +1,6 @@
 """Other programs: dmremap, and what commands ask, as debugfs. How they fail is told in words."""
 
+import contextlib
 import functools
 import os
 import shutil
@@ -18,7 +19,8 @@ REFUSALS = (1, 2, 3, 4, 6)
 # What stands beside the script that builds dmremap, and tells which program was built of the sources that are there.
 SOURCES = os.path.join("tools", "building", "sources.py")
 NOT_BUILT = "no program is built here: run ./dmremap --version, which builds and proves it, or ./try --version"
-NOT_PROVED = "the program that ./try made is asked, of which nothing is proved: ./dmremap --version builds the one to act on"
+NOT_PROVED = ("dmremap-tools: using the unproved program that ./try made; ./dmremap --version builds and proves the "
+              "one to act on")
 
 
 class NoProgram(Refusal):
@@ -33,26 +35,45 @@ def add_words(parser: ArgumentParser) -> None:
 def dmremap(given: Optional[str]) -> str:
     """The path of dmremap: the one that was given, or that beside this tool, or that on the path. The script that would
     build it is never run: what it left, or ./try, is taken in its place if it fits the sources; else NoProgram."""
+    path = _chosen(given)
+    if path is None:
+        raise NoProgram("dmremap", NOT_BUILT)
+    return path
+
+
+@functools.lru_cache(None)
+def _chosen(given: Optional[str]) -> Optional[str]:
+    """The same, or None where only the script is there."""
     tools = os.path.abspath(sys.argv[0]), os.path.realpath(sys.argv[0])
     places = [given] if given is not None else [os.path.join(os.path.dirname(it), "dmremap") for it in tools]
     found = [path for path in (shutil.which(it) for it in [*places, *["dmremap"] * (given is None)]) if path]
     built = next((path for path in map(_built, found) if path), None)
-    if found and not built:
-        raise NoProgram("dmremap", NOT_BUILT)
-    return built or given or "dmremap"
+    return built or (None if found else given or "dmremap")
 
 
-@functools.lru_cache(None)
 def _built(path: str) -> Optional[str]:
-    """A program itself, or in place of the script of a repository the one that fits the sources there, if there is one."""
+    """A program itself, or in place of the script of a repository the one that fits its sources, if there is one."""
     sources = os.path.join(os.path.dirname(os.path.realpath(path)), SOURCES)
     if not os.path.isfile(sources):
         return path
     words: List[str] = [sys.executable or "python3", "-E", "-s", "-S", "-B", sources]
     found = subprocess.run(words, stdin=subprocess.DEVNULL, stdout=subprocess.PIPE, stderr=subprocess.DEVNULL).stdout
     if os.path.basename(os.path.dirname(found)) == b"try":
-        streams.tell(NOT_PROVED)
+        _tell_once(os.path.join(os.path.dirname(found), b"told"), NOT_PROVED)
     return os.fsdecode(found) or None
+
+
+def _tell_once(path: bytes, text: str) -> None:
+    """Tells a text once in a session, as a terminal has one, of which a file tells."""
+    session = b"%d" % os.getsid(0)
+    with contextlib.suppress(OSError), open(path, "rb") as file:
+        if file.read() == session:
+            return
+    streams.tell(text)
+    with contextlib.suppress(OSError):
+        descriptor = os.open(path, os.O_WRONLY | os.O_CREAT | os.O_TRUNC | os.O_NOFOLLOW, 0o666)
+        os.write(descriptor, session)
+        os.close(descriptor)
 
 
 def found(name: str) -> str:
@@ -62,11 +83,13 @@ def found(name: str) -> str:
     return shutil.which(name) or shutil.which(name, path=os.pathsep.join(beside)) or name
 
 
-def ask(words: Sequence[str], given: Optional[int] = None) -> Tuple[str, str, int]:
-    """What a program prints on its two outputs, in English, of each at most 64 MiB, and its status."""
-    with tempfile.TemporaryFile() as said:
-        child = start(words, stdout=subprocess.PIPE, stderr=said, stdin=subprocess.DEVNULL if given is None else given,
-                      env=dict(os.environ, LC_ALL="C"))
+def ask(words: Sequence[str], given: bytes = b"") -> Tuple[str, str, int]:
+    """What a program prints on its two outputs, in English, of each at most 64 MiB, and its status; `given` is what it
+    reads."""
+    with tempfile.TemporaryFile() as said, tempfile.TemporaryFile() as read:
+        read.write(given)
+        read.seek(0)
+        child = start(words, stdout=subprocess.PIPE, stderr=said, stdin=read, env=dict(os.environ, LC_ALL="C"))
         try:
             printed = child.stdout.read(streams.MOST_TEXT + 1)
             if len(printed) > streams.MOST_TEXT:
@@ -82,7 +105,7 @@ def ask(words: Sequence[str], given: Optional[int] = None) -> Tuple[str, str, in
     return texts[0], texts[1], status
 
 
-def ask_quietly(words: Sequence[str], given: Optional[int] = None) -> Tuple[str, str]:
+def ask_quietly(words: Sequence[str], given: bytes = b"") -> Tuple[str, str]:
     """The same whatever the status is, unless it is killed."""
     printed, said, status = ask(words, given)
     if status < 0:

@@ -9,14 +9,11 @@ MOST_NAMED = 16
 
 def escaped(text: str, kept: str = "") -> str:
     """The text with an escape for each character that a terminal might obey, but for those that are kept."""
-    return text if text.isprintable() else "".join(it if it in kept else _escape(it) for it in text)
-
-
-def _escape(letter: str) -> str:
-    """An escape for a character, or itself. What was no UTF-8 is shown as the byte that it was."""
-    if letter.isprintable():
-        return letter
-    return (chr(ord(letter) - 0xDC00) if "\udc80" <= letter <= "\udcff" else letter).encode("unicode_escape").decode()
+    if text.isprintable():
+        return text
+    # What was no UTF-8 is shown as the byte that it was.
+    escapes = (chr(ord(it) - 0xDC00 * ("\udc80" <= it <= "\udcff")).encode("unicode_escape").decode() for it in text)
+    return "".join(it if it in kept or it.isprintable() else escape for it, escape in zip(text, escapes))
 
 
 def shown(text: str) -> str:
@@ -34,8 +31,3 @@ def printable(text: str) -> str:
     if text.isprintable():
         return text
     return '"%s"' % escaped(text.replace("\\", "\\\\").replace('"', '\\"'))
-
-
-def for_shell(text: str) -> str:
-    """The text as one word of a shell."""
-    return "'" + text.replace("'", "'\\''") + "'"

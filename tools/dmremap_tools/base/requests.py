@@ -50,17 +50,3 @@ def write(source: streams.Lines, operation: str, name: str, first: int, count: i
     for at, part in parts(first, count):
         _write(f"{operation} {name} {at} {part}\n")
     return -(-count // MOST)
-
-
-def write_bytes(source: streams.Lines, operation: str, name: str, begin: int, count: int) -> None:
-    """The same for all sectors that some bytes touch."""
-    if count == 0:
-        source.refuse_line("no bytes, give at least one")
-    write(source, operation, name, *numbers.sectors_touched(begin, count))
-
-
-def sectors_of(source: streams.Lines, block: int) -> int:
-    """How many sectors a block of so many bytes has."""
-    if block % numbers.SECTOR or not block:
-        source.refuse(f"blocks of {block} bytes, which are no whole sectors: give a multiple of 512")
-    return block // numbers.SECTOR

@@ -95,9 +95,9 @@ class Lines:
         for _ in self.blocks():
             yield from self.again()
 
-    def again(self, block: Optional[str] = None) -> Iterator[str]:
-        """The lines of the block that came last, or of one with as many lines that takes its place."""
-        for self.number, self.line in enumerate((block or self._block)[:-1].split("\n"), self._before + 1):
+    def again(self) -> Iterator[str]:
+        """The lines of the block that came last."""
+        for self.number, self.line in enumerate(self._block[:-1].split("\n"), self._before + 1):
             yield self.line
 
     def blocks(self) -> Iterator[str]:
@@ -139,14 +139,6 @@ class Lines:
 
 def name_of(path: str) -> str:
     return "standard input" if path == "-" else quoting.shown(path)
-
-
-def whole(option: str, text: str) -> int:
-    """The whole number below 2^64 that a word of an option is."""
-    value = numbers.read(text)
-    if value is None:
-        raise WrongWords(f"{option}: {numbers.NO_NUMBER % quoting.shown(text)}")
-    return value
 
 
 def chunks(path: str, is_written: bool = False) -> Iterator[bytes]:

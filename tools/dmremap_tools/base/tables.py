@@ -4,13 +4,11 @@ from typing import Callable, Dict, Iterator, List, Optional, Sequence, Tuple
 
 from dmremap_tools.base import Refusal, names, numbers, quoting, streams
 
-# How many words follow a target that dmremap reads. Those of `striped` depend on its columns.
-TARGETS = {"linear": 2, "striped": None, "zero": 0, "error": 0, "snapshot": 4, "snapshot-origin": 1}
+# The targets that dmremap reads.
+TARGETS = ("linear", "striped", "zero", "error", "snapshot", "snapshot-origin")
 # Of these the first words name what is below.
 LOWERS = {"linear": 1, "snapshot-origin": 1, "snapshot": 2}
-# The kinds of snapshots' stores.
-KINDS = ("P", "N", "K")
-MOST_COLUMNS, LONGEST_CHUNK = 128, (1 << 32) - 1
+MOST_COLUMNS = 128
 
 
 class Line:
@@ -43,19 +41,6 @@ class Line:
         """The line with other names for these, which a function gives."""
         words = [named(it) if at in self.places() else it for at, it in enumerate(self.words)]
         return Line(self.start, self.length, self.target, words)
-
-    def fault(self) -> Optional[str]:
-        """What is wrong with its words, or None."""
-        words, is_striped = self.words, self.target == "striped"
-        figures = words[:2] + words[3::2] if is_striped else words[3 if self.target == "snapshot" else 1:]
-        is_even = len(words) > 2 and len(words) % 2 == 0 and words[0] == str(len(self.places()))
-        is_whole = is_even if is_striped else len(words) == TARGETS.get(self.target)
-        if not is_whole or any(numbers.read(it) is None for it in figures):
-            return "no line that dmremap reads"
-        columns, chunk = map(int, words[:2]) if is_striped else (1, 1)
-        if columns > MOST_COLUMNS or not 0 < chunk <= LONGEST_CHUNK or self.length % (columns * chunk):
-            return "stripes that don't divide it"
-        return "a snapshot of another kind" if self.target == "snapshot" and words[2] not in KINDS else None
 
 
 class TableDevice:
@@ -95,21 +80,14 @@ def read(path: str) -> Tuple[List[TableDevice], bool]:
             if not devices or devices[-1].name != name:
                 devices.append(TableDevice(name))
             lines = [line]
-        devices[-1].lines += [line_of(place, it) for it in lines]
+        # What the words of a line say is for dmremap to judge.
+        for line in lines:
+            words = line.split(" ")
+            start, length = map(numbers.read, words[:2]) if len(words) > 2 else (None, None)
+            if start is None or length is None:
+                raise Refusal(place, "not a line of a table, give START LENGTH TARGET ..: " + quoting.shown(line))
+            devices[-1].lines.append(Line(start, length, words[2], words[3:]))
     return devices, is_concise
-
-
-def line_of(place: str, text: str) -> Line:
-    """A line of a table from its text. Refuses one that dmremap doesn't take, as far as the line alone can tell, as a
-    fault of this place."""
-    words = text.split(" ")
-    start, length = map(numbers.read, words[:2]) if len(words) > 2 else (None, None)
-    if start is None or length is None:
-        raise Refusal(place, "not a line of a table, give START LENGTH TARGET ..: " + quoting.shown(text))
-    line = Line(start, length, words[2], words[3:])
-    if line.fault():
-        raise Refusal(place, f"{line.fault()}, see `dmremap-tools explain`: {quoting.shown(text)}")
-    return line
 
 
 def text_of(devices: Sequence[TableDevice], is_concise: bool) -> str:

@@ -50,18 +50,13 @@ def discard() -> None:
                 os.unlink(place._beside)
 
 
-def file_of(path: str) -> str:
-    """The path of a file that is written, which standard output can't be."""
-    if path == "-":
-        raise WrongWords("'-' is no file to write: give it a name")
-    return path
-
-
 class Place:
     """Where a file is written. `is_word` says that the path is the very word that was given, which may be a link."""
 
     def __init__(self, path: str, is_word: bool = True) -> None:
-        self.path, self.shown = file_of(path), quoting.shown(path)
+        if path == "-":
+            raise WrongWords("'-' is no file to write: give it a name")
+        self.path, self.shown = path, quoting.shown(path)
         self._beside: Optional[str] = None
         self._descriptor: Optional[int] = None
         with self.failing():
@@ -107,13 +102,6 @@ class Place:
             self._descriptor = os.open(self.path, os.O_RDWR | os.O_NOFOLLOW)
         return self._descriptor
 
-    def write(self, content: bytes) -> None:
-        """Writes the whole of it, and puts it in its place."""
-        with self.failing(), open(self.begin(), "wb", closefd=False) as file:
-            file.write(content)
-        self.close()
-        self.put()
-
     def close(self) -> None:
         """Closes the file once its disk has it, as some file systems say only then that they are full."""
         descriptor, self._descriptor = self._descriptor, None
@@ -141,10 +129,6 @@ class Place:
         self._there = os.lstat(self.path)
         self.known = identity(self._there)
 
-    def remove(self) -> None:
-        with contextlib.suppress(OSError):
-            os.unlink(self.path)
-
     def check_new(self) -> None:
         """Refuses it where something is there."""
         if os.path.lexists(self.path):
@@ -153,17 +137,13 @@ class Place:
     def refuse(self) -> NoReturn:
         raise WrongWords(f"{self.shown}: it is read, too: give another file to write")
 
-    def fail(self, fault: Exception) -> NoReturn:
-        """Ends the command, as this output failed."""
-        raise OutputFailed(f"{self.shown}: {getattr(fault, 'strerror', None) or fault}")
-
     @contextlib.contextmanager
     def failing(self) -> Iterator[None]:
         """What is done within ends the command where the system has a fault."""
         try:
             yield
         except (OSError, OverflowError, ValueError) as fault:
-            self.fail(fault)
+            raise OutputFailed(f"{self.shown}: {getattr(fault, 'strerror', None) or fault}")
 
     def _look(self, is_word: bool) -> Optional[os.stat_result]:
         """What is there. A link that isn't the word itself is never followed: what is put there takes its place."""

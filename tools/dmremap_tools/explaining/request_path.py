@@ -1,7 +1,8 @@
-"""The path of a request down a stack, as a tree: each level is an answer of dmremap itself, and together they have to give
-its answer about the whole. A device without a state is asked alone, over disks in place of what lies below it; snapshots
-and their origin all at once and in the order of the whole, so that earlier requests reach them. A request is cut so that
-each answer has one line of the device and, where a snapshot is written, one chunk, to show whether that was taken."""
+"""The path of a request down a stack, as a tree: each level is an answer of dmremap itself, and together they have to
+give its answer about the whole. A device without a state is asked alone, over disks in place of what lies below it;
+snapshots and their origin all at once and in the order of the whole, so that earlier requests reach them. A request is
+cut so that each answer has one line of the device and, where a snapshot is written, one chunk, to show whether that was
+taken."""
 
 import contextlib
 import functools
@@ -11,32 +12,45 @@ from typing import Collection, Dict, Iterator, List, NamedTuple, Optional, Tuple
 
 from dmremap_tools.base import names, paths, quoting, streams, tables
 from dmremap_tools.formats import store_places
-from dmremap_tools.base.given import put
+from dmremap_tools.base.given import Given, put
 from dmremap_tools.base.numbers import SECTOR
 from dmremap_tools.base.pieces import Mapped, Piece
 from dmremap_tools.base.refusal import Refusal
-from dmremap_tools.explaining.refusals import CopiedCommand
 from dmremap_tools.model.loaded_stack import Stack
 from dmremap_tools.model.device import Image, Missing, Part as DiskPart
 from dmremap_tools.model.mapping import MappedDevice, Tables, copy_store
 
+BEFORE, PATHS = "--before", "--paths"
 TAKEN, NOT_TAKEN, TAKEN_NOW, SNAPSHOT, ORIGIN = "taken", "not taken yet", "taken now", "snapshot", "snapshot-origin"
 SEE = "dmremap-tools store says which request fills a store"
-INVALID = "%s was lost before this, so all of it fails: its store was full, or its origin failed to be read when it had to be copied. " + SEE
+INVALID = ("%s was lost before this, so all of it fails: its store was full, or its origin failed to be read when it "
+           "had to be copied. " + SEE)
 HEADER = "the header of %s's store says that it is invalid: it was full once, so all of the snapshot fails"
 FULL = "no place is left in the store of %s, which is lost by this: " + SEE
 KEPT = "no place is left in the store of %s, which keeps what it has, as its kind is K"
 UNREAD = "%s can't be read in the whole of chunk %d, which had to be copied first, so that %s is lost by this"
 BELOW, EITHER = "%s fails there: ask for it", "%s was lost before this, or %s fails there"
-# What the name of a unit begins with that is more than a device, before its origin; no name of a device has a space. A request
-# that is cut into more pieces isn't shown.
+# What the name of a unit begins with that is more than a device, before its origin; no name of a device has a space.
+# A request that is cut into more pieces isn't shown.
 OVER, MOST = "over ", 4096
 TOO_MANY = "its way has more than %d pieces: ask for fewer sectors" % MOST
 OTHER = "the levels don't make dmremap's answer together, so they aren't shown; that is:\n"
 
 
+class MapCommand(NamedTuple):
+    """The command `map`: the program that is asked, what it loads, and the files of its options by their names."""
+
+    asked: str
+    given: Given
+    options: Dict[str, str]
+
+    def words(self) -> List[str]:
+        """The words by which the stack is loaded, without earlier requests."""
+        return self.given.words() + ([PATHS, self.options[PATHS]] if PATHS in self.options else [])
+
+
 class DeviceRequest:
-    """A request for a device, and the pieces that each of its lines makes of it. The line is None for sectors past the end."""
+    """A request for a device, and the pieces that each of its lines makes of it, None for sectors past the end."""
 
     def __init__(self, operation: str, device: str, start: int, count: int) -> None:
         self.operation, self.device, self.start, self.count = operation, device, start, count
@@ -64,7 +78,7 @@ class DeviceRequest:
 
 
 class LinePiece:
-    """A piece that a line makes, with paths; a note on it, or nothing; and in `below` the requests that it is for devices."""
+    """A piece that a line makes, with paths; a note on it, or nothing; and in `below` the requests for devices."""
 
     def __init__(self, piece: Piece, note: str, devices: Dict[str, tables.TableDevice]) -> None:
         self.piece, self.note = piece, note
@@ -73,7 +87,8 @@ class LinePiece:
             read = Piece(0, "R", piece.count, piece.disk, piece.start) if piece.disk else Piece(0, "zero", piece.count)
             ends = [read, Piece(0, "W", piece.count, piece.to, piece.to_start)]
         self._ends: List[Union[DeviceRequest, Piece]] = [
-            DeviceRequest(it.what, names.of_path(it.disk), it.start, it.count) if it.disk in devices else it for it in ends]
+            DeviceRequest(it.what, names.of_path(it.disk), it.start, it.count) if it.disk in devices else it
+            for it in ends]
         self.below = [it for it in self._ends if isinstance(it, DeviceRequest)]
 
     def final_pieces(self) -> Iterator[Piece]:
@@ -108,8 +123,8 @@ class RequestPath(NamedTuple):
 
 
 class LevelQuery(NamedTuple):
-    """A request for sectors of one line of a device, or None past its end. `kept` is the path of the origin, if that stays in
-    the level's stack; a write `is_watched` if reads of the snapshot come before and after."""
+    """A request for sectors of one line of a device, or None past its end. `kept` is the path of the origin, if that
+    stays in the level's stack; a write `is_watched` if reads of the snapshot come before and after."""
 
     device: tables.TableDevice
     line: Optional[tables.Line]
@@ -134,8 +149,8 @@ class LevelQuery(NamedTuple):
 
     def noted_pieces(self, got: List[List[Piece]], stores: Dict[str, str], invalid: Collection[str]
                ) -> Iterator[Tuple[Piece, str]]:
-        """The pieces of its answer, each with a note, by the answers to its requests, the snapshots by the disks of their
-        stores, and those snapshots whose headers say that they are invalid."""
+        """The pieces of its answer, each with a note, by the answers to its requests, the snapshots by the disks of
+        their stores, and those snapshots whose headers say that they are invalid."""
         at, origin = self.start, got.pop(0) if self.kept is not None else []
         for piece in got[1] if self.is_watched else got[0]:
             note = self._cause(got, origin, invalid) if piece.what == "error" else self._note(piece, at, got, stores)
@@ -224,11 +239,11 @@ OrderedRequest = Tuple[Tuple[int, ...], DeviceRequest]
 class LevelQueries:
     """Asks dmremap about each level of a loaded stack. `folder` takes the files that this needs."""
 
-    def __init__(self, copied: CopiedCommand, loaded: Stack, folder: str) -> None:
-        self._copied, self._stack, self._folder = copied, loaded, folder
-        self._source = _tables_on_images(loaded, copied.listed)
-        self._listed = streams.rows(copied.listed) if copied.listed else []
-        self._earlier = streams.rows(copied.earlier) if copied.earlier else []
+    def __init__(self, command: MapCommand, loaded: Stack, folder: str) -> None:
+        self._command, self._stack, self._folder = command, loaded, folder
+        self._listed, self._earlier = (
+            streams.rows(command.options[it]) if it in command.options else [] for it in (PATHS, BEFORE))
+        self._source = _tables_on_images(loaded, command.options.get(PATHS))
         self._before, self._by_path = os.path.join(folder, "earlier"), loaded.by_path()
         free = (it for it in map("below%d".__mod__, itertools.count()) if it not in loaded.sizes)
         self._disks = dict(zip([*self._by_path, *loaded.sizes], free))
@@ -237,23 +252,19 @@ class LevelQueries:
     @functools.cached_property
     def _invalid(self) -> List[str]:
         """The snapshots whose stores are invalid before any request, by what their headers say."""
-        if not self._copied.listed:
+        if not self._listed:
             return []
         snapshots = [it for it in self._stack.devices if it.lines[0].target == SNAPSHOT]
-        counts = store_places.chunks_in([self._copied.asked, "map", *self._copied.words], snapshots)
+        counts = store_places.chunks_in([self._command.asked, "map", *self._command.words()], snapshots)
         return [name for name, count in counts.items() if count is None]
 
-    def request_paths(self, requests: List[str]) -> Iterator[RequestPath]:
-        """The path of each request, in the state that those before it left; refused if it has too many pieces."""
-        for number, request in enumerate(requests):
-            put(self._before, (it + "\n" for it in [*self._earlier, *requests[:number]]))
-            yield self._request_path(request)
-
-    def _request_path(self, request: str) -> RequestPath:
-        """Asks unit by unit from the top on, as requests for a unit may come from several above it."""
+    def request_path(self, before: List[str], request: str) -> RequestPath:
+        """The path of a request in the state that those before it left; refused if it has too many pieces. Asks unit by
+        unit from the top on, as requests for a unit may come from several above it."""
+        put(self._before, (it + "\n" for it in [*self._earlier, *before]))
         operation, name, start, count = request.split(" ")
         top = DeviceRequest(operation, name, int(start), int(count))
-        path = RequestPath(top, self._answers(self._copied.words, [request])[0])
+        path = RequestPath(top, self._answers(self._command.words(), [request])[0])
         waiting: Dict[str, List[OrderedRequest]] = {self._unit_of(name): [((), top)]}
         met = 0
         while waiting:
@@ -268,7 +279,7 @@ class LevelQueries:
         return path
 
     def _unit_of(self, name: str) -> str:
-        """What has to be asked at once for a device: OVER and the path of the origin, or the name of the device alone."""
+        """What has to be asked at once for a device: OVER and the path of the origin, or the name of the device."""
         line = self._by_path[names.MAPPER + name].lines[0]
         return OVER + line.words[0] if line.target in (SNAPSHOT, ORIGIN) else name
 
@@ -308,8 +319,8 @@ class LevelQueries:
         return path if any(it.target in ("error", SNAPSHOT) for it in lines) else None
 
     def _level_stack(self, unit: str, kept: Optional[str]) -> Tuple[List[str], Dict[str, str]]:
-        """The words of a stack in which all below a unit is disks, but for the origin that stays; and the snapshots by their
-        stores. A device stands in it alone if it has no state, as stores of others may lie on it."""
+        """The words of a stack in which all below a unit is disks, but for the origin that stays; and the snapshots by
+        their stores. A device stands in it alone if it has no state, as stores of others may lie on it."""
         has_state = unit.startswith(OVER)
         devices = {it.name: it for it in self._stack.devices} if has_state else {}
         stores: Dict[str, str] = {}
@@ -323,7 +334,7 @@ class LevelQueries:
             if device.lines[0].target == SNAPSHOT:
                 _, store, kind, chunk = changed.lines[0].words
                 stores[store] = "%s and %s" % (stores[store], device.name) if store in stores else device.name
-                if self._copied.listed and kind != "N":
+                if self._listed and kind != "N":
                     path, copy = self._meant[store], os.path.join(self._folder, store)
                     below = self._source.disks.get(path) or MappedDevice(path, self._source, names.of_path(path))
                     copy_store(below, int(chunk), copy)
@@ -334,7 +345,7 @@ class LevelQueries:
         os.makedirs(level, exist_ok=True)
         put(paths_here, [*(it + "\n" for it in self._listed), *copies.values()])
         words = Stack(list(devices.values()), sizes).write(level)
-        return words + (["--paths", paths_here] if self._copied.listed and has_state else []), stores
+        return words + (["--paths", paths_here] if self._listed and has_state else []), stores
 
     def _line_over_disks(self, line: tables.Line, kept: Optional[str]) -> tables.Line:
         """The line with disks in place of stores and devices below, but for the origin that stays."""
@@ -347,7 +358,7 @@ class LevelQueries:
     def _answers(self, words: List[str], requests: List[str], has_state: bool = True) -> List[List[Piece]]:
         """dmremap's pieces for each request about the stack of these words, after earlier ones if that has a state."""
         found: List[List[Piece]] = [[] for _ in requests]
-        command = [self._copied.asked, "map", *words, *["--before", self._before] * has_state]
+        command = [self._command.asked, "map", *words, *["--before", self._before] * has_state]
         with Mapped(command, (it + "\n" for it in requests)) as mapped:
             for piece in mapped.answers:
                 found[piece.request - 1].append(piece)

@@ -66,20 +66,15 @@ def length_of(file: BinaryIO, path: str) -> int:
 
 
 def form_of(descriptor: int) -> str:
-    """What is said of a file that hasn't a disk's bytes in their order, or nothing, as where it can't be read."""
+    """What is said of a file that is compressed, or of another form than a disk; nothing where it can't be read."""
+    beginning = b""
     with contextlib.suppress(OSError):
-        if stat.S_ISREG(os.fstat(descriptor).st_mode):
-            return other_form(os.pread(descriptor, LONGEST_MAGIC, 0))
-    return ""
-
-
-def other_form(beginning: bytes) -> str:
-    """What is said of an image with this beginning, if it is compressed or of another form, or nothing."""
+        beginning = os.pread(descriptor, LONGEST_MAGIC, 0) if stat.S_ISREG(os.fstat(descriptor).st_mode) else b""
     compression = streams.compression(beginning)
-    if compression:
-        return f"it is compressed ({compression}): unpack it"
     form = next((form for magic, form in FORMS.items() if beginning.startswith(magic)), "")
-    return form and f"it is an image of {form}: convert it with qemu-img convert -O raw"
+    if form:
+        return f"it is an image of {form}: convert it with qemu-img convert -O raw"
+    return f"it is compressed ({compression}): unpack it" if compression else ""
 
 
 def file_system_of(image: Readable) -> Optional[str]:

@@ -4,6 +4,7 @@
 import contextlib
 import os
 import re
+import shlex
 from argparse import ArgumentParser, Namespace
 from typing import Dict, List, NamedTuple, Sequence, Tuple
 
@@ -11,6 +12,8 @@ from dmremap_tools.base import SECTOR, Refusal, WrongWords, numbers, quoting, st
 from dmremap_tools.formats import disk_image
 
 FINISHED, BAD, UNTRIED = "+", "-", "?"
+# What the names of maps end with.
+ENDS = (".map", ".mapfile", ".log")
 # A map says first where ddrescue stands. An area has a position, a size and a status.
 NUMBER = r"(0x[0-9A-Fa-f]{1,16}|0|[1-9][0-9]{0,19})"
 CURRENT = re.compile(NUMBER + r"\s+[?*/+FG-](?:\s+[0-9]{1,9})?")
@@ -37,7 +40,8 @@ def read(path: str, is_written: bool = False) -> List[Area]:
     return areas
 
 
-def add_words(parser: ArgumentParser) -> None:
+def add_words(parser: ArgumentParser, other: str = "") -> None:
+    parser.add_argument("images", metavar="IMAGE", nargs="+", help="a file or a block device" + other)
     parser.add_argument("--map", metavar="IMAGE=MAP", action="append", default=[],
                         help="ddrescue's map of an image; what it doesn't list as finished counts as missing")
     parser.add_argument("--map-of-other-length", action="store_true",
@@ -57,14 +61,15 @@ def images_with_maps(given: Sequence[str], images: Sequence[str]) -> List[Tuple[
     return list(found.values())
 
 
-def maps_beside(images: Sequence[str]) -> List[str]:
-    """The words IMAGE=MAP of the maps that lie beside images under their names."""
-    called = [(it, name + end) for it in images for name in (it, os.path.splitext(it)[0]) for end in (".map", ".mapfile", ".log")]
+def tell_unused(words: Namespace, typed: Sequence[str]) -> None:
+    """Says with which maps the typed words could go on, if none is given and some lie beside the images."""
+    called = [(it, name + end) for it in words.images for name in (it, os.path.splitext(it)[0]) for end in ENDS]
     found: List[str] = []
-    for image, path in dict.fromkeys(called):
+    for image, path in dict.fromkeys(called) if not words.map else ():
         with contextlib.suppress(Refusal):
-            found += ["%s=%s" % (image, path)] * bool(os.path.isfile(path) and read(path))
-    return found
+            found += ["--map", f"{image}={path}"] * bool(os.path.isfile(path) and read(path))
+    if found:
+        streams.tell("with the maps that are here: dmremap-tools " + " ".join(map(shlex.quote, [*typed, *found])))
 
 
 def unread_in(words: Namespace, images: Sequence[str]) -> Dict[str, List[Tuple[int, int]]]:

@@ -6,10 +6,8 @@ from typing import Dict, Iterable, Optional, Sequence
 
 from dmremap_tools.base import Refusal, program, quoting, tables
 
-# How many dmremap counts in all stores together.
-MOST = 4194304
-# How many sectors a chunk has at most.
-MOST_IN_CHUNK = 1 << 10
+# How many sectors a chunk may have.
+CHUNKS = [1 << it for it in range(11)]
 STATUS = re.compile(r"([^ ]+): 0 [0-9]+ snapshot (?:([0-9]+)/[0-9]+ ([0-9]+)|Invalid)")
 REFUSED = re.compile(r"dmremap: store ([^ ]+): ([a-z]+)")
 DAMAGED = "which no kernel writes: it is damaged, was changed while it was read, or is another snapshot's"
@@ -21,6 +19,7 @@ WHYS = {
     "version": f"it isn't of version 1, {TOGETHER}",
     "chunk": "its chunks have another length than the tables say, and a kernel goes by the store: `od -An -tu4 -j12 "
              "-N4` of its first sector prints how many sectors they have, so write that there",
+    "gap": f"its list goes on behind a free place, {DAMAGED}",
     "order": "its list has chunks in another order than that of their places, or more than there is room for, "
              + DAMAGED,
     "range": f"its list has a chunk past the end of the snapshot, {DAMAGED}",
@@ -28,15 +27,8 @@ WHYS = {
 }
 
 
-def is_chunk(chunk: int) -> bool:
-    """Whether chunks may have so many sectors."""
-    return 0 < chunk <= MOST_IN_CHUNK and chunk & (chunk - 1) == 0
-
-
-def places(chunk: Optional[int], length: int) -> int:
+def places(chunk: int, length: int) -> int:
     """How many chunks a store of these sectors has a place for, as docs/FORMATS.md counts them."""
-    if not chunk or chunk < 0:
-        return 0
     count = max(0, length // chunk - 2)
     return count - count // (32 * chunk + 1)
 

@@ -17,32 +17,32 @@ line says how many sectors are lost in all. In place of a path, a line may have
 
 Needs debugfs of e2fsprogs for ext2, ext3 and ext4, and xfs_db of xfsprogs for XFS. These read the volume in its image,
 if it lies there in one piece. Otherwise they read a copy in the folder for temporary files, or the one that --saved
-names, which `save` made.
+names, which `save` made. A FILE of another length, or with another superblock, is refused.
 """
 
 import os
-import shlex
 import tempfile
 from argparse import ArgumentParser, Namespace
 from collections import Counter
 from typing import Optional, Sequence
 
-from dmremap_tools.answers.saved import parts_of
-from dmremap_tools.base import program, streams
+from dmremap_tools.answers.saved import contents_of
+from dmremap_tools.base import Refusal, program, quoting, streams
 from dmremap_tools.base.numbers import SECTOR
 from dmremap_tools.base.paths import DiskPlace
 from dmremap_tools.formats import rescue_map
-from dmremap_tools.model.device import Image, NamedDevice, blocks_of, joined, lacking, read_blocks
-from dmremap_tools.model.file_systems import NoSystem, SectorRun, system_in
+from dmremap_tools.model.device import Image, NamedDevice, blocks_of, image_of, joined, lacking
+from dmremap_tools.model.file_systems import FileSystem, NoSystem, SectorRun, system_in
 from dmremap_tools.model.pile import Pile
 
 EXAMPLE = "dmremap-tools lost vg0/home sda.img sdb.img --map sda.img=sda.map"
 TABLE = "inode table: "
+# How many bytes of a copy are compared, among them the superblock.
+COMPARED = 1 << 16
 
 
 def add_words(parser: ArgumentParser) -> None:
     parser.add_argument("volume", metavar="GROUP/VOLUME", help="the volume, by its name")
-    parser.add_argument("images", metavar="IMAGE", nargs="+", help="a file or a block device")
     rescue_map.add_words(parser)
     parser.add_argument("--saved", metavar="FILE", help="read the file system from this copy, which `save` made")
     program.add_words(parser)
@@ -54,16 +54,28 @@ def run(words: Namespace) -> None:
     runs = [(begin // SECTOR, (end - begin) // SECTOR) for begin, end in lost]
     if runs:
         with tempfile.TemporaryDirectory(prefix="dmremap-tools-") as folder:
-            saved = DiskPlace(words.saved) if words.saved else place_of(target)
-            place = saved or copied(target, os.path.join(folder, "volume.img"))
-            for line in lines_of(place, target.name, runs):
+            for line in lines_of(system_of(target, runs, os.path.join(folder, "volume.img"), words.saved), runs):
                 streams.out.write(line + "\n")
     unmapped = "" if words.map else "; no map was given (--map IMAGE=MAP): only sectors that the images lack"
     streams.out.write(f"{sum(count for _, count in runs)} sectors lost of {target.size // SECTOR}{unmapped}\n")
-    maps = [] if words.map else rescue_map.maps_beside(words.images)
-    if maps:
-        typed = [words.volume, *words.images, *[word for it in maps for word in ("--map", it)]]
-        streams.tell("with the maps that are here: dmremap-tools lost " + " ".join(map(shlex.quote, typed)))
+    rescue_map.tell_unused(words, ["lost", words.volume, *words.images])
+
+
+def saved_place(target: NamedDevice, path: str) -> DiskPlace:
+    """A copy of a volume, refused if its length or the first bytes that are there, as the superblock, are others."""
+    copy, left = image_of(path), COMPARED
+    give = f"give the copy of {quoting.shown(target.name)} that `save` made, or leave --saved out"
+    if copy.bytes != target.size:
+        raise Refusal(copy.name, f"it has {copy.bytes} bytes, and the volume {target.size}: {give}")
+    for at, (source, start, size) in joined(target.device, 0, target.size):
+        count = min(size, left)
+        if count and source.lack(start, count) is None:
+            if copy.read(at, count) != source.load(start, count):
+                raise Refusal(copy.name, f"it has other bytes than the volume, from byte {at} on: {give}")
+            left -= count
+    if left == COMPARED:
+        streams.tell(f"{copy.name}: nothing of the volume is there with which it could be compared")
+    return DiskPlace(path)
 
 
 def place_of(target: NamedDevice) -> Optional[DiskPlace]:
@@ -77,19 +89,29 @@ def place_of(target: NamedDevice) -> Optional[DiskPlace]:
 def copied(target: NamedDevice, path: str) -> DiskPlace:
     """A copy of a volume, with holes where it has zeros or lacks bytes."""
     with open(path, "wb") as file:
-        for source, start, size in parts_of(target.device.extents(0, target.size)):
-            streams.show_progress(f"copying {target.name}: {file.tell() >> 20} of {target.size >> 20} MiB")
-            for count, content, _ in [(size, b"", False)] if source.is_hole else read_blocks(source.load, start, start + size):
-                file.write(content) if content.strip(b"\0") else file.seek(count, os.SEEK_CUR)
+        for begin, _, content, _ in contents_of(0, target.device.extents(0, target.size)):
+            streams.show_progress(f"copying {target.name}: {begin >> 20} of {target.size >> 20} MiB")
+            if content.strip(b"\0"):
+                file.seek(begin)
+                file.write(content)
         file.truncate(target.size)
     return DiskPlace(path)
 
 
-def lines_of(place: DiskPlace, volume: str, runs: Sequence[SectorRun]) -> "list[str]":
-    """A line for each file that some of these sectors belong to."""
+def system_of(target: NamedDevice, runs: Sequence[SectorRun], path: str, saved: Optional[str] = None
+              ) -> Optional[FileSystem]:
+    """The file system of a volume, in which runs of sectors are asked for, or None where there is none that is
+    followed. It is read in its image, in a copy that is there, or in one that is made at a path."""
+    place = saved_place(target, saved) if saved else place_of(target)
     try:
-        system = system_in(place, volume, runs)
+        return system_in(place or copied(target, path), target.name, runs)
     except NoSystem:
+        return None
+
+
+def lines_of(system: Optional[FileSystem], runs: Sequence[SectorRun]) -> "list[str]":
+    """A line for each file that some of these sectors belong to."""
+    if not system:
         return [f"{sum(count for _, count in runs)} sectors: no file system"]
     counts: "Counter[str]" = Counter()
     for each in runs:

@@ -40,7 +40,7 @@ def get_ready() -> None:
         words = Namespace(map=_given.get("map", []), map_of_other_length="map_of_other_length" in _given)
         unread = rescue_map.unread_in(words, _given["image"])
         asked = next(reversed(_given.get("program", [])), None)
-        _target = Pile(_given["image"], asked, unread).target(_given["volume"][-1])
+        _target = Pile(_given["image"], asked, unread).target(_given["volume"][-1], True)
     except Refusal as refusal:
         streams.tell(f"dmremap-tools serve: {refusal}")
         os._exit(1)

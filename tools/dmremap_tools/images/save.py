@@ -3,7 +3,8 @@
 Takes GROUP/VOLUME, the file to write, and images, which are searched as by `scan`. GROUP may be the group's id, and may
 be left out if only one group has such a volume. A partition (disk.img:2), an array (md:NAME) or an image can be named
 as well. OUT gets the bytes of the volume, with holes where it reads as zeros. Without a map, OUT has its name only once
-it is whole.
+it is whole. If `dmremap read images` takes the group, and without --resume, it reads a volume that is all there, which
+is proved; a terminal is told so. `serve` does the same.
 
 Refuses a volume if something of it is missing, and leaves no OUT. With --resume or --allow-missing, these sectors are
 reported and become holes. Sectors that can't be read are reported and become holes in any case. The status is 4 then,
@@ -11,35 +12,34 @@ or 0 with --allow-missing. --resume MAP writes these areas as a map of ddrescue;
 broken off goes on. MAP names its volume, and can't continue another one. Give the maps of images each time.
 
 With --map IMAGE=MAP, for each image that has one, the areas that a map of ddrescue doesn't list as finished aren't
-there. What another member of an array or another leg has is taken from that. Only the length shows whether a map is
-that of its image.
+there. What another member of an array or another leg has is taken from that.
 
 Also takes VOLUME TARGET FORMAT FILE [DISKS], with FORMAT, FILE and DISKS as for `dmremap map`. The disks that they name
-are read at their names, or where --paths says. (If an image has the name of a format, write ./table.) With --extents,
-the output of `filefrag -v` for a file of the volume, TARGET is that file. A snapshot is read by its store, which lies
-on these disks, too; --fresh treats snapshots as new, with the sectors of their origins alone.
-
-If a disk has errors, read it into an image with ddrescue first, and give its map. To mount a file system in OUT, use
-`mount -o ro,loop`, with `noload` for ext3 and ext4 and `norecovery` for XFS; to take a file,
-`debugfs -R 'dump /FILE OUT' OUT`.
+are read at their names, or where --paths says. (If an image has the name of a format, write ./table.) A snapshot is
+read by its store, which lies on these disks, too; --fresh treats snapshots as new, with the sectors of their origins
+alone.
 """
 
+import hashlib
 import os
 import tempfile
 from argparse import ArgumentParser, Namespace
-from typing import Generator, Iterator, Optional, Tuple
+from typing import Dict, Generator, Iterator, List, Optional, Set, Tuple
 
-from dmremap_tools.answers.saved import PARTLY, SavedMap, Source, head_of, put_together
-from dmremap_tools.base import given, names, quoting, streams
+from dmremap_tools.answers.saved import PARTLY, Absent, SavedMap, Source, head_of, put_together
+from dmremap_tools.base import given, names, quoting, streams, written
 from dmremap_tools.base.numbers import SECTOR
+from dmremap_tools.base.paths import DiskPlace
 from dmremap_tools.base.refusal import INCOMPLETE, Refusal, WrongWords
-from dmremap_tools.images.save_by_tables import target_of
-from dmremap_tools.model import loaded_stack
 from dmremap_tools.formats import rescue_map
-from dmremap_tools.model.device import Extent, NamedDevice, lacking
+from dmremap_tools.model import loaded_stack
+from dmremap_tools.model.device import ANY, Device, Extent, Image, NamedDevice, Part, Run, lacking
+from dmremap_tools.model.mapping import LoadedTables, MappedDevice
 
 EXAMPLE = "dmremap-tools save vg0/home home.img sda.img sdb.img --resume home.map"
-USAGE = "usage: GROUP/VOLUME OUT IMAGE.., or VOLUME TARGET FORMAT FILE [DISKS]"
+# The words of the command, for its manual.
+FORMS = ("GROUP/VOLUME OUT IMAGE ..", "VOLUME TARGET FORMAT FILE [DISKS]")
+USAGE = "usage: " + ", or ".join(FORMS)
 # Bytes whose places are asked for at once.
 WINDOW = 256 << 20
 
@@ -47,13 +47,9 @@ WINDOW = 256 << 20
 def add_words(parser: ArgumentParser) -> None:
     parser.add_argument("volume", metavar="GROUP/VOLUME", help="the volume, by its name")
     parser.add_argument("target", metavar="OUT")
-    parser.add_argument("images", metavar="IMAGE", nargs="+", help="a file or a block device; or FORMAT FILE [DISKS]")
+    rescue_map.add_words(parser, "; or FORMAT FILE [DISKS]")
     parser.add_argument("--resume", metavar="MAP", help="write a map in ddrescue's format; a later run goes on from it")
-    rescue_map.add_words(parser)
     parser.add_argument("--allow-missing", action="store_true", help="end with status 0 even if parts are missing")
-    parser.add_argument("--extents", metavar="EXTENTS",
-                        help="with FORMAT: the output of filefrag -v for the file to save")
-    names.add_words(parser)
     loaded_stack.add_words(parser)
 
 
@@ -67,34 +63,31 @@ def run(words: Namespace) -> Optional[int]:
         with tempfile.TemporaryDirectory(prefix="dmremap-tools-") as folder:
             is_partly = copy(words, target_of(words, folder))
     else:
-        for option in ("extents", "paths", "ls", "fresh"):
+        for option in ("paths", "fresh"):
             if getattr(words, option):
                 raise WrongWords(f"--{option} is for FORMAT FILE [DISKS]: leave it out", USAGE)
         # What is long to load, and of no use where tables are given.
         from dmremap_tools.model.pile import Pile
         unread = rescue_map.unread_in(words, words.images)
-        is_partly = copy(words, Pile(words.images, words.program, unread).target(words.volume))
+        is_partly = copy(words, Pile(words.images, words.program, unread).target(words.volume, not words.resume))
+        rescue_map.tell_unused(words, ["save", words.volume, words.target, *words.images])
     return INCOMPLETE if is_partly and not words.allow_missing else None
 
 
 def copy(words: Namespace, target: NamedDevice) -> bool:
     """Copies a volume, and says whether something is missing; which is refused unless words say otherwise."""
-    why = target.device.lack(0, sectors_of(target))
+    streams.tell(*target.notes)
+    why = target.device.lack(0, target.size)
     if why and not (words.resume or words.allow_missing):
         taken = f"{quoting.shown(words.target)} is taken for OUT, and is there already; " * os.path.exists(words.target)
         raise Refusal(quoting.shown(target.name), f"{taken}{why}; or {PARTLY}")
     if why:
         streams.tell(f"{quoting.shown(target.name)}: {why}")
     source = Source(target.name, target.ids or [head_of(target.device)], len(words.map))
-    saved = SavedMap(words.resume, source, target.size, [(0, target.size)])
+    saved = SavedMap(words.resume, source, target.size)
     if saved.has_more_maps:
-        saved.check_finished(lacking(target.device, sectors_of(target)))
+        saved.check_finished(lacking(target.device, target.size))
     return put_together(words.target, saved, extents_of(target, saved))
-
-
-def sectors_of(target: NamedDevice) -> int:
-    """The bytes of the sectors that it takes; a file may end within the last one."""
-    return -(-target.size // SECTOR) * SECTOR
 
 
 def extents_of(target: NamedDevice, saved: SavedMap) -> Generator[Tuple[int, Iterator[Extent]], None, None]:
@@ -102,3 +95,52 @@ def extents_of(target: NamedDevice, saved: SavedMap) -> Generator[Tuple[int, Ite
     for begin, end in saved.left(0, target.size):
         for start in range(begin, end, WINDOW):
             yield start, target.device.extents(start, min(end, start + WINDOW) - start)
+
+
+def target_of(words: Namespace, folder: str) -> NamedDevice:
+    """The device that is asked for; dmremap reads its tables in a folder. Refuses what dmremap doesn't load or read."""
+    source = given.given_in(words, "VOLUME TARGET FORMAT FILE [DISKS]")
+    volume = names.device(words.volume, "VOLUME")
+    begun = loaded_stack.start(words, source, [volume], folder)
+    size = begun.loaded.length(volume, words.file) * SECTOR
+    part = begun.loaded.part([volume])
+    paths = {name: begun.places.get(name) or DiskPlace(name) for name in begun.loaded.sizes}
+    for place in paths.values():
+        written.note_input(place.path)
+    unread = rescue_map.unread_in(words, [place.path for place in paths.values()])
+    if not words.fresh:
+        check_stores(part, {place.path for place in paths.values() if unread.get(place.path)}, paths)
+    disks = {name: disk_at(name, paths[name], unread) for name in part.sizes}
+    device = MappedDevice(volume, LoadedTables(part.devices, disks, begun.words), volume)
+    ids = [f"{name}:{ANY if isinstance(disk, Absent) else head_of(disk)}" for name, disk in disks.items()]
+    return NamedDevice(volume, device, size, [sum_of(part), *ids], [])
+
+
+def check_stores(part: loaded_stack.Stack, gapped: Set[str], paths: Dict[str, DiskPlace]) -> None:
+    """Refuses snapshots whose stores lie on images that have gaps by their maps, as dmremap reads these itself."""
+    stores = [it.lines[0].words[1] for it in part.devices if it.lines[0].target == "snapshot"]
+    lost = next((name for name in sorted(part.below(stores)[1]) if paths[name].path in gapped), None)
+    if lost is not None:
+        raise Refusal(quoting.shown(paths[lost].path), "a store lies on it, which dmremap reads without its map: give "
+                      "GROUP/VOLUME and images, or --fresh for the origin's sectors alone")
+
+
+def disk_at(name: str, place: DiskPlace, unread: Dict[str, List[Run]]) -> Device:
+    """The whole sectors of a disk from its place on, or what says why it isn't there; `unread` has by its path the runs
+    of bytes of an image that weren't read."""
+    try:
+        image = Image(place.path, unread.get(place.path, ()))
+        why = image.other_form
+    except Refusal as refusal:
+        why = refusal.why
+    if why:
+        return Absent(name, f"{quoting.shown(place.path)}: {why}")
+    # They may begin within a sector of the image.
+    image.size = image.bytes
+    return Part(image.name, image, place.start, max(0, image.bytes - place.start) // SECTOR * SECTOR)
+
+
+def sum_of(part: loaded_stack.Stack) -> str:
+    """A sum over what says where the bytes of a device lie. A line that gives no bytes of disks may become another."""
+    lines = [f"{it.name} {line}" for it in part.devices for line in it.lines if line.target not in ("zero", "error")]
+    return hashlib.sha256("\n".join(lines).encode()).hexdigest()[:16]

@@ -2,15 +2,17 @@
 
 Takes images, files or block devices, in any order. Nothing is written to them. Prints a tree. Each image is read where
 labels and superblocks lie, and as a whole if nothing sound is there. Something foreign or damaged gets a line, and
-hides nothing else. To copy a volume, run `save GROUP/VOLUME OUT IMAGE..`. dmremap is asked where volumes lie. Without
-it, `?` stands for the file system, and the status is 4. For a LUKS container, two ways into it are printed. The one
-without root reads version 2 only if its sectors have 512 bytes.
+hides nothing else. A partition has its offset and its length in bytes, as PATHS names it. To copy a volume, run
+`save GROUP/VOLUME OUT IMAGE..`. dmremap is asked where volumes lie. Without it, `?` stands for the file system, and the
+status is 4. Where the data of a LUKS container lies, says cryptsetup, if it is here: open it by cryptsetup, and scan
+the opened device, too.
 
 With --json, prints one object instead, in which `why` is null if nothing is wrong:
 
-    images   image, bytes, table (kind, copy, sector, why; or null), holds: a list of partition (0: all), what, why
+    images   image, bytes, table (kind, copy, sector, why; or null), holds: a list of
+             partition (0: all), offset and length in bytes, what, why
     arrays   name, id, level, members, missing (how many), stale, sectors, why
-    luks     name, image, partition, version, id, start, sectors, why, ways
+    luks     name, image, partition, version, id, start, sectors, why
     groups   name, id, seqno, state, images, former_names, notes, volumes: a list of
              name, id, sectors, kind, file_system, state, why, origin, chunks_used
 
@@ -25,7 +27,7 @@ import shlex
 from argparse import ArgumentParser, Namespace
 from typing import Any, Callable, Dict, Iterator, List, Optional
 
-from dmremap_tools.base import INCOMPLETE, SECTOR, Refusal, program, quoting, streams
+from dmremap_tools.base import INCOMPLETE, SECTOR, Refusal, paths, program, quoting, streams
 from dmremap_tools.base.program import NoProgram
 from dmremap_tools.formats import partition_table
 from dmremap_tools.formats.luks_header import Container, container_in
@@ -33,7 +35,7 @@ from dmremap_tools.model import md_superblock
 from dmremap_tools.model.device import Device, Image, Lenient
 from dmremap_tools.model.groups import UNKNOWN, WHOLE, Group, Volume
 from dmremap_tools.model.md_array import Array
-from dmremap_tools.model.pile import Found, Pile
+from dmremap_tools.model.pile import Found, Pile, place_of
 
 EXAMPLE = "dmremap-tools scan disk1.img disk2.img /dev/sdc"
 JsonObject = Dict[str, Any]
@@ -91,28 +93,14 @@ def luks_rows(pile: Pile) -> Iterator[JsonObject]:
 def luks_row(container: Container, name: str, image: Optional[str], partition: int) -> JsonObject:
     """A container by its name, and the image and the partition that it is, if it is in one."""
     return {"name": name, "image": image or name, "partition": partition, "version": container.version,
-            "id": container.identity, "start": container.start, "sectors": container.length,
-            "why": container.fault, "ways": ways_in(container, name, image, partition)}
-
-
-def ways_in(container: Container, name: str, image: Optional[str], partition: int) -> List[str]:
-    """The commands that open a container: as root, and without root on a copy of it, which `save` makes by this name.
-    That way takes version 2 only where its sectors have 512 bytes and its area for keys the usual size."""
-    device = "/dev/loopN" + (f"p{partition}" if partition else "")
-    opened = f"cryptsetup open --readonly {device if image else shlex.quote(name)} opened"
-    root = f"losetup --show -rPf {shlex.quote(image)} && {opened}" if image else opened
-    copy = [f"dmremap-tools save {shlex.quote(name)} part.img IMAGE.."]
-    if container.version == 2:
-        copy += ["cryptsetup luksConvertKey --pbkdf pbkdf2 part.img", "cryptsetup convert --type luks1 part.img"]
-    copy.append("nbdkit -U - file part.img --filter=luks passphrase=- --run 'nbdcopy \"$uri\" opened.img'")
-    return [f"{root} && dmremap-tools scan /dev/mapper/opened", " && ".join(copy) + " && dmremap-tools scan opened.img"]
+            "id": container.identity, "start": container.start, "sectors": container.length, "why": container.fault}
 
 
 def image_row(pile: Pile, image: Image) -> JsonObject:
     """An image: its partition table, if it has one, and what lies in it."""
     table = pile.tables.get(image)
-    holds = [{"partition": found.spot.partition, "what": found.what, "why": found.note or None}
-             for found in pile.found if found.spot.image is image]
+    holds = [{"partition": spot.partition, "offset": place_of(spot.device), "length": spot.device.size, "what": what,
+              "why": note or None} for spot, what, note in pile.found if spot.image is image]
     row = table and {"kind": table.kind, "copy": table.copy, "sector": table.sector, "why": table.fault}
     return {"image": image.path, "bytes": image.bytes, "table": row, "holds": holds}
 
@@ -159,9 +147,9 @@ def lines_of(pile: Pile) -> Iterator[str]:
     for array in pile.arrays:
         row = array_row(pile, array)
         missing = f", {array.missing} missing" if array.missing else ""
-        stale = f"; stale, so not read: {shown_list(row['stale'])}" if array.stale else ""
+        stale = f"; stale, so not read: {', '.join(map(quoting.shown, row['stale']))}" if array.stale else ""
         why = f": {array.note}" if array.note else ""
-        what = f"{array.level} of {array.count}{missing}: {shown_list(row['members'])}"
+        what = f"{array.level} of {array.count}{missing}: {', '.join(map(quoting.shown, row['members']))}"
         yield f"{quoting.shown(array.label)}: {what}{stale}{why}"
         yield from (f"  {line}" for line in (held_by(pile, array.device) if array.device else ()))
     for group in pile.groups:
@@ -170,7 +158,6 @@ def lines_of(pile: Pile) -> Iterator[str]:
         why = f": {row['why']}" if row["why"] else ""
         identity = quoting.shown(row["id"]) or "unknown"
         yield f"LUKS{row['version']} container on {quoting.shown(row['name'])}, id {identity}{why}"
-        yield from (f"  {who}: {quoting.escaped(way)}" for who, way in zip(("as root", "without root"), row["ways"]))
 
 
 def held_by(pile: Pile, device: Device) -> List[str]:
@@ -178,7 +165,10 @@ def held_by(pile: Pile, device: Device) -> List[str]:
     table, found = pile.tables.get(device), pile.found_on
     if not table:
         return [contents_of(pile, found, device)]
-    return [f"{number}: {contents_of(pile, found, partition)}" for number, partition in table.partitions.items()]
+    image = pile.spot_of[device].image if device in pile.spot_of else None
+    return [f"{number}: {contents_of(pile, found, it)}"
+            + (f", at {quoting.shown(paths.part(image.path, it.start, it.size))}" if image is device else "")
+            for number, it in table.partitions.items()]
 
 
 def contents_of(pile: Pile, on: Dict[Device, List[Found]], device: Device) -> str:
@@ -200,7 +190,7 @@ def group_lines(group: Group) -> Iterator[str]:
     """The lines of a group: what it is, where it lies, and its volumes."""
     former = f", formerly {quoting.some(group.former_names)}" if group.former_names else ""
     yield f"group {quoting.shown(group.name)}: {group.state}, seqno {group.seqno}, id {group.identity}{former}"
-    yield f"  on {shown_list(group.places) or 'none of these images'}"
+    yield f"  on {', '.join(map(quoting.shown, group.places)) or 'none of these images'}"
     yield from (f"  {note}" for note in group.notes)
     for volume in group.volumes:
         row, path = volume_row(volume), quoting.shown(f"{group.name}/{volume.name}")
@@ -232,19 +222,10 @@ def held_in(volume: Volume) -> Optional[str]:
     return table and f"a partition table ({table.kind})"
 
 
-def shown_list(words: List[str]) -> str:
-    """Texts side by side, fit to be shown."""
-    return ", ".join(map(quoting.shown, words))
-
-
 def in_units(size: int) -> str:
     """A number of bytes in the largest unit that divides it, or with a fraction in that of its size."""
-    unit = 0
-    while size and size % 1024 == 0 and unit < len(UNITS) - 1:
-        size, unit = size // 1024, unit + 1
-    if size < 10240:
-        return f"{size} {UNITS[unit]}"
-    value = float(size)
-    while value >= 1024 and unit < len(UNITS) - 1:
-        value, unit = value / 1024, unit + 1
-    return f"{value:.1f} {UNITS[unit]}"
+    unit = max(it for it in range(len(UNITS)) if size % 1024 ** it == 0) if size else 0
+    if size < 10240 * 1024 ** unit:
+        return f"{size // 1024 ** unit} {UNITS[unit]}"
+    unit = (size.bit_length() - 1) // 10
+    return f"{size / 1024 ** unit:.1f} {UNITS[unit]}"

@@ -1,21 +1,17 @@
 """Serves a volume in images as a disk, by nbdkit, until you interrupt it.
 
 Takes GROUP/VOLUME and images, as `save` does, with their maps of ddrescue. Prints the URI of the disk, and commands
-that copy it, mount its file system if `scan` knows one, and end all of it; for ext2, ext3 and ext4, also those that
-check it and take a file from it. Nothing is ever written, neither to an image nor to the disk. A read of sectors that
-are missing or can't be read fails; every other one is answered. A SOCKET that an ended server left behind is replaced.
+that copy it, mount its file system if `scan` knows one, and end all of it. Nothing is ever written, neither to an image
+nor to the disk. A read of sectors that are missing or can't be read fails; every other one is answered.
 
-Needs nbdkit with its plugin for Python. The commands need libnbd-bin (nbdcopy, nbdfuse), qemu-utils (qemu-img) and
-e2fsprogs. Mounting the file that nbdfuse shows takes root.
+Needs nbdkit with its plugin for Python. The commands need libnbd-bin (nbdcopy, nbdfuse) and qemu-utils (qemu-img).
+Mounting the file that nbdfuse shows takes root.
 """
 
 import contextlib
-import errno
 import os
 import shlex
 import shutil
-import socket
-import stat
 import subprocess
 import tempfile
 import time
@@ -35,9 +31,6 @@ FILE = "disk/volume.img"
 COPY = f"""copy it:    nbdcopy {{uri}} volume.img    (or: qemu-img convert -f raw -O raw {{uri}} volume.img)
 as a file:  mkdir disk; nbdfuse {FILE} {{uri}} &
 """
-CHECK = f"""check it:   e2fsck -fn {FILE}
-a file:     debugfs -R 'dump /PATH OUT' {FILE}
-"""
 MOUNT = """mount it:   {}    (as root)
 unmount it: umount /mnt    (as root)
 """
@@ -47,7 +40,6 @@ END = """end it:     fusermount3 -u disk    (as root: umount disk); kill {}    (
 
 def add_words(parser: ArgumentParser) -> None:
     parser.add_argument("volume", metavar="GROUP/VOLUME", help="the volume, by its name")
-    parser.add_argument("images", metavar="IMAGE", nargs="+", help="a file or a block device")
     rescue_map.add_words(parser)
     parser.add_argument("--socket", metavar="SOCKET", help="the server's socket; by default in a temporary folder")
     program.add_words(parser)
@@ -59,7 +51,9 @@ def run(words: Namespace) -> None:
         raise Refusal("nbdkit", "it isn't here: install nbdkit and its plugin for Python (nbdkit-plugin-python), or "
                       "use `save`")
     # What is refused is refused before the server begins.
-    target = Pile(words.images, words.program, rescue_map.unread_in(words, words.images)).target(words.volume)
+    target = Pile(words.images, words.program, rescue_map.unread_in(words, words.images)).target(words.volume, True)
+    rescue_map.tell_unused(words, ["serve", words.volume, *words.images])
+    streams.tell(*target.notes)
     why = target.device.lack(0, target.size)
     if why:
         streams.tell(f"{target.name}: {why}: reads of that fail")
@@ -71,7 +65,9 @@ def run(words: Namespace) -> None:
     given += [*maps, "map_of_other_length=1"] if words.map_of_other_length else maps
     with tempfile.TemporaryDirectory(prefix="dmremap-tools-") as folder:
         path = os.path.abspath(words.socket or os.path.join(folder, "socket"))
-        make_way(path)
+        if os.path.lexists(path):
+            why = "it is there already: give another --socket, or end its server and remove it"
+            raise Refusal(quoting.shown(path), why)
         command = [nbdkit, "-f", "-r", "--exit-with-parent", "-U", path, "python", plugin, *given]
         serve(command, path, lines_of(path, file_system_in(target.device)))
 
@@ -79,27 +75,7 @@ def run(words: Namespace) -> None:
 def lines_of(path: str, system: Optional[str]) -> str:
     """What may be typed while the server listens at a path, by the file system of the volume."""
     uri, mount = shlex.quote(f"nbd+unix:///?socket={path}"), mount_command(system, FILE, "/mnt")
-    checked = CHECK if system in ("ext2", "ext3", "ext4") else ""
-    return f"{uri}\n{COPY.format(uri=uri)}{checked}{MOUNT.format(mount) if mount else ''}{END.format(os.getpid())}"
-
-
-def make_way(path: str) -> None:
-    """Removes a socket on which nobody listens any more. What else is there is refused."""
-    if not os.path.lexists(path):
-        return
-    if not stat.S_ISSOCK(os.lstat(path).st_mode):
-        raise Refusal(quoting.shown(path), "it is there already, and is no socket: give another --socket")
-    # By another type than that of servers, so that one which listens isn't disturbed.
-    with socket.socket(socket.AF_UNIX, socket.SOCK_DGRAM) as client:
-        try:
-            client.connect(path)
-        except ConnectionRefusedError:
-            os.unlink(path)
-            return
-        except OSError as fault:
-            if fault.errno != errno.EPROTOTYPE:
-                raise Refusal(quoting.shown(path), f"{streams.why(fault)}: give another --socket")
-    raise Refusal(quoting.shown(path), "another server listens there: end it, or give another --socket")
+    return f"{uri}\n{COPY.format(uri=uri)}{MOUNT.format(mount) if mount else ''}{END.format(os.getpid())}"
 
 
 def serve(command: List[str], path: str, lines: str) -> None:

@@ -7,12 +7,7 @@ larger.
 With --requests, prints another line for each snapshot: the request that makes it invalid, and how full its store was
 before that, as `--status` prints it. A snapshot starts from what its store holds, on disks at their names or where
 --paths says; --fresh treats all as new. It runs dmremap over the first half of the requests, then over fewer or more of
-them: about twenty times for a million requests.
-
-With --writes in place of FORMAT, FILE and DISKS, prints for each device how much of a store its writes fill: its name,
-how many chunks a snapshot of it takes, how many sectors of the store are used, and how many of these are the header and
-the chunk numbers. Writes to the snapshot and to its origin take the same chunks. Refuses what dmremap refuses, and a
-FILE without snapshots.
+them: about twenty times for a million requests. Refuses what dmremap refuses, and a FILE without snapshots.
 """
 
 import functools
@@ -20,44 +15,24 @@ import itertools
 import re
 import tempfile
 from argparse import ArgumentParser, Namespace
-from collections import Counter, defaultdict
-from typing import Dict, Iterator, List, Tuple
+from typing import Dict, Iterator, List
 
-from dmremap_tools.base import Refusal, WrongWords, given, names, numbers, pieces, program, requests, streams
+from dmremap_tools.base import Refusal, given, pieces, program, streams
 from dmremap_tools.formats import store_places
 from dmremap_tools.model import loaded_stack
-from dmremap_tools.model.device import blocks_of
 
 EXAMPLE = "dmremap-tools store table snaps.table snaps.disks"
 STATUS = re.compile(r"^([^ \n]+): 0 [0-9]+ snapshot (.*)$", re.M)
 INVALID, NEWLINE, CHUNK = "Invalid", b"\n", 1 << 16
-# Chunks are counted in pages, of a byte for each of them.
-PAGE, MOST_PAGES = 1 << 16, 1 << 11
-TOO_FAR = f"the chunks lie too far apart to be counted in {MOST_PAGES * PAGE >> 20} MiB: give a larger --chunk"
 
 
 def add_words(parser: ArgumentParser) -> None:
-    parser.add_argument("form", metavar="FORMAT", nargs="?", choices=given.FORMATS, help="table, concise or lvm")
-    parser.add_argument("file", metavar="FILE", nargs="?")
-    parser.add_argument("disks", metavar="DISKS", nargs="?", help="with table and concise")
-    asked = parser.add_mutually_exclusive_group()
-    asked.add_argument("--requests", metavar="REQUESTS", help="find which of these requests makes a snapshot invalid")
-    asked.add_argument("--writes", metavar="REQUESTS", help="tell how much of a store these writes would fill")
-    parser.add_argument("--chunk", type=numbers.word, default=8, metavar="SECTORS",
-                        help="with --writes: the snapshot's chunk, a power of two; by default 8")
-    parser.add_argument("--kind", choices=("P", "N", "K"), default="P",
-                        help="with --writes: the snapshot's kind; by default P")
+    given.add_words(parser)
+    parser.add_argument("--requests", metavar="REQUESTS", help="find which of these requests makes a snapshot invalid")
     loaded_stack.add_words(parser)
 
 
 def run(words: Namespace) -> None:
-    if words.writes is not None:
-        if words.form is not None:
-            raise WrongWords("--writes needs no FORMAT, FILE and DISKS")
-        write_sizes(words.writes, words.chunk, words.kind)
-        return
-    if words.file is None:
-        raise WrongWords("give FORMAT, FILE and DISKS, or --writes REQUESTS")
     text = streams.plain_bytes(words.requests) if words.requests is not None else None
     source = given.given_in(words, "FORMAT FILE [DISKS] [--requests REQUESTS]")
     with tempfile.TemporaryDirectory(prefix="dmremap-tools-") as folder:
@@ -112,24 +87,3 @@ def ends_of(text: bytes, command: List[str]) -> Iterator[str]:
             middle = text.rfind(NEWLINE, low, (low + high) // 2) + 1 or text.find(NEWLINE, low) + 1
             low, high = (middle, high) if statuses(middle)[name] != INVALID else (low, middle)
         yield f"{name}: invalid by request {text.count(NEWLINE, 0, high)}, before it {statuses(low)[name]}\n"
-
-
-def write_sizes(path: str, chunk: int, kind: str) -> None:
-    """Counts the chunks of each device that is written, and prints how much of a store they fill."""
-    if chunk == 0 or chunk & (chunk - 1):
-        raise WrongWords(f"--chunk: give a power of two, and not {chunk}")
-    source = streams.Lines(path)
-    pages: Dict[Tuple[str, int], bytearray] = defaultdict(lambda: bytearray(PAGE))
-    for operation, name, start, count in requests.read(source, names.Names().device, requests.NO_REQUEST):
-        first, end = start // chunk, -(-(start + count) // chunk)
-        for number, begin, times in blocks_of(first, end - first, PAGE) if operation == "W" and count else ():
-            pages[name, number][begin:begin + times] = b"\1" * times
-            if len(pages) > MOST_PAGES:
-                source.refuse(TOO_FAR)
-    source.tell_if_none()
-    counts: "Counter[str]" = Counter()
-    for (name, _), page in pages.items():
-        counts[name] += page.count(1)
-    for name, count in counts.items():
-        own = (count // (32 * chunk) + 2) * chunk if kind != "N" else 0
-        streams.out.write(f"{name} {count} {count * chunk + own} {own}\n")

@@ -8,16 +8,15 @@ of its line. Reported with their lines are a disk that is made longer or gets a 
 raid volumes that are made writable, and what is left out:
 
     volumes of other types than striped, linear, zero and error, and what lies on them or is a snapshot of them;
-    volumes on another volume, as while they are moved; stripes that don't divide one; names that no device can have;
-    snapshots that aren't as long as their origin, or whose store has zero or error or is left out, or has more places
-    for chunks than dmremap counts in all: the origin stays, and a message says what answers lack;
+    volumes on another volume, as while they are moved; stripes that don't divide one;
+    volumes and snapshots that dmremap refuses of the copy, by the word of its message: the origin of such a snapshot
+    stays, and a message says what answers lack;
     snapshots that are being merged, with their origin: it reads as the snapshot does, from what is left in the store;
     fields with negative numbers, fractions, or keys that are no words.
 
 The parts of a volume that is left out stay, under the names that they have in the kernel: `r1_rimage_0` is one leg of
 the mirror `r1`, and `pool_tdata` has the data of a thin pool. For a cached volume, the cache may have newer data than
-`home_corig`. With --only, which may be given several times, the copy has that volume, its origin if it is a snapshot,
-and the disks that they lie on.
+`home_corig`.
 
 Refuses a text of which no volume would be left, one that isn't the metadata of a group, forms that lvm2 never writes, a
 damaged text whose copy dmremap refuses when it is asked, and one of more than 8 MiB, or of more than 150,000 keys and
@@ -26,19 +25,20 @@ machine's devices are those of the text.
 """
 
 import argparse
-import os
 import re
 import tempfile
 from typing import Dict, Iterator, List, Optional, Set, Tuple
 
 from dmremap_tools.base import Refusal, program, quoting, streams
 from dmremap_tools.model.config_text import ANEW, Document, Item, Node, shown
-from dmremap_tools.model.volume_group import LINEAR, NOT_ASKED, STRIPED, GroupText, VolumeText
+from dmremap_tools.model.volume_group import LINEAR, STRIPED, TYPES, GroupText, Record, VolumeText
 
 EXAMPLE = "dmremap-tools lvm2-text vgm.backup > copy.backup && dmremap table lvm copy.backup"
 # How many bytes of a text are taken, and dmremap takes of the copy.
 MOST_TEXT, MOST_COPY = 8 << 20, 1 << 20
-ADVICE = "take an older text, from /etc/lvm/archive or by `metadata --list`, or leave this out by --only"
+ADVICE = "take an older text, from /etc/lvm/archive or by `metadata --list`"
+# What dmremap says of a text.
+SAID = re.compile(r"dmremap: source: (empty|name|snapshot|store|limit) at ([0-9]+)")
 # What dmremap takes for a key, and how many sections it takes inside each other.
 WORD, LEVELS = re.compile(rb"[A-Za-z0-9_+.][A-Za-z0-9_+.-]*"), 16
 # The fields that have a list, of which others with one value have none.
@@ -74,13 +74,10 @@ class Copy:
         said = sorted(self._said, key=lambda it: it[0])
         streams.tell(*(f"{self.document.path}:{line}: {what}" for line, what in said))
 
-    def content(self, given: bytes) -> bytes:
-        """The copy of what was given, in which each key has the line that it had, and U+FFFD stands for what is no
-        UTF-8."""
+    def content(self) -> bytes:
+        """The copy, in which each key has the line that it had, and U+FFFD stands for what is no UTF-8."""
         made: List[bytes] = []
         content, end = self.document.content, 0
-        if b"\0" in given:
-            self.say(len(content), "left out: the NUL here, and what comes after it")
         for at, text in [*self._kept_parts(self.document.top), (len(content), b"")]:
             made += [b"\n" * content.count(b"\n", end, at) or b" " * bool(made), text]
             end = at
@@ -119,75 +116,119 @@ def plain_value(item: Item) -> Optional[bytes]:
 
 
 def add_words(parser: argparse.ArgumentParser) -> None:
-    parser.add_argument("--only", metavar="NAME", action="append", default=[],
-                        help="keep only this volume, with its origin and its disks")
     program.add_words(parser)
     parser.add_argument("text", metavar="TEXT", help="the metadata, as vgcfgbackup writes it")
 
 
 def run(words: argparse.Namespace) -> None:
     content = streams.read_bytes(words.text, MOST_TEXT)
-    path, only = streams.name_of(words.text), [os.fsencode(it) for it in words.only]
+    path = streams.name_of(words.text)
     if content.count(b"\n") > MOST_COPY:
         raise Refusal(path, f"it has more than {MOST_COPY} lines, and dmremap takes as many bytes: "
                       "give the text of one group")
     copy = Copy(Document(path, content[len(streams.MARK):] if content.startswith(streams.MARK) else content))
+    if b"\0" in content:
+        copy.say(len(copy.document.content), "left out: the NUL here, and what comes after it")
     group = group_of(copy)
-    lost = next((name for name, key in zip(words.only, only) if key not in group.volumes), None)
-    if lost is not None:
-        raise Refusal(path, f"no volume {quoting.shown(lost)}: give a name that the text has")
-    if only:
-        group.leave_others(only)
-    group.judge()
-    drop_volumes(copy, group)
+    leave_unread(group)
+    mend_group(copy, group)
+    made = taken_copy(copy, group, program.dmremap(words.program))
+    say_left_out(copy, group)
+    copy.tell()
     if group.volumes and all(it.why for it in group.volumes.values()):
-        copy.tell()
         raise Refusal(path, "nothing is left, as dmremap can follow none of its volumes: use `save`, `serve` or "
                       "`machine`")
-    if only:
-        _leave_physicals(copy, group)
-    mend_group(copy, group)
-    made = copy.content(content)
-    copy.tell()
-    # A text that lvm2 wrote passes, so what doesn't is damaged.
-    with tempfile.NamedTemporaryFile(prefix="dmremap-tools-") as file:
-        file.write(made)
-        file.flush()
-        _, said = program.ask_quietly([program.dmremap(words.program), "map", "lvm", file.name])
-    if said:
-        raise Refusal(path, "dmremap refuses the copy, whose lines have the same numbers "
-                      f"({quoting.shown(said.strip())}): {ADVICE}")
     streams.out.write(made.decode())
 
 
+def leave_unread(group: GroupText) -> None:
+    """Leaves out the volumes of which the text has what dmremap doesn't read, and those that a merge changes."""
+    for volume in group.volumes.values():
+        volume.why = fault_of(group, volume)
+    for record in (it for it in group.records if it.is_merging):
+        snapshot, origin = (shown(it or record.volume.name) for it in (record.store, record.origin))
+        for name, why in (
+                (record.volume.name, "the record of a snapshot that is being merged"),
+                (record.store, f"it is being merged into {origin}"),
+                # It reads as the snapshot does, from what is left in the store.
+                (record.origin, f"the snapshot {snapshot} is being merged into it, so that some of its sectors are "
+                                "older and some newer: go on when that is done (`lvs -o+copy_percent`)")):
+            if name in group.volumes:
+                group.volumes[name].leave(why)
+
+
+def fault_of(group: GroupText, volume: VolumeText) -> Optional[str]:
+    """Why a volume can't stay by its segments, or None."""
+    for segment in volume.segments:
+        key = shown(segment.node.key)
+        if segment.kind is not None and segment.kind not in TYPES:
+            return f"its {key} has the type {shown(segment.kind)}"
+        below = [it for it, _ in segment.stripes if isinstance(it, bytes) and it not in group.physicals]
+        lower = next((it for it in below if it in group.volumes), None)
+        if lower is not None:
+            return f"it lies on the volume {shown(lower)}"
+        if segment.kind == STRIPED and not segment.is_even(group.extent_size):
+            return f"its {key} isn't divided evenly by its stripes, so that no kernel takes it"
+    return None
+
+
+def taken_copy(copy: Copy, group: GroupText, asked: str) -> bytes:
+    """The copy that dmremap takes. What it refuses of a volume is left out, one after the other, and a snapshot with
+    its record. A text that lvm2 wrote passes then, so what doesn't is damaged."""
+    while True:
+        for record in group.records:
+            leave_snapshot(group, record)
+        copy.left_out |= {it.node for it in group.volumes.values() if it.why}
+        made = copy.content()
+        with tempfile.NamedTemporaryFile(prefix="dmremap-tools-") as file:
+            file.write(made)
+            file.flush()
+            said = program.ask_quietly([asked, "map", "lvm", file.name])[1].strip()
+        if not said:
+            return made
+        refused = SAID.fullmatch(said)
+        line, line_at = int(refused[2]) if refused else 0, copy.document.line_at
+        volume = next((it for it in group.volumes.values() if not it.why
+                       and line_at(it.node.start) <= line <= line_at(it.node.end - 1)), None)
+        if not refused or not volume:
+            copy.tell()
+            raise Refusal(copy.document.path, "dmremap refuses the copy, whose lines have the same numbers "
+                          f"({quoting.shown(said)}): {ADVICE}")
+        above = [it for it in group.records if it.origin == volume.name and not it.volume.why]
+        for each in [it.volume for it in above] if above and refused[1] == "name" else [volume]:
+            each.leave(f"dmremap refuses it ({refused[1]})")
+
+
+def leave_snapshot(group: GroupText, record: Record) -> None:
+    """Leaves out a snapshot with its record where one of them, or its origin, is left out."""
+    origin, store = (group.volumes.get(it or b"") for it in (record.origin, record.store))
+    if not record.is_merging and origin and store and (record.volume.why or origin.why or store.why):
+        why = f"it is a snapshot of {shown(origin.name)}"
+        store.leave(f"{why}, which is left out" if origin.why else f"{why}: {record.volume.why}")
+        record.volume.why = f"the record of the snapshot {shown(store.name)}"
+
+
 def group_of(copy: Copy) -> GroupText:
-    """The group of a text, without what is there twice: lvm2 reads the first section alone, and the last of several
-    values of one key. It puts sections of one key together; here that isn't done."""
+    """The group of a text, of which lvm2 reads the first section alone."""
     document = copy.document
-    for section, node in document.twice:
-        counting = (section.children or {})[node.key]
-        if node.children is not None or counting.children is not None:
-            raise document.refused(counting.start, f"{shown(node.key)} is there twice, first in line "
-                                   f"{document.line_at(node.start)}: put the two together")
-        copy.drop(node, f"it is there again in line {document.line_at(counting.start)}, which counts")
     group, *others = document.top.sections() or [document.top]
     if group.child(b"physical_volumes") is None:
         raise Refusal(document.path, "no metadata of a group: give a text of /etc/lvm/backup, or what `metadata` "
                       "prints")
     for node in others:
         copy.drop(node, "lvm2 reads one section of a text, the first")
-    return GroupText(group)
-
-
-def drop_volumes(copy: Copy, group: GroupText) -> None:
-    """Leaves out the volumes that can't stay, and says what answers lack of origins that lose snapshots."""
-    for volume in group.volumes.values():
+    found = GroupText(group)
+    for volume in found.volumes.values():
         if volume.node.value(b"segment_count", int) not in (None, len(volume.segments)):
             why = f"segment_count isn't the number of its segments, {len(volume.segments)}: {ANEW}"
-            raise copy.document.refused(volume.node.start, f"{shown(volume.name)}: {why}")
-        if volume.why == NOT_ASKED:
-            copy.left_out.add(volume.node)
-        elif volume.why:
+            raise document.refused(volume.node.start, f"{shown(volume.name)}: {why}")
+    return found
+
+
+def say_left_out(copy: Copy, group: GroupText) -> None:
+    """Says which volumes are left out, and what answers lack of origins that lose snapshots."""
+    for volume in group.volumes.values():
+        if volume.why:
             copy.drop(volume.node, volume.why)
     without: Dict[VolumeText, List[bytes]] = {}
     for record in group.records:
@@ -197,19 +238,6 @@ def drop_volumes(copy: Copy, group: GroupText) -> None:
     for origin, snapshots in without.items():
         copy.say(origin.node.start, f"kept: {shown(origin.name)}, without its snapshot {shown(b', '.join(snapshots))}: "
                  "on a machine, a write to it also copies what it overwrites, which the answers don't show")
-
-
-def _leave_physicals(copy: Copy, group: GroupText) -> None:
-    """Leaves out the physical volumes that nothing lies on which stays. One stays whose disk has the path of another
-    that does, as dmremap names both by their keys; and one of a group of which all volumes need none."""
-    staying = [it for it in group.volumes.values() if not it.why]
-    needed = {name for volume in staying for segment in volume.segments for name, _ in segment.stripes}
-    path_of = {key: tuple(node.values(b"device")) for key, node in group.physicals.items()}
-    paths = {path for key, path in path_of.items() if key in needed}
-    kept = {key: node for key, node in group.physicals.items() if path_of[key] in paths}
-    if kept:
-        copy.left_out |= {node for key, node in group.physicals.items() if key not in kept}
-        group.physicals = kept
 
 
 def mend_group(copy: Copy, group: GroupText) -> None:

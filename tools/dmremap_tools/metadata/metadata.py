@@ -2,16 +2,14 @@
 
 Takes HEAD, the physical volume, or an image of its beginning, such as its first MiB, or of the whole disk, which is
 searched as by `scan`: each physical volume in it is taken, in a partition, in a member of an md array, or anywhere if
-nothing else is found. HEAD?offset=BYTES is what begins there in it. Several physical volumes have to agree. `dd
-if=/dev/sda1 of=head.img bs=1M count=1` makes an image of the beginning; with lvm2, `pvck --dump metadata -f TEXT
-head.img` does the same as this command.
+nothing else is found. HEAD?offset=BYTES is what begins there in it. Several physical volumes have to agree.
 
 Prints the valid text. The label says where the metadata areas are, and the header of an area which of its texts is
 valid. Each of the three has a checksum. If the first area is damaged, the second is taken, if there is one. If both are
 sound, the text with the higher seqno is taken; two groups, or two texts with one number, are refused. If all are
 damaged, take another physical volume of the group, or a text in /etc/lvm/backup. --list prints what is left of older
 texts: the place of each in HEAD, its group, the group's id, the seqno and the time; `cut` is a text whose end isn't
-there. --seqno and --at print one of these.
+there. --at prints one of these.
 
 Without a sound label, areas are looked for in the first and the last 4 MiB, and then labels in the whole image.
 
@@ -32,7 +30,7 @@ from dmremap_tools.base.refusal import Refusal, WrongWords
 from dmremap_tools.model import md_superblock
 from dmremap_tools.model.device import Device, Image, Lenient, Part, image_of
 from dmremap_tools.model.physical_volume import (EMPTY, MISSING, SEARCHED, MetadataArea, PhysicalVolume, Text,
-                                                 leftover_in, text_by_heads, texts_of_ring, volume_in)
+                                                 leftover_in, read_by_heads, texts_of_ring, volume_in)
 from dmremap_tools.model.pile import Pile, place_of
 
 EXAMPLE = "dmremap-tools metadata vg0-head.img > vg0.backup && dmremap table lvm vg0.backup"
@@ -45,16 +43,14 @@ HEAD = 1 << 20
 def add_words(parser: argparse.ArgumentParser) -> None:
     which = parser.add_mutually_exclusive_group()
     which.add_argument("--list", action="store_true", help="list the texts that are left in the metadata areas")
-    for option, name, where in ("--seqno", "N", "with this seqno"), ("--at", "BYTE", "that begins at this byte"):
-        said = f"print the listed text {where}"
-        which.add_argument(option, type=numbers.word, metavar=name, help=said)
+    which.add_argument("--at", type=numbers.word, metavar="BYTE", help="print the listed text that begins at this byte")
     parser.add_argument("heads", nargs="+", metavar="HEAD", help="the physical volume, or an image of its beginning")
 
 
 def run(words: argparse.Namespace) -> None:
-    is_of_one = words.list or words.seqno is not None or words.at is not None
+    is_of_one = words.list or words.at is not None
     if len(words.heads) > 1 and is_of_one:
-        raise WrongWords("--list, --seqno and --at take one HEAD")
+        raise WrongWords("--list and --at take one HEAD")
     places = [paths.place_of("/dev/stdin" if path == "-" else path) for path in words.heads]
     for path, place in zip(words.heads, places):
         if place.is_said and os.path.lexists(path):
@@ -64,32 +60,30 @@ def run(words: argparse.Namespace) -> None:
     images = [image_of(place.path) for place in places]
     pile = Pile([place.path for place in dict.fromkeys(places) if not place.is_said], None)
     volumes = [*pile.volumes, *pile.leftovers]
-    if not volumes:
+    faults = {quoting.shown(device.name): table.fault for device, table in pile.tables.items() if table.fault}
+    if not volumes and not faults:
         pile.search()
         volumes += pile.volumes
     parts = [spot.device for spot in pile.spots() if spot.image] if not volumes else []
-    parts += [part_at(image, place.start) for place, image in zip(places, images) if place.is_said]
+    for image, start in ((image, place.start) for place, image in zip(places, images) if place.is_said):
+        if start >= image.bytes:
+            raise Refusal(image.name, f"it ends before byte {start}: give a lower offset, or more of the disk")
+        parts.append(Part(image.name, image, start, max(0, image.size - start)))
     volumes += filter(None, map(volume_of, parts))
     if len(volumes) > 1 and is_of_one:
         raise Refusal(images[0].name, "it has several physical volumes: take one, as HEAD?offset=BYTES")
     if not volumes and not is_of_one:
-        why = next((f" ({table.fault})" for table in pile.tables.values() if table.fault), pile.unread_notes())
+        why = next((f" ({fault})" for fault in faults.values()), pile.unread_notes())
         raise Refusal(images[0].name, f"no physical volume is found{why}: {OTHER}")
+    streams.tell(*(f"{name}: {fault}" for name, fault in faults.items()))
     if words.list:
         for text in texts_in(images[0], volumes):
             time = (text.said_time() or b"cut").decode("utf-8", "surrogateescape")
             row = f"{text.at} {text.group} {text.identity} seqno {text.seqno} - {time}"
             streams.out.write(quoting.escaped(row) + "\n")
         return
-    content = older_text(images[0], volumes, words.seqno, words.at) if is_of_one else first_if_equal(volumes)
+    content = older_text(images[0], volumes, words.at) if is_of_one else first_if_equal(volumes)
     streams.out.write(content.decode("utf-8", "surrogateescape"))
-
-
-def part_at(image: Image, start: int) -> Device:
-    """What begins at a byte of an image. Refuses a byte behind its end."""
-    if start >= image.bytes:
-        raise Refusal(image.name, f"it ends before byte {start}: give a lower offset, or more of the disk")
-    return Part(image.name, image, start, max(0, image.size - start))
 
 
 def volume_of(device: Device) -> Optional[PhysicalVolume]:
@@ -104,9 +98,9 @@ def first_if_equal(volumes: List[PhysicalVolume]) -> bytes:
     """The text that dmremap reads in these volumes, if it is there and takes them; else the first of their valid texts.
     Refuses texts that differ in more than their times."""
     is_sound = not any(volume.faults for volume in volumes)
-    read = text_by_heads(None, [volume.device for volume in volumes]) if is_sound else None
-    if read:
-        return read
+    heads = read_by_heads(None, "metadata", [volume.device for volume in volumes]) if is_sound else None
+    if heads and heads[1]:
+        return heads[1]
     texts = [valid_text(volume) for volume in volumes]
     if len({it.body() for it in texts}) > 1:
         for volume, text in zip(volumes, texts):
@@ -167,16 +161,10 @@ def texts_in(image: Image, volumes: List[PhysicalVolume]) -> List[Text]:
     return texts
 
 
-def older_text(image: Image, volumes: List[PhysicalVolume], seqno: int, at: Optional[int]) -> bytes:
-    """The older text with this number, or the one at a byte. Refuses one that is cut, and several of one number."""
-    texts = [it for it in texts_in(image, volumes) if (it.seqno == seqno if at is None else it.at == at)]
-    which, there = (f"with the seqno {seqno}", "those there are") if at is None else ("at that place", "the places")
-    if not texts:
-        raise Refusal(image.name, f"there is no text {which}: see {there} with --list")
-    whole = {it.content for it in (texts if at is None else texts[:1]) if it.said_time()}
-    if not whole:
-        raise Refusal(image.name, f"the text {which} is cut: see with --list which are whole")
-    if len(whole) > 1:
-        places = quoting.some([str(it.at) for it in texts])
-        raise Refusal(image.name, f"there are several texts {which}, at the bytes {places}: take one with --at BYTE")
-    return whole.pop()
+def older_text(image: Image, volumes: List[PhysicalVolume], at: int) -> bytes:
+    """The older text that begins at a byte. Refuses one that is cut."""
+    text = next((it for it in texts_in(image, volumes) if it.at == at), None)
+    if text is None or not text.said_time():
+        why = "there is no text" if text is None else "the text is cut"
+        raise Refusal(image.name, f"{why} at byte {at}: see with --list which are whole")
+    return text.content

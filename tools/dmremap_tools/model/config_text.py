@@ -31,11 +31,10 @@ Token = Tuple[bytes, int]
 
 
 class Item(NamedTuple):
-    """A value as it is written, where it begins, and where the comma after it is, or -1."""
+    """A value as it is written, and where it begins."""
 
     text: bytes
     start: int
-    comma: int = -1
 
     @property
     def value(self) -> Value:
@@ -100,13 +99,12 @@ class Node:
 
 
 class Document:
-    """A text and the tree that it says, without what is after a NUL, as for lvm2. Of several values of one key the last
-    counts; `twice` has the others, each with its section."""
+    """A text and the tree that it says, without what is after a NUL, as for lvm2. A key that is there twice, which lvm2
+    never writes, is refused."""
 
     def __init__(self, path: str, content: bytes) -> None:
         self.path, self.content = path, content.split(b"\0", 1)[0] if b"\0" in content else content
         self._parts = 0
-        self.twice: List[Tuple[Node, Node]] = []
         self.top = self._tree(self.tokens())
 
     @functools.cached_property
@@ -147,9 +145,11 @@ class Document:
                 opened.pop().end = start + 1
             elif text:
                 node = self._node(text, start, tokens, len(opened))
-                section, before = opened[-1], opened[-1].child(node.key)
-                self.twice += [(section, before)] if before else []
-                section.add(node)
+                before = opened[-1].child(node.key)
+                if before:
+                    raise self.refused(start, f"{shown(node.key)} is there twice, first in line "
+                                       f"{self.line_at(before.start)}: put the two together")
+                opened[-1].add(node)
                 opened += [node] if node.children is not None else []
         if len(opened) > 1:
             raise self.refused(len(self.content), f"the end is missing: {shown(opened[-1].key)}, "
@@ -178,20 +178,20 @@ class Document:
     def _read_values(self, node: Node, tokens: Iterator[Token]) -> None:
         """Reads the values of a field, which follow its equals sign."""
         text, start = next(tokens)
-        is_list, node.value_at, last = text == b"[", start, None
+        is_list, node.value_at, needs_comma = text == b"[", start, False
         for text, start in tokens if is_list else [(text, start)]:
             if is_list and text == b"]":
                 break
-            if text == b"," and last and last.comma < 0:
-                last = node.items[-1] = last._replace(comma=start)
+            if text == b"," and needs_comma:
+                needs_comma = False
                 continue
             # Only a string may come where a comma is missing.
-            if text in SIGNS or text[:1] not in QUOTES and last and last.comma < 0:
+            if text in SIGNS or text[:1] not in QUOTES and needs_comma:
                 raise self.refused(start, f"no value, {ANEW}: {shown(text) or 'the end'}")
             if is_list:
                 self._count_part(start)
-            last = Item(text, start)
-            node.items.append(last)
+            node.items.append(Item(text, start))
+            needs_comma = True
         node.end = start + len(text)
 
     def _count_part(self, at: int) -> None:

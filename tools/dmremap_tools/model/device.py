@@ -18,9 +18,10 @@ from dmremap_tools.base.refusal import Refusal
 # The first of some bytes, and the one after them; and the end of what goes on without one.
 Run = Tuple[int, int]
 ALL = 1 << 64
-# Bytes that are read at once, and into how many places one call reads at most.
-BLOCK, MOST_VIEWS = 1 << 20, 1024
-
+# Bytes that are read at once.
+BLOCK = 1 << 20
+# At how many places two devices are compared, how many bytes of each, and a sector of more values says something.
+COMPARED, COMPARED_AT_ONCE, SAYING = 256, 4096, 4
 
 # A block with the one that is read for it; or the blocks up to an end of which nothing is known, and why.
 Entry = NamedTuple("Entry", [("key", int), ("end", int), ("value", int), ("why", Optional[str])])
@@ -83,8 +84,11 @@ class Device:
         yield Extent(self, start, size)
 
 
-# What is meant by a name: what it is called, its bytes, and the ids of what it lies on, if that has some.
-NamedDevice = NamedTuple("NamedDevice", [("name", str), ("device", Device), ("size", int), ("ids", List[str])])
+# What ends an id of which the rest isn't known.
+ANY = "?"
+# What is meant by a name: what it is called, its bytes, the ids of what it lies on, and what is to be said of it.
+NamedDevice = NamedTuple("NamedDevice", [
+    ("name", str), ("device", Device), ("size", int), ("ids", List[str]), ("notes", List[str])])
 
 
 class Missing(Device):
@@ -97,6 +101,10 @@ class Missing(Device):
 
     def load(self, start: int, size: int) -> bytes:
         raise Gap("missing", self.name)
+
+
+class Absent(Missing):
+    """Bytes of a disk that isn't here at all."""
 
 
 class Unread(Missing):
@@ -137,14 +145,9 @@ class Part(Device):
         return self.ended() if start + size > self.size else self.lower.lack(self.start + start, size)
 
     def _extents(self, start: int, size: int) -> Iterator[Extent]:
-        return self._around(start, size) if self.holes else self.lower.extents(self.start + start, size)
-
-    def _around(self, start: int, size: int) -> Iterator[Extent]:
-        for begin, end, hole in cut(self.holes, start, start + size):
-            if hole:
-                yield Extent(Missing(self._why), 0, end - begin)
-            else:
-                yield from self.lower.extents(self.start + begin, end - begin)
+        return itertools.chain.from_iterable(
+            [Extent(Missing(self._why), 0, end - at)] if hole else self.lower.extents(self.start + at, end - at)
+            for at, end, hole in cut(self.holes, start, start + size))
 
 
 class Overlaid(Device):
@@ -212,8 +215,7 @@ class Copies(Device):
 
 
 def copied(copies: Sequence[Tuple[Device, int]], size: int) -> Iterator[Extent]:
-    """The extents of so many bytes of the first copy, and of the next ones where it lacks some. Each is a device, and
-    where the bytes begin in it."""
+    """The extents of so many bytes of the first copy, a device and a place, or of the next where it lacks some."""
     (device, start), *others = copies
     is_last = not others or device.lack(start, size) is None
     done = 0
@@ -285,19 +287,6 @@ class Image(Device):
         parts = cut(self._unread, start, start + size)
         return (Extent(run[2] if run else self, begin, end - begin) for begin, end, run in parts)
 
-    def fill(self, start: int, views: Sequence[memoryview]) -> bool:
-        """Reads the bytes from one on into places, and says whether all of them could be read."""
-        for at in range(0, len(views), MOST_VIEWS):
-            places = views[at:at + MOST_VIEWS]
-            size = sum(map(len, places))
-            try:
-                if os.preadv(self._file.fileno(), places, start) != size:
-                    return False
-            except OSError:
-                return False
-            start += size
-        return True
-
     def load(self, start: int, size: int) -> bytes:
         try:
             content = os.pread(self._file.fileno(), size, start)
@@ -328,8 +317,9 @@ class Image(Device):
 def image_of(path: str) -> Image:
     """The image at a path, which has the bytes of a disk in their order."""
     image = Image(path)
-    if image.other_form or not image.bytes:
-        raise Refusal(image.name, image.other_form or "it is empty: give the image of a disk")
+    if image.other_form or not image.size:
+        short = f"too short: it has {image.bytes} bytes" if image.bytes else "empty"
+        raise Refusal(image.name, image.other_form or f"it is {short}: give the image of a disk")
     return image
 
 
@@ -344,6 +334,11 @@ class Lenient:
         blocks = read_blocks(self._device.read, at, min(at + count, self.size))
         return b"".join(content for _, content, _ in itertools.takewhile(lambda block: block[2], blocks))
 
+    def filled(self, at: int, count: int) -> bytes:
+        """The same to the last one that is wanted, with zeros for those that aren't there."""
+        blocks = read_blocks(self._device.read, at, min(at + count, self.size))
+        return b"".join(content.ljust(size, b"\0") for size, content, _ in blocks)
+
     def next_data(self, at: int) -> int:
         """The next byte from `at` on that isn't in a hole of an image."""
         runs = self._device.runs(at, self.size) if isinstance(self._device, Image) else iter([(at, self.size)])
@@ -351,14 +346,24 @@ class Lenient:
 
 
 def whole_run(device: Device) -> Optional[Tuple[Image, int, int]]:
-    """The image in which all bytes of a device lie in a row, the byte at which they begin there, and how many there are; None
-    where something lies between."""
+    """The image in which all bytes of a device lie in a row, the byte at which they begin there, and how many there
+    are; None where something lies between."""
     start, size = 0, device.size
     while isinstance(device, Part) and not device.holes:
         start += device.start
         device = device.lower
         size = min(size, device.size - start)
     return (device, start, size) if isinstance(device, Image) and device.is_whole else None
+
+
+def is_alike(one: Device, other: Device, start: int, size: int) -> bool:
+    """Whether of so many bytes from one on some sectors that say something are the same in both; a few are tried."""
+    for at in range(start, start + size, max(size // COMPARED, COMPARED_AT_ONCE)):
+        pair = [Lenient(each).read(at, COMPARED_AT_ONCE) for each in (one, other)]
+        sectors = ((content[it:it + SECTOR] for content in pair) for it in range(0, COMPARED_AT_ONCE, SECTOR))
+        if any(mine == its and len(set(mine)) > SAYING for mine, its in sectors):
+            return True
+    return False
 
 
 def cut(runs: Sequence[AnyRun], start: int, end: int) -> Iterator[Tuple[int, int, Optional[AnyRun]]]:

@@ -10,7 +10,6 @@ import bisect
 import itertools
 import os
 import re
-import tempfile
 from collections import namedtuple
 from typing import Callable, Collection, Dict, Iterable, Iterator, List, Optional, Sequence, Set, Tuple
 
@@ -119,10 +118,7 @@ class FileSystem:
 
 def answer_of(words: Sequence[str], lines: Iterable[bytes]) -> Tuple[str, List[str]]:
     """What a program prints that gets these lines, and what it complains of."""
-    with tempfile.TemporaryFile() as file:
-        file.writelines(line + b"\n" for line in lines)
-        file.seek(0)
-        printed, said = program.ask_quietly(words, given=file.fileno())
+    printed, said = program.ask_quietly(words, b"".join(line + b"\n" for line in lines))
     return printed, said.splitlines()
 
 

@@ -1,6 +1,7 @@
 """A text of a group, read: its volumes, and their devices over the physical volumes that are there. Linear and striped
 segments are lines of a table, which dmremap maps; any other is a disk of that table, which its own layer computes."""
 
+import contextlib
 import functools
 import itertools
 from typing import Callable, Dict, Iterator, List, NoReturn, Optional, Set, Tuple, TypeVar
@@ -8,7 +9,7 @@ from typing import Callable, Dict, Iterator, List, NoReturn, Optional, Set, Tupl
 from dmremap_tools.base import SECTOR, Refusal, names, tables
 from dmremap_tools.model import integrity, pools, raid_volume
 from dmremap_tools.model.config_text import shown
-from dmremap_tools.model.device import Device, Extent, Missing
+from dmremap_tools.model.device import Absent, Device, Extent, Missing
 from dmremap_tools.model.mapping import MappedDevice, NoProgram, Tables, snapshot_of
 from dmremap_tools.model.physical_volume import Text
 from dmremap_tools.model.volume_group import GroupText, Record, Segment, VolumeText
@@ -26,7 +27,10 @@ LOWER = (b"stripes", b"mirrors", b"raids", b"raid0_lvs", b"origin", b"cow_store"
 # What makes the device of a segment of each type, of the layout, the volume's name, the segment and its bytes.
 LAYERS: Dict[bytes, Callable[["Layout", str, Segment, int], Device]] = {
     b"thin": pools.thin_of, b"cache": pools.cached_of, b"cache+CACHE_USES_CACHEVOL": pools.cached_of,
-    b"integrity": integrity.integrity_of, **dict.fromkeys(raid_volume.KINDS, raid_volume.raid_of)}
+    b"integrity": integrity.integrity_of,
+    **dict.fromkeys(raid_volume.KINDS, lambda *words: raid_volume.Legs(*words[:3]).device(words[3]))}
+# The flag of a physical volume without which its group goes on.
+GONE = b"MISSING"
 # What no volume of a user's is called.
 MOVES = b"pvmove"
 POOLS = (b"thin-pool", b"cache-pool", b"vdo-pool")
@@ -40,11 +44,11 @@ Made = TypeVar("Made")
 
 
 class Layout:
-    """The volumes by their names; `find` gives the device of a physical volume by its id, or one that is missing. Of a
-    group whose disks were changed apart from each other there is one for each side. All volumes are loaded together, or
-    with `shared` those of several texts that are wanted."""
+    """The volumes by their names; `find` gives the device of a physical volume by its id and its size, or one that is
+    missing. Of a group whose disks were changed apart from each other there is one for each side. All volumes are
+    loaded together, or with `shared` those of several texts that are wanted."""
 
-    def __init__(self, text: Text, find: Callable[[str], Device], shared: Optional[Tables] = None) -> None:
+    def __init__(self, text: Text, find: Callable[[str, int], Device], shared: Optional[Tables] = None) -> None:
         self.text, self.name, self._find, self.group = text, text.group, find, GroupText(text.node())
         self.extent = (self.group.extent_size or 0) * SECTOR
         self.ids = {name: volume.node.identity for name, volume in self.group.volumes.items()}
@@ -57,13 +61,24 @@ class Layout:
         if not shared:
             self.tables.waiting += [functools.partial(self.key_of, name) for name in reversed(list(self.group.volumes))]
         self._snapshots = itertools.count()
-        # The bytes of a volume as its user sees them.
-        self.volume = functools.lru_cache(None)(self._volume)
+        # The bytes of a volume as its user sees them, or why they can't be given.
+        self._made = functools.lru_cache(None)(lambda name: tried(lambda: self._volume(name), Missing))
 
     @functools.cached_property
     def physical(self) -> Dict[bytes, Device]:
         """The devices of the physical volumes, by their keys."""
-        return {key: self._find(identity) for key, identity in self.physical_ids.items()}
+        return {key: self._find(node.identity, (node.value(b"dev_size", int) or 0) * SECTOR)
+                for key, node in self.group.physicals.items()}
+
+    @functools.cached_property
+    def absent(self) -> Set[str]:
+        """The ids of the physical volumes that aren't here."""
+        return {self.physical_ids[key] for key, device in self.physical.items() if isinstance(device, Absent)}
+
+    @functools.cached_property
+    def left_behind(self) -> Set[str]:
+        """The ids of those without which the group went on, as its text says."""
+        return {node.identity for node in self.group.physicals.values() if GONE in node.values(b"flags")}
 
     @functools.cached_property
     def _whys(self) -> Dict[bytes, str]:
@@ -96,8 +111,15 @@ class Layout:
                 and not any(segment.kind in POOLS for segment in volume.segments)
                 and (name in self.origins or b"VISIBLE" in volume.node.values(b"status"))]
 
+    def volume(self, name: bytes) -> Device:
+        """A volume's bytes as its user sees them."""
+        made = self._made(name)
+        if isinstance(made, Missing):
+            raise Refusal(self.path(name), made.name)
+        return made
+
     def _volume(self, name: bytes) -> Device:
-        """A volume's bytes as its user sees them: by its store of a snapshot, or an origin that one is merged into."""
+        """The same by its store of a snapshot, or an origin that one is merged into."""
         record = self.records.get(name)
         if record is None or record.is_merging:
             record = next((other for other in self.group.records if other.is_merging and other.origin == name), None)
@@ -225,6 +247,17 @@ class Layout:
                     first = (self.group.physicals[area].value(b"pe_start", int) or 0) + start * sectors
                     found.add((self.physical_ids[area], first, first + length))
         return found
+
+    def raids(self, name: bytes) -> Iterator[raid_volume.Legs]:
+        """The legs of the raids that a volume lies on."""
+        for lower in (name, *self.below(name)):
+            for segment in (it for it in self.group.volumes[lower].segments if it.kind in raid_volume.KINDS):
+                with contextlib.suppress(Refusal):
+                    yield raid_volume.Legs(self, self.path(lower), segment)
+
+    def lies_on(self, name: bytes, disks: Set[str]) -> bool:
+        """Whether a volume lies on one of the physical volumes of these ids."""
+        return name in self.group.volumes and any(identity in disks for identity, _, _ in self.uses(name))
 
 
 class Deferred(Device):

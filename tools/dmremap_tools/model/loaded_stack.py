@@ -5,7 +5,7 @@ disks. A store that nothing is read through isn't looked at."""
 import argparse
 import os
 import stat
-from typing import Dict, Iterable, Iterator, List, NamedTuple, Optional, Set, Tuple
+from typing import Dict, Iterable, List, NamedTuple, Optional, Set, Tuple
 
 from dmremap_tools.base import Refusal, names, paths, program, quoting, streams, tables
 from dmremap_tools.base.given import Given, put
@@ -13,7 +13,7 @@ from dmremap_tools.formats import store_places
 from dmremap_tools.model.device import image_of
 from dmremap_tools.model.volume_group import disks_of
 
-NEXT = "--paths says where disks are, and --fresh takes every snapshot as new"
+NEXT = "--paths says where disks are"
 INVALID = ("it is invalid, as it was full once: what the origin overwrote since is lost, and nothing of the snapshot "
            "is read; --fresh takes what the origin has")
 FLEETING = "it isn't persistent, so no disk says what is in it; --fresh takes it as new"
@@ -112,8 +112,12 @@ def start(words: argparse.Namespace, source: Given, devices: Optional[Iterable[s
         lowest = part.below(it.lines[0].words[1] for it in snapshots)[1]
         stores = {disk: places.get(disk) or paths.DiskPlace(disk) for disk in sorted(lowest)}
         here = {disk: place for disk, place in stores.items() if os.path.exists(place.path)}
+        for place in here.values():
+            image_of(place.path)
+            if stat.S_ISBLK(os.stat(place.path).st_mode):
+                streams.tell(IN_USE.format(quoting.shown(place.path)))
         command += ["--paths", os.path.join(folder, "PATHS")]
-        put(command[-1], rows_of(here))
+        put(command[-1], (paths.line(disk, place.path, place.start) for disk, place in here.items()))
         try:
             found = store_places.chunks_in(command, snapshots)
         except store_places.RefusedStore as refusal:
@@ -125,13 +129,3 @@ def start(words: argparse.Namespace, source: Given, devices: Optional[Iterable[s
                 raise Refusal("the store of " + name, INVALID)
             streams.tell(f"{name}: its store has {count} chunk{'s' * (count != 1)}")
     return Started(command, loaded, places)
-
-
-def rows_of(places: Dict[str, paths.DiskPlace]) -> Iterator[str]:
-    """PATHS, with these disks."""
-    for disk, place in places.items():
-        row = paths.line(disk, place.path, place.start)
-        image_of(place.path)
-        if stat.S_ISBLK(os.stat(place.path).st_mode):
-            streams.tell(IN_USE.format(quoting.shown(place.path)))
-        yield row

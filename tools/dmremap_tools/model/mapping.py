@@ -5,7 +5,6 @@ import contextlib
 import functools
 import itertools
 import os
-import struct
 import subprocess
 import tempfile
 import weakref
@@ -18,15 +17,15 @@ from dmremap_tools.base.program import NoProgram
 from dmremap_tools.base.refusal import Refusal
 from dmremap_tools.formats import store_places
 from dmremap_tools.model.config_text import shown
-from dmremap_tools.model.device import ALL, ZEROS, Device, Extent, Gap, Lenient, Missing, whole_run
+from dmremap_tools.model.device import ALL, BLOCK, ZEROS, Device, Extent, Gap, Lenient, Missing, blocks_of, whole_run
 from dmremap_tools.model.volume_group import Record
 
 # Sectors that one request asks for, and answers to these that are kept.
 WINDOW, MOST_WINDOWS = 1 << 15, 20
 # Devices that are loaded together, of which the program takes 1,024 with what they lie on, and programs that run.
 MOST_DEVICES, MOST_CHILDREN = 400, 16
-# Bytes of an answer that are taken at a time.
-MOST_READ = 1 << 20
+# Bytes of an answer that are taken at a time, and pieces of what is read.
+MOST_READ, PIECE = 1 << 20, 1 << 16
 FILES = ("FILE", "DISKS", "PATHS")
 FAILS = "reads fail there, as the tables say"
 # What else is done, by a name that no disk has.
@@ -39,7 +38,6 @@ INVALID_SNAPSHOT = ("the snapshot is invalid: its store was full, and chunks tha
 LOST = f"the store: its header is zeros, and what follows isn't, so that it isn't new: save the origin, or {OLDER}"
 UNKNOWN = f"the store: its header is zeros, and nothing tells whether the merge ended: {OLDER}"
 ODD = f"the store: its header says neither that it is valid nor that it isn't, {store_places.DAMAGED}: {OLDER}"
-BROKEN = f"the store: its list goes on behind a free place, {store_places.DAMAGED}: {OLDER}"
 
 # Pieces in columns: disks, or what else is done; starts there, which without a disk mean nothing; and how many sectors.
 MappedPieces = Tuple[List[str], List[int], List[int]]
@@ -283,9 +281,46 @@ class MappedDevice(Device):
                 at = stop
 
 
+class ReadDevice(Device):
+    """A volume that dmremap reads. One program goes on as long as blocks are asked for in their order."""
+
+    is_whole = True
+
+    def __init__(self, path: str, size: int, given: Optional[str], lines: List[str], name: str) -> None:
+        super().__init__(path, size)
+        self._listed, self._running, self._at = tempfile.TemporaryFile(), contextlib.ExitStack(), -1
+        self._listed.write("".join(lines).encode())
+        self._listed.flush()
+        self._words = [program.dmremap(given), "read", "images", "/dev/stdin", name, "--from"]
+        self._block = functools.lru_cache(MOST_WINDOWS)(lambda number: self._read(number * BLOCK, BLOCK))
+
+    def _extents(self, start: int, size: int) -> Iterator[Extent]:
+        """In pieces, as of a copy those that are zeros become holes."""
+        return (Extent(self, number * PIECE + at, count) for number, at, count in blocks_of(start, size, PIECE))
+
+    def load(self, start: int, size: int) -> bytes:
+        content = b"".join(self._block(number)[at:at + count] for number, at, count in blocks_of(start, size, BLOCK))
+        # Where a sector of a block can't be read, those before and after it may be.
+        content = content if len(content) == size else self._read(start, size)
+        if len(content) < size:
+            lost = (start + len(content)) // SECTOR
+            raise Gap(self.name, f"its sector {lost} can't be read: take an image of its disk by ddrescue")
+        return content
+
+    def _read(self, start: int, size: int) -> bytes:
+        """As many of these bytes as can be read."""
+        if start != self._at:
+            self._running.close()
+            how = {"stdin": self._listed, "stdout": subprocess.PIPE, "stderr": subprocess.DEVNULL}
+            self._child = self._running.enter_context(program.start([*self._words, str(start // SECTOR)], **how))
+        content: bytes = self._child.stdout.read(size)
+        self._at = start + size if len(content) == size else -1
+        return content
+
+
 def pieces_in(lines: str, number: int) -> MappedPieces:
-    """The pieces in an answer's lines, each of which comes after its newline. Raises ValueError where one isn't of the request with
-    this number, or isn't a piece."""
+    """The pieces in an answer's lines, each of which comes after its newline. Raises ValueError where one isn't of the
+    request with this number, or isn't a piece."""
     beginning = f"\n{number} "
     text = lines.replace(beginning + "R ", " ")
     for other in OTHERS:
@@ -307,7 +342,9 @@ def snapshot_of(layout: Any, record: Record) -> Device:
                       "the origin instead")
     if origin not in layout.group.volumes or record.volume.extents != layout.group.volumes[origin].extents:
         raise Refusal(name, f"its origin {shown(origin)} isn't there, or was resized since: {NEXT}")
-    if not store_places.is_chunk(chunk):
+    if layout.lies_on(store, layout.left_behind):
+        raise Refusal(name, f"it or its origin is on a disk flagged MISSING, without which the group went on: {NEXT}")
+    if chunk not in store_places.CHUNKS:
         raise Refusal(name, f"its text says chunks of {chunk} sectors, which aren't followed: {NEXT}")
     kept, key = layout.plain(store), layout.key_of(origin)
     source = layout.tables.closure([key])
@@ -341,8 +378,7 @@ def copy_store(store: Device, chunk: int, path: str) -> None:
 
 
 def store_fault(store: Device, chunk: int, is_merging: bool) -> Optional[str]:
-    """Why a store that dmremap takes as valid is none that a kernel leaves: it writes the header of a new one at once,
-    with a 1 for valid, and nothing behind the first free place of the list."""
+    """Why a store that dmremap takes is none of a kernel, which writes the header at once, with a 1 for valid."""
     is_new = False
     for start, _, content in list_of(store, chunk):
         is_new = is_new if start else not any(content[:4])
@@ -350,9 +386,6 @@ def store_fault(store: Device, chunk: int, is_merging: bool) -> Optional[str]:
             return UNKNOWN if is_merging else LOST
         if not start and not is_new and content[4:8] != b"\1\0\0\0":
             return ODD
-        used = len(content.rstrip(b"\0")) + 15 & ~15
-        if start and 0 in struct.unpack_from(f"<{used // 8}Q", content)[1::2]:
-            return BROKEN
     return None
 
 

@@ -14,6 +14,7 @@ from dmremap_tools.model.md_superblock import NAMES, Member
 MOST_CHUNK, MOST_MEMBERS = 1 << 21, 384
 START = "start it by `mdadm --assemble --readonly`"
 NO_CHUNK = "its members have no whole chunk: " + START
+KNOWN = ("left-symmetric", "left-symmetric-6")
 NO_RULE = "no rule is known for parity of the layout {}: give the missing member"
 NONE_IN_SYNC = "of its members only {} is here, which is a spare, or was being filled: give the other members"
 APART = ("its members were written to apart from each other, as the superblocks of each side say that the other one "
@@ -31,17 +32,13 @@ def put_together(members: Sequence[Member]) -> "Array":
     first, *others = map(Array, sides)
     if not others:
         return first
-    why, devices = Doubt(apart(sides)), [side.device for side in (first, *others) if side.device]
+    which = " or ".join(" and ".join(each.device.name for each in side) for side in sides)
+    why, devices = Doubt(APART.format(which)), [side.device for side in (first, *others) if side.device]
     first.device, first.apart = Agreed(first.label, devices, why) if len(devices) == len(sides) else None, why
     first.why = None if first.device else why
     apart_from = [member for side in others for member in side.members]
     first.members, first.stale = first.members + apart_from, first.stale + apart_from
     return first
-
-
-def apart(sides: Iterable[Sequence[Member]]) -> str:
-    """What is said of an array whose sides ran apart."""
-    return APART.format(" or ".join(" and ".join(each.device.name for each in side) for side in sides))
 
 
 def sides_of(members: Sequence[Member]) -> Iterator[List[Member]]:
@@ -172,8 +169,8 @@ class Array(md_chunks.Shape):
         is_whole = self.is_tabled and not self.missing and not any(
             member.lack(0, length) for member in self._data if self.level not in ("linear", "raid0"))
         if self.level in md_chunks.PARITY and not is_whole:
-            # Of md's own layouts of raid6 only the usual one has a document of its parity; LVM's have one.
-            unknown = NO_RULE.format(self.layout) if self.level == "raid6" and self.layout != "left-symmetric" else None
+            # Of md's own layouts of raid6 these have a document of their parity; LVM's have one.
+            unknown = None if self.level != "raid6" or self.layout in KNOWN else NO_RULE.format(self.layout)
             return md_chunks.Rows(self.label, self, self._data, self.sectors * SECTOR, self._dirty, unknown)
         if self.level == "raid10" and not is_whole:
             return CopiedChunks(self, self._data, self._dirty)

@@ -10,7 +10,10 @@ from dmremap_tools.formats import partition_table
 from dmremap_tools.model.device import Device, Lenient, Run, joint
 
 MAGIC = 0xA92B4EFC
+BEGINNING = struct.pack("<LL", MAGIC, 1)
 LINEAR, STRIPED, MIRRORED = -1, 0, 1
+# The layout of raid10 without far copies, besides the number of near ones.
+NEAR = 1 << 8
 NAMES = {LINEAR: "linear", STRIPED: "raid0", MIRRORED: "raid1", 4: "raid4", 5: "raid5", 6: "raid6", 10: "raid10"}
 # Versions 1.x: the fields before the table of roles, where their sum is, and for how many roles there is room.
 FIRST, SUM_AT, MOST_BYTES = struct.Struct("<8xL4x16s32s8xlLQLLl28xQQQQL21xBHl8xQQLL32x"), 216, 4096
@@ -52,7 +55,8 @@ Member = NamedTuple("Member", [("device", Device), ("superblock", Superblock)])
 
 def has_all(superblock: Superblock) -> bool:
     """Whether a member has all data of its array, one byte after the other."""
-    return superblock.level == MIRRORED or superblock.places == 1 and superblock.level in (LINEAR, STRIPED)
+    is_near = superblock.level == 10 and superblock.layout == NEAR | superblock.places
+    return is_near or superblock.level == MIRRORED or superblock.places == 1 and superblock.level in (LINEAR, STRIPED)
 
 
 def found_in(device: Device) -> Tuple[List[Superblock], List[Tuple[int, bytes]]]:
@@ -109,7 +113,7 @@ def _found(image: Lenient, size: int) -> Iterator[Tuple[int, bytes, Optional[Sup
     sectors = size // SECTOR
     for version, sector in (("1.0", (sectors - 16) & ~7), ("1.1", 0), ("1.2", 8)):
         content = image.read(sector * SECTOR, MOST_BYTES) if sector >= 0 else b""
-        is_one = content[:8] == struct.pack("<LL", MAGIC, 1)
+        is_one = content.startswith(BEGINNING)
         if is_one and not (version == "1.0" and _is_of_partition(image, content, sector)):
             yield sector * SECTOR, content, _first_version(content, version, sector)
     at = size // OLD_ROOM * OLD_ROOM - OLD_ROOM
@@ -117,6 +121,13 @@ def _found(image: Lenient, size: int) -> Iterator[Tuple[int, bytes, Optional[Sup
     for order in "<>":
         if content[:8] == struct.pack(order + "LL", MAGIC, 0):
             yield at, content, _old_version(content, order, at)
+
+
+def placed(content: bytes, at: int) -> Optional[Tuple[int, Superblock]]:
+    """The sound superblock of version 1.x at this byte of a disk, and the byte at which the member's data begins."""
+    sector = _summed(content)
+    found = None if sector is None else _first_version(content, {0: "1.1", 8: "1.2"}.get(sector, "1.0"), sector)
+    return (at - found.at + found.start * SECTOR, found) if found else None
 
 
 def _sum(content: bytes, order: str) -> int:

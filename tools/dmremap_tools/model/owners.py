@@ -329,10 +329,11 @@ class Owners:
         self._known.update((device, self._of_table(device, table)) for device, table in pile.tables.items())
         self._known.update((spot.device, owners_of_container(spot.device, it)) for spot, it in pile.containers)
         for volume in pile.volumes:
-            if volume.question is None:
+            why = volume.question or volume.doubt
+            if why is None:
                 self._known[volume.device] = self._of_volume(volume)
             elif volume.device not in pile.tables:
-                self._known[volume.device] = owned_by_one(unknown_owner(volume.question))
+                self._known[volume.device] = owned_by_one(unknown_owner(why))
 
     def on(self, device: Device) -> Ground:
         """Who has the sectors of a device, which is looked up once it is asked for."""
@@ -375,8 +376,7 @@ class Owners:
         return lambda first, end: [OwnedRun(first, end, name), *once(first, end)]
 
     def _within(self, start: int, size: int, device: Device) -> OwnedRun:
-        """The run of a device in the one that it lies in, by its place there in bytes; above it, who has its own
-        sectors."""
+        """The run of a device in the one that it lies in, by its place there in bytes; above, who has its sectors."""
         return OwnedRun(start // SECTOR, (start + size) // SECTOR, device.name, 0, self.on(device))
 
     def _of_other(self, device: Device) -> Ground:

@@ -15,10 +15,11 @@ import re
 import struct
 import tempfile
 import zlib
-from typing import Dict, Iterable, Iterator, List, NamedTuple, Optional, Sequence, Set, Tuple
+from typing import Any, Dict, Iterable, Iterator, List, NamedTuple, Optional, Sequence, Set, Tuple, Union
 
 from dmremap_tools.base import SECTOR, Refusal, paths, program, quoting, streams
 from dmremap_tools.base.given import put
+from dmremap_tools.model import md_superblock
 from dmremap_tools.model.config_text import Document, Node, shown
 from dmremap_tools.model.device import ALL, Device, Image, Lenient, Part, Run, whole_run
 
@@ -44,8 +45,10 @@ VOLUMES, HISTORY = b"\nlogical_volumes {", b"\nhistorical_logical_volumes {"
 IDENTITY = re.compile(rb'\n[ \t]*[A-Za-z0-9_+.-]+ \{\n[ \t]*id = "([^"\n]*)"')
 # The bytes of a text that is read, and texts that are kept as they were read.
 MOST_TEXT, MOST_KEPT = 4 << 20, 8
-# What the paths of md arrays begin with.
-ARRAYS = b"/dev/md"
+# What begins the sectors that are looked for there.
+BEGINNINGS = re.compile(b"|".join(map(re.escape, (LABEL, MAGIC, md_superblock.BEGINNING))))
+# What the paths of md arrays begin with, and those of all devices that others may lie in.
+ARRAYS, UPPER = b"/dev/md", (b"/dev/md", b"/dev/mapper/", b"/dev/dm-")
 
 
 class Text(NamedTuple):
@@ -107,10 +110,14 @@ class Text(NamedTuple):
         region = body[begin:end if end > begin else len(body)] if begin >= 0 else b""
         return {identity.decode("ascii", "replace") for identity in IDENTITY.findall(region)}
 
-    def on_arrays(self) -> Iterator[str]:
-        """The ids of the physical volumes that were on md arrays when it was written."""
+    def physical_ids(self) -> Set[str]:
+        """The ids of its physical volumes."""
+        return {it.decode("ascii", "replace") for it in IDENTITY.findall(self.body().partition(VOLUMES)[0])}
+
+    def on(self, devices: Union[bytes, Tuple[bytes, ...]]) -> Iterator[str]:
+        """The ids of the physical volumes that were on devices whose paths begin so when it was written."""
         for node in self.node().sections_in(b"physical_volumes"):
-            if (node.value(b"device", bytes) or b"").startswith(ARRAYS):
+            if (node.value(b"device", bytes) or b"").startswith(devices):
                 yield node.identity
 
     def summary(self) -> str:
@@ -121,6 +128,10 @@ class Text(NamedTuple):
         return f"{name}{' of ' + shown(time) if time else ''}, volumes: {'unknown' if self.fault() else volumes}"
 
 
+# What looking through an image finds: physical volumes, by their labels; where others begin, or have a text, of which
+# no label is left; and superblocks of members of md arrays, each with the byte at which the member's data begins.
+Within = NamedTuple("Within", [
+    ("volumes", "List[PhysicalVolume]"), ("heads", Set[int]), ("members", List[Tuple[int, md_superblock.Superblock]])])
 # The id of a physical volume, in the parts that texts join by dashes.
 IDENTITY_FORM = struct.Struct("<6s4s4s4s4s4s6s")
 # A label: its sector, the id and the bytes of the volume, the places of the areas: starts and sizes, and whether the
@@ -174,6 +185,11 @@ def label_of(image: Lenient) -> Tuple[Optional[Label], List[str]]:
                 return _label_in(sector, place), faults
             faults.append(f"the label in sector {place} {fault}")
     return None, faults
+
+
+def label_at(device: Device, begin: int) -> Optional[Label]:
+    """The sound label of a physical volume that begins at a byte of a device."""
+    return label_of(Lenient(Part(device.name, device, begin, max(0, device.size - begin))))[0]
 
 
 def label_fault(sector: bytes, place: int) -> Optional[str]:
@@ -328,7 +344,8 @@ def leftover_in(device: Device, is_disk: bool) -> Optional[PhysicalVolume]:
 
 def restored(left: PhysicalVolume) -> Optional[PhysicalVolume]:
     """The physical volume of which something is left, if its current text has one disk, or one with the id that is left
-    in the label, which is as long as this, and nobody wrote anything else where the label was."""
+    in the label, which is as long as this, and nobody wrote anything else where the label was. At the end, where the
+    copy of a partition table would be, something has to be read."""
     found, image = PhysicalVolume(left.device, left.label._replace(size=left.device.size), 0), Lenient(left.device)
     if len({text.key() for text in found.current}) != 1:
         return None
@@ -338,7 +355,8 @@ def restored(left: PhysicalVolume) -> Optional[PhysicalVolume]:
     mine = [node for identity, node in nodes.items() if len(nodes) == 1 or identity in told]
     size, start = (mine[0].value(key, int) or 0 if mine else 0 for key in (b"dev_size", b"pe_start"))
     before = image.read(0, min(start * SECTOR, SEARCHED, *(begin for begin, _ in left.label.areas)))
-    if len(mine) != 1 or size * SECTOR != image.size or any(before) and not label_of(image)[1]:
+    is_last_read = image.read(image.size - SECTOR, SECTOR)
+    if len(mine) != 1 or size * SECTOR != image.size or any(before) and not label_of(image)[1] or not is_last_read:
         return None
     found.texts, found.identity = left.texts, mine[0].identity
     return found
@@ -350,44 +368,46 @@ def volume_in(device: Device, start: int = 0) -> Optional[PhysicalVolume]:
     return PhysicalVolume(device, label, start) if label else None
 
 
-def volumes_within(device: Image) -> List[PhysicalVolume]:
-    """The physical volumes anywhere in an image, by all sound labels there, each of which says its sector."""
-    image, begins = Lenient(device), []
+def found_within(device: Image) -> Within:
+    """What is anywhere in an image, by all that is sound there and says at which sector it lies."""
+    image, begins, heads, members = Lenient(device), [], [], []  # type: Lenient, List[int], List[int], List[Any]
     at = image.next_data(0)
     while at < image.size:
         at = at // SECTOR * SECTOR
         streams.show_progress(f"{image.path}: labels are searched, MiB {at >> 20} of {image.size >> 20}")
-        window = image.read(at, WINDOW)
-        for place in (match.start() for match in re.finditer(LABEL, window)):
-            sector = window[place:place + SECTOR]
-            belongs = int.from_bytes(sector[8:16], "little")
-            begin = at + place - belongs * SECTOR
-            is_placed = place % SECTOR == 0 and belongs < LABEL_SECTORS and begin >= 0
-            begins += [begin] if is_placed and not label_fault(sector, belongs) else []
+        window = image.filled(at, WINDOW + md_superblock.MOST_BYTES)
+        for match in BEGINNINGS.finditer(window):
+            place = match.start() - 4 * (match[0] == MAGIC)
+            content, begin = window[place:place + md_superblock.MOST_BYTES], at + place
+            said, start = (int.from_bytes(content[it:it + 8], "little") for it in (8, 24))
+            if place % SECTOR or len(content) < SECTOR:
+                continue
+            if match[0] == LABEL and said < LABEL_SECTORS and not label_fault(content[:SECTOR], said):
+                begins.append(begin - said * SECTOR)
+            elif match[0] == MAGIC and not header_fault(content[:SECTOR], start):
+                heads.append(begin - start)
+            elif match[0] == md_superblock.BEGINNING:
+                members += filter(None, [md_superblock.placed(content, begin)])
+        heads += (at + text.at for text in _beginnings(window))
         at = image.next_data(at + WINDOW)
-    parts = [Part(f"{device.name}?offset={it}", device, it, device.size - it) for it in dict.fromkeys(begins)]
-    return list(filter(None, (volume_in(part, part.start) for part in parts)))
+    parts = [Part(f"{device.name}?offset={it}", device, it, device.size - it)
+             for it in dict.fromkeys(begins) if it >= 0]
+    volumes = [it for it in (volume_in(part, part.start) for part in parts) if it]
+    others = {it for it in heads if all(not 0 <= it - each.start < each.size for each in volumes)}
+    return Within(volumes, others, members)
 
 
-def text_by_heads(given: Optional[str], devices: Iterable[Device]) -> Optional[bytes]:
-    """The text that dmremap, at a path that may be given, reads in physical volumes that are images as they are: that
-    is proved. None where it takes them not, or isn't there."""
-    with contextlib.suppress(Refusal):
-        heads = read_by_heads(program.dmremap(given), "metadata", devices)
-        return heads[1].encode("utf-8", "surrogateescape") if heads and heads[1] else None
-    return None
-
-
-def read_by_heads(asked: str, command: str, devices: Iterable[Device]) -> Optional[Tuple[List[str], str]]:
-    """The lines of PATHS of physical volumes, and what a command prints of them; None where dmremap takes them not."""
-    runs = [whole_run(device) for device in devices]
-    lines = [paths.line(f"disk{number}", path_of(run[0]), run[1]) for number, run in enumerate(runs) if run]
-    if not lines or len(lines) < len(runs):
-        return None
-    with tempfile.NamedTemporaryFile(prefix="dmremap-tools-") as listed:
+def read_by_heads(given: Optional[str], command: str, devices: Iterable[Device],
+                  *more: str) -> Optional[Tuple[List[str], bytes]]:
+    """The lines of PATHS of physical volumes that are images as they are, and what a command of dmremap, at a path that
+    may be given, prints of them: that is proved. None where it takes them not, or isn't there."""
+    with contextlib.suppress(Refusal), tempfile.NamedTemporaryFile(prefix="dmremap-tools-") as listed:
+        asked, runs = program.dmremap(given), [whole_run(device) for device in devices]
+        lines = [paths.line(f"disk{number}", path_of(run[0]), run[1]) for number, run in enumerate(runs) if run]
         put(listed.name, lines)
-        printed, _, status = program.ask([asked, command, "images", listed.name])
-    return (lines, printed) if status == 0 else None
+        printed, _, status = program.ask([asked, command, "images", listed.name, *more]) if all(runs) else ("", "", 1)
+        return (lines, printed.encode("utf-8", "surrogateescape")) if lines and not status else None
+    return None
 
 
 def path_of(image: Image) -> str:

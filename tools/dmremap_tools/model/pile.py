@@ -1,18 +1,22 @@
 """A pile of images: what is found in them where labels and superblocks lie, or else anywhere, and what names mean."""
 
 import contextlib
-from typing import Any, Dict, List, NamedTuple, Optional, Sequence, Tuple
+import itertools
+import os
+from typing import Any, Collection, Dict, Iterator, List, NamedTuple, Optional, Sequence, Tuple
 
-from dmremap_tools.base import SECTOR, Refusal, quoting
+from dmremap_tools.base import SECTOR, Refusal, names, quoting
 from dmremap_tools.formats import disk_image, signatures
 from dmremap_tools.formats.luks_header import SECOND_ALONE, Container, container_in
 from dmremap_tools.formats.partition_table import Table, backup_of, table_of
 from dmremap_tools.model import mapping, md_superblock, physical_volume
-from dmremap_tools.model.device import Device, Doubt, Image, Lenient, NamedDevice, Part, Run
+from dmremap_tools.model.device import (ANY, COMPARED_AT_ONCE, Device, Doubt, Image, Lenient, Missing, NamedDevice,
+                                        Part, Run, is_alike)
 from dmremap_tools.model.groups import REMOVED, Group, Texts, Volume, same_id
 from dmremap_tools.model.md_array import Array, put_together
-from dmremap_tools.model.md_superblock import AT_END, MIRRORED, OLD, Member, Superblock
-from dmremap_tools.model.physical_volume import PhysicalVolume
+from dmremap_tools.model.md_chunks import sum_in_field
+from dmremap_tools.model.md_superblock import AT_END, MIRRORED, OLD, Member, Superblock, has_all
+from dmremap_tools.model.physical_volume import PhysicalVolume, Within
 
 # What blkid calls otherwise than is done here.
 SAME = {"crypto_LUKS": "luks", "LVM2_member": "lvm2", "BitLocker": "bitlocker", "zfs_member": "zfs"}
@@ -27,10 +31,13 @@ MANY = f"no more than {MOST_SPOTS} disks, partitions and arrays are looked at: g
 NESTED = (f"its members lie on arrays in {MOST_LEVELS} levels, and no more are followed: assemble it with mdadm "
           "--readonly")
 OLD_MEMBER = "a member of an md array with metadata 0.90, which isn't followed: assemble copies with mdadm --readonly"
-DAMAGED = ("its md superblock at byte {} is damaged: give the other members alone, or of a mirror this image alone, or "
-           "make the array anew on copies (mdadm --create --assume-clean)")
-MAY_BE_NEWER = ("it lacks members, and {} may be one with newer data, as its md superblock is damaged: leave that out "
-                "to take what is here")
+DAMAGED = ("its md superblock at byte {} is damaged: give the other members alone, or make the array anew on copies "
+           "(mdadm --create --assume-clean)")
+MAY_BE_NEWER = ("it lacks members, and {} may be one with newer data, as its md superblock can't be read: leave that "
+                "out to take what is here")
+MAY_BE_OLD = "it lacks members that others may have written to since, so that this may be older"
+PERHAPS_PART = ("{} was found by looking through the image, and {}, so that it may have a part of its bytes, or old "
+                "ones: put that together and give its device, or restore the partition table on a copy")
 FOREIGN = ("a signature of {} at byte {} says that something has these bytes that isn't followed: put that together "
            "and give its device, or, if the signature is only left over, take it out of a copy by wipefs")
 TWO_OWNERS = ("{} has sound md superblocks of several arrays, which nothing tells apart: take the one that is older "
@@ -44,10 +51,9 @@ OLDER_ARRAY = "a member of {}, whose member {} has a partition table since: leav
 OTHER_TABLE = ("a partition table ({}) that isn't followed begins it: attach a copy by losetup -P, and give its "
                "partitions, or cut them out by dd")
 AS_ANOTHER = "partition {} begins at the same byte and has it all, so that it is told there"
-STRIPES = ("the physical volume in it says that it has {} bytes, where this is a disk of {}, which seems to be one of "
-           "the stripes of a controller: give an image of the controller's volume, or of the whole disk if it was cut "
-           "off")
-ONE_MEMBER = ("{} has {} bytes, and the physical volume in it {}: it seems to be one member of an array whose md "
+STRIPES = ("{} in it says that it has {} bytes, where this is a disk of {}, which seems to be one of the stripes of a "
+           "controller: give an image of the controller's volume, or of the whole disk if it was cut off")
+ONE_MEMBER = ("{} has {} bytes, and {} in it {}: it seems to be one member of an array whose md "
               "superblock is lost, or is cut off: give the whole disk, or all members with their superblocks")
 
 
@@ -110,7 +116,8 @@ class Pile:
                 self._say(Spot(image, image), "foreign", f"it is {images[image.identity].name} under another name")
         for image in images.values():
             if image.other_form or not image.size:
-                self._say(Spot(image, image), "foreign", image.other_form or "it is empty")
+                short = f"it is too short: it has {image.bytes} bytes" if image.bytes else "it is empty"
+                self._say(Spot(image, image), "foreign", image.other_form or short)
             else:
                 self._look_at(Spot(image, image))
         self._assemble()
@@ -119,36 +126,98 @@ class Pile:
             for spot, _ in self.damaged:
                 self._look_into(spot, table_in(spot.device, known_in(spot.device)))
         self._group()
-        # What isn't known may be the other half of a mirror, with newer data.
-        if any(array.device and array.may_be_old for array in self.arrays):
-            self.search()
 
     def search(self) -> None:
-        """Looks through the whole of the images in which nothing sound was found."""
+        """Looks through the images in which nothing sound was found. What is there may be a part of what has it."""
         waiting, self._unknown, known = self._unknown, [], len(self.volumes)
-        for spot in waiting:
-            for volume in physical_volume.volumes_within(spot.image) if spot.image else ():
-                self.found = [found for found in self.found if found.spot is not spot]
-                self._take(Spot(volume.device, spot.image), volume, self._question_of(spot),
-                           f"found at byte {volume.start} by looking through the whole image")
+        within = [(spot, spot.image, physical_volume.found_within(spot.image)) for spot in waiting if spot.image]
+        rows = [(spot, image, found, volume) for spot, image, found in within for volume in found.volumes]
+        for spot, image, _, volume in rows:
+            self.found = [found for found in self.found if found.spot is not spot]
+            self._take(Spot(volume.device, image), volume, self._question_of(spot),
+                       f"found at byte {volume.start} by looking through the whole image")
+        for _, image, found, volume in rows:
+            why = self._belonging(volume, image, found, self.volumes[known:])
+            volume.doubt = why and PERHAPS_PART.format(volume.place, why)
         if len(self.volumes) > known:
             self._group()
+            if self._doubt_held(self.volumes[known:]):
+                self._group()
+
+    def _belonging(self, volume: PhysicalVolume, image: Image, within: Within,
+                   others: Sequence[PhysicalVolume]) -> Optional[str]:
+        """To what a physical volume that looking through an image found belongs, or None."""
+        start = volume.start
+        outer = [it.start for it in within.volumes if it.start < start < it.start + it.size]
+        outer += [head for head in within.heads if head < start]
+        if outer:
+            return f"lies in or behind another physical volume, at byte {min(outer)}"
+        if image.lack(0, start):
+            return "something before it, where another label may be, can't be read"
+        if sum(it.identity == volume.identity for it in others) > 1 or self._is_shared(image, start):
+            return "lies in several images, as in members of an array"
+        members = [(begin, it) for begin, it in within.members if begin <= start < begin + it.length * SECTOR]
+        if all(begin == start and has_all(it) and it.array not in self._members for begin, it in members):
+            texts = (text for it in self.volumes for text in it.current)
+            is_upper = not members and any(volume.identity in text.on(physical_volume.UPPER) for text in texts)
+            return "was on an array or on another volume, as a text says" if is_upper else None
+        return "lies in a member of an md array, as a superblock says"
+
+    def _is_shared(self, image: Image, at: int) -> bool:
+        """Whether some bytes of an image are the same in another one of its length, or the sum of those of others."""
+        others = {it.image for it in self.spot_of.values() if it.image and it.image.size == image.size} - {image}
+        mine, *contents = (Lenient(it).filled(at, COMPARED_AT_ONCE) for it in (image, *list(others)[:MOST_STRIPES]))
+        sums = (each for count in {1, 2, len(contents) - 1, len(contents)} - {-1, 0}
+                for each in itertools.combinations(contents, count))
+        return any(sum_in_field(each) == mine for each in sums)
+
+    def _doubt_held(self, found: Sequence[PhysicalVolume]) -> bool:
+        """Doubts those physical volumes that volumes of groups hold, and says whether there are any."""
+        wanted, held = [it for it in found if not it.doubt], {}  # type: List[PhysicalVolume], Dict[str, str]
+        for volume in (volume for group in self.groups for volume in group.volumes if wanted and not volume.is_removed):
+            with contextlib.suppress(Refusal):
+                inner = physical_volume.volume_in(volume.device()) if volume.file_system() == "lvm2" else None
+                held.update({inner.identity: volume.path} if inner else {})
+        for inside in (it for it in wanted if it.identity in held):
+            inside.doubt = PERHAPS_PART.format(inside.place, f"lies in {held[inside.identity]}")
+        return any(it.doubt for it in wanted)
 
     def _group(self) -> None:
         """Puts the groups together. A physical volume that is longer than where it lies is doubted if it was looked
         for, or a text says that it was on an array."""
         cut = [each for each in self.volumes if self.spot_of[each.device].image and each.size > each.device.size]
         texts = [text for volume in self.volumes for text in volume.current] if cut else []
-        on_arrays = {identity for text in texts for identity in text.on_arrays()}
+        on_arrays = {identity for text in texts for identity in text.on(physical_volume.ARRAYS)}
         damaged = [spot.device for spot, _ in self.damaged]
         for volume in cut:
             if volume.start or volume.identity in on_arrays or volume.device in damaged:
-                volume.doubt = ONE_MEMBER.format(volume.place, volume.device.size, volume.size)
+                volume.doubt = ONE_MEMBER.format(volume.place, volume.device.size, "the physical volume", volume.size)
         for volume in self.volumes:
-            image, end = self.spot_of[volume.device].image, place_of(volume.device) + volume.size
-            if image and volume.question is None and self._is_striped(image, end):
-                volume.question = STRIPES.format(volume.size, image.size)
-        self.groups = list(Texts(self.volumes, self.leftovers, self._program).groups())
+            volume.question = volume.question or self._stripes("the physical volume", volume.device, volume.size)
+        dark = [spot.device for spot in self._dark()]
+        self.groups = list(Texts(self.volumes, self.leftovers, self._program, dark).groups())
+
+    def _dark(self) -> Iterator[Spot]:
+        """The images, partitions and arrays in which nothing is found: something of them may be lost."""
+        return (spot for spot, what, _ in self.found
+                if what == "unknown" or spot.image and (spot.image.other_form or not spot.image.size))
+
+    def _halves(self, array: Array) -> Iterator[Spot]:
+        """What may be a member that an array lacks, on another disk: its superblock is damaged, or nothing is found in
+        it that is long enough, or it has bytes of a mirror."""
+        device, superblock = array.best
+        yield from (spot for spot, it in self.damaged if it == superblock.array or it not in self._members)
+        images = {None, *(self.spot_of[member.device].image for member in array.members)}
+        start, size = superblock.start * SECTOR, array.length(array.best) * SECTOR
+        dark, members = [spot.device for spot in self._dark()], {member.device for member in self.members}
+        label = physical_volume.label_at(device, start)
+        for spot in (found.spot for found in self.found if found.spot.image not in images):
+            other, is_long = physical_volume.label_at(spot.device, start), spot.device.size >= start + size
+            if spot.device in dark:
+                yield from [spot] * (is_long or spot.device is spot.image)
+            elif is_long and array.level == "raid1" and spot.device not in members and not (other and other != label) \
+                    and is_alike(spot.device, device, start, size):
+                yield spot
 
     def spots(self) -> List[Spot]:
         """All devices that were looked at: images, partitions, arrays and their partitions."""
@@ -167,13 +236,19 @@ class Pile:
     def _say(self, spot: Spot, what: str, note: str = "") -> None:
         self.found.append(Found(spot, what, note))
 
-    def _is_striped(self, image: Image, end: int) -> bool:
-        """Whether something on a disk that ends at this byte seems to be on several such disks: if it is about as long
-        as some of them, or longer than this one, where another one of that length has nothing that is known."""
+    def _stripes(self, what: str, device: Device, size: int, lacking: Collection[bytes] = ()) -> Optional[str]:
+        """Why something of so many bytes seems to be on several disks, of which a device has one: it is about as long
+        as some of these, or longer than this one, where another one of that length has nothing that is known, or an
+        array lacks members."""
+        image, end = self.spot_of[device].image, place_of(device) + size
+        if not image or end <= image.size:
+            return None
         times = -(-end // image.size)
-        is_multiple = 1 < times <= MOST_STRIPES and end > times * (image.size - image.size // SLACK)
+        is_multiple = times <= MOST_STRIPES and end > times * (image.size - image.size // SLACK)
         alike = (spot.image for spot in self._unknown if spot.image and spot.image is not image)
-        return end > image.size and (is_multiple or any(other.size == image.size for other in alike))
+        if is_multiple or any(other.size == image.size for other in alike):
+            return STRIPES.format(what, size, image.size)
+        return ONE_MEMBER.format(device.name, device.size, what, size) if lacking else None
 
     def _question_of(self, spot: Spot) -> Optional[str]:
         """Why nobody can be sure of what lies on a device, or on what it lies on."""
@@ -256,9 +331,9 @@ class Pile:
 
     def _look_into(self, spot: Spot, table: Optional[Table]) -> None:
         """Looks at what is no member: a disk with partitions is these."""
-        label = physical_volume.label_of(Lenient(spot.device))[0] if table and not table.fault else None
-        if not table or label:
-            question = Doubt(TABLE_OVER_LABEL.format(table.kind)) if table else None
+        label = physical_volume.label_of(Lenient(spot.device))[0] if table else None
+        if not table or table.fault or label:
+            question = Doubt(TABLE_OVER_LABEL.format(table.kind)) if table and label else None
             self._recognise(spot, known_in(spot.device), question)
         if table:
             self.tables[spot.device] = table
@@ -316,6 +391,7 @@ class Pile:
             known = {identity: {member.device for member in array.members} for identity, array in made.items()}
             others = [identity for identity, members in self._members.items()
                       if known.get(identity, set()) != {member.device for member in members}]
+            lacking = {key for key, its in self._members.items() if its and len(its) < its[0].superblock.places}
             for identity in others:
                 if identity in made:
                     self._forget(made.pop(identity).device)
@@ -324,12 +400,14 @@ class Pile:
                 array = made[identity] = put_together(self._members[identity])
                 if level == MOST_LEVELS:
                     array.give_up(NESTED)
-                newer = [spot for spot, other in self.damaged if other == identity or other not in self._members]
-                if newer and array.device and array.may_be_old:
-                    array.give_up(MAY_BE_NEWER.format(newer[0].device.name))
+                newer = next(self._halves(array), None) if array.device and array.may_be_old else None
+                if newer:
+                    array.why = Doubt(MAY_BE_NEWER.format(newer.device.name))
                 if array.device:
-                    whys = (self._question_of(self.spot_of[member.device]) for member in array.members)
-                    question = next(filter(None, whys), None)
+                    whys = (self._question_of(self.spot_of[it.device]) or (self._stripes(
+                        "the md superblock", it.device, (it.superblock.start + it.superblock.length) * SECTOR,
+                        lacking) if lacking - {identity} else None) for it in array.members)
+                    question = array.why or next(filter(None, whys), None)
                     self._questions.update({array.device: question} if question else {})
                     try:
                         self._look_at(Spot(array.device, None))
@@ -356,8 +434,9 @@ class Pile:
             found[:] = [each for each in found if is_elsewhere(each.device)]
         self.spot_of = {other: spot for other, spot in self.spot_of.items() if is_elsewhere(other)}
 
-    def target(self, name: str) -> NamedDevice:
-        """What a name means. One that means nothing, or several things, is refused, with what to say instead."""
+    def target(self, name: str, is_read: bool = False) -> NamedDevice:
+        """What a name means. One that means nothing, or several things, is refused, with what to say instead. One that
+        `is_read` whole is read by dmremap, if that takes it."""
         device, shown = self.device_named(name), quoting.shown(name)
         if device:
             is_part = isinstance(device, Part) and device.lower not in self._two_readings
@@ -367,8 +446,9 @@ class Pile:
             try:
                 path = quoting.shown(self._volume_named(name).path)
             except Refusal:
-                ids = [array.identity for array in self.arrays if array.device is device]
-                return NamedDevice(name, device, device.size, ids)
+                notes: List[str] = []
+                ids = [it.identity + self._read_of(device, notes) for it in self.arrays if it.device is device]
+                return NamedDevice(name, device, device.size, ids, notes)
             raise Refusal(shown, f"both an image and a volume are called so: say ./{shown}, or {path}")
         is_whole = False
         with contextlib.suppress(Refusal):
@@ -376,8 +456,28 @@ class Pile:
         if not is_whole:
             self.search()
         volume = self._volume_named(name)
-        ids = [volume.identity, *sorted(volume.side.physical_ids.values()), volume.side.text.key().hex()[:16]]
-        return NamedDevice(volume.path, volume.device(), volume.sectors * SECTOR, ids)
+        side, found = volume.side, volume.device()
+        raids = list(side.raids(volume.key))
+        notes = [legs.may_be_old() for legs in raids if legs.may_be_old()]
+        disks = [f"{side.physical_ids[key]}{ANY if isinstance(it, Missing) else self._read_of(it, notes)}"
+                 for key, it in side.physical.items()]
+        ids = [volume.identity, *sorted(disks), side.text.key().hex()[:16], *(legs.read_of() for legs in raids)]
+        proved = volume.proved(self._program) if is_read else None
+        notes += ["read by dmremap, proved"] * bool(proved and os.isatty(2))
+        return NamedDevice(volume.path, proved or found, volume.sectors * SECTOR, ids, notes)
+
+    def _read_of(self, device: Device, notes: List[str]) -> str:
+        """The members that are read of the arrays that a device lies on, with their events. Notes arrays that may be
+        older than members which aren't here."""
+        while isinstance(device, Part):
+            device = device.lower
+        read = ""
+        for array in (array for array in self.arrays if array.device is device):
+            if array.may_be_old and not array.why:
+                notes.append(f"{quoting.shown(array.label)}: {MAY_BE_OLD}")
+            read += "".join(f"@{role}={it.superblock.events}{self._read_of(it.device, notes)}"
+                            for role, it in sorted(array.by_role.items()))
+        return read
 
     def device_named(self, name: str) -> Optional[Device]:
         """The image, the partition or the array of this name."""
@@ -392,7 +492,13 @@ class Pile:
         return found[0] if found else None
 
     def _volume_named(self, name: str) -> Volume:
-        """The volume of this name: GROUP/VOLUME, where GROUP may be the group's id, or VOLUME alone."""
+        """The volume of this name: GROUP/VOLUME, where GROUP may be the group's id, VOLUME alone, or as of a device."""
+        of_device, _, volume_name = names.volume_path(name).rpartition("/")
+        if any(group.volume(volume_name) for group in self._called(of_device)):
+            if any(group.volume(name) for group in self.groups):
+                raise Refusal(quoting.shown(name), "a volume is called so, and so is the device of another: say "
+                              f"{quoting.shown(of_device)}/{quoting.shown(volume_name)}")
+            name = f"{of_device}/{volume_name}"
         shown, (group_name, slash, volume_name) = quoting.shown(name), name.rpartition("/")
         groups, which = self._called(group_name) if slash else self.groups, quoting.shown(group_name)
         if slash and not groups:
@@ -414,6 +520,7 @@ class Pile:
     def unread_notes(self) -> str:
         """What of a pile can't be read, in which something may be that isn't found."""
         notes = [(array.label, array.note) for array in self.arrays if array.note]
+        notes += [(self.spot_of[device].path, table.fault) for device, table in self.tables.items() if table.fault]
         notes += [(found.spot.path, found.note) for found in self.found if found.note not in ("", NOTHING)]
         whys = quoting.some([f"{quoting.shown(where)}: {why}" for where, why in notes], "; ")
         return f" ({whys})" if whys else ""

@@ -4,14 +4,14 @@ of an array that has only some of these."""
 
 import os
 import re
-from typing import Dict, Iterable, Iterator, Optional
+from typing import Dict, Iterator, Optional
 
 from dmremap_tools.base import SECTOR, Refusal, quoting, written
 from dmremap_tools.base.paths import DiskPlace
 from dmremap_tools.model.config_text import shown
-from dmremap_tools.model.device import Device, Image, Lenient, Part
+from dmremap_tools.model.device import Device, Image, Part
 from dmremap_tools.model.md_superblock import BAD_BLOCKS, HARMLESS, Member, has_all
-from dmremap_tools.model.physical_volume import Label, label_of
+from dmremap_tools.model.physical_volume import label_at
 from dmremap_tools.model.pile import Pile
 
 # What tables call an array, and a partition of one.
@@ -32,7 +32,10 @@ def by_ids(ids: Dict[str, bytes], places: Dict[str, DiskPlace], sizes: Dict[str,
     """The places of disks, of which some may be whole disks that have a physical volume on a partition. Without `ids`
     of physical volumes, they are what was given. `sizes` has the sectors of each disk, and `asked` is dmremap. Refuses
     an image of another disk, and one of which nothing says where the disk is."""
-    found, pile = dict(places), pile_at((place.path for place in places.values()), asked)
+    # Without those that can't be read, of which who reads them says why.
+    paths = [path for path in dict.fromkeys(place.path for place in places.values())
+             if written.identity_at(path) and os.access(path, os.R_OK)]
+    found, pile = dict(places), Pile(paths, asked)
     check_places(places, pile, bool(ids))
     for name, place in places.items():
         image, size = image_at(pile, place.path), sizes.get(name)
@@ -48,12 +51,6 @@ def by_ids(ids: Dict[str, bytes], places: Dict[str, DiskPlace], sizes: Dict[str,
             raise Refusal(image.name, f"the image of a whole disk ({table.kind}), and {quoting.shown(name)} has {size} "
                           f"sectors: {GIVE}")
     return found
-
-
-def pile_at(paths: Iterable[str], asked: Optional[str] = None) -> Pile:
-    """What is in the images at these paths, without those that can't be read, of which who reads them says why."""
-    here = (path for path in dict.fromkeys(paths) if written.identity_at(path) and os.access(path, os.R_OK))
-    return Pile(list(here), asked)
 
 
 def image_at(pile: Pile, path: str) -> Optional[Image]:
@@ -107,11 +104,6 @@ def place_of_volume(pile: Pile, image: Image, name: str, identity: bytes, place:
     for member in (member for begin, member in members if begin == place.start and member.superblock.start):
         raise Refusal(image.name, md_member_fault(member, pile) or NO_VOLUME)
     return place
-
-
-def label_at(image: Image, begin: int) -> Optional[Label]:
-    """The sound label of a physical volume that begins at a byte of an image."""
-    return label_of(Lenient(Part(image.name, image, begin, max(0, image.size - begin))))[0]
 
 
 def check_places(places: Dict[str, DiskPlace], pile: Pile, are_volumes: bool = False) -> None:

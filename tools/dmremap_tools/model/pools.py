@@ -20,13 +20,12 @@ ARRAY, ARRAY_SUM = struct.Struct("<LLLLQ"), 595846735
 # The most levels of a tree: with the fewest children a node may have, more don't fit into a device.
 MOST_LEVELS, MOST_KEPT, ALL_KEYS = 16, 512, (0, 1 << 64)
 POLYNOMIAL, VERSIONS = 0x82F63B78, (1, 2)
-# The superblock of a pool or a cache: `trans_id`, `held_root` (where a copy of it is kept) and `data_blocks` mean
-# something in a pool's, and `cache_blocks` in a cache's.
-PoolSuperblock = namedtuple("PoolSuperblock", "magic version trans_id held_root data_blocks mapping_root "
-                            "data_block_size metadata_block_size cache_blocks incompat_flags")
+# The superblock of a pool or a cache: `trans_id` means something in a pool's, and `cache_blocks` in a cache's.
+PoolSuperblock = namedtuple("PoolSuperblock", "magic version trans_id mapping_root data_block_size metadata_block_size "
+                            "cache_blocks incompat_flags")
 # For each kind where it has these fields, what its sum is changed by, its magic, and words for messages.
-THIN = (struct.Struct("<32xQL4xQQQ248xQ8xLL8xL4xL"), 160774, 27022010, "a thin pool", "thin_check", "pool")
-CACHE = (struct.Struct("<32xQL4xQQQ120xQ32xLLL8xL"), 9031977, 0o6142003, "a cache", "cache_check", "volume")
+THIN = (struct.Struct("<32xQL4xQ264xQ8xLL8xL4xL"), 160774, 27022010, "a thin pool", "thin_check", "pool")
+CACHE = (struct.Struct("<32xQL4xQ136xQ32xLLL8xL"), 9031977, 0o6142003, "a cache", "cache_check", "volume")
 # A mapping of a pool is a block of it, and in the lower bits a time; one of a cache a block of the origin, and flags.
 TIME_BITS, FLAG_BITS, VALID = 24, 16, 1
 MODES = (b"writethrough", b"writeback")
@@ -82,10 +81,10 @@ def array_values(device: Device, root: int) -> Iterator[int]:
         yield from struct.unpack_from(f"<{count}Q", content, ARRAY.size)
 
 
-def superblock_of(meta: Device, kind: Tuple[Any, ...], block: int = 0) -> PoolSuperblock:
-    """The superblock in metadata of a pool or a cache, or its copy in a block; a Gap where it isn't followed."""
+def superblock_of(meta: Device, kind: Tuple[Any, ...]) -> PoolSuperblock:
+    """The superblock in metadata of a pool or a cache; a Gap where it isn't followed."""
     form, changed, magic, what, tool, owner = kind
-    found = PoolSuperblock(*form.unpack_from(checked_block(meta, block, changed)))
+    found = PoolSuperblock(*form.unpack_from(checked_block(meta, 0, changed)))
     is_known = found.magic == magic and found.version in VERSIONS and found.metadata_block_size * SECTOR == BLOCK
     if not is_known or not found.data_block_size:
         raise Gap(meta.name, f"it has no superblock of {what} that is followed: run {tool} on a copy of it")
@@ -146,25 +145,19 @@ def thin_of(layout: Any, name: str, segment: Segment, size: int) -> Device:
     told, here = pool.segments[0].node.value(b"transaction_id", int), superblock.trans_id
     if told is not None and abs(told - here) > 1:
         raise Refusal(name, f"the pool's metadata has the transaction {here}, and the text {told}: {ONE_TIME}")
-    # What nobody wrote reads as zeros.
-    return thin_device(name, meta, superblock, device, ZEROS, data, size)
-
-
-def thin_device(name: str, meta: Device, superblock: PoolSuperblock, number: int, lower: Device, data: Device,
-                size: int) -> Device:
-    """The device of this number in a pool: blocks of the pool's data over so many bytes of what is read elsewhere."""
-    root = next(entries_of(meta, superblock.mapping_root, (number, number + 1)), None)
+    root = next(entries_of(meta, superblock.mapping_root, (device, device + 1)), None)
     if root is None or root.why:
-        raise Refusal(name, root.why if root and root.why else f"the pool's metadata has no device {number}: it was "
+        raise Refusal(name, root.why if root and root.why else f"the pool's metadata has no device {device}: it was "
                       "deleted from the pool, and `scan` lists what is left")
-    tree, block = root.value, superblock.data_block_size * SECTOR
+    tree, block, end_of_pool = root.value, superblock.data_block_size * SECTOR, data.size
     past = f"{name}: a block lies past the end of its pool: {ONE_TIME}"
 
     def entries(first: int, end: int) -> Iterator[Entry]:
         for key, stop, value, why in entries_of(meta, tree, (first, end)):
             place = value >> TIME_BITS
-            yield Entry(key, stop, place, why or (past if (place + 1) * block > data.size else None))
-    return Overlaid(name, lower, data, block, entries, size)
+            yield Entry(key, stop, place, why or (past if (place + 1) * block > end_of_pool else None))
+    # What nobody wrote reads as zeros.
+    return Overlaid(name, ZEROS, data, block, entries, size)
 
 
 def cached_of(layout: Any, name: str, segment: Segment, size: int) -> Device:
@@ -182,12 +175,6 @@ def cached_of(layout: Any, name: str, segment: Segment, size: int) -> Device:
     superblock = superblock_of(meta, CACHE)
     if superblock.data_block_size != settings.node.value(b"chunk_size", int):
         raise Refusal(name, f"the cache's metadata has other blocks than the text: {ONE_TIME}")
-    return cached_device(name, meta, superblock, layout.plain(origin), data, size)
-
-
-def cached_device(name: str, meta: Device, superblock: PoolSuperblock, origin: Device, data: Device,
-                  size: int) -> Device:
-    """So many bytes of an origin with the blocks of its cache that are mapped over them."""
     block = superblock.data_block_size * SECTOR
     if superblock.cache_blocks * block > data.size:
         raise Refusal(name, f"the cache's metadata counts more blocks than the cache has: {ONE_TIME}")
@@ -195,7 +182,7 @@ def cached_device(name: str, meta: Device, superblock: PoolSuperblock, origin: D
     pairs = sorted((value >> FLAG_BITS, place) for place, value in enumerate(values) if value & VALID)
     if any(one[0] == other[0] for one, other in zip(pairs, pairs[1:])) or pairs and pairs[-1][0] * block >= size:
         raise Refusal(name, ODD_CACHE)
-    return Overlaid(name, origin, data, block, sorted_entries(pairs), size)
+    return Overlaid(name, layout.plain(origin), data, block, sorted_entries(pairs), size)
 
 
 def cache_of(layout: Any, segment: Segment, pool: bytes) -> Tuple[Optional[Device], Optional[Device], Segment]:

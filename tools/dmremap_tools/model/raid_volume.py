@@ -4,14 +4,14 @@ which is laid out as md lays out its members. The kernel's dm-raid.c has both, a
 import itertools
 import struct
 from collections import namedtuple
-from typing import Any, Callable, Dict, List, Optional, Sequence, Tuple
+from typing import Any, Callable, Dict, Iterable, List, Optional, Sequence, Tuple
 
 from dmremap_tools.base import SECTOR, Refusal, tables
 from dmremap_tools.model.config_text import shown
-from dmremap_tools.model.device import ALL, Copies, Device, Gap, Missing, Part
+from dmremap_tools.model.device import ALL, ANY, Copies, Device, Gap, Missing, Part
 from dmremap_tools.model.mapping import MappedDevice, Tables
 from dmremap_tools.model.md_chunks import LAYOUTS, PARITY, Rows, Shape
-from dmremap_tools.model.md_superblock import CLEAN, marked_in
+from dmremap_tools.model.md_superblock import CLEAN, NEAR, marked_in
 from dmremap_tools.model.volume_group import Segment
 
 FORM, MAGIC, V190 = struct.Struct("<4L4Q4LQ12xl8xQ40xL"), 0x64526D44, 1
@@ -20,7 +20,6 @@ LegSuperblock = namedtuple("LegSuperblock", "magic compat_features num_devices a
                            "reshape_position delta_disks data_offset incompat_features")
 MOST_LEGS = 64
 # The level and the layout of md that the superblocks of each type of segment have; raid10's counts near copies, too.
-NEAR = 1 << 8
 KINDS: Dict[bytes, Tuple[str, int]] = {
     b"raid0": ("raid0", 0), b"raid0_meta": ("raid0", 0), b"raid1": ("raid1", 0), b"raid10": ("raid10", NEAR),
     b"raid10_near": ("raid10", NEAR), b"raid4": ("raid5", 4), b"raid5": ("raid5", 2), b"raid5_ls": ("raid5", 2),
@@ -31,15 +30,13 @@ KINDS: Dict[bytes, Tuple[str, int]] = {
 # Where the bitmap of what is being written lies in the volume of a superblock.
 BITMAP_AT = 4096
 NEXT, OTHERS = "activate it with lvm2", "give the disks of the other legs"
-NEWER = "{}, so that nothing tells whether that leg is newer: leave its disk out to take the other one"
+NEWER = "nothing tells whether a leg is newer: leave its disk out to take the other one ({})"
 APART = ("{} and {} were written apart from each other, as one says that the other failed, which says nothing of that: "
          "leave the disk of one of them out")
+LEFT_BEHIND = "its disk is flagged MISSING: the group went on without it, so that it is stale"
+SPLIT_OFF = "it was split off, and the others went on without it"
+MAY_BE_OLD = "it lacks legs that may have been written to since without those that are here, so that this may be older"
 ODD = "its superblock has other chunks than the text, or a layout that isn't followed: " + NEXT
-
-
-def raid_of(layout: Any, name: str, segment: Segment, size: int) -> Device:
-    """The device of a segment with legs."""
-    return Legs(layout, name, segment).device(size)
 
 
 class Legs:
@@ -54,36 +51,67 @@ class Legs:
         self._found: Dict[int, LegSuperblock] = {}
         self._missing: Dict[int, str] = {}
         self._faults: Dict[int, str] = {}
-        for leg, (meta, _) in enumerate(self._pairs):
+        # What the text itself says to be older than the others.
+        self._left: Dict[int, str] = {}
+        for leg, (meta, data) in enumerate(self._pairs):
             device = self._plain(meta) if meta else Missing(NEXT)
+            volume = layout.group.volumes.get(data)
             try:
-                self._found[leg] = self._superblock_of(device, leg)
+                status = volume.node.values(b"status") if meta and volume else []
+                if meta and layout.lies_on(data, layout.left_behind):
+                    self._left[leg] = f"{shown(data)}: {LEFT_BEHIND}"
+                elif b"VISIBLE" in status and b"WRITE" not in status:
+                    self._left[leg] = f"{shown(data)}: {SPLIT_OFF}"
+                else:
+                    self._found[leg] = self._superblock_of(device, leg)
             except Gap as gap:
-                (self._missing if device.lack(0, SECTOR) else self._faults)[leg] = f"{shown(meta)}: {gap.why}"
+                lacking = self._missing if layout.lies_on(meta, layout.absent) else self._faults
+                lacking[leg] = f"{shown(meta)}: {gap.why}"
 
     def device(self, size: int) -> Device:
         """So many bytes of the segment, from the legs that are there and up to date. Refuses it where their superblocks
         don't tell which these are, and a size that such legs can't have."""
         count = len(self._pairs)
         if not self._found and self._level != "raid0":
-            whys = "; ".join([*self._faults.values(), *self._missing.values()])
+            whys = "; ".join([*self._faults.values(), *self._missing.values(), *self._left.values()])
             raise Refusal(self._name, whys + ": give the disks of all legs" * bool(self._faults))
-        # Of those with as many events the one that knows more of what failed.
-        ages = {leg: (found.events, bin(found.failed_devices).count("1")) for leg, found in self._found.items()}
-        best = max(ages, key=lambda leg: ages[leg], default=0)
+        best = self._best()
         self._check_agreement(best)
         legs = [self._leg(leg, best) for leg in range(count)]
         if self._level == "raid0":
             return self._striped(legs, size)
-        copies = {"raid1": count, "raid10": self._found[best].layout - NEAR}.get(self._level, 1)
-        sets = [range(first, first + copies) for first in range(0, count, copies)]
-        # Those that may have run on without the others.
-        alone = [each for each in sets if not self._faults.keys().isdisjoint(each)]
-        if len(alone) >= len(sets) - PARITY.get(self._level, 0):
+        sets = self._sets()
+        if self._faults and self._can_run({**self._faults, **self._missing}):
             raise Refusal(self._name, NEWER.format(next(iter(self._faults.values()))))
         if self._level in PARITY:
             return self._rows(legs, best, size)
         return self._striped([self._mirror(each, legs, best, size // len(sets)) for each in sets], size)
+
+    def read_of(self) -> str:
+        """The legs that are read, with their events; all that have a superblock, where it is a matter of the text."""
+        best = self._best()
+        read = {leg: it.events for leg, it in self._found.items() if not self._stale(leg, best)}
+        return f"{self._name.rpartition('/')[2]}:" + ("+".join(f"{leg}={it}" for leg, it in read.items()) or ANY)
+
+    def _best(self) -> int:
+        """The freshest leg: of those with as many events the one that knows more of what failed."""
+        ages = {leg: (found.events, bin(found.failed_devices).count("1")) for leg, found in self._found.items()}
+        return max(ages, key=lambda leg: ages[leg], default=0)
+
+    def may_be_old(self) -> str:
+        """What is said of legs that are read while others, which may be newer, aren't here; or nothing."""
+        return f"{self._name}: {MAY_BE_OLD}" if self._found and self._can_run(self._missing) else ""
+
+    def _sets(self) -> List[range]:
+        """The legs that are copies of each other."""
+        count = len(self._pairs)
+        copies = {"raid1": count, "raid10": self._found[self._best()].layout - NEAR}.get(self._level, 1)
+        return [range(first, first + copies) for first in range(0, count, copies)]
+
+    def _can_run(self, legs: Iterable[int]) -> bool:
+        """Whether these legs may have run on without the others."""
+        sets = self._sets()
+        return sum(not set(legs).isdisjoint(each) for each in sets) >= len(sets) - PARITY.get(self._level, 0)
 
     def _superblock_of(self, meta: Device, leg: int) -> LegSuperblock:
         """The superblock that a leg of this number has; a Gap where it has none."""
@@ -134,7 +162,8 @@ class Legs:
             return self._plain(data)
         why = self._stale(leg, best) if found else self._faults.get(leg)
         if why or not found:
-            return Missing(f"{shown(data)}: {why}: {OTHERS}" if why else f"{shown(data)}: {self._missing[leg]}")
+            told = self._left.get(leg) or f"{shown(data)}: {why or self._missing[leg]}"
+            return Missing(f"{told}: {OTHERS}" if leg not in self._missing else told)
         device, start = self._plain(data), found.data_offset * SECTOR if found.compat_features else 0
         holes = [(found.disk_recovery_offset * SECTOR, ALL)] if self._is_rebuilt(leg) else []
         why = f"{shown(data)}: it was being rebuilt: {OTHERS}"

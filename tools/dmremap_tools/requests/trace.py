@@ -1,4 +1,4 @@
-"""Makes requests from a trace of device-mapper devices.
+"""Makes requests from a trace of device-mapper devices, or of requests that are too long or in bytes.
 
 Takes what `dmsetup ls` prints (LS), the tables that will be asked (TABLES, table text or concise text), and a trace:
 that of `blkparse` or `btrace`, or the event block_bio_queue as trace_pipe, `trace-cmd report` and `perf script` print
@@ -10,19 +10,21 @@ Trace top devices only: a request to a device on another one shows up at both, a
 trace is one of the disks below them: LS is what `lsblk -brno MAJ:MIN,SIZE,KNAME,PKNAME` prints, and TABLES is DISKS.
 `report --compare` takes that.
 
-With --fio, TRACE is a log that fio wrote (`write_iolog=FILE`), of version 2 or 3. Prints requests for all sectors that
-its bytes touch. The files of the log are devices; LS is read only if they are given as /dev/dm-N. Trims are left out
-and counted.
+With --cut, takes requests of any length alone, `R DEVICE START LEN` or `W ..`, and no LS and TABLES; with --bytes
+START and LEN are bytes. Prints the same requests in sectors, with all that the bytes touch, cut after 1,048,576 sectors
+(512 MiB), as all requests of this command are.
 """
 
 import functools
 import re
 from argparse import ArgumentParser, Namespace
 from collections import Counter
-from typing import Dict, Optional, Sequence
+from typing import Dict, List, Optional, Sequence
 
-from dmremap_tools.base import Refusal, WrongWords, names, numbers, quoting, requests, streams, tables
+from dmremap_tools.base import SECTOR, Refusal, WrongWords, names, numbers, quoting, requests, streams, tables
 
+# The words of the command, for its manual.
+FORMS = ("LS TABLES [TRACE]", "--cut [REQUESTS]")
 EXAMPLE = "btrace /dev/dm-0 | dmremap-tools trace ls.txt vg0.table | dmremap map lvm vg0.backup | dmremap-tools report"
 
 # A line of blkparse, up to the action: the device and the time. The action Q is a request that comes; of others nothing
@@ -33,10 +35,8 @@ ASKED = r"\s*(\S+)\s+(\S+)\s+\+\s+(\S+)(?:\s.*)?"
 QUEUED = re.compile(f" *{PARSED}Q {ASKED}")
 OTHER = "[A-PR-Za-z][A-Za-z]* "
 ACTION = re.compile(fr" *{PARSED}(?:(Q )(\s*\S+\s+\[)?|{OTHER})")
-# The line of another action, as most lines of a trace are, which are passed over all at once.
-OTHERS = re.compile("^ *%s%s.*" % (PARSED.replace("(", "(?:"), OTHER), re.MULTILINE)
-# A request that can't be refused but for what is done.
-USUAL = re.compile(fr"^ *{PARSED}Q +([A-Z]+) {numbers.SHORT} \+ ([1-9][0-9]{{0,5}}) .*", re.MULTILINE)
+# The line of another action, or of a request that can't be refused but for what is done, as most lines of a trace are.
+USUAL = re.compile(fr"^ *{PARSED}(?:Q +([A-Z]+) {numbers.SHORT} \+ ([1-9][0-9]{{0,5}}) |{OTHER}).*", re.MULTILINE)
 # An event, as ftrace and perf print it: before its name the time, for perf with another word, and behind it the device.
 EVENT = "block_bio_queue:"
 BEFORE = re.compile(r"(?:.*\s)?([0-9.]+):?(?:\s+\S*:)?\s*")
@@ -48,35 +48,44 @@ BESIDE = re.compile(r"\s*(?:#.*)?|(?:CPU|Total \(|Throughput|Events \(|Skips:|In
 # Discards and flushes alone, reads, and writes, with what else a kernel says of them.
 KINDS = [("", re.compile(r"F?[DN][A-Z]*")), ("R", re.compile(r"F?R[FASM]*")), ("W", re.compile(r"F?W[FASM]*"))]
 NO_FORM = "not a form of the event, trace with `blkparse`"
-# The first line of a log of fio. In version 3 each line has a time first.
-LOG_FIRST = re.compile(r"fio version ([23]) iolog")
-LOG_OPERATIONS = {"read": "R", "write": "W"}
-# What makes no request, and how many words a line of it has, without the time.
-LOG_OTHERS = {"add": (2,), "open": (2,), "close": (2,), "sync": (2, 4), "datasync": (2, 4), "wait": (2, 4),
-              "trim": (4,)}
 
 
 def add_words(parser: ArgumentParser) -> None:
-    parser.add_argument("ls", metavar="LS", help="the output of dmsetup ls at the time of the trace")
-    parser.add_argument("tables", metavar="TABLES", help="table or concise text")
+    parser.add_argument("ls", metavar="LS", nargs="?", help="the output of dmsetup ls at the time of the trace")
+    parser.add_argument("tables", metavar="TABLES", nargs="?", help="table or concise text")
     parser.add_argument("file", metavar="TRACE", nargs="?", default="-", help="the trace; by default standard input")
     parser.add_argument("--write-times", metavar="TIMES", help="write a file of times: line N is the time of request N")
     kinds = parser.add_mutually_exclusive_group()
     kinds.add_argument("--lower", action="store_true",
                        help="the trace is of disks; LS is then the output of lsblk, TABLES is DISKS")
-    kinds.add_argument("--fio", action="store_true", help="the trace is a log that fio wrote")
+    kinds.add_argument("--cut", action="store_true", help="the trace is a list of requests, which stands alone")
+    kinds.add_argument("--bytes", action="store_true", help="the same, with places and lengths in bytes")
 
 
 def run(words: Namespace) -> None:
-    if words.fio:
-        if words.write_times is not None:
-            raise WrongWords("--write-times isn't for the logs of fio")
-        read_log(streams.Lines(words.file), Kept(words.tables), names.Names(words.ls))
+    are_requests = words.cut or words.bytes
+    if are_requests and words.tables is not None or not are_requests and words.tables is None:
+        raise WrongWords("give REQUESTS alone" if are_requests else "give LS, TABLES and perhaps TRACE")
+    if words.write_times is not None and are_requests:
+        raise WrongWords("--write-times is for traces that have times: leave it out")
+    if are_requests:
+        cut(streams.Lines(words.ls or "-"), words.bytes)
         return
     times = streams.beside(words.write_times) if words.write_times is not None else None
     known = names.read_lsblk(words.ls)[1] if words.lower else {number: name for name, number in names.read_ls(words.ls)}
     by_number = {number.replace(":", ","): name for number, name in known.items()}
     read_trace(streams.Lines(words.file), by_number, Kept(words.tables, words.lower), times)
+
+
+def cut(source: streams.Lines, are_bytes: bool) -> None:
+    """Prints requests as dmremap takes them."""
+    form = "give R or W, a device, an offset and a length, and not" if are_bytes else requests.NO_REQUEST
+    for operation, name, first, count in requests.read(source, names.device, form):
+        if are_bytes and not count:
+            source.refuse_line("no bytes, give at least one")
+        end, unit = first + count, SECTOR if are_bytes else 1
+        requests.write(source, operation, name, first // unit, -(-end // unit) - first // unit)
+    source.tell_if_none()
 
 
 class Kept:
@@ -92,41 +101,16 @@ class Kept:
 
     def leave(self, to: str, is_known: bool = True) -> None:
         """Counts a request that is left out, as the list of numbers or else the tables lack what it goes to."""
-        lacking = ("lsblk has", "DISKS has") if self.are_disks else ("dmsetup ls has", "the tables have")
-        self._left[f"requests to {quoting.shown(f'{to}, which {lacking[is_known]} not')}"] += 1
+        lacking = ("the output of lsblk", "DISKS") if self.are_disks else ("the output of dmsetup ls", "the tables")
+        self._left[f"requests to {quoting.shown(f'{to}, which is not in {lacking[is_known]}')}"] += 1
 
-    def tell(self, others: str, hint: str = "") -> None:
-        """Tells what was left out, these others, too, and if no request was made."""
-        left = [*self._left.items(), (others, self.others)]
-        streams.tell(*(f"left out: {times} {what}" for what, times in left if times))
+    def tell(self) -> None:
+        """Tells what was left out, and if no request was made."""
+        left = [*self._left.items(), ("requests that are neither reads nor writes", self.others)]
+        streams.tell(*(f"left out: {what}: {times}" for what, times in left if times))
         if not self.made:
-            what = "disk of DISKS" if self.are_disks else f"device of the tables{hint}"
-            streams.tell(f"no request came to a {what}")
-
-
-def read_log(source: streams.Lines, kept: Kept, known: names.Names) -> None:
-    """Prints the requests of a log as they come, and tells what was left out."""
-    lines = iter(source)
-    first = LOG_FIRST.fullmatch(next(lines, ""))
-    if not source.number:
-        source.refuse("the log is empty: give what fio wrote")
-    if not first:
-        source.refuse_line("not the first line of a log, give what fio wrote")
-    for line in lines:
-        words = line.split()[int(first[1]) - 2:]
-        what = words[1] if len(words) > 1 else ""
-        if what in LOG_OPERATIONS and len(words) == 4:
-            name = known.known(words[0], source)
-            if name in kept.names:
-                kept.made += 1
-                requests.write_bytes(source, LOG_OPERATIONS[what], name, *map(source.whole, words[2:]))
-            else:
-                kept.leave(words[0])
-        elif len(words) in LOG_OTHERS.get(what, ()):
-            kept.others += what == "trim"
-        else:
-            source.refuse_line("not a line of a log, leave it out")
-    kept.tell("trims")
+            upper = "device of the tables: a trace of the disks below them takes --lower"
+            streams.tell(f"no request came to a {'disk of DISKS' if self.are_disks else upper}")
 
 
 def read_trace(source: streams.Lines, known: Dict[str, str], kept: Kept, times: Optional[streams.Output]) -> None:
@@ -134,15 +118,11 @@ def read_trace(source: streams.Lines, known: Dict[str, str], kept: Kept, times: 
     events = passed = 0
     for block in source.blocks():
         # Where the other form of an event may stand in a line, each is looked at.
-        left, others = OTHERS.subn("", block) if EVENT not in block else (block, 0)
-        events += others
-        usual = USUAL.findall(left)
-        if others + len(usual) == block.count("\n") and None not in {kind_of(it[2]) for it in usual}:
+        usual = USUAL.findall(block) if EVENT not in block else []
+        if len(usual) == block.count("\n") and print_requests(source, usual, known, kept, times):
             events += len(usual)
-            for event in usual:
-                print_request(source, event, known, kept, times)
             continue
-        for line in filter(None, source.again(left)):
+        for line in source.again():
             found = event_in(source, line)
             if not found:
                 passed += not BESIDE.fullmatch(line)
@@ -153,8 +133,27 @@ def read_trace(source: streams.Lines, known: Dict[str, str], kept: Kept, times: 
     if not events:
         source.refuse("no request in the trace: give what `blkparse` prints of the devices")
     if passed:
-        streams.tell(f"left out: {passed} lines that tell of no request")
-    kept.tell("requests that are neither reads nor writes", ": a trace of the disks below them takes --lower")
+        streams.tell(f"left out: lines without a request: {passed}")
+    kept.tell()
+
+
+def print_requests(source: streams.Lines, rows: List[Sequence[str]], known: Dict[str, str], kept: Kept,
+                   times: Optional[streams.Output]) -> bool:
+    """Prints the requests among the events of a block, and their times, unless nobody knows what one of them does."""
+    queued = [row for row in rows if row[2]]
+    kinds = {key: kind_of(key[1]) for key in {(row[0], row[2]) for row in queued}}
+    if None in kinds.values():
+        return False
+    begun = {key: f"{kind} {known[key[0]]} " for key, kind in kinds.items() if kind and known.get(key[0]) in kept.names}
+    made = [row for row in queued if (row[0], row[2]) in begun]
+    streams.out.write("".join([f"{begun[number, what]}{first} {count}\n" for number, _, what, first, count in made]))
+    if times:
+        times.write("".join([row[1] + "\n" for row in made]))
+    kept.made += len(made)
+    for row in queued if len(made) < len(queued) else ():
+        if (row[0], row[2]) not in begun:
+            print_request(source, row, known, kept, times)
+    return True
 
 
 def print_request(source: streams.Lines, event: Sequence[str], known: Dict[str, str], kept: Kept,

@@ -7,10 +7,6 @@ Takes four texts, which root can make on that machine:
     lsblk -brno MAJ:MIN,SIZE,KNAME,PKNAME > lsblk.txt
     dmsetup table --concise > concise.txt
 
-Without LSBLK, the lengths are those of the disks or images in PATHS, whose lines begin with numbers: `8:1 sda1.img`, or
-`8:1 sda.img?offset=1048576` for a partition that begins there in the image of a whole disk, whose partition table gives
-its length.
-
 Prints FILE in the form of the last text, which may be the output of `dmsetup table` instead, and writes DISKS with the
 disks that FILE names. Numbers of devices become their names, and numbers of disks their paths. Lines of `crypt` become
 linear: what lies there is encrypted, so compare nothing with it. `dmsetup table` doesn't say which devices are
@@ -21,28 +17,23 @@ path, at which answers end. These are
 
     devices of other targets, such as thin, raid, mirror, cache, multipath, verity, integrity and snapshot-merge;
     those without a table, or with a name that dmremap doesn't take (`dmsetup rename` gives another);
-    those that aren't as long as lsblk says, or go past the end of what lies below, or lie on a disk without a length;
+    those that aren't as long as lsblk says, or lie on a disk without a length;
     snapshots whose status isn't as `16/1048576 16`, with two equal figures, so that their stores have copies, unless
     --store names them: `dmremap map --paths` reads these stores;
-    those of kind PO or with features, not as long as their origin, or with a store that is read-only or not plain.
+    those that dmremap refuses, by the word of its message, as snapshots of another kind.
 
 If a snapshot is left out, its origin stays, and a message warns that answers lack copies for this snapshot.
-
-With --only, which may be given several times, FILE has that device and all that it stands on.
 
 Refuses a text that isn't what one of these commands prints, and a machine of which nothing is left.
 """
 
 import argparse
 import re
-from typing import Dict, Iterable, List, Optional, Set, Tuple
+import tempfile
+from typing import Dict, Iterable, List, Optional, Set
 
-from dmremap_tools.base import Refusal, WrongWords, names, numbers, paths, quoting, streams, tables
-from dmremap_tools.formats.partition_table import Partition, backup_of, table_of
-from dmremap_tools.formats.store_places import MOST, is_chunk, places
-from dmremap_tools.model.device import Image, Lenient, image_of
-from dmremap_tools.model.physical_volume import label_of
-from dmremap_tools.model.placed import GIVE, check_places, label_at, pile_at
+from dmremap_tools.base import Refusal, names, numbers, program, quoting, streams, tables
+from dmremap_tools.model.loaded_stack import Stack
 
 EXAMPLE = "dmremap-tools machine --disks disks ls.txt status.txt lsblk.txt concise.txt > tables"
 
@@ -52,25 +43,20 @@ ROW = re.compile(r"(.+?):(?: ?| (\d+ \d+ \S.*))")
 DEVICE = re.compile(r"((?:[^,\\]|\\.)*),(?:[^,\\]|\\.)*,(\d+),(r[ow])(?:,(.*))?")
 IS_CONCISE = re.compile(r",\d+,r[ow](?:[,;]|$)")
 MAJOR_MINOR = re.compile(r"\d+:\d+")
-# Why a device is left out that isn't asked for, which is not told.
-NOT_ASKED = "not asked for"
-DEEPEST = 32
-TOO_DEEP = "it stands on itself, or on too many others"
-# The numbers of disks called sd: each has a minor that is a multiple of 16, and its partitions have those after it.
-SD_MAJORS = [str(it) for it in (8, *range(65, 72), *range(128, 136))]
-# What a kernel or udev calls partitions.
-PARTITION = re.compile(r"(?:.*/)?(?:(?:s|v|xv|h)d[a-z]+|.*[0-9]p|.*-part)[0-9]{1,10}")
+# What dmremap says of a device or a disk, and how often it is asked.
+SAID = re.compile(r"dmremap: (source|disks): ([a-z]+) at ([0-9]+)")
+MOST_TRIES = 256
 
 
 class MachineDevice(tables.TableDevice):
     """A device that `dmsetup ls` has, and why it is left out, if it is. `origins` has what it is a snapshot of, whether
-    dmremap can follow it or not, and `level`, once it is judged, how many devices stand on each other up to it."""
+    dmremap can follow it or not."""
 
     def __init__(self, name: str, number: str) -> None:
         super().__init__(name)
-        self.number, self.level = number, 0
+        self.number = number
         self.why = "" if names.FORM.fullmatch(name) else "dmremap takes no such name"
-        self.is_described = self.is_encrypted = self.is_store = False
+        self.is_described = self.is_encrypted = False
         self.origins: List[str] = []
 
     def leave_out(self, why: str) -> None:
@@ -90,25 +76,18 @@ class MachineDevice(tables.TableDevice):
             self.is_encrypted = True
             target, words = "linear", words[3:5]
         line = tables.Line(start, length, target, words)
-        if start != (self.end() if self.lines else 0):
-            self.leave_out("its lines don't follow each other")
         self.lines.append(line)
         if target not in tables.TARGETS:
             self.leave_out(quoting.shown(target))
-        elif (line.fault() or not 0 < length <= numbers.LONGEST_DEVICE - start
-              or not all(map(MAJOR_MINOR.fullmatch, line.lowers()))):
+        elif any("," in it or ";" in it for it in words) or not all(map(MAJOR_MINOR.fullmatch, line.lowers())):
             self.leave_out(quoting.shown(text))
-
-    def has_only(self, *targets: str) -> bool:
-        """Whether all its lines are of these targets."""
-        return all(line.target in targets for line in self.lines)
 
 
 class Machine:
     """The devices by their numbers, and the length and the path of each number that lsblk has."""
 
     def __init__(self, devices: Dict[str, MachineDevice], sizes: Dict[str, Optional[int]], of: Dict[str, str]) -> None:
-        self.devices, self._sizes, self._paths, self._counted = devices, sizes, of, 0
+        self.devices, self._sizes, self._paths = devices, sizes, of
 
     def kept(self, numbered: Iterable[str]) -> List[MachineDevice]:
         """The devices with these numbers, but for disks and those that are left out."""
@@ -125,94 +104,79 @@ class Machine:
         """What stands in FILE for this number."""
         return next((names.MAPPER + it.name for it in self.kept([number])), self._paths.get(number, number))
 
-    def keep_only(self, wanted: List[str]) -> None:
-        """Leaves out all but the devices of these names, and what they stand on."""
-        number_of = {device.name: number for number, device in self.devices.items()}
-        for name in wanted:
-            if name not in number_of:
-                raise Refusal("--only", f"no device {quoting.shown(name)}: give a name that LS has")
-        waiting, asked = [number_of[name] for name in wanted], set()
-        while waiting:
-            number = waiting.pop()
-            if number in self.devices and number not in asked:
-                asked.add(number)
-                waiting += self.devices[number].lowers()
-        for number in self.devices.keys() - asked:
-            self.devices[number].why = NOT_ASKED
-
-    def judge(self) -> None:
-        """Leaves out what dmremap would refuse. Each device is judged once, after those that it stands on."""
-        begun: Set[str] = set()
-        waiting = list(self.devices.values())[::-1]
-        while waiting:
-            device = waiting[-1]
-            lowers = self.kept(device.lowers()) if not device.why else []
-            left = [it for it in lowers if not it.level]
-            if device.why or device.level:
-                waiting.pop()
-            elif device.number in begun:
-                device.level = 1 + max((it.level for it in lowers), default=0)
-                is_plain = device.flags != "ro" and device.has_only("linear", "striped")
-                device.is_store = is_plain and all(it.is_store for it in lowers)
-                device.why = TOO_DEEP if device.level > DEEPEST else self._fault_of_lines(device)
+    def settle(self, asked: str) -> Dict[str, Optional[int]]:
+        """Leaves out what dmremap refuses, one device after the other. Returns the disks that those lie on which are
+        left, with their sectors."""
+        for device in self.devices.values():
+            if not device.why and device.end() != self._sizes.get(device.number, device.end()):
+                device.leave_out("lsblk and its table differ in its length")
+        order = list(self._from_below())
+        for _ in range(MOST_TRIES):
+            kept = self.kept(order)
+            lowers = dict.fromkeys(it for device in kept for it in device.lowers() if not self.kept([it]))
+            unsaid = next((it for it in lowers if not self.sectors_of(it)), None)
+            if unsaid:
+                self._leave_above(kept, unsaid, f"lsblk has no length of {unsaid}")
+                continue
+            disks = {self.lower(it): self.sectors_of(it) for it in lowers}
+            refused = self._refused(asked, kept, disks) if kept else None
+            if not refused:
+                return disks
+            part, word, place = refused[1], refused[2], int(refused[3]) - 1
+            if part == "source":
+                kept[place].leave_out(f"dmremap refuses it ({word})")
             else:
-                begun.add(device.number)
-                if begun.isdisjoint(it.number for it in left):
-                    waiting += left
-                else:
-                    device.why = TOO_DEEP
+                lower = next(it for it in lowers if self.lower(it) == list(disks)[place])
+                self._leave_above(kept, lower, f"dmremap refuses the disk {lower} ({word})")
+        raise Refusal("dmremap", f"it refuses more than {MOST_TRIES} of the devices: leave some out of LS")
 
-    def _fault_of_lines(self, device: MachineDevice) -> str:
-        """Why dmremap would refuse a device that stands on others, or nothing."""
-        if device.end() != self._sizes.get(device.number, device.end()):
-            return "lsblk and its table differ in its length"
-        for lower, start, count in (span for line in device.lines for span in line.spans()):
-            length = self.sectors_of(lower)
-            if not length:
-                return f"lsblk has no length of {lower}"
-            if length > numbers.LONGEST_DEVICE:
-                return f"dmremap takes no disk as long as {lower}"
-            if start + (count or 0) > length:
-                return f"it goes past the end of {quoting.shown(self.lower(lower))}"
-        if device.has_only("linear", "striped", "zero", "error"):
-            return ""
-        if len(device.lines) > 1:
-            return "a snapshot beside other lines"
-        if device.end() != self.sectors_of(device.lowers()[0]):
-            return "it is not as long as its origin"
-        return self._fault_of_store(*device.lines[0].words[1:]) if device.has_only("snapshot") else ""
+    def _from_below(self) -> Iterable[str]:
+        """The numbers of the devices, each after those that it stands on, so that dmremap refuses the upper one."""
+        found: Dict[str, None] = {}
+        seen: Set[str] = set()
+        waiting = list(self.devices)[::-1]
+        while waiting:
+            number = waiting[-1]
+            seen.add(number)
+            left = [it for it in self.devices[number].lowers() if it in self.devices and it not in seen]
+            waiting += left
+            if not left:
+                found[waiting.pop()] = None
+        return found
 
-    def _fault_of_store(self, store: str, kind: str, said: str) -> str:
-        """Why it would refuse a snapshot for its store, whose kind and sectors of a chunk are as its line says, or
-        nothing."""
-        chunk, length = int(said), self.sectors_of(store) or 0
-        if not is_chunk(chunk):
-            return f"its chunks have {chunk} sectors"
-        if not all(it.is_store for it in self.kept([store])):
-            return "its store is read-only, or not made of linear and striped lines"
-        counted = self._counted + (length // chunk if kind == "N" else places(chunk, length))
-        if counted > MOST:
-            return f"dmremap counts {MOST} chunks of stores in all"
-        self._counted = counted
-        return ""
+    def _leave_above(self, kept: List[MachineDevice], lower: str, why: str) -> None:
+        """Leaves out the devices that lie on a disk."""
+        for device in kept:
+            device.leave_out(why if lower in device.lowers() else "")
+
+    def _refused(self, asked: str, kept: List[MachineDevice], disks: Dict[str, Optional[int]]
+                 ) -> "Optional[re.Match[str]]":
+        """What dmremap says of a device or a disk that it refuses, or None."""
+        with tempfile.TemporaryDirectory(prefix="dmremap-tools-") as folder:
+            devices = []
+            for device in kept:
+                devices.append(tables.TableDevice(device.name, device.flags))
+                devices[-1].lines += [line.with_lowers(self.lower) for line in device.lines]
+            words = Stack(devices, disks).write(folder)
+            said = program.ask_quietly([asked, "table", *words])[1].strip()
+        match = SAID.fullmatch(said)
+        if said and not match:
+            raise Refusal(quoting.shown(asked), quoting.shown(said) + ": leave devices out of LS")
+        return match
 
 
 def add_words(parser: argparse.ArgumentParser) -> None:
     parser.add_argument("--disks", metavar="DISKS", required=True, help="the file to which DISKS is written")
-    for option, value, said in (("--only", "NAME", "keep only this device and what lies below it"),
-                                ("--store", "SNAPSHOT=IMAGE", "keep this used snapshot, whose store `map --paths` "
-                                 "reads")):
-        parser.add_argument(option, metavar=value, action="append", default=[], help=said)
-    paths.add_words(parser)
-    numbers.add_sector_size(parser, "with --paths: the sector size of images with an MBR, which doesn't state it")
+    parser.add_argument("--store", metavar="SNAPSHOT=IMAGE", action="append", default=[],
+                        help="keep this used snapshot, whose store `map --paths` reads")
+    program.add_words(parser)
     parser.add_argument("ls", metavar="LS", help="what `dmsetup ls` prints")
     parser.add_argument("status", metavar="STATUS", help="what `dmsetup status` prints")
-    parser.add_argument("lsblk", metavar="LSBLK", nargs="?", help=f"what `{names.LSBLK_COMMAND}` prints")
+    parser.add_argument("lsblk", metavar="LSBLK", help=f"what `{names.LSBLK_COMMAND}` prints")
     parser.add_argument("table", metavar="TABLE", help="what `dmsetup table --concise` prints")
 
 
 def run(words: argparse.Namespace) -> None:
-    numbers.check_sector_size(words.sector_size)
     beside = streams.beside(words.disks)
     devices = {number: MachineDevice(name, number) for name, number in names.read_ls(words.ls)}
     stored = [it.partition("=")[0] for it in words.store]
@@ -221,7 +185,7 @@ def run(words: argparse.Namespace) -> None:
     # Of each snapshot, whether nothing was copied to its store yet, or that is read.
     is_known = {name: len(it) == 5 and it[3].split("/")[0] == it[4] for name, it in statuses.items()}
     is_known.update(dict.fromkeys(stored, True))
-    stack = Machine(devices, *lengths_of(words))
+    stack = Machine(devices, *names.read_lsblk(words.lsblk))
     is_concise = read_tables(words.table, devices)
     for name in stored:
         if not any(it.origins and it.name == name for it in devices.values()):
@@ -233,12 +197,8 @@ def run(words: argparse.Namespace) -> None:
         if device.origins and not is_known.get(device.name):
             device.leave_out("its store has copies, and nothing says of which chunks" if device.name in is_known
                          else "`dmsetup status` says nothing of it")
-    if words.only:
-        stack.keep_only(words.only)
-    stack.judge()
+    disks = stack.settle(program.dmremap(words.program))
     kept = stack.kept(devices)
-    lowers = [it for device in kept for it in device.lowers() if not stack.kept([it])]
-    disks = {stack.lower(it): stack.sectors_of(it) for it in lowers}
     say_left_out(stack, kept, disks)
     if not kept:
         why = "no device is left that dmremap can follow: see above what was left out"
@@ -257,10 +217,10 @@ def read_tables(path: str, devices: Dict[str, MachineDevice]) -> bool:
     for place, row in enumerate(re.split(r"(?<!\\);", "\n".join(rows).rstrip("\n")) if is_concise else (), 1):
         match = DEVICE.fullmatch(row)
         name, minor, flags, listed = match.groups("") if match else [""] * 4
-        told = f"device {place} of {streams.name_of(path)}, which `dmsetup ls` has not: {quoting.shown(row)}"
+        told = f"device {place} of {streams.name_of(path)}, which `dmsetup ls` does not list: {quoting.shown(row)}"
         found.append((re.sub(r"\\([,;\\])", r"\1", name), minor, flags, re.split(r",(?=\d+ \d+ \S)", listed), told))
     for name, line in names.rows_of(path, rows, ROW, "dmsetup table") if not is_concise else ():
-        found.append((name, "", "", [line], quoting.shown(name) + ", which `dmsetup ls` has not"))
+        found.append((name, "", "", [line], quoting.shown(name) + ", which `dmsetup ls` does not list"))
     # In the concise form a number has to fit its name.
     of = {(it.name, it.number.split(":")[1] if is_concise else ""): it for it in devices.values()}
     for name, minor, flags, lines, told in found:
@@ -274,74 +234,18 @@ def read_tables(path: str, devices: Dict[str, MachineDevice]) -> bool:
     return is_concise
 
 
-def lengths_of(words: argparse.Namespace) -> Tuple[Dict[str, Optional[int]], Dict[str, str]]:
-    """By number, the length of each device and disk, and its path. What PATHS has is as long as it is there. The image
-    of a whole disk is refused where its number is that of a partition, or lsblk says nothing of it, unless one of its
-    partitions is as long as lsblk says."""
-    if words.lsblk is None and words.paths is None:
-        raise WrongWords("give LSBLK or --paths PATHS")
-    sizes, of = names.read_lsblk(words.lsblk) if words.lsblk is not None else ({}, {})
-    numbers_of, sector = {path: number for number, path in of.items()}, words.sector_size or numbers.SECTOR
-    for name, path in (paths.read(words.paths) if words.paths is not None else {}).items():
-        number, place = numbers_of.get(name, name), paths.place_of(path)
-        image = image_of(place.path)
-        kind, partitions = partitions_of(image, sector)
-        known, length = sizes.get(number), sectors_at(place, image, partitions)
-        sizes[number] = length
-        if place.is_said and known not in (None, length):
-            raise Refusal(quoting.shown(path), f"lsblk says that {quoting.shown(number)} has {known} sectors, and "
-                          f"there it has {length}: give its own image")
-        if place.is_said or length == known:
-            continue
-        major, _, minor = number.partition(":")
-        is_of_sd = major in SD_MAJORS and minor.isdecimal()
-        is_disk = is_of_sd and int(minor) % 16 == 0
-        is_partition = is_of_sd and not is_disk or bool(PARTITION.fullmatch(number))
-        if any(known == it.size // numbers.SECTOR for it in partitions):
-            sizes[number] = known
-        elif kind and (is_partition or known is None and not is_disk):
-            raise Refusal(quoting.shown(path), f"the image of a whole disk ({kind}), and {quoting.shown(number)} "
-                          f"{'is' if is_partition else 'may be'} a partition: {GIVE}")
-    return sizes, of
-
-
-def partitions_of(image: Image, sector: int) -> Tuple[str, List[Partition]]:
-    """What the partition table of an image is called, or nothing, and its partitions, as far as they can be read; an
-    MBR counts in sectors of so many bytes. What is left of a GPT isn't the table of a physical volume."""
-    disk = Lenient(image)
-    try:
-        table = table_of(disk, sector) or (backup_of(disk) if label_of(disk)[0] is None else None)
-    except Refusal:
-        return "GPT", []
-    return (table.kind, table.partitions) if table else ("", [])
-
-
-def sectors_at(place: paths.DiskPlace, image: Image, partitions: List[Partition]) -> int:
-    """The sectors of an image, or of the partition or the physical volume in it that begins at a place. Refuses a place
-    at which neither does."""
-    if not place.start:
-        return image.size // numbers.SECTOR
-    check_places({"": place}, pile_at([place.path]))
-    label = label_at(image, place.start)
-    sizes = [each.size for each in partitions if each.start == place.start] + ([label.size] if label else [])
-    if not sizes:
-        raise Refusal(image.name, f"neither a partition nor a physical volume begins at byte {place.start}: see `scan` "
-                      "for where some do")
-    return sizes[0] // numbers.SECTOR
-
-
 def say_left_out(stack: Machine, kept: List[MachineDevice], disks: Dict[str, Optional[int]]) -> None:
     """Says what is left out, what is encrypted, and which copies answers lack."""
     left_out = [it for it in stack.devices.values() if it.why]
     for device in stack.devices.values():
         path = stack.lower(device.number)
-        if device.why and device.why != NOT_ASKED:
+        if device.why:
             disk = f", the disk {quoting.shown(path)}" if path in disks else ""
             streams.tell(f"left out: {quoting.shown(device.name)} ({device.why}){disk}")
         elif device.is_encrypted and not device.why:
             streams.tell(f"encrypted: the sectors below {device.name}, whose lines of crypt are linear here")
     for device in kept:
-        origin = device.lowers()[0] if device.has_only("snapshot-origin") else ""
+        origin = device.lowers()[0] if device.lines[0].target == "snapshot-origin" else ""
         of_it = [it for it in left_out if origin in it.origins] + [it for it in left_out if not it.is_described]
         for other in of_it if origin else ():
             what = f"{quoting.shown(other.name)}, which {'is' if other.origins else 'may be'} a snapshot of it"

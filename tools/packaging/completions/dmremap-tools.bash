@@ -5,32 +5,23 @@
 _dmremap_tools() {
     local word=${COMP_WORDS[COMP_CWORD]} offered=""
     if [ "$COMP_CWORD" -eq 1 ]; then
-        offered="scan save serve lost owner tables filefrag trace cut machine elsewhere thin btrfs metadata lvm2-text report dd spans tree extents store picture md explain --help"
+        offered="scan save serve lost owner tables filefrag trace machine metadata lvm2-text report layout store explain --help"
     elif [[ $word == -* ]]; then
         case ${COMP_WORDS[1]} in
             scan) offered="--help --json --program" ;;
-            save) offered="--help --resume --map --map-of-other-length --allow-missing --extents --ls --program --paths --fresh" ;;
+            save) offered="--help --map --map-of-other-length --resume --allow-missing --program --paths --fresh" ;;
             serve) offered="--help --map --map-of-other-length --socket --program" ;;
             lost) offered="--help --map --map-of-other-length --saved --program" ;;
-            owner) offered="--help --map --map-of-other-length --bytes --sector-size --program" ;;
+            owner) offered="--help --map --map-of-other-length --sector-size --opened --files --program" ;;
             tables) offered="--help --map --map-of-other-length --to --program" ;;
-            filefrag) offered="--help --addresses --debugfs --name --on --size --part --ls" ;;
-            trace) offered="--help --write-times --lower --fio" ;;
-            cut) offered="--help --bytes --ls" ;;
-            machine) offered="--help --disks --only --store --paths --sector-size" ;;
-            elsewhere) offered="--help --paths --prefix --missing --losetup" ;;
-            thin) offered="--help --data --device --external --metadata-snap --cache --origin --name --sectors --part" ;;
-            btrfs) offered="--help --name --disk --copy --part" ;;
-            metadata) offered="--help --list --seqno --at" ;;
-            lvm2-text) offered="--help --only --program" ;;
-            report) offered="--help --lengths --plot --times --compare" ;;
-            dd) offered="--help --requests --image --program --paths --fresh" ;;
-            spans) offered="--help --free --clashes --align --multiple" ;;
-            tree) offered="--help --dot" ;;
-            extents) offered="--help --ls --program --paths --fresh" ;;
-            store) offered="--help --requests --writes --chunk --kind --program --paths --fresh" ;;
-            picture) offered="--help --scale" ;;
-            md) offered="--help --name --follow --member --copy --path --sectors" ;;
+            filefrag) offered="--help" ;;
+            trace) offered="--help --write-times --lower --cut --bytes" ;;
+            machine) offered="--help --disks --store --program" ;;
+            metadata) offered="--help --list --at" ;;
+            lvm2-text) offered="--help --program" ;;
+            report) offered="--help --compare" ;;
+            layout) offered="--help --free --clashes --tree --dot --device --program --paths --fresh" ;;
+            store) offered="--help --requests --program --paths --fresh" ;;
             explain) offered="--help --program" ;;
         esac
     fi

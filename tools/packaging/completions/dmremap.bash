@@ -2,11 +2,11 @@
 # it to ~/.local/share/bash-completion/completions/dmremap.
 
 _dmremap() {
-    local commands="map table concise check replay metadata name splitname help" formats="lvm concise table images"
+    local commands="map table concise check replay read metadata name splitname help" formats="lvm concise table images"
     local word=${COMP_WORDS[COMP_CWORD]} offered="" files=false it
     # The words before this one that are no options, whether options may still follow, and whether the next word
     # is the value of one.
-    local given=() options=true redirected=false valued=false
+    local given=() options=true redirected=false valued=false number=false
     for it in "${COMP_WORDS[@]:1:COMP_CWORD-1}"; do
         if $redirected; then
             redirected=false
@@ -19,8 +19,9 @@ _dmremap() {
             [[ ${#given[@]} -eq 0 || ${given[${#given[@]} - 1]} != [0-9] ]] || unset "given[${#given[@]} - 1]"
         elif [[ $it == -- ]]; then
             options=false
-        elif [[ $it == --before || $it == --paths ]] && $options; then
-            valued=true
+        elif [[ $it == --before || $it == --paths || $it == --from || $it == --count ]] && $options; then
+            valued=true number=false
+            [[ $it != --from && $it != --count ]] || number=true
         elif [[ $it != -* ]] || ! $options; then
             given+=("$it")
         fi
@@ -33,12 +34,13 @@ _dmremap() {
         word=""
     fi
     if $redirected || $valued; then
-        files=true
+        ! $redirected && $number || files=true
     elif $options && [[ $word == -* ]]; then
         case ${given[0]-} in
             "") offered="--version --help" ;;
             map) offered="--status --before --paths --help" ;;
             replay) offered="--paths --help" ;;
+            read) offered="--from --count --paths --help" ;;
             help) ;;
             *) offered="--help" ;;
         esac

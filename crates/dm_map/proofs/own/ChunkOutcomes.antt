@@ -1,22 +1,6 @@
 -- What becomes of a chunk that is to be taken, with the facts that each case rests on: nothing is done, or it is taken, or its snapshot is lost; the state still fits.
-use Rattle.std.proofs.Common.{◌≡◌, ◌⊎◌, inl, inr, ℕ, zero, suc, ◌+◌, ◌<◌, ◌≤◌, Bool, true, false, cond, not, [], ◌∷◌, ◌++◌, length-append, Some, length, refl, sym, ap, ◌∙◌, arith}
-use Rattle.std.specs.Prelude.{is_some}
-use Rattle.std.proofs.lemmas.Bool.{and_parts, cases_eq, cases_lt, le-leb, leb-true, not-false, not-true, or_parts}
-use Rattle.std.proofs.lemmas.List.{length-set}
-use Rattle.dm_stack.specs.declared.lines.resolved_line.ResolvedSnapshot.{ResolvedSnapshot}
+use Rattle.dm_map.proofs.Prelude.{◌≡◌, ◌⊎◌, inl, inr, ℕ, zero, suc, ◌+◌, ◌<◌, ◌≤◌, Bool, true, false, cond, not, [], ◌∷◌, ◌++◌, length-append, Some, length, refl, sym, ap, ◌∙◌, arith, is_some, and_parts, cases_eq, cases_lt, le-leb, leb-true, not-false, not-true, or_parts, length-set, ResolvedSnapshot, Lower, Device, Disk, Below, Lies, IsZero, IsError, Description, IsFitting, by_below, read_below, read_unit, number_in, has_place, any_error, can_take, count_of, first_of, is_error, is_settled, read, reads_all, take_chunk, row, lost, put, with_chunk, State, Taken, taken_at, Step, keep, snapshot_at, BlockUnit, ReadOf, Zeros, Fails}
 use Rattle.dm_stack.specs.declared.checks.graph.TheConstants.{MOST_DEPTH}
-use Rattle.dm_stack.specs.declared.id.Lower.{Lower}
-use Rattle.dm_stack.specs.declared.id.Lower.TheVariants.{Device, Disk}
-use Rattle.dm_stack.specs.lines.Below.{Below, Lies, IsZero, IsError}
-use Rattle.dm_stack.specs.Description.{Description}
-use Rattle.dm_map.specs.state.Fitting.{IsFitting}
-use Rattle.dm_map.specs.walk.Reads.{by_below, read_below, read_unit}
-use Rattle.dm_map.specs.state.Snapshots.{number_in, has_place}
-use Rattle.dm_map.specs.walk.SnapshotWrites.{any_error, can_take, count_of, first_of, is_error, is_settled, read, reads_all, take_chunk, row}
-use Rattle.dm_map.specs.state.State.{lost, put, with_chunk, State, Taken, taken_at}
-use Rattle.dm_map.specs.walk.Steps.{Step, keep}
-use Rattle.dm_map.specs.state.Tables.{snapshot_at}
-use Rattle.dm_map.specs.pieces.Units.{BlockUnit, ReadOf, Zeros, Fails}
 use Rattle.dm_map.proofs.own.Plays.{IsReadable, Reads, AreZeros}
 use Rattle.dm_map.proofs.walk.ChunkTaking.{none_of, taken_other, taken_same}
 use Rattle.dm_map.proofs.own.Takes.{IsTake, chunk_copies, new_number, taken_state}
@@ -43,9 +27,6 @@ readable_of : (unit : BlockUnit) → IsRead unit → is_error unit ≡ false →
 readable_of unit (Sector disk sector is) e = Reads disk sector is
 readable_of unit (Nothing is) e = AreZeros is
 readable_of unit (Fault is) e = absurd (cc)
-  where
-    true_false : true ≡ false → ⊥
-    true_false same = cc
 
 no_errors : (f : ℕ → BlockUnit) (s n u : ℕ) → any_error (row f s n) ≡ false → s ≤ u → u < s + n → is_error (f u) ≡ false
 no_errors f s zero u e low high = absurd (omega (arith, low, high))

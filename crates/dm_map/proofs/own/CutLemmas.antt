@@ -1,32 +1,10 @@
 -- What a power cut may leave: no read from a root comes to a sector without data, and chunks that are taken ahead change nothing that roots have, but to errors.
-use Rattle.std.proofs.Common.{◌≡◌, ℕ, ◌+◌, ◌*◌, ◌/◌, ◌%◌, ◌<◌, true, false, List, Option, sym, ap, subst, ◌∙◌, arith}
-use Rattle.std.specs.List.{AllByRecursion}
-use Rattle.std.proofs.lemmas.Nat.{div-add-mod'}
-use Rattle.dm_stack.specs.declared.id.Lower.{Lower}
-use Rattle.dm_stack.specs.declared.id.Lower.TheVariants.{Device}
-use Rattle.dm_stack.specs.declared.lines.resolved_line.ResolvedSnapshot.{ResolvedSnapshot}
-use Rattle.dm_stack.specs.checks.Soundness.{IsSound}
-use Rattle.dm_stack.specs.claims.Claims.{IsTidy}
-use Rattle.dm_stack.specs.Description.{Description}
-use Rattle.dm_stack.specs.lines.StoreLayout.{is_metadata, place}
-use Rattle.dm_stack.proofs.StoreLayoutLemmas.{place_data}
-use Rattle.dm_map.specs.own.Contents.{Stays, Values, played, value_read}
-use Rattle.dm_map.specs.own.Cuts.{HaveSameData, IsOfSnapshot, IsSpareSector, take_chunks}
-use Rattle.dm_map.specs.own.Lists.{IsListSector}
-use Rattle.dm_map.specs.own.Losses.{Due}
-use Rattle.dm_map.specs.own.Rows.{AreOwn, Rows}
-use Rattle.dm_map.specs.own.Ways.{node}
-use Rattle.dm_map.specs.pieces.Units.{ReadOf}
-use Rattle.dm_map.specs.state.Fitting.{IsFitting}
-use Rattle.dm_map.specs.state.Snapshots.{store_sector}
-use Rattle.dm_map.specs.state.State.{State, taken_at}
-use Rattle.dm_map.specs.walk.SnapshotWrites.{read}
+use Rattle.dm_map.proofs.Prelude.{◌≡◌, ℕ, ◌+◌, ◌*◌, ◌/◌, ◌%◌, ◌<◌, true, false, List, Option, sym, ap, subst, ◌∙◌, arith, AllByRecursion, div-add-mod', same_from_place, true≢false, Lower, Device, ResolvedSnapshot, IsSound, IsTidy, Description, is_metadata, place, place_data, Stays, Values, played, value_read, HaveSameData, IsOfSnapshot, IsSpareSector, take_chunks, IsListSector, Due, AreOwn, Rows, node, ReadOf, IsFitting, store_sector, State, taken_at, read}
 use Rattle.dm_map.proofs.own.HomeLemmas.{fresh_apart}
 use Rattle.dm_map.proofs.own.Losses.{stays_on}
 use Rattle.dm_map.proofs.own.TakenInARow.{grown_same, ran, run_stays, value_kept}
 use Rattle.dm_map.proofs.own.UniqueSteps.{IsRoot, top_root}
 use Rattle.dm_map.proofs.own.WayLemmas.{read_touches}
-use Rattle.std.proofs.lemmas.Nat.{same_from_place}
 use Rattle.dm_map.proofs.state.ResolvedLines.{snapshot_sound}
 use Rattle.dm_map.proofs.state.TableLemmas.{number_within}
 
@@ -39,13 +17,10 @@ in_place snapshot number sector some =
     let whole : at / snapshot.chunk * snapshot.chunk + at % snapshot.chunk ≡ at = div-add-mod' at snapshot.chunk in
     (same_from_place (at / snapshot.chunk) (at % snapshot.chunk) (place snapshot.kind snapshot.chunk number) (sector % snapshot.chunk) snapshot.chunk (omega (arith, some)) (omega (arith, some)) whole).0
 
-true_false : true ≡ false → ⊥
-true_false e = cc
-
 -- and a list in no place
 pub list_no_place : (snapshot : ResolvedSnapshot) (number at : ℕ) → 0 < snapshot.chunk → is_metadata snapshot.kind snapshot.chunk at ≡ true → at ≡ place snapshot.kind snapshot.chunk number → ⊥
 list_no_place snapshot number at some list same =
-    true_false (sym list ∙ ap (is_metadata snapshot.kind snapshot.chunk) same ∙ place_data snapshot.kind snapshot.chunk number some)
+    true≢false (sym list ∙ ap (is_metadata snapshot.kind snapshot.chunk) same ∙ place_data snapshot.kind snapshot.chunk number some)
 
 pub list_spare : (stack : Description) (state : State) (disk sector : ℕ) → IsSound stack → IsListSector stack disk sector → IsSpareSector stack state disk sector
 list_spare stack state disk sector sound list =

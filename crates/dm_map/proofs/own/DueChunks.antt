@@ -1,28 +1,8 @@
 -- Chunks that are due for a write: it leaves the state that they leave, and each is one of a snapshot of the stack.
-use Rattle.std.proofs.Common.{◌≡◌, ℕ, zero, suc, ◌-◌, ◌*◌, ◌/◌, ◌<◌, Bool, true, false, cond, List, [], ◌∷◌, ◌++◌, Option, Some, None, refl, sym, ap, ◌∙◌, arith}
-use Rattle.std.specs.List.{AllByRecursion}
-use Rattle.std.proofs.Math.Nat.{div-mul-le_self}
-use Rattle.dm_stack.specs.declared.id.Lower.{Lower}
-use Rattle.dm_stack.specs.declared.id.Lower.TheVariants.{Device, Disk}
-use Rattle.dm_stack.specs.declared.lines.resolved_line.ResolvedLine.{ResolvedLine}
-use Rattle.dm_stack.specs.declared.lines.resolved_line.ResolvedOver.{ResolvedOver}
-use Rattle.dm_stack.specs.declared.lines.resolved_line.ResolvedTarget.{ResolvedTarget}
+use Rattle.dm_map.proofs.Prelude.{◌≡◌, ℕ, zero, suc, ◌-◌, ◌*◌, ◌/◌, ◌<◌, Bool, true, false, cond, List, [], ◌∷◌, ◌++◌, Option, Some, None, refl, sym, ap, ◌∙◌, arith, AllByRecursion, div-mul-le_self, Lower, Device, Disk, ResolvedLine, ResolvedOver, ResolvedTarget, Below, Lies, below_plain, found_at, Description, device_len, is_ro_at, lower_len, IsSound, Due, due_at_line, due_at_target, due_in, due_over, State, taken_at, snapshot_at, write_line, write_step, write_target, by_below, IsOver, serve, is_refused, take_chunk, unit_in_store, Step, keep, and_then, Drops, Fails, all_append}
 use Rattle.dm_stack.specs.declared.lines.resolved_line.ResolvedTarget.TheVariants as founds
-use Rattle.dm_stack.specs.lines.Below.{Below, Lies, below_plain, found_at}
-use Rattle.dm_stack.specs.Description.{Description, device_len, is_ro_at, lower_len}
-use Rattle.dm_stack.specs.checks.Soundness.{IsSound}
-use Rattle.dm_map.specs.own.Losses.{Due, due_at_line, due_at_target, due_in, due_over}
-use Rattle.dm_map.specs.state.State.{State, taken_at}
-use Rattle.dm_map.specs.state.Tables.{snapshot_at}
-use Rattle.dm_map.specs.walk.Mapping.{write_line, write_step, write_target}
-use Rattle.dm_map.specs.walk.Reads.{by_below}
-use Rattle.dm_map.specs.walk.Serving.{IsOver, serve}
-use Rattle.dm_map.specs.walk.SnapshotWrites.{is_refused, take_chunk, unit_in_store}
-use Rattle.dm_map.specs.walk.Steps.{Step, keep, and_then}
-use Rattle.dm_map.specs.pieces.Units.{Drops, Fails}
 use Rattle.dm_map.proofs.state.ResolvedLines.{line_origin, line_snapshot, line_sound, origin_sound}
 use Rattle.dm_map.proofs.walk.Overs.{overs}
-use Rattle.dm_table.proofs.Lists.{all_append}
 
 -- the state after one
 abbrev pub due_taken : Description → State → Due → State

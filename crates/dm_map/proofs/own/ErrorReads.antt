@@ -1,28 +1,6 @@
 -- Where a read is an error: where its way meets an `error` line or a snapshot that is lost.
-use Rattle.std.proofs.Common.{◌≡◌, ℕ, ◌+◌, ◌-◌, ◌/◌, ◌<◌, Bool, true, false, cond, List, [], ◌∷◌, Option, Some, None, length, refl, sym, ap, ◌∙◌, arith}
-use Rattle.std.specs.Prelude.{slice_get}
-use Rattle.dm_stack.specs.declared.id.Lower.{Lower}
-use Rattle.dm_stack.specs.declared.id.Lower.TheVariants.{Device, Disk}
-use Rattle.dm_stack.specs.declared.lines.resolved_columns.ResolvedColumn.{ResolvedColumn}
-use Rattle.dm_stack.specs.declared.lines.resolved_line.ResolvedLine.{ResolvedLine}
-use Rattle.dm_stack.specs.declared.lines.resolved_line.ResolvedSnapshot.{ResolvedSnapshot}
-use Rattle.dm_stack.specs.declared.lines.resolved_line.ResolvedTarget.{ResolvedTarget}
+use Rattle.dm_map.proofs.Prelude.{◌≡◌, ℕ, ◌+◌, ◌-◌, ◌/◌, ◌<◌, Bool, true, false, cond, List, [], ◌∷◌, Option, Some, None, length, refl, sym, ap, ◌∙◌, arith, slice_get, Lower, Device, Disk, ResolvedColumn, ResolvedLine, ResolvedSnapshot, ResolvedTarget, Below, Lies, IsZero, IsError, below_column, below_line, below_target, column_of, found_at, in_column, IsTargetSound, Description, device_len, lower_len, lower_depth, IsSound, device_there, sector_found, there, AtError, AtLost, EndsHere, MeetsError, IsWay, Leads, Node, node, IsFitting, number_in, read_numbered, read_over, State, taken_at, snapshot_at, by_below, read_below, read, ReadOf, Zeros, Fails}
 use Rattle.dm_stack.specs.declared.lines.resolved_line.ResolvedTarget.TheVariants as founds
-use Rattle.dm_stack.specs.lines.Below.{Below, Lies, IsZero, IsError, below_column, below_line, below_target, column_of, found_at, in_column, IsTargetSound}
-use Rattle.dm_stack.specs.Description.{Description, device_len, lower_len}
-use Rattle.dm_stack.specs.checks.Depth.{lower_depth}
-use Rattle.dm_stack.specs.checks.Soundness.{IsSound}
-use Rattle.dm_stack.proofs.InStack.{device_there}
-use Rattle.dm_stack.proofs.SoundLines.{sector_found, there}
-use Rattle.dm_map.specs.own.Errors.{AtError, AtLost, EndsHere, MeetsError}
-use Rattle.dm_map.specs.own.Ways.{IsWay, Leads, Node, node}
-use Rattle.dm_map.specs.state.Fitting.{IsFitting}
-use Rattle.dm_map.specs.state.Snapshots.{number_in, read_numbered, read_over}
-use Rattle.dm_map.specs.state.State.{State, taken_at}
-use Rattle.dm_map.specs.state.Tables.{snapshot_at}
-use Rattle.dm_map.specs.walk.Reads.{by_below, read_below}
-use Rattle.dm_map.specs.walk.SnapshotWrites.{read}
-use Rattle.dm_map.specs.pieces.Units.{ReadOf, Zeros, Fails}
 use Rattle.dm_map.proofs.own.UniqueSteps.{fits, goes_on_inside, read_inside, serve_inside, step_inside}
 use Rattle.dm_map.proofs.own.WayLemmas.{touch_first, touch_self}
 use Rattle.dm_map.proofs.state.ResolvedLines.{line_snapshot, snapshot_sound}

@@ -1,21 +1,6 @@
 -- Where no claims meet, each top device has what it would have alone, or errors, after the first units of any request of a top device.
-use Rattle.std.proofs.Common.{◌≡◌, inl, inr, ℕ, zero, suc, ◌+◌, ◌-◌, ◌≤◌, Bool, true, false, cond, List, [], ◌++◌, length, take, nat_lt, replicate, refl, ◌∙◌, arith}
-use Rattle.std.proofs.Math.Seq.{take-append-add, take-nil}
-use Rattle.std.proofs.lemmas.Bool.{cases_lt}
-use Rattle.std.proofs.lemmas.List.{take-append-le}
-use Rattle.dm_table.specs.declared.requests.request.Op.{Op}
+use Rattle.dm_map.proofs.Prelude.{◌≡◌, inl, inr, ℕ, zero, suc, ◌+◌, ◌-◌, ◌≤◌, Bool, true, false, cond, List, [], ◌++◌, length, take, nat_lt, replicate, refl, ◌∙◌, arith, take-append-add, take-nil, cases_lt, take-append-le, Op, Device, IsTidy, IsTop, Description, device_len, IsSound, Values, played, sector_past, sector_step, AreOwn, Rows, rows_played, State, Step, keep, steps, halted_state, halted_units, BlockUnit, Fails}
 use Rattle.dm_stack.specs.declared.checks.graph.TheConstants.{MOST_DEPTH}
-use Rattle.dm_stack.specs.declared.id.Lower.TheVariants.{Device}
-use Rattle.dm_stack.specs.claims.Claims.{IsTidy, IsTop}
-use Rattle.dm_stack.specs.Description.{Description, device_len}
-use Rattle.dm_stack.specs.checks.Soundness.{IsSound}
-use Rattle.dm_map.specs.own.Contents.{Values, played, sector_past}
-use Rattle.dm_map.specs.walk.Mapping.{sector_step}
-use Rattle.dm_map.specs.own.Rows.{AreOwn, Rows, rows_played}
-use Rattle.dm_map.specs.state.State.{State}
-use Rattle.dm_map.specs.walk.Steps.{Step, keep, steps}
-use Rattle.dm_map.specs.own.Halts.{halted_state, halted_units}
-use Rattle.dm_map.specs.pieces.Units.{BlockUnit, Fails}
 use Rattle.dm_map.proofs.own.OwnRequests.{both_own, none_own, played_first, rows_first, step_own}
 
 -- some number of sectors is whole, and the state is that after them: it is counted from any sector on

@@ -1,20 +1,6 @@
 -- Homes of a store's sectors: a way leads there, and no other way does.
-use Rattle.std.proofs.Common.{◌≡◌, ℕ, zero, suc, ◌/◌, ◌<◌, true, Some, refl, ap}
-use Rattle.dm_stack.specs.declared.lines.resolved_line.ResolvedSnapshot.{ResolvedSnapshot}
+use Rattle.dm_map.proofs.Prelude.{◌≡◌, ℕ, zero, suc, ◌/◌, ◌<◌, true, Some, refl, ap, ResolvedSnapshot, Lower, Device, Disk, IsError, below, IsTidy, Description, lower_len, IsSound, is_store_to, IsFitting, Home, home, home_to, store_sector, number_in, read_over, State, taken_at, snapshot_at, Node, node, Touches}
 use Rattle.dm_stack.specs.declared.checks.graph.TheConstants.{MOST_DEPTH}
-use Rattle.dm_stack.specs.declared.id.Lower.{Lower}
-use Rattle.dm_stack.specs.declared.id.Lower.TheVariants.{Device, Disk}
-use Rattle.dm_stack.specs.lines.Below.{IsError, below}
-use Rattle.dm_stack.specs.claims.Claims.{IsTidy}
-use Rattle.dm_stack.specs.Description.{Description, lower_len}
-use Rattle.dm_stack.specs.checks.Soundness.{IsSound}
-use Rattle.dm_stack.specs.checks.Store.{is_store_to}
-use Rattle.dm_map.specs.state.Fitting.{IsFitting}
-use Rattle.dm_map.specs.walk.Homes.{Home, home, home_to}
-use Rattle.dm_map.specs.state.Snapshots.{store_sector, number_in, read_over}
-use Rattle.dm_map.specs.state.State.{State, taken_at}
-use Rattle.dm_map.specs.state.Tables.{snapshot_at}
-use Rattle.dm_map.specs.own.Ways.{Node, node, Touches}
 use Rattle.dm_map.proofs.own.UniqueSteps.{IsNoLines, IsRoot, only_by_line, only_by_store, goes_on_inside, store_no_lines}
 use Rattle.dm_map.proofs.state.ResolvedLines.{snapshot_sound}
 use Rattle.dm_map.proofs.walk.ReadSteps.{IsLineStep, read_step, line_step}

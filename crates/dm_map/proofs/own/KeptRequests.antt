@@ -1,18 +1,7 @@
 -- What a chunk that is due leaves as it is, the first sectors of a request do; so a state that fits its stack still fits after them.
-use Rattle.std.proofs.Common.{ℕ, zero, suc, ◌+◌, Bool, true, false, List, [], ◌∷◌, nat_lt}
-use Rattle.std.specs.List.{AllByRecursion}
-use Rattle.dm_table.specs.declared.requests.request.Op.{Op}
+use Rattle.dm_map.proofs.Prelude.{ℕ, zero, suc, ◌+◌, Bool, true, false, List, [], ◌∷◌, nat_lt, AllByRecursion, Op, Device, Description, device_len, IsSound, state_past, Due, due, IsFitting, State, sector_step, take_chunk}
 use Rattle.dm_table.specs.declared.requests.request.Op.TheVariants as ops
 use Rattle.dm_stack.specs.declared.checks.graph.TheConstants.{MOST_DEPTH}
-use Rattle.dm_stack.specs.declared.id.Lower.TheVariants.{Device}
-use Rattle.dm_stack.specs.Description.{Description, device_len}
-use Rattle.dm_stack.specs.checks.Soundness.{IsSound}
-use Rattle.dm_map.specs.own.Halts.{state_past}
-use Rattle.dm_map.specs.own.Losses.{Due, due}
-use Rattle.dm_map.specs.state.Fitting.{IsFitting}
-use Rattle.dm_map.specs.state.State.{State}
-use Rattle.dm_map.specs.walk.Mapping.{sector_step}
-use Rattle.dm_map.specs.walk.SnapshotWrites.{take_chunk}
 use Rattle.dm_map.proofs.own.ChunkOutcomes.{full_outcome, full_outcome_fits}
 use Rattle.dm_map.proofs.own.DueChunks.{IsDue, all_due, all_taken, due_taken, write_leaves}
 use Rattle.dm_map.proofs.own.LostSnapshots.{due_there, past_by, state_at}

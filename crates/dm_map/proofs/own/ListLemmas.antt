@@ -1,39 +1,7 @@
 -- Lists of stores: no unit of a request of a top device writes there.
-use Rattle.std.proofs.Common.{◌≡◌, ℕ, zero, suc, ◌+◌, ◌/◌, ◌<◌, Bool, true, false, cond, List, [], ◌∷◌, ◌++◌, Some, take, drop, nat_lt, replicate, refl, sym, ap, ◌∙◌}
-use Rattle.std.specs.List.{AllByRecursion}
-use Rattle.std.proofs.lemmas.List.{take-append-drop}
-use Rattle.dm_table.specs.declared.requests.request.Op.{Op}
+use Rattle.dm_map.proofs.Prelude.{◌≡◌, ℕ, zero, suc, ◌+◌, ◌/◌, ◌<◌, Bool, true, false, cond, List, [], ◌∷◌, ◌++◌, Some, take, drop, nat_lt, replicate, refl, sym, ap, ◌∙◌, AllByRecursion, take-append-drop, true≢false, Op, Own, Lower, Device, ResolvedSnapshot, IsSound, is_store_to, IsTidy, IsTop, Description, device_len, lower_len, Lies, found_at, has_state, is_metadata, all_append, all_front, IsVia, one_via, Values, answers, played, played_unit, sector_after, IsOfSnapshot, take_chunks, halted_units, IsListSector, Due, write, IsWay, Leads, Node, node, BlockUnit, WriteOf, Fails, CopyOf, FillOf, IsFitting, read_over, store_sector, State, taken_at, snapshot_at, Home, home, request_step, sector_step, read_below, copy_to, count_of, first_of, home_in_store, read, take_chunk, Step, keep, steps}
 use Rattle.dm_table.specs.declared.requests.request.Op.TheVariants as ops
 use Rattle.dm_stack.specs.declared.checks.graph.TheConstants.{MOST_DEPTH}
-use Rattle.dm_stack.specs.declared.id.Lower.{Lower}
-use Rattle.dm_stack.specs.declared.id.Lower.TheVariants.{Device}
-use Rattle.dm_stack.specs.declared.lines.resolved_line.ResolvedSnapshot.{ResolvedSnapshot}
-use Rattle.dm_stack.specs.checks.Soundness.{IsSound}
-use Rattle.dm_stack.specs.checks.Store.{is_store_to}
-use Rattle.dm_stack.specs.claims.Claims.{IsTidy, IsTop}
-use Rattle.dm_table.specs.declared.tables.table.Use.TheVariants.{Own}
-use Rattle.dm_table.proofs.Lists.{all_append, all_front}
-use Rattle.dm_stack.specs.Description.{Description, device_len, lower_len}
-use Rattle.dm_stack.specs.lines.Below.{Lies, found_at, has_state}
-use Rattle.dm_stack.specs.lines.StoreLayout.{is_metadata}
-use Rattle.dm_stack.proofs.Apart.{IsVia, one_via}
-use Rattle.dm_map.specs.own.Contents.{Values, answers, played, played_unit, sector_after}
-use Rattle.dm_map.specs.own.Cuts.{IsOfSnapshot, take_chunks}
-use Rattle.dm_map.specs.own.Halts.{halted_units}
-use Rattle.dm_map.specs.own.Lists.{IsListSector}
-use Rattle.dm_map.specs.own.Losses.{Due}
-use Rattle.dm_map.specs.own.Tops.{write}
-use Rattle.dm_map.specs.own.Ways.{IsWay, Leads, Node, node}
-use Rattle.dm_map.specs.pieces.Units.{BlockUnit, WriteOf, Fails, CopyOf, FillOf}
-use Rattle.dm_map.specs.state.Fitting.{IsFitting}
-use Rattle.dm_map.specs.state.Snapshots.{read_over, store_sector}
-use Rattle.dm_map.specs.state.State.{State, taken_at}
-use Rattle.dm_map.specs.state.Tables.{snapshot_at}
-use Rattle.dm_map.specs.walk.Homes.{Home, home}
-use Rattle.dm_map.specs.walk.Mapping.{request_step, sector_step}
-use Rattle.dm_map.specs.walk.Reads.{read_below}
-use Rattle.dm_map.specs.walk.SnapshotWrites.{copy_to, count_of, first_of, home_in_store, read, take_chunk}
-use Rattle.dm_map.specs.walk.Steps.{Step, keep, steps}
 use Rattle.dm_map.proofs.own.ChunkOutcomes.{FullOutcome, Done, Taking, Losing, IsRead, Sector, Nothing, Fault, full_outcome, full_outcome_fits, is_read}
 use Rattle.dm_map.proofs.own.CutLemmas.{in_place, list_no_place, list_spare, spare_unread}
 use Rattle.dm_map.proofs.own.HomeLemmas.{home_touched, store_touches}
@@ -51,9 +19,6 @@ use Rattle.dm_map.proofs.walk.ReadSteps.{read_step}
 use Rattle.dm_map.proofs.walk.Stores.{below_store, store_line}
 
 -- A place is no part of a list
-
-true_false : true ≡ false → ⊥
-true_false e = cc
 
 list_off : (snapshot : ResolvedSnapshot) (n t m : ℕ) → 0 < snapshot.chunk → is_metadata snapshot.kind snapshot.chunk (m / snapshot.chunk) ≡ true → m ≡ store_sector snapshot n t → ⊥
 list_off snapshot n t m some list same = list_no_place snapshot n (m / snapshot.chunk) some list (ap (λ (x : ℕ). x / snapshot.chunk) same ∙ in_place snapshot n t some)
@@ -86,11 +51,11 @@ store_way stack state from to (last ∷ before) sound of way = store_next stack 
 
 plain_store : (stack : Description) (levels device : ℕ) (snapshot : ResolvedSnapshot) → is_store_to stack levels (Device device) ≡ true → snapshot_at stack device ≡ Some snapshot → ⊥
 unfolding is_store_to
-plain_store stack zero device snapshot store over = true_false (sym store)
+plain_store stack zero device snapshot store over = true≢false (sym store)
 plain_store stack (suc levels) device snapshot store over =
     let first = first_line stack device snapshot (found_at stack device 0) refl over in
     let plain = store_line stack levels device 0 first.0 store first.1 in
-    true_false (sym (ap has_state first.2) ∙ plain)
+    true≢false (sym (ap has_state first.2) ∙ plain)
 
 same_store : (stack : Description) (levels : ℕ) (lower other : Lower) → lower ≡ other → is_store_to stack levels lower ≡ true → is_store_to stack levels other ≡ true
 same_store stack levels lower other same store = ap (is_store_to stack levels) (sym same) ∙ store
@@ -185,10 +150,10 @@ last_off zeros stack unit no_list no_copy no_fill = record { off = λ written va
 -- The units of a sector
 
 no_copy : (disk at to to_at : ℕ) (unit : BlockUnit) → answers unit ≡ true → unit ≡ CopyOf disk at to to_at → ⊥
-no_copy disk at to to_at unit answered e = true_false (sym answered ∙ ap answers e)
+no_copy disk at to to_at unit answered e = true≢false (sym answered ∙ ap answers e)
 
 no_fill : (disk at : ℕ) (unit : BlockUnit) → answers unit ≡ true → unit ≡ FillOf disk at → ⊥
-no_fill disk at unit answered e = true_false (sym answered ∙ ap answers e)
+no_fill disk at unit answered e = true≢false (sym answered ∙ ap answers e)
 
 write_off : {V : Type 0} (zeros : V) (stack : Description) (state : State) (top sector : ℕ) → IsSound stack → IsTidy stack → IsTop stack top → IsFitting stack state → AllByRecursion (IsOff zeros stack) (write stack state (Device top) sector).units
 write_off {V = V} zeros stack state top sector sound tidy is_top fitting =

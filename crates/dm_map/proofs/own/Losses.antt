@@ -1,19 +1,6 @@
 -- A snapshot that is lost: what any sector has stays, or is an error.
-use Rattle.std.proofs.Common.{◌≡◌, ◌⊎◌, inl, inr, ℕ, ◌-◌, ◌<◌, false, Option, Some, None, length, refl, sym, ap, ◌∙◌}
-use Rattle.std.proofs.lemmas.Bool.{cases_eq}
-use Rattle.dm_stack.specs.declared.lines.resolved_line.ResolvedLine.{ResolvedLine}
-use Rattle.dm_stack.specs.declared.lines.resolved_line.ResolvedTarget.{ResolvedTarget}
+use Rattle.dm_map.proofs.Prelude.{◌≡◌, ◌⊎◌, inl, inr, ℕ, ◌-◌, ◌<◌, false, Option, Some, None, length, refl, sym, ap, ◌∙◌, cases_eq, ResolvedLine, ResolvedTarget, Lower, Device, Disk, Below, Lies, IsError, below_line, below_target, found_at, Description, lower_depth, IsSound, Values, Stays, content, value_read, by_below, read_below, read_over, lost, put, State, Taken, taken_at}
 use Rattle.dm_stack.specs.declared.lines.resolved_line.ResolvedTarget.TheVariants as founds
-use Rattle.dm_stack.specs.declared.id.Lower.{Lower}
-use Rattle.dm_stack.specs.declared.id.Lower.TheVariants.{Device, Disk}
-use Rattle.dm_stack.specs.lines.Below.{Below, Lies, IsError, below_line, below_target, found_at}
-use Rattle.dm_stack.specs.Description.{Description}
-use Rattle.dm_stack.specs.checks.Depth.{lower_depth}
-use Rattle.dm_stack.specs.checks.Soundness.{IsSound}
-use Rattle.dm_map.specs.own.Contents.{Values, Stays, content, value_read}
-use Rattle.dm_map.specs.walk.Reads.{by_below, read_below}
-use Rattle.dm_map.specs.state.Snapshots.{read_over}
-use Rattle.dm_map.specs.state.State.{lost, put, State, Taken, taken_at}
 use Rattle.dm_map.proofs.walk.OneLevel.{by_depth, next_depth, read_disk}
 use Rattle.dm_map.proofs.walk.ChunkTaking.{taken_other, taken_same}
 use Rattle.dm_map.proofs.own.Takes.{content_down, next_same}

@@ -1,25 +1,7 @@
 -- When a snapshot is lost: exactly by a chunk that is due and can't be taken; and what is lost stays so.
-use Rattle.std.proofs.Common.{◌≡◌, ◌⊎◌, inl, inr, ℕ, zero, suc, ◌+◌, ◌<◌, ◌≤◌, Bool, true, false, cond, not, List, [], ◌∷◌, None, length, nat_lt, replicate, refl, sym, ap, ◌∙◌, arith}
-use Rattle.std.specs.Prelude.{◌↔◌, ◌&&◌, ◌||◌, is_some}
-use Rattle.std.specs.List.{AllByRecursion}
-use Rattle.std.proofs.lemmas.Bool.{cases_Bool, cases_eq, cases_lt, le-ltb, ltb-false, not-false, or_parts}
-use Rattle.std.proofs.lemmas.List.{set_past}
-use Rattle.dm_table.specs.declared.requests.request.Op.{Op}
+use Rattle.dm_map.proofs.Prelude.{◌≡◌, ◌⊎◌, inl, inr, ℕ, zero, suc, ◌+◌, ◌<◌, ◌≤◌, Bool, true, false, cond, not, List, [], ◌∷◌, None, length, nat_lt, replicate, refl, sym, ap, ◌∙◌, arith, ◌↔◌, ◌&&◌, ◌||◌, is_some, AllByRecursion, cases_Bool, cases_eq, cases_lt, le-ltb, ltb-false, not-false, or_parts, set_past, true≢false, Op, Lower, Device, Description, device_len, IsSound, state_past, AreLosing, Due, HasError, IsLosing, IsLostIn, due, write, has_place, number_in, State, Taken, lost, put, taken_at, with_chunk, request_step, sector_step, any_error, can_take, copies, count_of, first_of, is_error, is_settled, read, row, take_chunk, Step, keep, steps, BlockUnit, Fails}
 use Rattle.dm_table.specs.declared.requests.request.Op.TheVariants as ops
 use Rattle.dm_stack.specs.declared.checks.graph.TheConstants.{MOST_DEPTH}
-use Rattle.dm_stack.specs.declared.id.Lower.{Lower}
-use Rattle.dm_stack.specs.declared.id.Lower.TheVariants.{Device}
-use Rattle.dm_stack.specs.Description.{Description, device_len}
-use Rattle.dm_stack.specs.checks.Soundness.{IsSound}
-use Rattle.dm_map.specs.own.Halts.{state_past}
-use Rattle.dm_map.specs.own.Losses.{AreLosing, Due, HasError, IsLosing, IsLostIn, due}
-use Rattle.dm_map.specs.own.Tops.{write}
-use Rattle.dm_map.specs.state.Snapshots.{has_place, number_in}
-use Rattle.dm_map.specs.state.State.{State, Taken, lost, put, taken_at, with_chunk}
-use Rattle.dm_map.specs.walk.Mapping.{request_step, sector_step}
-use Rattle.dm_map.specs.walk.SnapshotWrites.{any_error, can_take, copies, count_of, first_of, is_error, is_settled, read, row, take_chunk}
-use Rattle.dm_map.specs.walk.Steps.{Step, keep, steps}
-use Rattle.dm_map.specs.pieces.Units.{BlockUnit, Fails}
 use Rattle.dm_map.proofs.own.DueChunks.{IsDue, all_due, all_taken, due_taken, write_leaves}
 use Rattle.dm_map.proofs.state.ResolvedLines.{snapshot_sound}
 use Rattle.dm_map.proofs.walk.ChunkTaking.{Settled, Took, Lost, ChunkOutcome, chunk_outcome, none_of, not_settled, taken_other, taken_same}
@@ -61,13 +43,10 @@ error_here f sector (suc len) at from before fails = elim (cases_eq sector at) [
 
 -- A chunk can't be taken exactly where there is no place, or a sector of it is an error
 
-both_ways : true ≡ false → ⊥
-both_ways e = cc
-
 cant : (placed : Bool) (errors : Bool) → (placed && not errors) ≡ false → (placed ≡ false) ⊎ (errors ≡ true)
 cant false errors e = inl refl
 cant true true e = inr refl
-cant true false e = absurd (both_ways e)
+cant true false e = absurd (true≢false e)
 
 cant_back : (placed : Bool) (errors : Bool) → (placed ≡ false) ⊎ (errors ≡ true) → (placed && not errors) ≡ false
 cant_back placed errors (inl none) = rw none refl
@@ -104,10 +83,10 @@ losing_by : (stack : Description) (state : State) (device : ℕ) (one : Due) (se
     → can_take stack state one.snapshot one.device (first_of one.snapshot one.chunk) (count_of stack one.snapshot one.device one.chunk) ≡ can
     → (taken_at (cond settled (keep [] state) (cond can (keep units (put state one.device (with_chunk (taken_at state one.device) one.chunk))) (keep [] (put state one.device (lost (taken_at state one.device)))))).state device).valid ≡ false
     → IsLosing stack state device one
-losing_by stack state device one true can units there valid settled_is can_is gone = absurd (both_ways (sym valid ∙ gone))
+losing_by stack state device one true can units there valid settled_is can_is gone = absurd (true≢false (sym valid ∙ gone))
 losing_by stack state device one false true units there valid settled_is can_is gone =
     let parts = or_parts (not (taken_at state one.device).valid) (is_some (number_in one.chunk (taken_at state one.device).chunks)) settled_is in
-    absurd (both_ways (sym (valid_put state one.device device (with_chunk (taken_at state one.device) one.chunk) there (not-false (taken_at state one.device).valid parts.0) valid) ∙ gone))
+    absurd (true≢false (sym (valid_put state one.device device (with_chunk (taken_at state one.device) one.chunk) there (not-false (taken_at state one.device).valid parts.0) valid) ∙ gone))
 losing_by stack state device one false false units there valid settled_is can_is gone = elim (cases_eq device one.device) [
   | inl same ↦
       let parts = or_parts (not (taken_at state one.device).valid) (is_some (number_in one.chunk (taken_at state one.device).chunks)) settled_is in
@@ -117,7 +96,7 @@ losing_by stack state device one false false units there valid settled_is can_is
         fresh = none_of (number_in one.chunk (taken_at state one.device).chunks) parts.1;
         why = why_not stack state one can_is;
       })
-  | inr differ ↦ absurd (both_ways (sym (ap (λ (t : Taken). t.valid) (taken_other state one.device device (lost (taken_at state one.device)) differ) ∙ valid) ∙ gone))
+  | inr differ ↦ absurd (true≢false (sym (ap (λ (t : Taken). t.valid) (taken_other state one.device device (lost (taken_at state one.device)) differ) ∙ valid) ∙ gone))
 ]
 
 pub losing : (stack : Description) (state : State) (device : ℕ) (one : Due) → one.device < length state → (taken_at state device).valid ≡ true → (taken_at (due_taken stack state one) device).valid ≡ false → IsLosing stack state device one
@@ -127,8 +106,8 @@ losing stack state device one there valid gone =
 
 loses_by : (state : State) (one : Due) (settled can : Bool) (units : List BlockUnit) → one.device < length state → settled ≡ false → can ≡ false
     → (taken_at (cond settled (keep [] state) (cond can (keep units (put state one.device (with_chunk (taken_at state one.device) one.chunk))) (keep [] (put state one.device (lost (taken_at state one.device)))))).state one.device).valid ≡ false
-loses_by state one true can units there fresh cant = absurd (both_ways fresh)
-loses_by state one false true units there fresh cant = absurd (both_ways cant)
+loses_by state one true can units there fresh cant = absurd (true≢false fresh)
+loses_by state one false true units there fresh cant = absurd (true≢false cant)
 loses_by state one false false units there fresh cant = ap (λ (t : Taken). t.valid) (taken_same state one.device (lost (taken_at state one.device)) there)
 
 loses : (stack : Description) (state : State) (device : ℕ) (one : Due) → one.device < length state → IsLosing stack state device one → (taken_at (due_taken stack state one) device).valid ≡ false
@@ -174,7 +153,7 @@ count_kept stack state one = (take_chunk_keeps stack one.snapshot one.device one
 
 all_losing : (stack : Description) (state : State) (device : ℕ) (dues : List Due) → IsSound stack → length state ≡ length stack.devices → AllByRecursion (IsDue stack) dues → (taken_at state device).valid ≡ true
     → (taken_at (all_taken stack state dues) device).valid ≡ false → AreLosing stack state device dues
-all_losing stack state device [] sound count each valid gone = both_ways (sym valid ∙ gone)
+all_losing stack state device [] sound count each valid gone = true≢false (sym valid ∙ gone)
 all_losing stack state device (one ∷ later) sound count each valid gone = elim (cases_Bool (taken_at (due_taken stack state one) device).valid) [
   | inl still ↦ inr (all_losing stack (due_taken stack state one) device later sound (count_kept stack state one ∙ count) each.1 still gone)
   | inr now ↦ inl (losing stack state device one (due_there stack state one sound count each.0) valid now)
@@ -223,7 +202,7 @@ step_count stack ops.Write state asked sector = ap length (write_leaves stack MO
 
 step_loses : (stack : Description) (op : Op) (state : State) (asked sector device : ℕ) → IsSound stack → length state ≡ length stack.devices → (taken_at state device).valid ≡ true → (taken_at (sector_step stack op MOST_DEPTH (Device asked) state sector).state device).valid ≡ false
     → (op ≡ ops.Write) × AreLosing stack state device (due stack state (Device asked) sector)
-step_loses stack ops.Read state asked sector device sound count valid gone = absurd (both_ways (sym valid ∙ gone))
+step_loses stack ops.Read state asked sector device sound count valid gone = absurd (true≢false (sym valid ∙ gone))
 step_loses stack ops.Write state asked sector device sound count valid gone = (refl, (write_loses stack state (Device asked) sector device sound count valid).0 gone)
 
 -- one of them lost it
@@ -241,7 +220,7 @@ later_lost stack state device op asked start sectors is =
 
 sectors_lose : (stack : Description) (state : State) (op : Op) (asked start sectors device : ℕ) → IsSound stack → length state ≡ length stack.devices → (taken_at state device).valid ≡ true
     → (taken_at (state_at stack op asked start sectors state) device).valid ≡ false → IsLostAt stack state device op asked start sectors
-sectors_lose stack state op asked start zero device sound count valid gone = absurd (both_ways (sym valid ∙ gone))
+sectors_lose stack state op asked start zero device sound count valid gone = absurd (true≢false (sym valid ∙ gone))
 sectors_lose stack state op asked start (suc sectors) device sound count valid gone =
     let after = (sector_step stack op MOST_DEPTH (Device asked) state start).state in
     elim (cases_Bool (taken_at after device).valid) [
@@ -297,7 +276,7 @@ pub request_loses : (stack : Description) (state : State) (op : Op) (asked start
 request_loses stack state op asked start len sectors device sound count valid gone = by_end (nat_lt (device_len stack asked) (start + len)) refl gone
   where
     by_end : (past : Bool) → nat_lt (device_len stack asked) (start + len) ≡ past → (taken_at (past_by past stack op asked start sectors state) device).valid ≡ false → IsLostIn stack state device op asked start len sectors
-    by_end true is gone = absurd (both_ways (sym valid ∙ gone))
+    by_end true is gone = absurd (true≢false (sym valid ∙ gone))
     by_end false is gone =
         let found = sectors_lose stack state op asked start sectors device sound count valid gone in
         let end = ltb-false _ _ is in

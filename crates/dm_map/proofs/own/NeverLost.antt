@@ -1,46 +1,11 @@
 -- Where no line is an `error` line and each store has room for all chunks of its snapshot, no snapshot is lost and no read is an error.
-use Rattle.std.proofs.Common.{◌≡◌, inl, inr, ℕ, ◌+◌, ◌-◌, ◌*◌, ◌/◌, ◌<◌, ◌≤◌, Bool, true, false, List, [], ◌∷◌, ◌++◌, Option, Some, None, length, nat_eq, refl, sym, ap, subst, ◌∙◌, arith}
-use Rattle.std.specs.Prelude.{◌||◌}
-use Rattle.std.specs.List.{AllByRecursion, IsDistinct, list_any}
-use Rattle.std.proofs.Math.Nat.{le-div_iff_mul-le}
-use Rattle.std.proofs.lemmas.Bool.{cases_eq, eqb-true, le-leb, true_from_ne_false}
-use Rattle.std.proofs.lemmas.List.{length-append}
-use Rattle.std.proofs.lemmas.Map.Steps.{length-le_from_distinct_below}
-use Rattle.dm_table.specs.declared.requests.request.Op.{Op}
-use Rattle.dm_table.specs.declared.tables.table.Line.{Line}
-use Rattle.dm_table.specs.declared.tables.table.Target.{Target}
+use Rattle.dm_map.proofs.Prelude.{◌≡◌, inl, inr, ℕ, ◌+◌, ◌-◌, ◌*◌, ◌/◌, ◌<◌, ◌≤◌, Bool, true, false, List, [], ◌∷◌, ◌++◌, Option, Some, None, length, nat_eq, refl, sym, ap, subst, ◌∙◌, arith, ◌||◌, AllByRecursion, IsDistinct, list_any, le-div_iff_mul-le, cases_eq, eqb-true, le-leb, true_from_ne_false, length-append, length-le_from_distinct_below, true≢false, none-some, Op, Line, Target, Lower, Device, ResolvedLine, ResolvedSnapshot, ResolvedTarget, all_append, IsSnapshotSound, found_at, resolved_target, holds, line_of, place_count, IsTidy, IsTop, Description, device_len, lines_at, lower_len, HasGoodChunk, IsSound, device_sound, found, lines_there, of_device, there, AreOwnChunks, AreExact, IsAmple, IsAmpleTarget, IsIntact, TookOwn, chunk_count, Stays, Values, content, played, sector_past, value_read, AtError, AtLost, EndsHere, halted_state, halted_units, state_past, Due, HasError, IsLosing, AreOwn, Rows, first_rows, rows_played, IsFitting, number_in, State, Taken, lost, put, start_state, taken_at, with_chunk, snapshot_at, request_step, read, take_chunk, Step, BlockUnit, Fails}
 use Rattle.dm_table.specs.declared.tables.table.Target.TheVariants as targets
-use Rattle.dm_table.proofs.Lists.{all_append}
 use Rattle.dm_stack.specs.declared.checks.graph.TheConstants.{MOST_DEPTH}
-use Rattle.dm_stack.specs.declared.id.Lower.{Lower}
-use Rattle.dm_stack.specs.declared.id.Lower.TheVariants.{Device}
-use Rattle.dm_stack.specs.declared.lines.resolved_line.ResolvedLine.{ResolvedLine}
-use Rattle.dm_stack.specs.declared.lines.resolved_line.ResolvedSnapshot.{ResolvedSnapshot}
-use Rattle.dm_stack.specs.declared.lines.resolved_line.ResolvedTarget.{ResolvedTarget}
 use Rattle.dm_stack.specs.declared.lines.resolved_line.ResolvedTarget.TheVariants as founds
-use Rattle.dm_stack.specs.lines.Below.{IsSnapshotSound, found_at, resolved_target, holds, line_of}
-use Rattle.dm_stack.specs.lines.StoreLayout.{place_count}
-use Rattle.dm_stack.specs.claims.Claims.{IsTidy, IsTop}
-use Rattle.dm_stack.specs.Description.{Description, device_len, lines_at, lower_len}
-use Rattle.dm_stack.specs.checks.Soundness.{HasGoodChunk, IsSound}
-use Rattle.dm_stack.proofs.SoundLines.{device_sound, found, lines_there, of_device, there}
 use Rattle.dm_stack.proofs.ChunkLemmas.{good_lines}
 use Rattle.dm_stack.proofs.StoreLayoutLemmas.{has_place}
-use Rattle.dm_map.specs.own.Ample.{AreOwnChunks, AreExact, IsAmple, IsAmpleTarget, IsIntact, TookOwn, chunk_count}
-use Rattle.dm_map.specs.own.Contents.{Stays, Values, content, played, sector_past, value_read}
-use Rattle.dm_map.specs.own.Errors.{AtError, AtLost, EndsHere}
-use Rattle.dm_map.specs.own.Halts.{halted_state, halted_units, state_past}
-use Rattle.dm_map.specs.own.Losses.{Due, HasError, IsLosing}
-use Rattle.dm_map.specs.own.Rows.{AreOwn, Rows, first_rows, rows_played}
-use Rattle.dm_map.specs.state.Fitting.{IsFitting}
-use Rattle.dm_map.specs.state.Snapshots.{number_in}
 use Rattle.dm_map.specs.state.Snapshots as snapshots
-use Rattle.dm_map.specs.state.State.{State, Taken, lost, put, start_state, taken_at, with_chunk}
-use Rattle.dm_map.specs.state.Tables.{snapshot_at}
-use Rattle.dm_map.specs.walk.Mapping.{request_step}
-use Rattle.dm_map.specs.walk.SnapshotWrites.{read, take_chunk}
-use Rattle.dm_map.specs.walk.Steps.{Step}
-use Rattle.dm_map.specs.pieces.Units.{BlockUnit, Fails}
 use Rattle.dm_map.proofs.own.ChunkOutcomes.{IsRead, Sector, Nothing, Fault, is_read}
 use Rattle.dm_map.proofs.own.DueChunks.{IsDue, due_taken}
 use Rattle.dm_map.proofs.own.ErrorReads.{meets_error}
@@ -91,10 +56,7 @@ ample_room stack device snapshot sound ample over =
 
 ends_never : (stack : Description) (state : State) (device sector : ℕ) → IsSound stack → IsAmple stack → IsIntact stack state → EndsHere stack state device sector → ⊥
 ends_never stack state device sector sound ample intact (AtError line is target) = ample_error stack device sector line sound ample is target
-ends_never stack state device sector sound ample intact (AtLost snapshot over off) = both_ways (sym (intact.valid device) ∙ off)
-  where
-    both_ways : true ≡ false → ⊥
-    both_ways e = cc
+ends_never stack state device sector sound ample intact (AtLost snapshot over off) = true≢false (sym (intact.valid device) ∙ off)
 
 pub never_fails : (stack : Description) (state : State) (lower : Lower) (sector : ℕ) → IsSound stack → IsAmple stack → IsIntact stack state → sector < lower_len stack lower → read stack state lower sector ≡ Fails → ⊥
 never_fails stack state lower sector sound ample intact inside fails =
@@ -153,12 +115,9 @@ never_losing stack state device one sound ample intact is losing = elim losing.w
   | inl full ↦
       let fresh : number_in one.chunk (taken_at state one.device).chunks ≡ None = rw losing.of losing.fresh in
       let full : snapshots.has_place stack one.snapshot (length (taken_at state one.device).chunks) ≡ false = rw losing.of full in
-      both_ways (sym (placed stack state one sound ample intact is fresh) ∙ full)
+      true≢false (sym (placed stack state one sound ample intact is fresh) ∙ full)
   | inr error ↦ error_never stack state one sound ample intact is error
 ]
-  where
-    both_ways : true ≡ false → ⊥
-    both_ways e = cc
 
 -- A chunk that is due leaves each snapshot chunks of its own, in any stack
 
@@ -244,12 +203,9 @@ value_by zeros values unit (Sector disk sector is) never = record { value = valu
 value_by zeros values unit (Nothing is) never = record { value = zeros; is = rw is refl }
 value_by zeros values unit (Fault is) never = absurd (never is)
 
-some_none : {V : Type 0} (value : V) → Some value ≡ None → ⊥
-some_none value e = cc
-
 of_row : {V : Type 0} (row given : Option V) → HasValue given → Stays row given → (value : V) × (given ≡ Some value) × (row ≡ Some value)
 of_row row given has (inl same) = (has.value, has.is, sym same ∙ has.is)
-of_row row given has (inr none) = absurd (some_none has.value (sym has.is ∙ none))
+of_row row given has (inr none) = absurd (none-some has.value (sym none ∙ has.is))
 
 pub exact : {V : Type 0} (zeros : V) (stack : Description) (state : State) (values : Values V) (rows : Rows V) → IsSound stack → IsAmple stack → AreOwn zeros stack state values rows → IsIntact stack state → AreExact zeros stack state values rows
 exact zeros stack state values rows sound ample own intact = record {

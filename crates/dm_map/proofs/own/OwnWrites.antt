@@ -1,23 +1,12 @@
 -- Where no claims meet, no top device sees another's writes.
-use Rattle.std.proofs.Common.{◌≡◌, ℕ, ◌<◌, length, refl, ap, arith}
-use Rattle.std.proofs.lemmas.List.{length-replicate}
-use Rattle.dm_stack.specs.declared.id.Lower.TheVariants.{Device}
-use Rattle.dm_stack.specs.claims.Claims.{IsTidy, IsTop}
-use Rattle.dm_stack.specs.Description.{Description}
-use Rattle.dm_stack.specs.checks.Soundness.{IsSound}
-use Rattle.dm_map.specs.state.Fitting.{IsFitting}
-use Rattle.dm_map.specs.own.Tops.{IsOwnWrite, write}
-use Rattle.dm_map.specs.state.State.{State, none_taken, start_state}
-use Rattle.dm_map.specs.own.Ways.{Node, node, Touches}
+use Rattle.dm_map.proofs.Prelude.{◌≡◌, ℕ, ◌<◌, length, refl, ap, arith, length-replicate, Device, IsTidy, IsTop, Description, IsSound, IsFitting, IsOwnWrite, write, State, none_taken, start_state, Node, node, Touches, take_chunks, all_front}
 use Rattle.dm_map.proofs.own.UniqueSteps.{no_step_to_top, top_root, top_unserved}
 use Rattle.dm_map.proofs.walk.ReadSteps.{read_step}
 use Rattle.dm_map.proofs.own.Losses.{stays_as}
 use Rattle.dm_map.proofs.own.TakenInARow.{IsFresh, all_moves, fresh_stays, grown_same, ran, run_stays}
-use Rattle.dm_map.specs.own.Cuts.{take_chunks}
 use Rattle.dm_map.proofs.own.WayLemmas.{Here, Before, back, read_touches}
 use Rattle.dm_map.proofs.own.Written.{written}
 use Rattle.dm_map.proofs.walk.ChunkTaking.{none_at}
-use Rattle.dm_table.proofs.Lists.{all_front}
 
 -- nothing but itself leads to a sector of a top device
 top_touched : (stack : Description) (state : State) (a : Node) (top sector : ℕ) → IsSound stack → IsTop stack top → Touches stack state a (node (Device top) sector) → a ≡ node (Device top) sector

@@ -1,12 +1,5 @@
 -- The play of units: of copies in a row, and of units after others.
-use Rattle.std.proofs.Common.{◌≡◌, inl, inr, ℕ, zero, suc, ◌+◌, ◌<◌, ◌≤◌, Bool, true, false, cond, ◌&&◌, List, [], ◌∷◌, ◌++◌, Some, refl, arith}
-use Rattle.std.specs.Prelude.{◌==◌}
-use Rattle.std.specs.List.{AllByRecursion}
-use Rattle.std.proofs.lemmas.Bool.{and_parts, eqb-true, eq-eqb, cases_lt}
-use Rattle.dm_map.specs.own.Contents.{Values, answers, played, played_unit, sector_after, stored, value_read}
-use Rattle.dm_map.specs.walk.Homes.{Home}
-use Rattle.dm_map.specs.walk.SnapshotWrites.{copy_to, row}
-use Rattle.dm_map.specs.pieces.Units.{BlockUnit, ReadOf, Zeros}
+use Rattle.dm_map.proofs.Prelude.{◌≡◌, inl, inr, ℕ, zero, suc, ◌+◌, ◌<◌, ◌≤◌, Bool, true, false, cond, ◌&&◌, List, [], ◌∷◌, ◌++◌, Some, refl, arith, ◌==◌, AllByRecursion, and_parts, eqb-true, eq-eqb, cases_lt, Values, answers, played, played_unit, sector_after, stored, value_read, Home, copy_to, row, BlockUnit, ReadOf, Zeros}
 
 abbrev pub home_at : (disk sector : ℕ) → Home
 home_at disk sector = record { disk = disk; sector = sector }

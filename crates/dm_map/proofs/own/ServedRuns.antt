@@ -1,14 +1,5 @@
 -- Snapshots that are served, as chunks taken one after the other.
-use Rattle.std.proofs.Common.{◌≡◌, ℕ, ◌/◌, List, [], ◌∷◌, ◌++◌, refl, sym, ◌∙◌}
-use Rattle.std.specs.List.{AllByRecursion}
-use Rattle.dm_stack.specs.declared.lines.resolved_line.ResolvedOver.{ResolvedOver}
-use Rattle.dm_stack.specs.Description.{Description}
-use Rattle.dm_map.specs.own.Cuts.{IsOfSnapshot, take_chunks}
-use Rattle.dm_map.specs.own.Losses.{Due, due_over}
-use Rattle.dm_map.specs.walk.Serving.{IsOver, serve}
-use Rattle.dm_map.specs.walk.SnapshotWrites.{take_chunk}
-use Rattle.dm_map.specs.state.State.{State}
-use Rattle.dm_map.specs.walk.Steps.{and_then}
+use Rattle.dm_map.proofs.Prelude.{◌≡◌, ℕ, ◌/◌, List, [], ◌∷◌, ◌++◌, refl, sym, ◌∙◌, AllByRecursion, ResolvedOver, Description, IsOfSnapshot, take_chunks, Due, due_over, IsOver, serve, take_chunk, State, and_then}
 use Rattle.dm_map.proofs.walk.Rows.{and_then_at, step_assoc}
 
 pub serve_takes : (stack : Description) (over : List ResolvedOver) (sector : ℕ) (state : State) → serve stack over sector state ≡ take_chunks stack (due_over over sector) state

@@ -1,25 +1,8 @@
 -- Each step of a read goes by a claim: through a span of a line whose target has no state, through the store or the origin of a snapshot, or through the line of an origin.
-use Rattle.std.proofs.Common.{◌≡◌, ℕ, ◌+◌, ◌-◌, ◌<◌, [], ◌∷◌, Some, length, refl, sym, ap, ◌∙◌, arith}
-use Rattle.std.specs.Prelude.{slice_get}
-use Rattle.dm_table.specs.declared.tables.table.DevRef.{DevRef}
-use Rattle.dm_table.specs.declared.tables.table.Line.{Line}
-use Rattle.dm_table.specs.declared.tables.table.Target.{Target}
+use Rattle.dm_map.proofs.Prelude.{◌≡◌, ℕ, ◌+◌, ◌-◌, ◌<◌, [], ◌∷◌, Some, length, refl, sym, ap, ◌∙◌, arith, slice_get, DevRef, Line, Target, Use, Own, Reading, Serving, ResolvedLine, ResolvedOrigin, ResolvedSnapshot, Lower, target_spans, whole_span, IsTargetSound, Lies, below_plain, found_at, resolved_line, resolved_target, holds, line_of, Description, lines_at, lower_len, lower_of, origin_over, resolved_snapshot, IsSound, IsNamed, IsVia, origin_at, snapshot_at}
 use Rattle.dm_table.specs.declared.tables.table.Target.TheVariants as targets
-use Rattle.dm_table.specs.declared.tables.table.Use.{Use}
-use Rattle.dm_table.specs.declared.tables.table.Use.TheVariants.{Own, Reading, Serving}
-use Rattle.dm_stack.specs.declared.lines.resolved_line.ResolvedLine.{ResolvedLine}
-use Rattle.dm_stack.specs.declared.lines.resolved_line.ResolvedOrigin.{ResolvedOrigin}
-use Rattle.dm_stack.specs.declared.lines.resolved_line.ResolvedSnapshot.{ResolvedSnapshot}
 use Rattle.dm_stack.specs.declared.lines.resolved_line.ResolvedTarget.TheVariants as founds
-use Rattle.dm_stack.specs.declared.id.Lower.{Lower}
-use Rattle.dm_stack.specs.lines.Below.{IsTargetSound, Lies, below_plain, found_at, resolved_line, resolved_target, holds, line_of}
-use Rattle.dm_stack.specs.Description.{Description, lines_at, lower_len, lower_of}
-use Rattle.dm_stack.specs.lines.Over.{origin_over, resolved_snapshot}
-use Rattle.dm_stack.specs.checks.Soundness.{IsSound}
-use Rattle.dm_table.specs.tables.Span.{target_spans, whole_span}
-use Rattle.dm_stack.proofs.Apart.{IsNamed, IsVia}
 use Rattle.dm_stack.proofs.Parts.{found_place}
-use Rattle.dm_map.specs.state.Tables.{origin_at, snapshot_at}
 use Rattle.dm_map.proofs.state.ResolvedLines.{first_line, first_origin, line_sound, origin_sound, snapshot_sound, some_line}
 use Rattle.dm_map.proofs.walk.Spans.{IsPlainStep, plain_before, plain_span, span_distance, span_index}
 

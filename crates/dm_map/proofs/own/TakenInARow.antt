@@ -1,24 +1,5 @@
 -- Chunks taken one after the other: what roots have stays, or is an error, and what is played on the way is touched by no root in the state before.
-use Rattle.std.proofs.Common.{◌≡◌, inl, inr, ℕ, zero, suc, ◌+◌, ◌/◌, ◌<◌, ◌≤◌, false, List, [], ◌∷◌, ◌++◌, length-append, Some, length, refl, ap, ◌∙◌, arith}
-use Rattle.std.specs.List.{AllByRecursion}
-use Rattle.std.proofs.lemmas.Bool.{cases_eq}
-use Rattle.dm_stack.specs.declared.lines.resolved_line.ResolvedSnapshot.{ResolvedSnapshot}
-use Rattle.dm_stack.specs.declared.id.Lower.{Lower}
-use Rattle.dm_stack.specs.declared.id.Lower.TheVariants.{Disk}
-use Rattle.dm_stack.specs.claims.Claims.{IsTidy}
-use Rattle.dm_stack.specs.Description.{Description, lower_len}
-use Rattle.dm_stack.specs.checks.Soundness.{IsSound}
-use Rattle.dm_map.specs.own.Cuts.{IsOfSnapshot, take_chunks}
-use Rattle.dm_map.specs.own.Losses.{Due}
-use Rattle.dm_map.specs.own.Contents.{Values, Stays, answers, content, played, played_unit, sector_after, value_read}
-use Rattle.dm_map.specs.state.Fitting.{IsFitting}
-use Rattle.dm_map.specs.walk.Homes.{Home}
-use Rattle.dm_map.specs.state.Snapshots.{store_sector}
-use Rattle.dm_map.specs.walk.SnapshotWrites.{copy_to, count_of, first_of, home_in_store, read, take_chunk, row}
-use Rattle.dm_map.specs.state.State.{lost, put, with_chunk, State, Taken, taken_at}
-use Rattle.dm_map.specs.walk.Steps.{Step}
-use Rattle.dm_map.specs.pieces.Units.{BlockUnit, ReadOf}
-use Rattle.dm_map.specs.own.Ways.{Node, node, Touches}
+use Rattle.dm_map.proofs.Prelude.{◌≡◌, inl, inr, ℕ, zero, suc, ◌+◌, ◌/◌, ◌<◌, ◌≤◌, false, List, [], ◌∷◌, ◌++◌, length-append, Some, length, refl, ap, ◌∙◌, arith, AllByRecursion, cases_eq, ResolvedSnapshot, Lower, Disk, IsTidy, Description, lower_len, IsSound, IsOfSnapshot, take_chunks, Due, Values, Stays, answers, content, played, played_unit, sector_after, value_read, IsFitting, Home, store_sector, copy_to, count_of, first_of, home_in_store, read, take_chunk, row, lost, put, with_chunk, State, Taken, taken_at, Step, BlockUnit, ReadOf, Node, node, Touches, all_append}
 use Rattle.dm_map.proofs.own.UniqueSteps.{IsRoot}
 use Rattle.dm_map.proofs.state.ResolvedLines.{snapshot_sound}
 use Rattle.dm_map.proofs.own.HomeLemmas.{fresh_apart, home_node}
@@ -30,7 +11,6 @@ use Rattle.dm_map.proofs.walk.ChunkTaking.{taken_other, taken_same}
 use Rattle.dm_map.proofs.state.TableLemmas.{number_within}
 use Rattle.dm_map.proofs.own.Takes.{IsTake, chunk_copies, new_number, take_keeps}
 use Rattle.dm_map.proofs.own.WayLemmas.{read_touches}
-use Rattle.dm_table.proofs.Lists.{all_append}
 
 -- A unit that copies or fills
 

@@ -1,26 +1,6 @@
 -- A chunk that is taken changes nothing of what a root has.
-use Rattle.std.proofs.Common.{◌≡◌, ◌⊎◌, inl, inr, ℕ, ◌+◌, ◌-◌, ◌*◌, ◌/◌, ◌%◌, ◌<◌, ◌≤◌, true, List, [], ◌∷◌, Option, Some, None, length, refl, sym, ap, ◌∙◌, arith}
-use Rattle.std.proofs.lemmas.Bool.{cases_eq}
-use Rattle.dm_stack.specs.declared.lines.resolved_line.ResolvedLine.{ResolvedLine}
-use Rattle.dm_stack.specs.declared.lines.resolved_line.ResolvedSnapshot.{ResolvedSnapshot}
+use Rattle.dm_map.proofs.Prelude.{◌≡◌, ◌⊎◌, inl, inr, ℕ, ◌+◌, ◌-◌, ◌*◌, ◌/◌, ◌%◌, ◌<◌, ◌≤◌, true, List, [], ◌∷◌, Option, Some, None, length, refl, sym, ap, ◌∙◌, arith, cases_eq, ResolvedLine, ResolvedSnapshot, Lower, Device, Disk, Below, Lies, found_at, IsTidy, Description, lower_len, lower_depth, place, IsSound, Values, content, played, value_read, IsFitting, by_below, read_below, store_sector, number_in, read_numbered, read_over, copies, count_of, first_of, home_in_store, read, put, with_chunk, State, Taken, taken_at, snapshot_at, BlockUnit, Zeros, Fails, Node, node, Touches}
 use Rattle.dm_stack.specs.declared.checks.graph.TheConstants.{MOST_DEPTH}
-use Rattle.dm_stack.specs.declared.id.Lower.{Lower}
-use Rattle.dm_stack.specs.declared.id.Lower.TheVariants.{Device, Disk}
-use Rattle.dm_stack.specs.lines.Below.{Below, Lies, found_at}
-use Rattle.dm_stack.specs.claims.Claims.{IsTidy}
-use Rattle.dm_stack.specs.Description.{Description, lower_len}
-use Rattle.dm_stack.specs.checks.Depth.{lower_depth}
-use Rattle.dm_stack.specs.lines.StoreLayout.{place}
-use Rattle.dm_stack.specs.checks.Soundness.{IsSound}
-use Rattle.dm_map.specs.own.Contents.{Values, content, played, value_read}
-use Rattle.dm_map.specs.state.Fitting.{IsFitting}
-use Rattle.dm_map.specs.walk.Reads.{by_below, read_below}
-use Rattle.dm_map.specs.state.Snapshots.{store_sector, number_in, read_numbered, read_over}
-use Rattle.dm_map.specs.walk.SnapshotWrites.{copies, count_of, first_of, home_in_store, read}
-use Rattle.dm_map.specs.state.State.{put, with_chunk, State, Taken, taken_at}
-use Rattle.dm_map.specs.state.Tables.{snapshot_at}
-use Rattle.dm_map.specs.pieces.Units.{BlockUnit, Zeros, Fails}
-use Rattle.dm_map.specs.own.Ways.{Node, node, Touches}
 use Rattle.dm_map.proofs.own.UniqueSteps.{IsRoot, origin_root}
 use Rattle.dm_map.proofs.state.ResolvedLines.{line_sound, snapshot_sound}
 use Rattle.dm_map.proofs.own.HomeLemmas.{fresh_apart, homes_apart}

@@ -1,30 +1,6 @@
 -- Where no claims meet, at most one step of a read leads to a sector of a column, a store or an origin, and none to a top device.
-use Rattle.std.proofs.Common.{◌≡◌, ℕ, ◌-◌, ◌/◌, ◌<◌, true, false, Option, Some, None, refl, sym, ap, ◌∙◌, arith}
-use Rattle.std.proofs.lemmas.Bool.{leb-true}
-use Rattle.dm_table.specs.declared.tables.table.Line.{Line}
-use Rattle.dm_table.specs.declared.tables.table.Use.{Use}
-use Rattle.dm_table.specs.declared.tables.table.Use.TheVariants.{Own, Reading, Serving}
-use Rattle.dm_stack.specs.declared.lines.resolved_line.ResolvedLine.{ResolvedLine}
-use Rattle.dm_stack.specs.declared.lines.resolved_line.ResolvedOrigin.{ResolvedOrigin}
-use Rattle.dm_stack.specs.declared.lines.resolved_line.ResolvedSnapshot.{ResolvedSnapshot}
-use Rattle.dm_stack.specs.declared.lines.resolved_line.ResolvedTarget.{ResolvedTarget}
+use Rattle.dm_map.proofs.Prelude.{◌≡◌, ℕ, ◌-◌, ◌/◌, ◌<◌, true, false, Option, Some, None, refl, sym, ap, ◌∙◌, arith, leb-true, true≢false, Line, Use, Own, Reading, Serving, ResolvedLine, ResolvedOrigin, ResolvedSnapshot, ResolvedTarget, Lower, Device, Lies, below_line, found_at, resolved_line, resolved_target, has_state, IsTidy, IsTop, Description, device_len, lower_len, snapshots_over, IsSound, IsVia, IsNamed, one_via, top_named, plain_inside, IsFitting, read_below, AreSettled, is_settled, store_sector, number_in, read_over, State, Taken, taken_at, origin_at, snapshot_at}
 use Rattle.dm_stack.specs.declared.lines.resolved_line.ResolvedTarget.TheVariants as founds
-use Rattle.dm_stack.specs.declared.id.Lower.{Lower}
-use Rattle.dm_stack.specs.declared.id.Lower.TheVariants.{Device}
-use Rattle.dm_stack.specs.lines.Below.{Lies, below_line, found_at, resolved_line, resolved_target, has_state}
-use Rattle.dm_stack.specs.claims.Claims.{IsTidy, IsTop}
-use Rattle.dm_stack.specs.Description.{Description, device_len, lower_len}
-use Rattle.dm_stack.specs.lines.Over.{snapshots_over}
-use Rattle.dm_stack.specs.checks.Soundness.{IsSound}
-use Rattle.dm_stack.proofs.Apart.{IsVia, IsNamed, one_via, top_named}
-use Rattle.dm_stack.proofs.LegLemmas.{plain_inside}
-use Rattle.dm_map.specs.state.Fitting.{IsFitting}
-use Rattle.dm_map.specs.walk.Reads.{read_below}
-use Rattle.dm_map.specs.walk.Serving.{AreSettled}
-use Rattle.dm_map.specs.walk.SnapshotWrites.{is_settled}
-use Rattle.dm_map.specs.state.Snapshots.{store_sector, number_in, read_over}
-use Rattle.dm_map.specs.state.State.{State, Taken, taken_at}
-use Rattle.dm_map.specs.state.Tables.{origin_at, snapshot_at}
 use Rattle.dm_map.proofs.state.ResolvedLines.{line_sound, origin_sound, snapshot_sound}
 use Rattle.dm_map.proofs.walk.ReadSteps.{ReadStep, ByLine, ByStore, ByRead, ByServe}
 use Rattle.dm_map.proofs.walk.Spans.{IsPlainStep, distance_one, span_distance, span_index}
@@ -34,9 +10,6 @@ use Rattle.dm_map.proofs.state.TableLemmas.{number_within}
 use Rattle.dm_map.proofs.own.StepClaims.{IsLineVia, IsSnapshotVia, via_line, via_origin, via_snapshot}
 
 -- A line has one target
-
-true_false : true ≡ false → ⊥
-true_false e = cc
 
 -- a target without a state is neither a snapshot nor an origin
 no_plain : (target other : ResolvedTarget) (distance : ℕ) (lower : Lower) (at : ℕ) → target ≡ other → has_state other ≡ true → IsPlainStep target distance lower at → ⊥
@@ -212,7 +185,7 @@ pub record IsUnserved (stack : Description) (lower : Lower) : Type 0 where
 
 -- a snapshot that would still read it is none whose chunk is settled
 not_settled : (taken : Taken) (chunk : ℕ) → taken.valid ≡ true → number_in chunk taken.chunks ≡ None → is_settled taken chunk ≡ true → ⊥
-not_settled taken chunk valid none settled = true_false (sym settled ∙ (rw (valid, none) refl))
+not_settled taken chunk valid none settled = true≢false (sym settled ∙ (rw (valid, none) refl))
 
 -- to one of it, where all its snapshots are settled: that device's sector
 pub only_by_origin : (stack : Description) (state : State) (d e t at : ℕ) (origin : ResolvedOrigin) → IsSound stack → IsTidy stack → origin_at stack d ≡ Some origin → at < lower_len stack origin.to

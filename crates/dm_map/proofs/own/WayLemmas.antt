@@ -1,16 +1,5 @@
 -- Ways of reads: they go on, come from somewhere, go to what is less deep, and end where the read does.
-use Rattle.std.proofs.Common.{◌≡◌, ℕ, ◌<◌, ◌≤◌, List, [], ◌∷◌, ◌++◌, refl, sym, ap, ◌∙◌, arith}
-use Rattle.dm_stack.specs.declared.id.Lower.{Lower}
-use Rattle.dm_stack.specs.declared.id.Lower.TheVariants.{Device, Disk}
-use Rattle.dm_stack.specs.lines.Below.{Below, Lies}
-use Rattle.dm_stack.specs.Description.{Description}
-use Rattle.dm_stack.specs.checks.Depth.{lower_depth}
-use Rattle.dm_stack.specs.checks.Soundness.{IsSound}
-use Rattle.dm_map.specs.walk.Reads.{by_below, read_below}
-use Rattle.dm_map.specs.walk.SnapshotWrites.{read}
-use Rattle.dm_map.specs.state.State.{State}
-use Rattle.dm_map.specs.pieces.Units.{ReadOf, Zeros, Fails}
-use Rattle.dm_map.specs.own.Ways.{Node, node, Leads, IsWay, Touches}
+use Rattle.dm_map.proofs.Prelude.{◌≡◌, ℕ, ◌<◌, ◌≤◌, List, [], ◌∷◌, ◌++◌, refl, sym, ap, ◌∙◌, arith, Lower, Device, Disk, Below, Lies, Description, lower_depth, IsSound, by_below, read_below, read, State, ReadOf, Zeros, Fails, Node, node, Leads, IsWay, Touches}
 use Rattle.dm_map.proofs.walk.OneLevel.{by_depth, next_depth, read_disk, read_down}
 
 pub touch_self : (stack : Description) (state : State) (a : Node) → Touches stack state a a

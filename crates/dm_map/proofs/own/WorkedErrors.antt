@@ -1,19 +1,24 @@
 -- Chunks that are due, and stacks that can lose nothing, worked by hand: the definitions are checked against them.
-use Rattle.std.proofs.Common.{◌≡◌, ℕ, inl, true, false, [], ◌∷◌, refl, arith}
+use Rattle.dm_map.proofs.Prelude.{◌≡◌, ℕ, inl, Bool, true, false, List, [], ◌∷◌, refl, arith, Target, Device, Disk, ResolvedSnapshot, DeviceSpec, Line, Description, all_over, copied, origin_over, IsAmple, chunk_count, Due, IsLosing, due, due_in, State, none_taken, serve}
 use Rattle.dm_table.specs.declared.tables.table.DevRef.TheVariants as refs
+use Rattle.dm_table.specs.declared.load.place.Place.{Place}
 use Rattle.dm_table.specs.declared.tables.table.StoreKind.{StoreKind}
 use Rattle.dm_table.specs.declared.tables.table.StoreKind.TheVariants.{Keeping, Persistent}
-use Rattle.dm_table.specs.declared.tables.table.Target.{Target}
 use Rattle.dm_table.specs.declared.tables.table.Target.TheVariants as targets
-use Rattle.dm_stack.specs.declared.id.Lower.TheVariants.{Device, Disk}
-use Rattle.dm_stack.specs.declared.lines.resolved_line.ResolvedSnapshot.{ResolvedSnapshot}
-use Rattle.dm_stack.specs.Description.{Description}
-use Rattle.dm_stack.specs.lines.Over.{all_over, copied, origin_over}
-use Rattle.dm_map.specs.own.Ample.{IsAmple, chunk_count}
-use Rattle.dm_map.specs.own.Losses.{Due, IsLosing, due, due_in}
-use Rattle.dm_map.specs.state.State.{State, none_taken}
-use Rattle.dm_map.specs.walk.Serving.{serve}
-use Rattle.dm_map.proofs.WorkedRows.{device, disk, line}
+use Rattle.dm_table.specs.declared.tables.disk.Disk as disks
+use Rattle.dm_table.specs.declared.load.place.Part.TheVariants as parts
+
+abbrev pub at : Place
+at = record { part = parts.Source; number = 1 }
+
+abbrev pub line : (start len : ℕ) → Target → Line
+line start len target = record { start = start; len = len; target = target; at = at }
+
+abbrev pub device : (name : ℕ) → Bool → List Line → DeviceSpec
+device name ro lines = record { name = name ∷ []; ro = ro; lines = lines; at = at }
+
+abbrev pub disk : (name len : ℕ) → disks.Disk
+disk name len = record { name = name ∷ []; len = len; at = at }
 
 -- the last chunk of 20 sectors is shorter
 chunks_of_20 : chunk_count 8 20 ≡ 3

@@ -1,35 +1,7 @@
 -- The write of a sector: chunks are taken, then one unit follows; what is read then, and by whom.
-use Rattle.std.proofs.Common.{◌≡◌, ◌⊎◌, inl, inr, ℕ, ◌-◌, ◌/◌, ◌<◌, Bool, true, false, cond, List, [], ◌∷◌, ◌++◌, Option, Some, None, length, refl, sym, ap, ◌∙◌, arith}
-use Rattle.std.specs.List.{AllByRecursion}
-use Rattle.std.proofs.lemmas.List.{append-nil}
-use Rattle.std.proofs.lemmas.Option.{same_Some}
-use Rattle.dm_stack.specs.declared.lines.resolved_line.ResolvedLine.{ResolvedLine}
-use Rattle.dm_stack.specs.declared.lines.resolved_line.ResolvedOrigin.{ResolvedOrigin}
-use Rattle.dm_stack.specs.declared.lines.resolved_line.ResolvedSnapshot.{ResolvedSnapshot}
-use Rattle.dm_stack.specs.declared.lines.resolved_line.ResolvedTarget.{ResolvedTarget}
+use Rattle.dm_map.proofs.Prelude.{◌≡◌, ◌⊎◌, inl, inr, ℕ, ◌-◌, ◌/◌, ◌<◌, Bool, true, false, cond, List, [], ◌∷◌, ◌++◌, Option, Some, None, length, refl, sym, ap, ◌∙◌, arith, AllByRecursion, append-nil, same_Some, ResolvedLine, ResolvedOrigin, ResolvedSnapshot, ResolvedTarget, Lower, Device, Disk, Below, Lies, IsZero, IsError, below, below_plain, found_at, has_state, IsTidy, Description, is_ro_at, lower_len, lower_depth, IsSound, answers, IsOfSnapshot, take_chunks, Due, due_over, IsFitting, write_line, write_step, write_target, by_below, read_below, IsOver, serve, served_step, store_sector, number_in, read_over, home_in_store, is_refused, read, take_chunk, unit_in_store, write_numbered, State, Taken, taken_at, Step, keep, and_then, origin_at, snapshot_at, BlockUnit, ReadOf, WriteOf, Drops, Fails, Node, node, Touches, all_append}
 use Rattle.dm_stack.specs.declared.lines.resolved_line.ResolvedTarget.TheVariants as founds
 use Rattle.dm_stack.specs.declared.checks.graph.TheConstants.{MOST_DEPTH}
-use Rattle.dm_stack.specs.declared.id.Lower.{Lower}
-use Rattle.dm_stack.specs.declared.id.Lower.TheVariants.{Device, Disk}
-use Rattle.dm_stack.specs.lines.Below.{Below, Lies, IsZero, IsError, below, below_plain, found_at, has_state}
-use Rattle.dm_stack.specs.claims.Claims.{IsTidy}
-use Rattle.dm_stack.specs.Description.{Description, is_ro_at, lower_len}
-use Rattle.dm_stack.specs.checks.Depth.{lower_depth}
-use Rattle.dm_stack.specs.checks.Soundness.{IsSound}
-use Rattle.dm_map.specs.own.Contents.{answers}
-use Rattle.dm_map.specs.own.Cuts.{IsOfSnapshot, take_chunks}
-use Rattle.dm_map.specs.own.Losses.{Due, due_over}
-use Rattle.dm_map.specs.state.Fitting.{IsFitting}
-use Rattle.dm_map.specs.walk.Mapping.{write_line, write_step, write_target}
-use Rattle.dm_map.specs.walk.Reads.{by_below, read_below}
-use Rattle.dm_map.specs.walk.Serving.{IsOver, serve, served_step}
-use Rattle.dm_map.specs.state.Snapshots.{store_sector, number_in, read_over}
-use Rattle.dm_map.specs.walk.SnapshotWrites.{home_in_store, is_refused, read, take_chunk, unit_in_store, write_numbered}
-use Rattle.dm_map.specs.state.State.{State, Taken, taken_at}
-use Rattle.dm_map.specs.walk.Steps.{Step, keep, and_then}
-use Rattle.dm_map.specs.state.Tables.{origin_at, snapshot_at}
-use Rattle.dm_map.specs.pieces.Units.{BlockUnit, ReadOf, WriteOf, Drops, Fails}
-use Rattle.dm_map.specs.own.Ways.{Node, node, Touches}
 use Rattle.dm_map.proofs.own.UniqueSteps.{IsRoot, IsUnserved, only_by_origin, only_by_store, fits, goes_on_inside}
 use Rattle.dm_map.proofs.state.ResolvedLines.{line_origin, line_snapshot, line_sound, origin_sound, snapshot_sound}
 use Rattle.dm_map.proofs.own.HomeLemmas.{home_node, home_touched, node_is, touch_up}
@@ -47,7 +19,6 @@ use Rattle.dm_map.proofs.walk.Settled.{write_keeps_settled}
 use Rattle.dm_map.proofs.walk.Stores.{store_read}
 use Rattle.dm_map.proofs.own.Takes.{snapshot_next}
 use Rattle.dm_map.proofs.own.WayLemmas.{Here, Before, back}
-use Rattle.dm_table.proofs.Lists.{all_append}
 
 pub record Written (stack : Description) (state : State) (lower : Lower) (sector : ℕ) (step : Step) : Type 0 where
   pub dues : List Due

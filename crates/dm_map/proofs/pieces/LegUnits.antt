@@ -1,18 +1,6 @@
 -- Rows of legs on disks: their units leg by leg, and a sink that takes them.
-use Rattle.std.proofs.Common.{◌≡◌, ℕ, zero, suc, ◌+◌, ◌-◌, ◌<◌, ◌≤◌, List, [], ◌∷◌, ◌++◌, append_assoc, refl, sym, ap, ◌∙◌, arith}
-use Rattle.std.specs.Prelude.{Result, Ok, Err}
-use Rattle.std.specs.Result.{IsErr}
-use Rattle.dm_table.specs.declared.requests.request.Op.{Op}
+use Rattle.dm_map.proofs.Prelude.{◌≡◌, ℕ, zero, suc, ◌+◌, ◌-◌, ◌<◌, ◌≤◌, List, [], ◌∷◌, ◌++◌, append_assoc, refl, sym, ap, ◌∙◌, arith, Result, Ok, Err, IsErr, Op, Disk, ResolvedTarget, Leg, Description, Lies, below_plain, after_leg, AreOnDisks, LegsView, legs_after, IsDiskLeg, AreHanded, IsHanded, IsLawful, SinkPast, BlockUnit, below_unit, disk_unit, legs_units, line_units, next_unit, units_in}
 use Rattle.dm_table.specs.declared.requests.request.Op.TheVariants as ops
-use Rattle.dm_stack.specs.declared.id.Lower.TheVariants.{Disk}
-use Rattle.dm_stack.specs.declared.lines.resolved_line.ResolvedTarget.{ResolvedTarget}
-use Rattle.dm_stack.specs.declared.lines.leg.Leg.{Leg}
-use Rattle.dm_stack.specs.Description.{Description}
-use Rattle.dm_stack.specs.lines.Below.{Lies, below_plain}
-use Rattle.dm_stack.specs.lines.Leg.{after_leg, AreOnDisks, LegsView}
-use Rattle.dm_stack.proofs.LegLemmas.{legs_after, IsDiskLeg}
-use Rattle.dm_map.specs.pieces.Sink.{AreHanded, IsHanded, IsLawful, SinkPast}
-use Rattle.dm_map.specs.pieces.Units.{BlockUnit, below_unit, disk_unit, legs_units, line_units, next_unit, units_in}
 
 -- Units
 

@@ -1,16 +1,5 @@
 -- The numbers of chunks in a list, and their places in a store.
-use Rattle.std.proofs.Common.{◌≡◌, ℕ, zero, suc, ◌+◌, ◌-◌, ◌*◌, ◌/◌, ◌%◌, ◌<◌, ◌≤◌, Bool, true, false, cond, List, [], ◌∷◌, ◌++◌, Option, Some, None, length, get_or, take, nat_eq, refl, sym, ap, ◌∙◌, arith}
-use Rattle.std.specs.List.{IsDistinct}
-use Rattle.std.specs.Prelude.{◌==◌, option_map}
-use Rattle.std.proofs.lemmas.Bool.{eq-eqb, eqb-true, ne_eqb}
-use Rattle.std.proofs.lemmas.List.{take_more}
-use Rattle.std.proofs.lemmas.Map.Keys.{apart_from_distinct}
-use Rattle.std.proofs.lemmas.Nat.{div-add-mod', same_from_place}
-use Rattle.dm_stack.specs.lines.StoreLayout.{place}
-use Rattle.dm_stack.specs.declared.lines.resolved_line.ResolvedSnapshot.{ResolvedSnapshot}
-use Rattle.dm_stack.proofs.StoreLayoutLemmas.{place_one}
-use Rattle.dm_map.specs.state.Snapshots.{store_sector, number_in}
-use Rattle.dm_table.proofs.Lists.{all_append}
+use Rattle.dm_map.proofs.Prelude.{◌≡◌, ℕ, zero, suc, ◌+◌, ◌-◌, ◌*◌, ◌/◌, ◌%◌, ◌<◌, ◌≤◌, Bool, true, false, cond, List, [], ◌∷◌, ◌++◌, Option, Some, None, length, get_or, take, nat_eq, refl, sym, ap, ◌∙◌, arith, IsDistinct, ◌==◌, option_map, eq-eqb, eqb-true, ne_eqb, take_more, apart_from_distinct, div-add-mod', same_from_place, ResolvedSnapshot, place, place_one, store_sector, number_in, all_append}
 
 none_parts : (b : Bool) (o : Option ℕ) → cond b (Some 0) (option_map suc o) ≡ None → (b ≡ false) × (o ≡ None)
 none_parts false None e = (refl, refl)

@@ -1,22 +1,8 @@
 -- What a sound stack says of the line that was found for a sector.
-use Rattle.std.proofs.Common.{◌≡◌, ℕ, ◌+◌, ◌<◌, ◌≤◌, inl, inr, Bool, true, false, cond, List, [], ◌∷◌, Option, Some, None, length, refl, sym, ap, ◌∙◌, arith}
-use Rattle.std.specs.Option.{option_and_then}
-use Rattle.std.specs.Prelude.{option_map, nat_le, nat_lt}
-use Rattle.std.proofs.lemmas.Bool.{and_parts, cases_lt, ltb-true}
-use Rattle.std.proofs.lemmas.Option.{slice_get_past}
-use Rattle.dm_table.specs.declared.tables.table.Line.{Line}
-use Rattle.dm_stack.specs.declared.lines.resolved_line.ResolvedLine.{ResolvedLine}
-use Rattle.dm_stack.specs.declared.lines.resolved_line.ResolvedOrigin.{ResolvedOrigin}
-use Rattle.dm_stack.specs.declared.lines.resolved_line.ResolvedSnapshot.{ResolvedSnapshot}
-use Rattle.dm_stack.specs.declared.lines.resolved_line.ResolvedTarget.{ResolvedTarget}
+use Rattle.dm_map.proofs.Prelude.{◌≡◌, ℕ, ◌+◌, ◌<◌, ◌≤◌, inl, inr, Bool, true, false, cond, List, [], ◌∷◌, Option, Some, None, length, refl, sym, ap, ◌∙◌, arith, option_and_then, option_map, nat_le, nat_lt, and_parts, cases_lt, ltb-true, slice_get_past, Line, ResolvedLine, ResolvedOrigin, ResolvedSnapshot, ResolvedTarget, found_at, resolved_line, holds, line_of, IsOriginSound, IsSnapshotSound, Description, device_len, IsSound, same_found, HoldsSoundly, device_sound, lines_there, sector_found, there, origin_at, origin_of, snapshot_at, snapshot_of}
+use Rattle.dm_stack.specs.Prelude.{end_of}
 use Rattle.dm_stack.specs.declared.lines.resolved_line.ResolvedTarget.TheVariants as founds
-use Rattle.dm_stack.specs.lines.Below.{found_at, resolved_line, holds, line_of, IsOriginSound, IsSnapshotSound}
-use Rattle.dm_stack.specs.Description.{Description, device_len, end_of}
-use Rattle.dm_stack.specs.checks.Soundness.{IsSound}
 use Rattle.dm_stack.proofs.LayoutLemmas.{AreInRow}
-use Rattle.dm_stack.proofs.SameLine.{same_found}
-use Rattle.dm_stack.proofs.SoundLines.{HoldsSoundly, device_sound, lines_there, sector_found, there}
-use Rattle.dm_map.specs.state.Tables.{origin_at, origin_of, snapshot_at, snapshot_of}
 
 -- A sector that has a line is before its device's end
 

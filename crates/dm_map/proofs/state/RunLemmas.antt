@@ -1,10 +1,6 @@
 -- The number of a chunk, by the runs before and after it.
-use Rattle.std.proofs.Common.{◌≡◌, ℕ, ◌+◌, ◌-◌, ◌<◌, ◌≤◌, List, Some, None, length, get_or, nat_eq, ◌∙◌, inl, inr, arith}
-use Rattle.std.specs.List.{IsDistinct}
-use Rattle.std.proofs.lemmas.Bool.{cases_lt}
-use Rattle.dm_map.specs.declared.state.run_taken.run.Run.{Run}
-use Rattle.dm_map.specs.state.Runs.{AreBegunBy, AreRuns, IsRun, end_of, run_at}
-use Rattle.dm_map.specs.state.Snapshots.{number_in}
+use Rattle.dm_map.proofs.Prelude.{◌≡◌, ℕ, ◌+◌, ◌-◌, ◌<◌, ◌≤◌, List, Some, None, length, get_or, nat_eq, ◌∙◌, inl, inr, arith, IsDistinct, cases_lt, Run, AreBegunBy, AreRuns, IsRun, run_at, number_in}
+use Rattle.dm_map.specs.state.Runs.{end_of}
 use Rattle.dm_map.proofs.state.Numbers.{number_distinct}
 
 -- a chunk of a run has the number that the run says

@@ -1,41 +1,12 @@
 -- The state of tables, and the places that are left in them.
-use Rattle.std.proofs.Common.{◌≡◌, ◌↔◌, ℕ, zero, suc, ◌+◌, ◌*◌, ◌<◌, ◌≤◌, Bool, true, false, cond, not, List, [], ◌∷◌, ◌++◌, Option, Some, None, length, get_or, set, drop, drop-cons, replicate, nat_eq, nat_lt, refl, sym, ap, subst, ◌∙◌, arith}
-use Rattle.std.specs.Option.{option_and_then}
-use Rattle.std.specs.Prelude.{◌==◌, find, is_none, option_map, slice_get, IfSome}
-use Rattle.std.specs.List.{All, AllByRecursion, list_any, position_or_len, range_with_len}
-use Rattle.std.proofs.lemmas.Bool.{eq-eqb, eqb-true, false_from_ne_true, leb-true, le-leb, ne_eqb, lt-ltb, le-ltb, ltb-true, ltb_from_iff, or_parts}
-use Rattle.std.proofs.lemmas.Bool.Decides.{nat_tests}
-use Rattle.std.proofs.lemmas.List.Elements.{All-filter, All-from_get_or, All-get_or}
-use Rattle.std.proofs.lemmas.List.Folds.{find_at, list_any_at}
-use Rattle.std.proofs.lemmas.List.FromFn.{get_or-range_with_len, length-range_with_len}
-use Rattle.std.proofs.lemmas.List.{get_or-replicate, length-set, map-append, map-set, set-get_or}
+use Rattle.dm_map.proofs.Prelude.{◌≡◌, ◌↔◌, ℕ, zero, suc, ◌+◌, ◌*◌, ◌<◌, ◌≤◌, Bool, true, false, cond, not, List, [], ◌∷◌, ◌++◌, Option, Some, None, length, get_or, set, drop, drop-cons, replicate, nat_eq, nat_lt, refl, sym, ap, subst, ◌∙◌, arith, option_and_then, ◌==◌, find, is_none, option_map, slice_get, IfSome, All, AllByRecursion, list_any, position_or_len, range_with_len, eq-eqb, eqb-true, false_from_ne_true, leb-true, le-leb, ne_eqb, lt-ltb, le-ltb, ltb-true, ltb_from_iff, or_parts, nat_tests, All-filter, All-from_get_or, All-get_or, find_at, list_any_at, get_or-range_with_len, length-range_with_len, get_or-replicate, length-set, map-append, map-set, set-get_or, get_or_from_slice_get, slice_get-map, slice_get_read, slice_get_within, DevRef, Line, Target, Reading, ResolvedLine, ResolvedSnapshot, ResolvedTarget, target_spans, whole_span, found_at, resolved_line, resolved_target, holds, line_of, Description, device_id, disk_id, is_same, lines_at, lower_len, lower_of, has_snapshot, is_snapshot, snapshots, place, resolved_snapshot, IsSound, all_lines, is_unknown, is_unknown_ref, faults_by_none, passes_all, device_some, disk_some, found, of_device, there, number_in, lost, put, with_chunk, none_taken, taken_at, AreTables, has_room, snapshot_at, snapshot_of, state_of}
 use Rattle.std.proofs.lemmas.Map.Views.{any-filter_same}
-use Rattle.std.proofs.lemmas.Option.{get_or_from_slice_get, slice_get-map, slice_get_read, slice_get_within}
 use Rattle.dm_table.specs.declared.load.load_fault.LoadKind.TheVariants.{Unknown}
-use Rattle.dm_table.specs.declared.tables.table.DevRef.{DevRef}
 use Rattle.dm_table.specs.declared.tables.table.DevRef.TheVariants as refs
-use Rattle.dm_table.specs.declared.tables.table.Line.{Line}
-use Rattle.dm_table.specs.declared.tables.table.Target.{Target}
 use Rattle.dm_table.specs.declared.tables.table.Target.TheVariants as targets
-use Rattle.dm_table.specs.declared.tables.table.Use.TheVariants.{Reading}
-use Rattle.dm_stack.specs.declared.lines.resolved_line.ResolvedLine.{ResolvedLine}
-use Rattle.dm_stack.specs.declared.lines.resolved_line.ResolvedSnapshot.{ResolvedSnapshot}
-use Rattle.dm_stack.specs.declared.lines.resolved_line.ResolvedTarget.{ResolvedTarget}
 use Rattle.dm_stack.specs.declared.lines.resolved_line.ResolvedTarget.TheVariants as founds
-use Rattle.dm_stack.specs.lines.Below.{found_at, resolved_line, resolved_target, holds, line_of}
-use Rattle.dm_stack.specs.Description.{Description, device_id, disk_id, is_same, lines_at, lower_len, lower_of}
-use Rattle.dm_stack.specs.checks.Snapshots.{has_snapshot, is_snapshot, snapshots}
-use Rattle.dm_stack.specs.lines.StoreLayout.{place}
-use Rattle.dm_stack.specs.lines.Over.{resolved_snapshot}
-use Rattle.dm_stack.specs.checks.Soundness.{IsSound, all_lines, is_unknown, is_unknown_ref}
-use Rattle.dm_table.specs.tables.Span.{target_spans, whole_span}
-use Rattle.dm_stack.proofs.Passes.{faults_by_none, passes_all}
-use Rattle.dm_stack.proofs.SoundLines.{device_some, disk_some, found, of_device, there}
-use Rattle.dm_map.specs.state.Snapshots.{number_in}
-use Rattle.dm_map.specs.state.State.{lost, put, with_chunk, none_taken, taken_at}
 use Rattle.dm_map.proofs.state.Numbers.{number_is}
 use Rattle.dm_map.proofs.state.ResolvedLines.{line_there, some_line}
-use Rattle.dm_map.specs.state.Tables.{AreTables, has_room, snapshot_at, snapshot_of, state_of}
 
 -- One table
 

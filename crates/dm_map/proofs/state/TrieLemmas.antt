@@ -1,24 +1,10 @@
 -- The ways of a trie of taken chunks.
-use Rattle.std.proofs.Common.{◌≡◌, ℕ, Bool, zero, suc, ◌+◌, ◌-◌, ◌%◌, ◌^◌, ◌<◌, ◌≤◌, true, false, List, [], ◌∷◌, ◌++◌, Some, None, cond, length, get_or, replicate, set, nat_eq, refl, sym, ap, subst, ◌∙◌, inl, inr, arith, w64}
-use Rattle.std.specs.Int.{bit_at, trailing_zeros}
-use Rattle.std.specs.Int.Bits.{bit_xor}
-use Rattle.std.specs.List.{AllByRecursion, IsDistinct, list_any}
-use Rattle.std.proofs.Math.Logic.{∥∥₁_elim}
+use Rattle.dm_map.proofs.Prelude.{◌≡◌, ℕ, Bool, zero, suc, ◌+◌, ◌-◌, ◌%◌, ◌^◌, ◌<◌, ◌≤◌, true, false, List, [], ◌∷◌, ◌++◌, Some, None, cond, length, get_or, replicate, set, nat_eq, refl, sym, ap, subst, ◌∙◌, inl, inr, arith, w64, bit_at, trailing_zeros, bit_xor, AllByRecursion, IsDistinct, list_any, ∥∥₁_elim, cases_eq, cases_lt, eq-eqb, eqb-true, false_from_ne_true, le-ltb, leb-true, lt-ltb, ne_eqb, or_cases, or_parts, get_or_append_left, get_or_push, get_or_read, get_or-replicate, get_or-set_other, get_or-set_same, length-replicate, length-set, length_push, ◌⊎◌, nat_le, nat_lt, IsDistinct-cons, length-le_from_distinct_below, and_le_r, xor_lt, bit_at-lt, bit_at-trailing_zeros, bit_at-zero, bit_at_xor, same_from_bits, number_in, Empty, Number, Fork, Agree, AreInOwnSlots, Fits, HasMarks, IsFork, IsNumber, IsSide, IsTrie, Marks, chunk_at, end_of, is_fork, next_at, node_at, slot_of, way}
 use Rattle.std.proofs.Props.{props}
-use Rattle.std.proofs.lemmas.Bool.{cases_eq, cases_lt, eq-eqb, eqb-true, false_from_ne_true, le-ltb, leb-true, lt-ltb, ne_eqb, or_cases, or_parts}
-use Rattle.std.proofs.lemmas.List.{get_or_append_left, get_or_push, get_or_read, get_or-replicate, get_or-set_other, get_or-set_same, length-replicate, length-set, length_push}
-use Rattle.std.specs.Prelude.{◌⊎◌, nat_le, nat_lt}
-use Rattle.dm_map.specs.state.Snapshots.{number_in}
 use Rattle.dm_map.proofs.state.Numbers.{number_distinct}
-use Rattle.std.proofs.lemmas.Map.Keys.{IsDistinct-cons}
-use Rattle.std.proofs.lemmas.Map.Steps.{length-le_from_distinct_below}
-use Rattle.std.proofs.lemmas.Nat.{and_le_r, xor_lt}
-use Rattle.std.proofs.lemmas.Nat.Bits.{bit_at-lt, bit_at-trailing_zeros, bit_at-zero, bit_at_xor, same_from_bits}
 use Rattle.dm_map.specs.declared.state.trie_taken.link.Node.{Node}
-use Rattle.dm_map.specs.declared.state.trie_taken.link.Node.TheVariants.{Empty, Number, Fork}
 use Rattle.dm_map.specs.declared.state.trie_taken.TrieTaken.{TrieTaken}
 use Rattle.dm_map.specs.declared.state.trie_taken.slots.Slots.{Slots}
-use Rattle.dm_map.specs.state.Trie.{Agree, AreInOwnSlots, Fits, HasMarks, IsFork, IsNumber, IsSide, IsTrie, Marks, chunk_at, end_of, is_fork, next_at, node_at, slot_of, way}
 
 -- Steps
 
@@ -485,7 +471,7 @@ is_parted nodes here bit chunk other mine theirs within apart =
           ∙ get_or_append_left nodes (Number theirs ∷ []) Empty at below;
     }
 
--- The same of a table of taken chunks
+-- A table of taken chunks
 
 -- the node where the way of a chunk ends
 abbrev pub last_node : TrieTaken → (chunk : ℕ) → Node

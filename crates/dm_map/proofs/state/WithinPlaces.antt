@@ -1,16 +1,6 @@
 -- Tables take no more chunks than the stores of their snapshots have places.
-use Rattle.std.proofs.Common.{◌≡◌, ℕ, zero, suc, ◌<◌, ◌≤◌, Bool, true, List, Some, length, sym, ◌∙◌, arith}
-use Rattle.std.specs.Prelude.{slice_get}
-use Rattle.std.proofs.lemmas.Bool.{lt-ltb}
-use Rattle.std.proofs.lemmas.List.{length-map}
-use Rattle.dm_stack.specs.declared.lines.resolved_line.ResolvedSnapshot.{ResolvedSnapshot}
-use Rattle.dm_stack.specs.Description.{Description, lower_len}
-use Rattle.dm_stack.specs.lines.StoreLayout.{place_count}
-use Rattle.dm_stack.specs.checks.Soundness.{IsSound}
+use Rattle.dm_map.proofs.Prelude.{◌≡◌, ℕ, zero, suc, ◌<◌, ◌≤◌, Bool, true, List, Some, length, sym, ◌∙◌, arith, slice_get, lt-ltb, length-map, ResolvedSnapshot, Description, lower_len, place_count, IsSound, there, IsFitting, IsWithinPlaces, AreTables, has_room, snapshot_at, state_of}
 use Rattle.dm_stack.proofs.StoreLayoutLemmas.{has_place}
-use Rattle.dm_stack.proofs.SoundLines.{there}
-use Rattle.dm_map.specs.state.Fitting.{IsFitting, IsWithinPlaces}
-use Rattle.dm_map.specs.state.Tables.{AreTables, has_room, snapshot_at, state_of}
 use Rattle.dm_map.proofs.state.TableLemmas.{room_place, state_at}
 use Rattle.dm_map.proofs.state.ResolvedLines.{snapshot_sound}
 

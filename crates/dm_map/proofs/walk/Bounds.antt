@@ -1,28 +1,7 @@
 -- Mapped sectors: those of a line by what lies below them, and those of a device that lie in one line.
-use Rattle.std.proofs.Common.{◌≡◌, ℕ, suc, ◌+◌, ◌-◌, ◌*◌, ◌<◌, ◌≤◌, false, List, [], ◌∷◌, Some, length, refl, sym, ap, ◌∙◌, arith}
-use Rattle.std.specs.Prelude.{◌==◌, nat_lt, Result}
-use Rattle.std.proofs.lemmas.Bool.{ne_eqb}
-use Rattle.std.proofs.Math.Nat.{mul-le-mul_right}
-use Rattle.dm_table.specs.declared.requests.request.Op.{Op}
-use Rattle.dm_table.specs.declared.requests.request.Op.TheVariants.{Read}
-use Rattle.dm_stack.specs.declared.lines.resolved_line.ResolvedLine.{ResolvedLine}
-use Rattle.dm_stack.specs.declared.lines.resolved_line.ResolvedTarget.{ResolvedTarget}
+use Rattle.dm_map.proofs.Prelude.{◌≡◌, ℕ, suc, ◌+◌, ◌-◌, ◌*◌, ◌<◌, ◌≤◌, false, List, [], ◌∷◌, Some, length, refl, sym, ap, ◌∙◌, arith, ◌==◌, nat_lt, Result, ne_eqb, mul-le-mul_right, Op, Read, ResolvedLine, ResolvedTarget, Lower, Device, Below, Lies, below_target, found_at, is_same_chunk, IsLineOf, Description, device_len, stack_depth, IsSound, depth_of, SinkPast, IsMapped, found_mapping, range_mapping, target_mapping, target_path, PathStep, is_same_path, path, read_stretches, stretches, by_below, read_over, State, taken_at, Step, steps, WalkerView, line_step, refuses}
+use Rattle.dm_stack.specs.Prelude.{chunk_at}
 use Rattle.dm_stack.specs.declared.checks.graph.TheConstants.{MOST_DEPTH}
-use Rattle.dm_stack.specs.declared.id.Lower.{Lower}
-use Rattle.dm_stack.specs.declared.id.Lower.TheVariants.{Device}
-use Rattle.dm_stack.specs.lines.Below.{Below, Lies, below_target, chunk_at, found_at, is_same_chunk, IsLineOf}
-use Rattle.dm_stack.specs.Description.{Description, device_len}
-use Rattle.dm_stack.specs.checks.Depth.{stack_depth}
-use Rattle.dm_stack.specs.checks.Soundness.{IsSound, depth_of}
-use Rattle.dm_map.specs.pieces.Sink.{SinkPast}
-use Rattle.dm_map.specs.walk.Bound.{IsMapped, found_mapping, range_mapping, target_mapping, target_path}
-use Rattle.dm_map.specs.walk.Path.{PathStep, is_same_path, path, read_stretches, stretches}
-use Rattle.dm_map.specs.walk.Reads.{by_below}
-use Rattle.dm_map.specs.state.Snapshots.{read_over}
-use Rattle.dm_map.specs.state.State.{State, taken_at}
-use Rattle.dm_map.specs.walk.Steps.{Step, steps}
-use Rattle.dm_map.specs.state.Walker.{WalkerView}
-use Rattle.dm_map.specs.walk.Range.{line_step, refuses}
 use Rattle.dm_map.proofs.walk.Depths.{below_less, depth_most, depth_some}
 use Rattle.dm_map.proofs.walk.Paths.{other_chunk, other_start, searches_below, searches_line, stretches_below, stretches_same}
 use Rattle.dm_map.proofs.walk.Ranges.{range_line}

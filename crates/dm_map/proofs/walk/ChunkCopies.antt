@@ -1,23 +1,7 @@
 -- The sectors of a chunk in a store, their copies and their writes.
-use Rattle.std.proofs.Common.{◌≡◌, ℕ, ◌+◌, ◌-◌, ◌%◌, ◌<◌, ◌≤◌, false, refl, sym, ap, subst, ◌∙◌, arith}
-use Rattle.dm_table.specs.declared.requests.request.Op.TheVariants.{Read}
-use Rattle.dm_stack.specs.declared.lines.resolved_line.ResolvedSnapshot.{ResolvedSnapshot}
+use Rattle.dm_map.proofs.Prelude.{◌≡◌, ℕ, ◌+◌, ◌-◌, ◌%◌, ◌<◌, ◌≤◌, false, refl, sym, ap, subst, ◌∙◌, arith, Read, ResolvedSnapshot, Lower, HomeStretch, Ground, Stretch, AreAdded, GoOn, IsFirstHomes, home, store_sector, any_error, copy_to, home_in_store, is_error, read, reads_all, row, write_to, keep, ground_unit, IsFirstOf, IsGroundInStack, SinkPast, BlockUnit, WriteOf, units_in, StackState, WalkerView, stack_state, range_step}
 use Rattle.dm_stack.specs.declared.checks.graph.TheConstants.{MOST_DEPTH}
-use Rattle.dm_stack.specs.declared.id.Lower.{Lower}
-use Rattle.dm_map.specs.declared.walk.homes.HomeStretch.{HomeStretch}
-use Rattle.dm_map.specs.declared.walk.stretch.Ground.{Ground}
 use Rattle.dm_map.specs.declared.walk.stretch.Ground.TheVariants as grounds
-use Rattle.dm_map.specs.declared.walk.stretch.Stretch.{Stretch}
-use Rattle.dm_map.specs.state.Counts.{AreAdded}
-use Rattle.dm_map.specs.walk.Homes.{GoOn, IsFirstHomes, home}
-use Rattle.dm_map.specs.state.Snapshots.{store_sector}
-use Rattle.dm_map.specs.walk.SnapshotWrites.{any_error, copy_to, home_in_store, is_error, read, reads_all, row, write_to}
-use Rattle.dm_map.specs.walk.Steps.{keep}
-use Rattle.dm_map.specs.walk.Stretch.{ground_unit, IsFirstOf, IsGroundInStack}
-use Rattle.dm_map.specs.pieces.Sink.{SinkPast}
-use Rattle.dm_map.specs.pieces.Units.{BlockUnit, WriteOf, units_in}
-use Rattle.dm_map.specs.state.Walker.{StackState, WalkerView, stack_state}
-use Rattle.dm_map.specs.walk.Range.{range_step}
 use Rattle.dm_map.proofs.walk.Chunks.{store_sector_on}
 use Rattle.dm_map.proofs.walk.Rows.{none_added}
 use Rattle.dm_map.proofs.walk.UnitRows.{copy_row, errors_on, first_reads, row_front, write_row}

@@ -1,15 +1,5 @@
 -- A chunk that was to be taken is settled, and stays so: the sectors of a chunk are written as one step, or all of them fail.
-use Rattle.std.proofs.Common.{replicate, ◌≡◌, ℕ, zero, suc, ◌+◌, ◌/◌, ◌<◌, Bool, true, false, cond, not, List, [], ◌∷◌, Option, Some, None, length, refl, ap, ◌∙◌, arith}
-use Rattle.std.specs.Prelude.{◌&&◌, is_some}
-use Rattle.std.proofs.lemmas.Bool.{or_parts, or_right, not-false}
-use Rattle.std.proofs.lemmas.List.{get_or-set_same, get_or-set_other}
-use Rattle.dm_stack.specs.declared.lines.resolved_line.ResolvedSnapshot.{ResolvedSnapshot}
-use Rattle.dm_stack.specs.Description.{Description}
-use Rattle.dm_map.specs.state.Snapshots.{number_in, has_place}
-use Rattle.dm_map.specs.state.State.{put, with_chunk, lost, Taken, State, none_taken, taken_at}
-use Rattle.dm_map.specs.walk.SnapshotWrites.{is_keeping, is_refused, is_settled, take_chunk, row, unit_in_store, write_snapshot, copies, first_of, count_of, can_take}
-use Rattle.dm_map.specs.walk.Steps.{Step, keep, and_then, steps}
-use Rattle.dm_map.specs.pieces.Units.{BlockUnit, Fails, units_in}
+use Rattle.dm_map.proofs.Prelude.{replicate, ◌≡◌, ℕ, zero, suc, ◌+◌, ◌/◌, ◌<◌, Bool, true, false, cond, not, List, [], ◌∷◌, Option, Some, None, length, refl, ap, ◌∙◌, arith, ◌&&◌, is_some, or_parts, or_right, not-false, get_or-set_same, get_or-set_other, ResolvedSnapshot, Description, number_in, has_place, put, with_chunk, lost, Taken, State, none_taken, taken_at, is_keeping, is_refused, is_settled, take_chunk, row, unit_in_store, write_snapshot, copies, first_of, count_of, can_take, Step, keep, and_then, steps, BlockUnit, Fails, units_in}
 use Rattle.dm_map.proofs.state.Numbers.{number_new}
 use Rattle.dm_map.proofs.walk.Rows.{and_then_at, step_assoc, steps_still}
 

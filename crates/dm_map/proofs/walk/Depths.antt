@@ -1,23 +1,6 @@
 -- What lies below a line is less deep than its device.
-use Rattle.std.proofs.Common.{◌≡◌, ℕ, zero, suc, ◌+◌, ◌-◌, ◌<◌, ◌≤◌, List, [], ◌∷◌, Option, Some, None, length, map, refl, ap, subst, ◌∙◌, arith}
-use Rattle.std.specs.Prelude.{option_map, slice_get}
-use Rattle.std.specs.List.{AllByRecursion, range_with_len}
-use Rattle.std.proofs.lemmas.Option.{get_or_from_slice_get, slice_get-map}
-use Rattle.dm_table.specs.declared.tables.table.Line.{Line}
-use Rattle.dm_stack.specs.declared.lines.resolved_line.ResolvedLine.{ResolvedLine}
-use Rattle.dm_stack.specs.declared.lines.resolved_line.ResolvedSnapshot.{ResolvedSnapshot}
-use Rattle.dm_stack.specs.declared.id.Lower.{Lower}
-use Rattle.dm_stack.specs.declared.id.Lower.TheVariants.{Device, Disk}
-use Rattle.dm_stack.specs.lines.Below.{Below, Lies, below_target, found_at, resolved_line, holds, line_of}
-use Rattle.dm_stack.specs.Description.{Description, device_links, line_links, lines_at, links}
-use Rattle.dm_stack.specs.checks.Graph.{depth_to, greatest, links_of}
-use Rattle.dm_stack.specs.checks.Depth.{lower_depth, stack_depth}
-use Rattle.dm_stack.specs.checks.Soundness.{IsSound, depth_of}
+use Rattle.dm_map.proofs.Prelude.{◌≡◌, ℕ, zero, suc, ◌+◌, ◌-◌, ◌<◌, ◌≤◌, List, [], ◌∷◌, Option, Some, None, length, map, refl, ap, subst, ◌∙◌, arith, option_map, slice_get, AllByRecursion, range_with_len, get_or_from_slice_get, slice_get-map, Line, ResolvedLine, ResolvedSnapshot, Lower, Device, Disk, Below, Lies, below_target, found_at, resolved_line, holds, line_of, Description, device_links, lines_at, links, depth_to, greatest, links_of, lower_depth, stack_depth, IsSound, depth_of, line_links, shallow_device, found, lines_there, there, read_over, State, taken_at}
 use Rattle.dm_stack.proofs.DepthLemmas.{depth_to-deeper}
-use Rattle.dm_stack.proofs.DepthRule.{shallow_device}
-use Rattle.dm_stack.proofs.SoundLines.{found, lines_there, there}
-use Rattle.dm_map.specs.state.Snapshots.{read_over}
-use Rattle.dm_map.specs.state.State.{State, taken_at}
 use Rattle.dm_map.proofs.state.ResolvedLines.{line_there}
 use Rattle.dm_map.proofs.walk.LevelLemmas.{GoesOn, OnBelow, OnLower, on_lines, on_target, over_read}
 

@@ -1,27 +1,7 @@
 -- A striped line whose columns are all on disks: a sink takes its legs in one go.
-use Rattle.std.proofs.Common.{◌≡◌, ℕ, zero, suc, ◌+◌, ◌≤◌, true, false, [], ◌∷◌, refl, sym, ap, ◌∙◌, arith}
-use Rattle.std.specs.Prelude.{Result}
-use Rattle.std.proofs.lemmas.Result.{on_ok_weaker}
-use Rattle.dm_table.specs.declared.requests.request.Op.{Op}
+use Rattle.dm_map.proofs.Prelude.{◌≡◌, ℕ, zero, suc, ◌+◌, ◌≤◌, true, false, [], ◌∷◌, refl, sym, ap, ◌∙◌, arith, Result, on_ok_weaker, Op, Disk, ResolvedLine, ResolvedTarget, on_ok, Description, Below, Lies, below_plain, has_state, IsLine, has_disk_columns, AreOnDisks, LegsView, sector_on_disk, IsOnADisk, AreHanded, SinkPast, below_unit, legs_units, line_units, State, WalkerView, IsMapped, target_mapping, write_step, below_step, line_step, target_step, read_unit, Step, keep, steps}
 use Rattle.dm_table.specs.declared.requests.request.Op.TheVariants as ops
-use Rattle.dm_table.proofs.Lists.{on_ok}
-use Rattle.dm_stack.specs.declared.id.Lower.TheVariants.{Disk}
-use Rattle.dm_stack.specs.declared.lines.resolved_line.ResolvedLine.{ResolvedLine}
-use Rattle.dm_stack.specs.declared.lines.resolved_line.ResolvedTarget.{ResolvedTarget}
 use Rattle.dm_stack.specs.declared.lines.resolved_line.ResolvedTarget.TheVariants as found
-use Rattle.dm_stack.specs.Description.{Description}
-use Rattle.dm_stack.specs.lines.Below.{Below, Lies, below_plain, has_state, IsLine}
-use Rattle.dm_stack.specs.lines.Leg.{has_disk_columns, AreOnDisks, LegsView}
-use Rattle.dm_stack.proofs.LegLemmas.{sector_on_disk, IsOnADisk}
-use Rattle.dm_map.specs.pieces.Sink.{AreHanded, SinkPast}
-use Rattle.dm_map.specs.pieces.Units.{below_unit, legs_units, line_units}
-use Rattle.dm_map.specs.state.State.{State}
-use Rattle.dm_map.specs.state.Walker.{WalkerView}
-use Rattle.dm_map.specs.walk.Bound.{IsMapped, target_mapping}
-use Rattle.dm_map.specs.walk.Mapping.{write_step}
-use Rattle.dm_map.specs.walk.Range.{below_step, line_step, target_step}
-use Rattle.dm_map.specs.walk.Reads.{read_unit}
-use Rattle.dm_map.specs.walk.Steps.{Step, keep, steps}
 use Rattle.dm_map.proofs.walk.Ranges.{plain_step}
 use Rattle.dm_map.proofs.walk.Rows.{none_added, walked_as}
 

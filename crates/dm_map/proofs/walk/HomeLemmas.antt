@@ -1,25 +1,8 @@
 -- Sectors that lie in a row on a disk, and the results where others were handed over.
-use Rattle.std.proofs.Common.{◌≡◌, ℕ, ◌+◌, ◌-◌, ◌≤◌, false, List, Some, refl, sym, ◌∙◌, arith}
-use Rattle.std.specs.Prelude.{Option, Result, Ok, Err}
-use Rattle.dm_table.specs.declared.requests.request.Op.{Op}
-use Rattle.dm_stack.specs.declared.lines.resolved_line.ResolvedLine.{ResolvedLine}
+use Rattle.dm_map.proofs.Prelude.{◌≡◌, ℕ, ◌+◌, ◌-◌, ◌≤◌, false, List, Some, refl, sym, ◌∙◌, arith, Option, Result, Ok, Err, Op, ResolvedLine, Lower, Disk, Description, IsLineOf, disk_there, IsHanded, SinkPast, BlockUnit, disk_unit, units_in, read_over, taken_at, WalkerView, IsMapped, Mapping, found_mapping, range_mapping, IsHome, handed, or_home, range_step, refuses, IsLegOf, IsWalked, Step, keep}
 use Rattle.dm_stack.specs.declared.checks.graph.TheConstants.{MOST_DEPTH}
-use Rattle.dm_stack.specs.declared.id.Lower.{Lower}
-use Rattle.dm_stack.specs.declared.id.Lower.TheVariants.{Disk}
 use Rattle.dm_stack.specs.declared.lines.leg.Beneath.TheVariants.{Lies}
-use Rattle.dm_stack.specs.Description.{Description}
-use Rattle.dm_stack.specs.lines.Below.{IsLineOf}
-use Rattle.dm_stack.proofs.InStack.{disk_there}
 use Rattle.dm_map.specs.declared.walk.home.Home.{Home}
-use Rattle.dm_map.specs.pieces.Sink.{IsHanded, SinkPast}
-use Rattle.dm_map.specs.pieces.Units.{BlockUnit, disk_unit, units_in}
-use Rattle.dm_map.specs.state.Snapshots.{read_over}
-use Rattle.dm_map.specs.state.State.{taken_at}
-use Rattle.dm_map.specs.state.Walker.{WalkerView}
-use Rattle.dm_map.specs.walk.Bound.{IsMapped, Mapping, found_mapping, range_mapping}
-use Rattle.dm_map.specs.walk.Home.{IsHome, handed, or_home}
-use Rattle.dm_map.specs.walk.Range.{range_step, refuses, IsLegOf, IsWalked}
-use Rattle.dm_map.specs.walk.Steps.{Step, keep}
 use Rattle.dm_map.proofs.walk.Bounds.{mapped_below, mapped_line}
 use Rattle.dm_map.proofs.walk.Ranges.{leg_lies, range_disk}
 use Rattle.dm_map.proofs.walk.Rows.{walked_piece}

@@ -1,44 +1,12 @@
 -- Where the levels are at least a device's depth, their number plays no part.
-use Rattle.std.proofs.Common.{◌≡◌, ℕ, zero, suc, ◌+◌, ◌-◌, ◌/◌, ◌<◌, ◌≤◌, Bool, true, false, cond, List, [], ◌∷◌, Option, Some, None, length, map, refl, ap, subst, ◌∙◌, arith}
-use Rattle.std.specs.Prelude.{option_map, slice_get, nat_lt}
-use Rattle.std.specs.List.{AllByRecursion, flat_map}
-use Rattle.std.proofs.lemmas.Bool.{ltb-false}
-use Rattle.std.proofs.lemmas.Option.{get_or_from_slice_get, slice_get-map}
-use Rattle.dm_table.specs.declared.tables.table.DevRef.{DevRef}
+use Rattle.dm_map.proofs.Prelude.{◌≡◌, ℕ, zero, suc, ◌+◌, ◌-◌, ◌/◌, ◌<◌, ◌≤◌, Bool, true, false, cond, List, [], ◌∷◌, Option, Some, None, length, map, refl, ap, subst, ◌∙◌, arith, option_map, slice_get, nat_lt, AllByRecursion, flat_map, ltb-false, get_or_from_slice_get, slice_get-map, DevRef, Target, Reading, Line, DeviceSpec, Lower, Device, Disk, ResolvedLine, ResolvedTarget, ResolvedSnapshot, Span, target_spans, whole_span, Description, lower_of, ref_link, device_links, links, lines_or_none, links_of, greatest, depth_to, Below, Lies, IsZero, IsError, below, below_line, below_plain, below_target, resolved_line, resolved_target, found_at, holds, line_of, resolved_snapshot, IsSound, depth_of, line_links, passes_all, found, none_at, Zeros, Drops, Fails, serve, number_in, read_numbered, read_over, State, Taken, taken_at, Step, keep, by_below, read_below, read_unit, AreHomesFreeOfLevels, home_to, nowhere, write_line, write_target, write_step, IsFreeOfLevels, all_parts, at_index}
 use Rattle.dm_table.specs.declared.tables.table.DevRef.TheVariants as refs
-use Rattle.dm_table.specs.declared.tables.table.Target.{Target}
 use Rattle.dm_table.specs.declared.tables.table.Target.TheVariants as targets
-use Rattle.dm_table.specs.declared.tables.table.Use.TheVariants.{Reading}
-use Rattle.dm_table.specs.declared.tables.table.Line.{Line}
-use Rattle.dm_table.specs.declared.tables.table.DeviceSpec.{DeviceSpec}
 use Rattle.dm_table.specs.declared.requests.request.Op.TheVariants as ops
-use Rattle.dm_stack.specs.declared.id.Lower.{Lower}
-use Rattle.dm_stack.specs.declared.id.Lower.TheVariants.{Device, Disk}
 use Rattle.dm_stack.specs.declared.checks.graph.TheConstants.{MOST_DEPTH}
-use Rattle.dm_stack.specs.declared.lines.resolved_line.ResolvedLine.{ResolvedLine}
-use Rattle.dm_stack.specs.declared.lines.resolved_line.ResolvedTarget.{ResolvedTarget}
 use Rattle.dm_stack.specs.declared.lines.resolved_line.ResolvedTarget.TheVariants as founds
-use Rattle.dm_stack.specs.Description.{Description, lower_of, ref_link, line_links, device_links, links, lines_or_none}
-use Rattle.dm_table.specs.tables.Span.{Span, target_spans, whole_span}
-use Rattle.dm_stack.specs.checks.Graph.{links_of, greatest, depth_to}
-use Rattle.dm_stack.specs.declared.lines.resolved_line.ResolvedSnapshot.{ResolvedSnapshot}
-use Rattle.dm_stack.specs.lines.Below.{Below, Lies, IsZero, IsError, below, below_line, below_plain, below_target, resolved_line, resolved_target, found_at, holds, line_of}
-use Rattle.dm_stack.specs.lines.Over.{resolved_snapshot}
-use Rattle.dm_stack.specs.checks.Soundness.{IsSound, depth_of}
-use Rattle.dm_stack.proofs.Passes.{passes_all}
-use Rattle.dm_stack.proofs.SoundLines.{found}
-use Rattle.dm_stack.proofs.DepthRule.{none_at}
-use Rattle.dm_map.specs.pieces.Units.{Zeros, Drops, Fails}
-use Rattle.dm_map.specs.walk.Serving.{serve}
-use Rattle.dm_map.specs.state.Snapshots.{number_in, read_numbered, read_over}
-use Rattle.dm_map.specs.state.State.{State, Taken, taken_at}
-use Rattle.dm_map.specs.walk.Steps.{Step, keep}
-use Rattle.dm_map.specs.walk.Reads.{by_below, read_below, read_unit}
-use Rattle.dm_map.specs.walk.Homes.{AreHomesFreeOfLevels, home_to, nowhere}
-use Rattle.dm_map.specs.walk.Mapping.{write_line, write_target, write_step, IsFreeOfLevels}
 use Rattle.dm_map.proofs.walk.Rows.{and_then_at}
 use Rattle.dm_map.proofs.walk.Spans.{plain_span, span_index}
-use Rattle.dm_table.proofs.Lists.{all_parts, at_index}
 
 -- What lies below a device is among what it names
 

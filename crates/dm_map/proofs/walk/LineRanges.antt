@@ -1,14 +1,5 @@
 -- The legs of a line.
-use Rattle.std.proofs.Common.{◌≡◌, ℕ, ◌+◌, ◌≤◌, arith}
-use Rattle.dm_stack.specs.declared.lines.resolved_line.ResolvedLine.{ResolvedLine}
-use Rattle.dm_stack.specs.declared.lines.resolved_line.ResolvedTarget.{ResolvedTarget}
-use Rattle.dm_stack.specs.declared.lines.leg.Leg.{Leg}
-use Rattle.dm_stack.specs.lines.Below.{IsLine, IsTargetSound}
-use Rattle.dm_stack.specs.Description.{Description}
-use Rattle.dm_stack.specs.lines.Leg.{AreInside, HasSectors, IsLeg}
-use Rattle.dm_stack.specs.checks.Soundness.{IsSound}
-use Rattle.dm_stack.proofs.LegLemmas.{leg_lies_inside}
-use Rattle.dm_map.specs.walk.Range.{IsLegOf}
+use Rattle.dm_map.proofs.Prelude.{◌≡◌, ℕ, ◌+◌, ◌≤◌, arith, ResolvedLine, ResolvedTarget, Leg, IsLine, IsTargetSound, Description, AreInside, HasSectors, IsLeg, IsSound, leg_lies_inside, IsLegOf}
 
 -- a line has its sectors
 pub line_sectors : (stack : Description) (device distance len : ℕ) (line : ResolvedLine) → IsSound stack → IsLine stack device line → distance + len ≤ line.len → HasSectors line.target distance len

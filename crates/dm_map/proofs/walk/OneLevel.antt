@@ -1,24 +1,6 @@
 -- One level down: what lies below is less deep, and from there on the levels that are left play no part.
-use Rattle.std.proofs.Common.{◌≡◌, ℕ, zero, suc, ◌-◌, ◌<◌, ◌≤◌, inl, inr, cond, [], ◌∷◌, Option, Some, None, length, refl, ◌∙◌, arith}
-use Rattle.std.specs.List.{AllByRecursion}
-use Rattle.std.proofs.lemmas.Bool.{cases_lt}
-use Rattle.std.proofs.lemmas.Option.{slice_get_past}
+use Rattle.dm_map.proofs.Prelude.{◌≡◌, ℕ, zero, suc, ◌-◌, ◌<◌, ◌≤◌, inl, inr, cond, [], ◌∷◌, Option, Some, None, length, refl, ◌∙◌, arith, AllByRecursion, cases_lt, slice_get_past, Lower, Device, Disk, ResolvedLine, Lies, IsError, below, below_line, found_at, Description, is_ro_at, links, links_of, lower_depth, IsSound, depth_of, write_line, write_step, by_below, read_below, read_unit, read, read_over, State, taken_at, keep, ReadOf, Zeros, Fails}
 use Rattle.dm_stack.specs.declared.checks.graph.TheConstants.{MOST_DEPTH}
-use Rattle.dm_stack.specs.declared.id.Lower.{Lower}
-use Rattle.dm_stack.specs.declared.id.Lower.TheVariants.{Device, Disk}
-use Rattle.dm_stack.specs.declared.lines.resolved_line.ResolvedLine.{ResolvedLine}
-use Rattle.dm_stack.specs.lines.Below.{Lies, IsError, below, below_line, found_at}
-use Rattle.dm_stack.specs.Description.{Description, is_ro_at, links}
-use Rattle.dm_stack.specs.checks.Graph.{links_of}
-use Rattle.dm_stack.specs.checks.Depth.{lower_depth}
-use Rattle.dm_stack.specs.checks.Soundness.{IsSound, depth_of}
-use Rattle.dm_map.specs.walk.Mapping.{write_line, write_step}
-use Rattle.dm_map.specs.walk.Reads.{by_below, read_below, read_unit}
-use Rattle.dm_map.specs.walk.SnapshotWrites.{read}
-use Rattle.dm_map.specs.state.Snapshots.{read_over}
-use Rattle.dm_map.specs.state.State.{State, taken_at}
-use Rattle.dm_map.specs.walk.Steps.{keep}
-use Rattle.dm_map.specs.pieces.Units.{ReadOf, Zeros, Fails}
 use Rattle.dm_map.proofs.walk.Depths.{below_less, depth_some}
 use Rattle.dm_map.proofs.walk.LevelLemmas.{IsShallow, OnBelow, named_shallow, on_below, over_read, same_below, same_line, same_read, same_write, shallow}
 

@@ -1,22 +1,6 @@
 -- A part of the sectors of an origin's device as one walk: its snapshots are served, and then the sectors of the origin are written.
-use Rattle.std.proofs.Common.{◌≡◌, ℕ, zero, suc, ◌+◌, ◌<◌, ◌≤◌, List, ◌++◌, append_assoc, sym, arith}
-use Rattle.std.specs.List.{All}
-use Rattle.std.specs.Prelude.{Result, Ok, Err}
-use Rattle.std.proofs.lemmas.List.Elements.{All-from_recursion}
+use Rattle.dm_map.proofs.Prelude.{◌≡◌, ℕ, zero, suc, ◌+◌, ◌<◌, ◌≤◌, List, ◌++◌, append_assoc, sym, arith, All, Result, Ok, Err, All-from_recursion, ResolvedOrigin, ResolvedOver, Description, lower_len, snapshots_over, IsSound, sector_step, AreSettled, IsOver, serve, IsLawful, SinkPast, State, steps, WalkerView, IsMapped, origin_mapping, range_mapping, IsWalked, range_step, served_sector}
 use Rattle.dm_table.specs.declared.requests.request.Op.TheVariants as ops
-use Rattle.dm_stack.specs.declared.lines.resolved_line.ResolvedOrigin.{ResolvedOrigin}
-use Rattle.dm_stack.specs.declared.lines.resolved_line.ResolvedOver.{ResolvedOver}
-use Rattle.dm_stack.specs.Description.{Description, lower_len}
-use Rattle.dm_stack.specs.lines.Over.{snapshots_over}
-use Rattle.dm_stack.specs.checks.Soundness.{IsSound}
-use Rattle.dm_map.specs.walk.Mapping.{sector_step}
-use Rattle.dm_map.specs.walk.Serving.{AreSettled, IsOver, serve}
-use Rattle.dm_map.specs.pieces.Sink.{IsLawful, SinkPast}
-use Rattle.dm_map.specs.state.State.{State}
-use Rattle.dm_map.specs.walk.Steps.{steps}
-use Rattle.dm_map.specs.state.Walker.{WalkerView}
-use Rattle.dm_map.specs.walk.Bound.{IsMapped, origin_mapping, range_mapping}
-use Rattle.dm_map.specs.walk.Range.{IsWalked, range_step, served_sector}
 use Rattle.dm_map.proofs.walk.Overs.{overs}
 use Rattle.dm_map.proofs.walk.Rows.{left_more, walked_as, walked_then}
 use Rattle.dm_map.proofs.walk.Served.{StepsKeep, part}

@@ -1,19 +1,6 @@
 -- The snapshots of an origin, as those that its line has.
-use Rattle.std.proofs.Common.{◌≡◌, ℕ, ◌/◌, ◌≤◌, true, List, Some, refl, ap, arith}
-use Rattle.std.specs.List.{AllByRecursion, Contains}
-use Rattle.std.proofs.lemmas.List.Elements.{All-contains, All-contains_itself, All-from_recursion, recursion_from_All}
-use Rattle.dm_stack.specs.declared.lines.resolved_line.ResolvedOver.{ResolvedOver}
-use Rattle.dm_stack.specs.declared.lines.resolved_line.ResolvedSnapshot.{ResolvedSnapshot}
-use Rattle.dm_stack.specs.declared.id.Lower.{Lower}
-use Rattle.dm_stack.specs.lines.Below.{found_at}
-use Rattle.dm_stack.specs.Description.{Description, lower_len}
-use Rattle.dm_stack.specs.lines.Over.{snapshots_over}
-use Rattle.dm_stack.specs.checks.Soundness.{IsSound}
+use Rattle.dm_map.proofs.Prelude.{◌≡◌, ℕ, ◌/◌, ◌≤◌, true, List, Some, refl, ap, arith, AllByRecursion, Contains, All-contains, All-contains_itself, All-from_recursion, recursion_from_All, ResolvedOver, ResolvedSnapshot, Lower, found_at, Description, lower_len, snapshots_over, IsSound, AreSettled, IsOver, is_settled, State, taken_at, snapshot_at}
 use Rattle.dm_stack.proofs.OverLemmas.{over_all, over_sound}
-use Rattle.dm_map.specs.walk.Serving.{AreSettled, IsOver}
-use Rattle.dm_map.specs.walk.SnapshotWrites.{is_settled}
-use Rattle.dm_map.specs.state.State.{State, taken_at}
-use Rattle.dm_map.specs.state.Tables.{snapshot_at}
 use Rattle.dm_map.proofs.state.ResolvedLines.{first_line, snapshot_sound}
 
 all_members : {X : Type 0} (P : X → Type 0) (xs : List X) → ((x : X) → Contains xs x → P x) → AllByRecursion P xs

@@ -1,10 +1,5 @@
 -- Stretches of paths: where they are the same, and how those of two ranges add up.
-use Rattle.std.proofs.Common.{◌≡◌, ℕ, zero, suc, ◌+◌, ◌-◌, ◌*◌, ◌<◌, ◌≤◌, Bool, true, false, cond, List, ◌∷◌, Option, refl, sym, ap, arith}
-use Rattle.std.specs.Prelude.{◌==◌}
-use Rattle.std.proofs.lemmas.Bool.{and_parts, eq-eqb}
-use Rattle.std.proofs.Math.Nat.{mul-le-mul, mul-le-mul_left}
-use Rattle.dm_stack.specs.lines.Below.{is_same_chunk}
-use Rattle.dm_map.specs.walk.Path.{PathStep, changes, is_same_path, is_same_step, stretches}
+use Rattle.dm_map.proofs.Prelude.{◌≡◌, ℕ, zero, suc, ◌+◌, ◌-◌, ◌*◌, ◌<◌, ◌≤◌, Bool, true, false, cond, List, ◌∷◌, Option, refl, sym, ap, arith, ◌==◌, and_parts, eq-eqb, mul-le-mul, mul-le-mul_left, is_same_chunk, PathStep, changes, is_same_path, is_same_step, stretches}
 
 -- Steps
 
@@ -36,7 +31,7 @@ changes_same f h s t (suc n) each =
     cc ((let e : suc s + i ≡ s + suc i = omega arith in e), (let e : suc s + suc i ≡ s + suc (suc i) = omega arith in e), each (suc i) (omega (arith, within)), (let e : t + suc i ≡ suc t + i = omega arith in e), (let e : t + suc (suc i) ≡ suc t + suc i = omega arith in e))) in
     cc
 
--- the same paths
+-- sectors with equal paths have equal stretches
 pub stretches_same : (f h : ℕ → List PathStep) (s t n : ℕ) → ((i : ℕ) → i < n → f (s + i) ≡ h (t + i)) → stretches f s n ≡ stretches h t n
 stretches_same f h s t zero each = refl
 stretches_same f h s t (suc n) each = ap suc (changes_same f h s t n (λ i within.

@@ -1,23 +1,8 @@
 -- The steps of ranges and of lines, by what lies below their sectors.
-use Rattle.std.proofs.Common.{◌≡◌, ℕ, zero, suc, ◌+◌, ◌-◌, ◌<◌, ◌≤◌, true, false, [], ◌∷◌, Some, refl, ap, ◌∙◌, arith}
-use Rattle.dm_table.specs.declared.requests.request.Op.{Op}
+use Rattle.dm_map.proofs.Prelude.{◌≡◌, ℕ, zero, suc, ◌+◌, ◌-◌, ◌<◌, ◌≤◌, true, false, [], ◌∷◌, Some, refl, ap, ◌∙◌, arith, Op, Lower, Device, Disk, ResolvedLine, ResolvedOrigin, ResolvedTarget, Beneath, Description, Below, Lies, IsZero, IsError, below_plain, found_at, has_state, IsBeneath, State, keep, Zeros, Fails, disk_unit, next_unit, units_in, by_below, read_unit, sector_step, write_step, zero_unit, below_step, refuses, range_step, target_step, line_step, origin_step, served_sector}
 use Rattle.dm_table.specs.declared.requests.request.Op.TheVariants as ops
-use Rattle.dm_stack.specs.declared.id.Lower.{Lower}
-use Rattle.dm_stack.specs.declared.id.Lower.TheVariants.{Device, Disk}
-use Rattle.dm_stack.specs.declared.lines.resolved_line.ResolvedLine.{ResolvedLine}
-use Rattle.dm_stack.specs.declared.lines.resolved_line.ResolvedOrigin.{ResolvedOrigin}
-use Rattle.dm_stack.specs.declared.lines.resolved_line.ResolvedTarget.{ResolvedTarget}
+use Rattle.dm_stack.specs.Prelude.{GoesOn}
 use Rattle.dm_stack.specs.declared.lines.resolved_line.ResolvedTarget.TheVariants as found
-use Rattle.dm_stack.specs.declared.lines.leg.Beneath.{Beneath}
-use Rattle.dm_stack.specs.Description.{Description}
-use Rattle.dm_stack.specs.lines.Below.{Below, Lies, IsZero, IsError, below_plain, found_at, has_state}
-use Rattle.dm_stack.specs.lines.Leg.{GoesOn, IsBeneath}
-use Rattle.dm_map.specs.state.State.{State}
-use Rattle.dm_map.specs.walk.Steps.{keep}
-use Rattle.dm_map.specs.pieces.Units.{Zeros, Fails, disk_unit, next_unit, units_in}
-use Rattle.dm_map.specs.walk.Reads.{by_below, read_unit}
-use Rattle.dm_map.specs.walk.Mapping.{sector_step, write_step}
-use Rattle.dm_map.specs.walk.Range.{zero_unit, below_step, refuses, range_step, target_step, line_step, origin_step, served_sector}
 use Rattle.dm_map.proofs.walk.Rows.{steps_same, steps_still}
 
 still_zeros : (op : Op) → next_unit (zero_unit op) ≡ zero_unit op

@@ -1,18 +1,6 @@
 -- How a read goes on from a sector of a device: by a line whose target has no state, by a snapshot's store or origin, or by an origin's line.
-use Rattle.std.proofs.Common.{◌≡◌, ℕ, ◌-◌, ◌/◌, Bool, true, false, cond, Option, Some, None, refl, sym, ◌∙◌, arith}
-use Rattle.dm_stack.specs.declared.id.Lower.{Lower}
-use Rattle.dm_stack.specs.declared.lines.resolved_line.ResolvedLine.{ResolvedLine}
-use Rattle.dm_stack.specs.declared.lines.resolved_line.ResolvedOrigin.{ResolvedOrigin}
-use Rattle.dm_stack.specs.declared.lines.resolved_line.ResolvedSnapshot.{ResolvedSnapshot}
-use Rattle.dm_stack.specs.declared.lines.resolved_line.ResolvedTarget.{ResolvedTarget}
+use Rattle.dm_map.proofs.Prelude.{◌≡◌, ℕ, ◌-◌, ◌/◌, Bool, true, false, cond, Option, Some, None, refl, sym, ◌∙◌, arith, Lower, ResolvedLine, ResolvedOrigin, ResolvedSnapshot, ResolvedTarget, Lies, IsError, below, below_line, below_target, found_at, has_state, Description, IsSound, read_below, store_sector, number_in, read_numbered, read_over, State, taken_at, origin_at, snapshot_at}
 use Rattle.dm_stack.specs.declared.lines.resolved_line.ResolvedTarget.TheVariants as founds
-use Rattle.dm_stack.specs.lines.Below.{Lies, IsError, below, below_line, below_target, found_at, has_state}
-use Rattle.dm_stack.specs.Description.{Description}
-use Rattle.dm_stack.specs.checks.Soundness.{IsSound}
-use Rattle.dm_map.specs.walk.Reads.{read_below}
-use Rattle.dm_map.specs.state.Snapshots.{store_sector, number_in, read_numbered, read_over}
-use Rattle.dm_map.specs.state.State.{State, taken_at}
-use Rattle.dm_map.specs.state.Tables.{origin_at, snapshot_at}
 use Rattle.dm_map.proofs.state.ResolvedLines.{line_origin, line_snapshot}
 use Rattle.dm_map.proofs.walk.Spans.{IsPlainStep, below_is, sector_is}
 

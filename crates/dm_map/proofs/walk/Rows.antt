@@ -1,20 +1,5 @@
 -- The steps of sectors in a row, and what a sink took and left of their units.
-use Rattle.std.proofs.Common.{◌≡◌, ℕ, zero, suc, ◌+◌, ◌<◌, List, [], ◌∷◌, ◌++◌, append_assoc, refl, sym, ap, ◌∙◌, arith}
-use Rattle.std.proofs.lemmas.List.{append-nil}
-use Rattle.std.specs.Result.{IsErr}
-use Rattle.std.specs.Prelude.{nat_lt, true, ◌≤◌, replicate, Result, Ok, Err}
-use Rattle.std.proofs.lemmas.Result.{on_err_weaker, on_ok_weaker}
-use Rattle.dm_table.specs.declared.requests.request.Op.{Op}
-use Rattle.dm_table.proofs.Lists.{on_ok}
-use Rattle.dm_stack.specs.Description.{Description, device_len}
-use Rattle.dm_map.specs.state.Counts.{AreAdded, Counts}
-use Rattle.dm_map.specs.pieces.Units.{BlockUnit, Fails, next_unit, units_in}
-use Rattle.dm_map.specs.pieces.Sink.{IsHanded, IsLawful, OfBeginning, SinkPast}
-use Rattle.dm_map.specs.state.State.{State}
-use Rattle.dm_map.specs.walk.Steps.{Step, keep, and_then, steps}
-use Rattle.dm_map.specs.walk.Mapping.{request_step}
-use Rattle.dm_map.specs.state.Walker.{WalkerView}
-use Rattle.dm_map.specs.walk.Range.{IsWalked}
+use Rattle.dm_map.proofs.Prelude.{◌≡◌, ℕ, zero, suc, ◌+◌, ◌<◌, List, [], ◌∷◌, ◌++◌, append_assoc, refl, sym, ap, ◌∙◌, arith, append-nil, IsErr, nat_lt, true, ◌≤◌, replicate, Result, Ok, Err, on_err_weaker, on_ok_weaker, Op, on_ok, Description, device_len, AreAdded, Counts, BlockUnit, Fails, next_unit, units_in, IsHanded, IsLawful, OfBeginning, SinkPast, State, Step, keep, and_then, steps, request_step, WalkerView, IsWalked}
 
 -- Counts that only searches were added to
 

@@ -1,30 +1,10 @@
 -- The snapshots of an origin, served: what that settles, and how far a range of the origin's sectors needs no more of it. No claim plays a part here.
-use Rattle.std.proofs.Common.{◌≡◌, inl, inr, ℕ, zero, suc, ◌+◌, ◌-◌, ◌/◌, ◌%◌, ◌<◌, true, List, [], ◌∷◌, ◌++◌, ◌≤◌, length, get_or, take, drop, refl, sym, ap, ◌∙◌, arith}
-use Rattle.std.specs.List.{All, AllByRecursion}
-use Rattle.std.specs.Prelude.{Result, Err}
-use Rattle.std.specs.Result.{IsErr}
-use Rattle.std.proofs.lemmas.Bool.{cases_lt}
-use Rattle.std.proofs.lemmas.List.{append-nil, take-append-drop, take_more}
-use Rattle.std.proofs.lemmas.List.Elements.{All-get_or}
-use Rattle.dm_stack.specs.lines.Below.{IsSnapshotSound}
-use Rattle.dm_stack.specs.Description.{Description, device_len}
-use Rattle.dm_stack.specs.checks.Soundness.{IsSound}
-use Rattle.dm_stack.specs.declared.lines.resolved_line.ResolvedSnapshot.{ResolvedSnapshot}
-use Rattle.dm_stack.specs.declared.lines.resolved_line.ResolvedOver.{ResolvedOver}
-use Rattle.dm_map.specs.walk.Serving.{AreSettled, IsOver, serve, served_step}
-use Rattle.dm_map.specs.walk.SnapshotWrites.{first_of, is_settled, take_chunk}
-use Rattle.dm_map.specs.state.State.{State, Taken, taken_at}
-use Rattle.dm_map.specs.walk.Steps.{Step, keep, and_then, steps}
-use Rattle.dm_map.specs.pieces.Sink.{IsLawful, SinkPast}
-use Rattle.dm_map.specs.state.Walker.{WalkerView}
-use Rattle.dm_map.specs.walk.Range.{IsWalked}
-use Rattle.dm_map.specs.walk.Chunk.{AreInSnapshot}
+use Rattle.dm_map.proofs.Prelude.{◌≡◌, inl, inr, ℕ, zero, suc, ◌+◌, ◌-◌, ◌/◌, ◌%◌, ◌<◌, true, List, [], ◌∷◌, ◌++◌, ◌≤◌, length, get_or, take, drop, refl, sym, ap, ◌∙◌, arith, All, AllByRecursion, Result, Err, IsErr, cases_lt, append-nil, take-append-drop, take_more, All-get_or, ResolvedSnapshot, ResolvedOver, IsSnapshotSound, Description, device_len, IsSound, AreSettled, IsOver, serve, served_step, first_of, is_settled, take_chunk, State, Taken, taken_at, Step, keep, and_then, steps, IsLawful, SinkPast, WalkerView, IsWalked, AreInSnapshot, device_there}
 use Rattle.dm_map.proofs.walk.Chunks.{first_there, same_chunk}
 use Rattle.dm_map.proofs.state.ResolvedLines.{snapshot_sound}
 use Rattle.dm_map.proofs.walk.ChunkTaking.{chunk_outcome, take_chunk_again, take_chunk_settles}
 use Rattle.dm_map.proofs.walk.Rows.{and_then_at, left_more, step_assoc, walked_as, walked_cut, walked_then}
 use Rattle.dm_map.proofs.walk.Settled.{KeepsSettled, take_chunk_keeps, serve_keeps}
-use Rattle.dm_stack.proofs.InStack.{device_there}
 use Rattle.dm_map.proofs.walk.WalkedOn.{going_on}
 
 abbrev take_chunk_one : Description → ResolvedOver → (sector : ℕ) → State → Step

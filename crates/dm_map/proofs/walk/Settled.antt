@@ -1,25 +1,6 @@
 -- What is settled stays so, whatever is written.
-use Rattle.std.proofs.Common.{◌≡◌, inl, inr, ℕ, zero, suc, ◌-◌, ◌/◌, Bool, true, false, cond, not, List, [], ◌∷◌, ◌++◌, Option, Some, None, length, refl, ap, ◌∙◌}
-use Rattle.std.specs.Prelude.{◌||◌, is_some}
-use Rattle.std.proofs.lemmas.Bool.{cases_eq, cases_lt}
-use Rattle.std.proofs.lemmas.List.{length-set, set_past}
-use Rattle.dm_stack.specs.declared.id.Lower.{Lower}
-use Rattle.dm_stack.specs.declared.id.Lower.TheVariants.{Device, Disk}
-use Rattle.dm_stack.specs.declared.lines.resolved_line.ResolvedLine.{ResolvedLine}
-use Rattle.dm_stack.specs.declared.lines.resolved_line.ResolvedOver.{ResolvedOver}
-use Rattle.dm_stack.specs.declared.lines.resolved_line.ResolvedSnapshot.{ResolvedSnapshot}
-use Rattle.dm_stack.specs.declared.lines.resolved_line.ResolvedTarget.{ResolvedTarget}
+use Rattle.dm_map.proofs.Prelude.{◌≡◌, inl, inr, ℕ, zero, suc, ◌-◌, ◌/◌, Bool, true, false, cond, not, List, [], ◌∷◌, ◌++◌, Option, Some, None, length, refl, ap, ◌∙◌, ◌||◌, is_some, cases_eq, cases_lt, length-set, set_past, Lower, Device, Disk, ResolvedLine, ResolvedOver, ResolvedSnapshot, ResolvedTarget, Below, Lies, below_plain, found_at, Description, is_ro_at, write_line, write_step, write_target, by_below, serve, number_in, is_refused, is_settled, take_chunk, unit_in_store, lost, put, with_chunk, State, Taken, taken_at, Step, keep, and_then, Drops, Fails}
 use Rattle.dm_stack.specs.declared.lines.resolved_line.ResolvedTarget.TheVariants as founds
-use Rattle.dm_stack.specs.lines.Below.{Below, Lies, below_plain, found_at}
-use Rattle.dm_stack.specs.Description.{Description, is_ro_at}
-use Rattle.dm_map.specs.walk.Mapping.{write_line, write_step, write_target}
-use Rattle.dm_map.specs.walk.Reads.{by_below}
-use Rattle.dm_map.specs.walk.Serving.{serve}
-use Rattle.dm_map.specs.state.Snapshots.{number_in}
-use Rattle.dm_map.specs.walk.SnapshotWrites.{is_refused, is_settled, take_chunk, unit_in_store}
-use Rattle.dm_map.specs.state.State.{lost, put, with_chunk, State, Taken, taken_at}
-use Rattle.dm_map.specs.walk.Steps.{Step, keep, and_then}
-use Rattle.dm_map.specs.pieces.Units.{Drops, Fails}
 use Rattle.dm_map.proofs.state.Numbers.{number_kept}
 use Rattle.dm_map.proofs.walk.ChunkTaking.{ChunkOutcome, Settled, Took, Lost, chunk_outcome, taken_other, taken_same}
 

@@ -1,23 +1,8 @@
 -- What lies below a sector of a line whose target has no state is a sector of one of the line's spans. Stripes have a span for each column, any other such target at most one.
-use Rattle.std.proofs.Common.{◌≡◌, ℕ, ◌+◌, ◌/◌, ◌%◌, ◌<◌, false, List, Option, Some, None, length, refl, sym, ap, ◌∙◌, arith}
-use Rattle.std.specs.Prelude.{map, option_map, slice_get}
-use Rattle.std.proofs.lemmas.List.{length-map}
-use Rattle.std.proofs.lemmas.Option.{slice_get-map}
-use Rattle.std.proofs.Math.Nat.{mul-div_cancel_left}
+use Rattle.dm_map.proofs.Prelude.{◌≡◌, ℕ, ◌+◌, ◌/◌, ◌%◌, ◌<◌, false, List, Option, Some, None, length, refl, sym, ap, ◌∙◌, arith, map, option_map, slice_get, length-map, slice_get-map, mul-div_cancel_left, Target, Own, ResolvedColumn, ResolvedSnapshot, ResolvedTarget, Lower, Span, column_span, target_spans, Below, Lies, AreStripes, IsTargetSound, below_column, below_plain, below_target, column_of, resolved_columns, resolved_target, has_state, in_column, span_end, Description, lower_len, lower_of, in_column_room}
 use Rattle.dm_table.specs.declared.tables.table.Column.{Column}
-use Rattle.dm_table.specs.declared.tables.table.Target.{Target}
 use Rattle.dm_table.specs.declared.tables.table.Target.TheVariants as targets
-use Rattle.dm_table.specs.declared.tables.table.Use.TheVariants.{Own}
-use Rattle.dm_table.specs.tables.Span.{Span, column_span, target_spans}
-use Rattle.dm_stack.specs.declared.lines.resolved_columns.ResolvedColumn.{ResolvedColumn}
-use Rattle.dm_stack.specs.declared.lines.resolved_line.ResolvedSnapshot.{ResolvedSnapshot}
-use Rattle.dm_stack.specs.declared.lines.resolved_line.ResolvedTarget.{ResolvedTarget}
 use Rattle.dm_stack.specs.declared.lines.resolved_line.ResolvedTarget.TheVariants as founds
-use Rattle.dm_stack.specs.declared.id.Lower.{Lower}
-use Rattle.dm_stack.specs.lines.Below.{Below, Lies, AreStripes, IsTargetSound, below_column, below_plain, below_target, column_of, resolved_columns, resolved_target, has_state, in_column}
-use Rattle.dm_stack.specs.claims.Claims.{span_end}
-use Rattle.dm_stack.specs.Description.{Description, lower_len, lower_of}
-use Rattle.dm_stack.proofs.StripeLemmas.{in_column_room}
 use Rattle.dm_map.proofs.state.Numbers.{stripe_back}
 
 -- A target without a state

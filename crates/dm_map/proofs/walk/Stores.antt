@@ -1,36 +1,10 @@
 -- A store: each sector of it is read at its home, whatever the state.
-use Rattle.std.proofs.Common.{◌≡◌, ℕ, zero, suc, ◌+◌, ◌-◌, ◌<◌, ◌≤◌, Bool, true, false, List, [], ◌∷◌, Option, Some, None, length, refl, sym, ◌∙◌, arith}
-use Rattle.std.specs.Prelude.{◌&&◌, not, option_map}
-use Rattle.std.specs.List.{AllByRecursion, list_all}
-use Rattle.std.proofs.lemmas.Bool.{and_parts}
-use Rattle.dm_table.specs.declared.tables.table.Line.{Line}
-use Rattle.dm_table.specs.declared.tables.table.Target.{Target}
+use Rattle.dm_map.proofs.Prelude.{◌≡◌, ℕ, zero, suc, ◌+◌, ◌-◌, ◌<◌, ◌≤◌, Bool, true, false, List, [], ◌∷◌, Option, Some, None, length, refl, sym, ◌∙◌, arith, ◌&&◌, not, option_map, AllByRecursion, list_all, and_parts, Line, Target, ResolvedLine, ResolvedSnapshot, Lower, Device, Disk, Span, spans, target_spans, Below, Lies, IsError, below, below_line, below_plain, below_target, column_of, found_at, resolved_columns, resolved_line, resolved_target, has_state, holds, line_of, IsTargetSound, Description, device_len, is_ro_at, lines_at, lower_len, lower_of, IsSound, is_plain, is_store_to, IsStore, HoldsSoundly, found, sector_found, there, Ground, home, home_to, read_unit, read, row, read_over, State, taken_at, ground_unit, ReadOf, units_in, plain_inside, device_there, at_index}
 use Rattle.dm_table.specs.declared.tables.table.Target.TheVariants as targets
-use Rattle.dm_stack.specs.declared.lines.resolved_line.ResolvedLine.{ResolvedLine}
-use Rattle.dm_stack.specs.declared.lines.resolved_line.ResolvedSnapshot.{ResolvedSnapshot}
 use Rattle.dm_stack.specs.declared.checks.graph.TheConstants.{MOST_DEPTH}
-use Rattle.dm_stack.specs.declared.id.Lower.{Lower}
-use Rattle.dm_stack.specs.declared.id.Lower.TheVariants.{Device, Disk}
-use Rattle.dm_stack.specs.lines.Below.{Below, Lies, IsError, below, below_line, below_plain, below_target, column_of, found_at, resolved_columns, resolved_line, resolved_target, has_state, holds, line_of, IsTargetSound}
-use Rattle.dm_stack.specs.Description.{Description, device_len, is_ro_at, lines_at, lower_len, lower_of}
-use Rattle.dm_stack.specs.checks.Soundness.{IsSound}
-use Rattle.dm_table.specs.tables.Span.{Span, spans, target_spans}
-use Rattle.dm_stack.specs.checks.Store.{is_plain, is_store_to, IsStore}
-use Rattle.dm_stack.proofs.SoundLines.{HoldsSoundly, found, sector_found, there}
-use Rattle.dm_map.specs.declared.walk.stretch.Ground.{Ground}
 use Rattle.dm_map.specs.declared.walk.stretch.Ground.TheVariants as grounds
-use Rattle.dm_map.specs.walk.Homes.{home, home_to}
-use Rattle.dm_map.specs.walk.Reads.{read_unit}
-use Rattle.dm_map.specs.walk.SnapshotWrites.{read, row}
-use Rattle.dm_map.specs.state.Snapshots.{read_over}
-use Rattle.dm_map.specs.state.State.{State, taken_at}
-use Rattle.dm_map.specs.walk.Stretch.{ground_unit}
-use Rattle.dm_map.specs.pieces.Units.{ReadOf, units_in}
-use Rattle.dm_stack.proofs.LegLemmas.{plain_inside}
-use Rattle.dm_stack.proofs.InStack.{device_there}
 use Rattle.dm_map.proofs.walk.Spans.{below_is, plain_span, span_index}
 use Rattle.dm_map.proofs.walk.UnitRows.{row_same}
-use Rattle.dm_table.proofs.Lists.{at_index}
 
 -- What lies below a sector of a store
 

@@ -1,18 +1,8 @@
 -- Units in a row, and the stretches on which they go on.
-use Rattle.std.proofs.Common.{◌≡◌, ℕ, zero, suc, ◌+◌, ◌-◌, ◌<◌, ◌≤◌, Bool, true, false, List, [], ◌∷◌, ◌++◌, refl, sym, ap, ◌∙◌, arith}
-use Rattle.std.specs.Prelude.{◌||◌}
+use Rattle.dm_map.proofs.Prelude.{◌≡◌, ℕ, zero, suc, ◌+◌, ◌-◌, ◌<◌, ◌≤◌, Bool, true, false, List, [], ◌∷◌, ◌++◌, refl, sym, ap, ◌∙◌, arith, ◌||◌, Lower, Description, Home, GoOn, read_unit, IsLawful, OfBeginning, SinkPast, row, read, is_error, any_error, copy_to, write_to, State, Step, keep, Ground, ground_unit, unit_at, BlockUnit, ReadOf, WriteOf, Zeros, Fails, next_unit, units_in, range_step}
 use Rattle.dm_table.specs.declared.requests.request.Op.TheVariants as ops
 use Rattle.dm_stack.specs.declared.checks.graph.TheConstants.{MOST_DEPTH}
-use Rattle.dm_stack.specs.declared.id.Lower.{Lower}
-use Rattle.dm_stack.specs.Description.{Description}
-use Rattle.dm_map.specs.walk.Homes.{Home, GoOn}
-use Rattle.dm_map.specs.walk.Reads.{read_unit}
-use Rattle.dm_map.specs.pieces.Sink.{IsLawful, OfBeginning, SinkPast}
-use Rattle.dm_map.specs.walk.SnapshotWrites.{row, read, is_error, any_error, copy_to, write_to}
-use Rattle.dm_map.specs.state.State.{State}
-use Rattle.dm_map.specs.walk.Steps.{Step, keep}
-use Rattle.dm_map.specs.pieces.Units.{BlockUnit, ReadOf, WriteOf, Fails, next_unit, units_in}
-use Rattle.dm_map.specs.walk.Range.{range_step}
+use Rattle.dm_map.specs.declared.walk.stretch.Ground.TheVariants as grounds
 
 -- Rows
 
@@ -135,3 +125,25 @@ homes_go_on homes sector disk start (suc n) same zero within =
 homes_go_on homes sector disk start (suc n) same (suc i) within =
     let parts = first_of_units (row (λ s. ReadOf (homes s).disk (homes s).sector) (suc sector) n) (ReadOf (homes sector).disk (homes sector).sector) (ReadOf disk start) (units_in (ReadOf disk (suc start)) n) same in
     cc ((let e : sector + suc i ≡ suc sector + i = omega arith in e), homes_go_on homes (suc sector) disk (suc start) n parts.1 i (omega (arith, within)), (let e : suc start + i ≡ start + suc i = omega arith in e))
+
+-- a row of reads that goes on from a ground, sector by sector
+pub reads_at : (f : ℕ → BlockUnit) (sector n : ℕ) (ground : Ground) → row f sector n ≡ units_in (ground_unit ground) n → (i : ℕ) → i < n → f (sector + i) ≡ unit_at ground i
+reads_at f sector zero ground same i within = absurd (omega (arith, within))
+reads_at f sector (suc n) (grounds.Disk disk start) same zero within =
+    let parts = first_of_units (row f (suc sector) n) (f sector) (ReadOf disk start) (units_in (ReadOf disk (suc start)) n) same in
+    cc ((let e : sector + 0 ≡ sector = omega arith in e), parts.0, (let e : start + 0 ≡ start = omega arith in e))
+reads_at f sector (suc n) (grounds.Disk disk start) same (suc i) within =
+    let parts = first_of_units (row f (suc sector) n) (f sector) (ReadOf disk start) (units_in (ReadOf disk (suc start)) n) same in
+    cc ((let e : sector + suc i ≡ suc sector + i = omega arith in e), reads_at f (suc sector) n (grounds.Disk disk (suc start)) parts.1 i (omega (arith, within)), (let e : suc start + i ≡ start + suc i = omega arith in e))
+reads_at f sector (suc n) grounds.Zeros same zero within =
+    let parts = first_of_units (row f (suc sector) n) (f sector) Zeros (units_in Zeros n) same in
+    cc ((let e : sector + 0 ≡ sector = omega arith in e), parts.0)
+reads_at f sector (suc n) grounds.Zeros same (suc i) within =
+    let parts = first_of_units (row f (suc sector) n) (f sector) Zeros (units_in Zeros n) same in
+    cc ((let e : sector + suc i ≡ suc sector + i = omega arith in e), reads_at f (suc sector) n grounds.Zeros parts.1 i (omega (arith, within)))
+reads_at f sector (suc n) grounds.Fails same zero within =
+    let parts = first_of_units (row f (suc sector) n) (f sector) Fails (units_in Fails n) same in
+    cc ((let e : sector + 0 ≡ sector = omega arith in e), parts.0)
+reads_at f sector (suc n) grounds.Fails same (suc i) within =
+    let parts = first_of_units (row f (suc sector) n) (f sector) Fails (units_in Fails n) same in
+    cc ((let e : sector + suc i ≡ suc sector + i = omega arith in e), reads_at f (suc sector) n grounds.Fails parts.1 i (omega (arith, within)))

@@ -1,22 +1,5 @@
 -- A row of sectors that is walked part by part.
-use Rattle.std.proofs.Common.{◌≡◌, ℕ, zero, suc, ◌+◌, ◌-◌, ◌*◌, ◌<◌, ◌≤◌, false, List, [], ◌++◌, append_assoc, refl, sym, ap, subst, ◌∙◌, arith}
-use Rattle.std.specs.Result.{IsErr}
-use Rattle.std.specs.Prelude.{Result, Ok, Err}
-use Rattle.dm_table.specs.declared.requests.request.Op.{Op}
-use Rattle.dm_table.specs.declared.requests.request.Op.TheVariants.{Read}
-use Rattle.dm_stack.specs.declared.lines.resolved_line.ResolvedTarget.{ResolvedTarget}
-use Rattle.dm_stack.specs.declared.id.Lower.{Lower}
-use Rattle.dm_stack.specs.Description.{Description}
-use Rattle.dm_stack.specs.checks.Soundness.{IsSound}
-use Rattle.dm_map.specs.state.Counts.{AreAdded}
-use Rattle.dm_map.specs.pieces.Sink.{IsHanded, IsLawful, OfBeginning, SinkPast}
-use Rattle.dm_map.specs.state.State.{State}
-use Rattle.dm_map.specs.walk.Bound.{IsMapped, Mapping, range_mapping, target_mapping}
-use Rattle.dm_map.specs.walk.Path.{is_same_path, stretches}
-use Rattle.dm_map.specs.walk.Steps.{Step, keep, steps}
-use Rattle.dm_map.specs.pieces.Units.{BlockUnit}
-use Rattle.dm_map.specs.state.Walker.{StackState, WalkerView, stack_state}
-use Rattle.dm_map.specs.walk.Range.{IsWalked}
+use Rattle.dm_map.proofs.Prelude.{◌≡◌, ℕ, zero, suc, ◌+◌, ◌-◌, ◌*◌, ◌<◌, ◌≤◌, false, List, [], ◌++◌, append_assoc, refl, sym, ap, subst, ◌∙◌, arith, IsErr, Result, Ok, Err, Op, Read, ResolvedTarget, Lower, Description, IsSound, AreAdded, IsHanded, IsLawful, OfBeginning, SinkPast, State, IsMapped, Mapping, range_mapping, target_mapping, is_same_path, stretches, Step, keep, steps, BlockUnit, StackState, WalkerView, stack_state, IsWalked}
 use Rattle.dm_map.proofs.walk.Paths.{searches_more, searches_on}
 use Rattle.dm_map.proofs.walk.Rows.{added_then, none_added, steps-append, walked_as, walked_piece}
 

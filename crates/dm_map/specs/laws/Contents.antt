@@ -1,6 +1,5 @@
 -- Laws of what units make of disks, and of the sectors that they answer.
-use Rattle.std.proofs.Common.{◌≡◌, ℕ, cond, ◌&&◌, List, [], ◌∷◌, ◌++◌, refl, ap, ◌∙◌}
-use Rattle.std.specs.Prelude.{◌==◌}
+use Rattle.dm_map.specs.Base.{◌≡◌, ℕ, ◌&&◌, List, [], ◌∷◌, ◌++◌, ◌==◌, cond, refl, ap, ◌∙◌}
 use Rattle.dm_map.specs.own.Contents.{Values, played, played_unit, sector_after, sector_past, stored}
 use Rattle.dm_map.specs.pieces.Units.{BlockUnit, WriteOf, CopyOf, FillOf}
 

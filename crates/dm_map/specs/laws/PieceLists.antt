@@ -1,6 +1,5 @@
 -- The laws of a sink, for a list of pieces. They are among the specs since its impl cites them.
-use Rattle.std.proofs.Common.{List, [], ◌++◌, append_assoc, sym, ap, ◌∙◌}
-use Rattle.std.proofs.lemmas.List.{append-nil}
+use Rattle.dm_map.specs.Base.{List, [], ◌++◌, append_assoc, sym, ap, ◌∙◌, append-nil}
 use Rattle.dm_map.specs.pieces.Units.{BlockUnit}
 use Rattle.dm_map.specs.pieces.Sink.{OfBeginning}
 use Rattle.dm_map.specs.pieces.PieceList.{PieceListView, Appends, units_of_all}

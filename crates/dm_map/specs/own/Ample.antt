@@ -1,15 +1,7 @@
 -- Stacks that can lose nothing: no line is an `error` line, and each store has room for all chunks of its snapshot.
-use Rattle.std.specs.Prelude.{◌≡◌, ℕ, ◌+◌, ◌-◌, ◌/◌, ◌<◌, ◌≤◌, nat_eq, true, Some, List}
-use Rattle.std.specs.List.{AllByRecursion, IsDistinct}
-use Rattle.dm_table.specs.declared.requests.request.Op.{Op}
+use Rattle.dm_map.specs.Base.{◌≡◌, ℕ, ◌+◌, ◌-◌, ◌/◌, ◌<◌, ◌≤◌, nat_eq, true, Some, List, AllByRecursion, IsDistinct, Op, Device, ResolvedSnapshot, IsTidy, IsTop, place_count, Description, device_len, lower_len, lower_of, all_lines}
 use Rattle.dm_table.specs.declared.tables.table.Target.{Target}
 use Rattle.dm_table.specs.declared.tables.table.Target.TheVariants as targets
-use Rattle.dm_stack.specs.declared.id.Lower.TheVariants.{Device}
-use Rattle.dm_stack.specs.declared.lines.resolved_line.ResolvedSnapshot.{ResolvedSnapshot}
-use Rattle.dm_stack.specs.claims.Claims.{IsTidy, IsTop}
-use Rattle.dm_stack.specs.lines.StoreLayout.{place_count}
-use Rattle.dm_stack.specs.Description.{Description, device_len, lower_len, lower_of}
-use Rattle.dm_stack.specs.checks.Soundness.{all_lines}
 use Rattle.dm_map.specs.own.Contents.{Values, content, played}
 use Rattle.dm_map.specs.own.Halts.{halted_state, halted_units, state_past}
 use Rattle.dm_map.specs.own.Rows.{AreOwn, Rows, first_rows, rows_played}
@@ -26,24 +18,24 @@ use Rattle.dm_map.specs.pieces.Units.{Fails}
 abbrev pub chunk_count : (chunk len : ℕ) → ℕ
 chunk_count chunk len = (len + (chunk - 1)) / chunk
 
--- a line of this length can lose nothing: it is no `error` line, and no snapshot whose store has fewer places than it has chunks
+-- a line of this length can lose nothing: it is no `error` line, and no snapshot whose store has fewer places than it has chunks; a target without a clause loses nothing
 abbrev pub IsAmpleTarget : Description → (len : ℕ) → Target → Type 0
 IsAmpleTarget stack len targets.Error = ⊥
 IsAmpleTarget stack len (targets.Snapshot origin store kind chunk) = chunk_count chunk len ≤ place_count kind chunk (lower_len stack (lower_of stack store))
 IsAmpleTarget stack len _ = Unit {0}
 
--- each line of the stack is such a one
+-- each line of the stack can lose nothing
 abbrev pub IsAmple : Description → Type 0
 IsAmple stack = AllByRecursion (λ line. IsAmpleTarget stack line.len line.target) (all_lines stack.devices)
 
--- What stays so
+-- What holds in every state
 
 -- a snapshot took none but its own chunks, and none twice
 pub record AreOwnChunks (chunk len : ℕ) (chunks : List ℕ) : Type 0 where
   pub once : IsDistinct nat_eq chunks
   pub own : AllByRecursion (λ taken. taken < chunk_count chunk len) chunks
 
--- so did each snapshot
+-- each snapshot took none but its own chunks, and none twice
 abbrev pub TookOwn : Description → State → Type 0
 TookOwn stack state = (device : ℕ) (snapshot : ResolvedSnapshot) → snapshot_at stack device ≡ Some snapshot → AreOwnChunks snapshot.chunk (device_len stack device) (taken_at state device).chunks
 
@@ -68,7 +60,7 @@ pub record AreNeverLost (stack : Description) : Type 0 where
   pub request : (op : Op) (state : State) (asked start len sectors : ℕ) → IsAmple stack → IsIntact stack state → IsIntact stack (state_past stack op asked start len sectors state)
   pub reads : (state : State) (device sector : ℕ) → IsAmple stack → IsIntact stack state → sector < device_len stack device → read stack state (Device device) sector ≡ Fails → ⊥
 
--- and so each top device has its row, without errors, whatever is asked of top devices, where no claims meet: at the start, after a request, and after the first units of one
+-- each top device has its row, without errors, whatever is asked of top devices, where no claims meet: at the start, after a request, and after the first units of one
 pub record AreAlwaysExact (V : Type 0) (stack : Description) : Type 0 where
   pub start : (zeros : V) (values : Values V) → IsAmple stack → AreExact zeros stack (start_state stack) values (first_rows zeros stack values)
   pub request : (zeros : V) (written : ℕ → V) (op : Op) (state : State) (top start len : ℕ) (values : Values V) (rows : Rows V) → IsAmple stack → IsTidy stack → IsTop stack top → AreExact zeros stack state values rows

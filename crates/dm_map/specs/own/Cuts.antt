@@ -1,10 +1,5 @@
 -- What a power cut may leave: what lies outside of data plays no part, and chunks may be copied and listed before the writes that take them, as a kernel does (its dm-snap: copies, then entries of lists, then the write).
-use Rattle.std.specs.Prelude.{◌≡◌, ℕ, ◌/◌, ◌<◌, List, [], ◌∷◌, Some, length}
-use Rattle.std.specs.List.{AllByRecursion}
-use Rattle.dm_stack.specs.declared.lines.resolved_line.ResolvedSnapshot.{ResolvedSnapshot}
-use Rattle.dm_stack.specs.claims.Claims.{IsTidy}
-use Rattle.dm_stack.specs.Description.{Description, lower_len}
-use Rattle.dm_stack.specs.lines.StoreLayout.{place}
+use Rattle.dm_map.specs.Base.{◌≡◌, ℕ, ◌/◌, ◌<◌, List, [], ◌∷◌, Some, length, AllByRecursion, ResolvedSnapshot, IsTidy, Description, lower_len, place}
 use Rattle.dm_map.specs.own.Contents.{Values, played}
 use Rattle.dm_map.specs.own.Lists.{IsListSector}
 use Rattle.dm_map.specs.own.Losses.{Due}
@@ -44,10 +39,10 @@ take_chunks stack (one ∷ later) state = and_then (take_chunk stack one.snapsho
 
 -- where no claims meet, each top device has its row, or errors, after a cut too
 pub record AreCutAlone (V : Type 0) (stack : Description) : Type 0 where
-  -- whatever lies outside of data
+  -- this holds whatever lies outside of data
   pub spare : (zeros : V) (state : State) (values others : Values V) (rows : Rows V) → IsTidy stack → AreOwn zeros stack state values rows → HaveSameData stack state values others → AreOwn zeros stack state others rows
-  -- where lists lie
+  -- lists lie outside of data
   pub lists : (state : State) (disk sector : ℕ) → IsListSector stack disk sector → IsSpareSector stack state disk sector
-  -- and whichever chunks were taken ahead of the writes that take them, in any order: these are copied and listed, or the snapshot is listed as lost
+  -- this holds whichever chunks were taken ahead of the writes that take them, in any order: they are copied and listed, or the snapshot is listed as lost
   pub ahead : (zeros : V) (written : ℕ → V) (state : State) (sector : ℕ) (chunks : List Due) (values : Values V) (rows : Rows V) → IsTidy stack → AllByRecursion (IsOfSnapshot stack) chunks → AreOwn zeros stack state values rows
       → AreOwn zeros stack (take_chunks stack chunks state).state (played zeros written sector (take_chunks stack chunks state).units values) rows

@@ -1,13 +1,6 @@
 -- The law of errors: where a read is an error, and when a snapshot is lost.
-use Rattle.std.specs.Prelude.{◌≡◌, ◌↔◌, ℕ, ◌<◌, true, false, Some}
-use Rattle.dm_table.specs.declared.requests.request.Op.{Op}
-use Rattle.dm_stack.specs.declared.id.Lower.{Lower}
-use Rattle.dm_stack.specs.declared.id.Lower.TheVariants.{Device}
-use Rattle.dm_stack.specs.declared.lines.resolved_line.ResolvedLine.{ResolvedLine}
-use Rattle.dm_stack.specs.declared.lines.resolved_line.ResolvedSnapshot.{ResolvedSnapshot}
+use Rattle.dm_map.specs.Base.{◌≡◌, ◌↔◌, ℕ, ◌<◌, true, false, Some, Op, Lower, Device, ResolvedLine, ResolvedSnapshot, found_at, Description, device_len}
 use Rattle.dm_stack.specs.declared.lines.resolved_line.ResolvedTarget.TheVariants as found
-use Rattle.dm_stack.specs.lines.Below.{found_at}
-use Rattle.dm_stack.specs.Description.{Description, device_len}
 use Rattle.dm_map.specs.own.Halts.{state_past}
 use Rattle.dm_map.specs.own.Losses.{AreLosing, IsLostIn, due}
 use Rattle.dm_map.specs.own.Tops.{write}
@@ -24,7 +17,7 @@ pub data EndsHere (stack : Description) (state : State) (device sector : ℕ) : 
   AtError : (line : ResolvedLine) → found_at stack device sector ≡ Some line → line.target ≡ found.Error → EndsHere stack state device sector
   AtLost : (snapshot : ResolvedSnapshot) → snapshot_at stack device ≡ Some snapshot → (taken_at state device).valid ≡ false → EndsHere stack state device sector
 
--- the way of a read meets such a sector
+-- the way of a read meets a sector at which ways end by an error
 pub record MeetsError (stack : Description) (state : State) (from : Node) : Type 0 where
   pub device : ℕ
   pub sector : ℕ
@@ -38,12 +31,12 @@ pub record HaveCauses (stack : Description) : Type 0 where
   -- a write loses a valid snapshot exactly by a chunk that is due for it
   pub writes : (state : State) (lower : Lower) (sector device : ℕ) → IsFitting stack state → (taken_at state device).valid ≡ true
       → ((taken_at (write stack state lower sector).state device).valid ≡ false) ↔ AreLosing stack state device (due stack state lower sector)
-  -- so do the first sectors of a request, exactly by one of them
+  -- the first sectors of a request lose a valid snapshot exactly if one of them does
   pub requests : (state : State) (op : Op) (asked start len sectors device : ℕ) → IsFitting stack state → (taken_at state device).valid ≡ true
       → ((taken_at (state_past stack op asked start len sectors state) device).valid ≡ false) ↔ IsLostIn stack state device op asked start len sectors
-  -- all its sectors leave the state that the request does
+  -- all sectors of a request leave the state that the request does
   pub whole : (state : State) (op : Op) (asked start len : ℕ) → (request_step stack op asked start len state).state ≡ state_past stack op asked start len len state
-  -- and what is lost stays so
+  -- a snapshot that is lost stays lost
   pub stays : (state : State) (op : Op) (asked start len sectors device : ℕ) → (taken_at state device).valid ≡ false → (taken_at (state_past stack op asked start len sectors state) device).valid ≡ false
   -- a state that the stack can be in still is one after the first sectors of a request, which may be all
   pub fits : (state : State) (op : Op) (asked start len sectors : ℕ) → IsFitting stack state → IsFitting stack (state_past stack op asked start len sectors state)

@@ -1,9 +1,6 @@
 -- A request of which only the first units are played: those, and the state that it leaves.
-use Rattle.std.specs.Prelude.{ℕ, ◌+◌, List, nat_lt, take, if◌then◌else◌}
-use Rattle.dm_table.specs.declared.requests.request.Op.{Op}
+use Rattle.dm_map.specs.Base.{ℕ, ◌+◌, List, nat_lt, take, if◌then◌else◌, Op, Device, Description, device_len}
 use Rattle.dm_stack.specs.declared.checks.graph.TheConstants.{MOST_DEPTH}
-use Rattle.dm_stack.specs.declared.id.Lower.TheVariants.{Device}
-use Rattle.dm_stack.specs.Description.{Description, device_len}
 use Rattle.dm_map.specs.own.Contents.{sector_past}
 use Rattle.dm_map.specs.walk.Mapping.{request_step, sector_step}
 use Rattle.dm_map.specs.state.State.{State}

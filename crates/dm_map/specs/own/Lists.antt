@@ -1,11 +1,5 @@
 -- Where stores keep their lists, and that no request of a top device writes or reads there.
-use Rattle.std.specs.Prelude.{◌≡◌, ℕ, ◌/◌, ◌<◌, true, Some}
-use Rattle.dm_table.specs.declared.requests.request.Op.{Op}
-use Rattle.dm_stack.specs.declared.id.Lower.TheVariants.{Device}
-use Rattle.dm_stack.specs.declared.lines.resolved_line.ResolvedSnapshot.{ResolvedSnapshot}
-use Rattle.dm_stack.specs.claims.Claims.{IsTidy, IsTop}
-use Rattle.dm_stack.specs.Description.{Description, lower_len}
-use Rattle.dm_stack.specs.lines.StoreLayout.{is_metadata}
+use Rattle.dm_map.specs.Base.{◌≡◌, ℕ, ◌/◌, ◌<◌, true, Some, Op, Device, ResolvedSnapshot, IsTidy, IsTop, Description, lower_len, is_metadata}
 use Rattle.dm_map.specs.own.Contents.{Values, played}
 use Rattle.dm_map.specs.own.Halts.{halted_units}
 use Rattle.dm_map.specs.pieces.Units.{ReadOf}
@@ -26,17 +20,17 @@ pub record IsListSector (stack : Description) (disk sector : ℕ) : Type 0 where
   pub list : is_metadata snapshot.kind snapshot.chunk (at / snapshot.chunk) ≡ true
   pub home : home stack snapshot.store at ≡ record { disk = disk; sector = sector }
 
--- disks that hold the same there
+-- disks that hold the same in the sectors of lists
 abbrev pub HaveSameLists : {V : Type 0} → Description → (values others : Values V) → Type 0
 HaveSameLists stack values others = (disk sector : ℕ) → IsListSector stack disk sector → others disk sector ≡ values disk sector
 
--- whatever is asked of top devices, where no claims meet
+-- requests of top devices leave lists alone, where no claims meet
 pub record LeaveLists (V : Type 0) (stack : Description) : Type 0 where
   -- the units of a request write no list
   pub request : (zeros : V) (written : ℕ → V) (op : Op) (state : State) (top start len : ℕ) (values : Values V) → IsTidy stack → IsTop stack top → IsFitting stack state
       → HaveSameLists stack values (played zeros written start (request_step stack op top start len state).units values)
-  -- nor do the first ones
+  -- the first units of a request, however many, write no list
   pub halted : (zeros : V) (written : ℕ → V) (op : Op) (state : State) (top start len count : ℕ) (values : Values V) → IsTidy stack → IsTop stack top → IsFitting stack state
       → HaveSameLists stack values (played zeros written start (halted_units stack op top start len count state) values)
-  -- and no read comes to one
+  -- no read comes to a sector of a list
   pub reads : (state : State) (top sector disk at : ℕ) → IsTidy stack → IsTop stack top → IsFitting stack state → read stack state (Device top) sector ≡ ReadOf disk at → IsListSector stack disk at → ⊥

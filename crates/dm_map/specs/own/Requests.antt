@@ -1,8 +1,5 @@
 -- Requests of top devices, as all top devices see them.
-use Rattle.std.specs.Prelude.{ℕ, ◌≤◌}
-use Rattle.dm_table.specs.declared.requests.request.Op.{Op}
-use Rattle.dm_stack.specs.claims.Claims.{IsTidy, IsTop}
-use Rattle.dm_stack.specs.Description.{Description}
+use Rattle.dm_map.specs.Base.{ℕ, ◌≤◌, Op, IsTidy, IsTop, Description}
 use Rattle.dm_map.specs.own.Contents.{Values, played, sector_past}
 use Rattle.dm_map.specs.own.Halts.{halted_state, halted_units}
 use Rattle.dm_map.specs.own.Rows.{AreOwn, Rows, first_rows, rows_played}

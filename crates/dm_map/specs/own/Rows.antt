@@ -1,8 +1,5 @@
 -- What each device would have if it were alone on a disk of its own: a row that only its own writes change.
-use Rattle.std.specs.Prelude.{ℕ, List, [], ◌∷◌, Option, Some}
-use Rattle.dm_stack.specs.declared.id.Lower.TheVariants.{Device}
-use Rattle.dm_stack.specs.claims.Claims.{IsTop}
-use Rattle.dm_stack.specs.Description.{Description}
+use Rattle.dm_map.specs.Base.{ℕ, List, [], ◌∷◌, Option, Some, Device, IsTop, Description}
 use Rattle.dm_map.specs.own.Contents.{Values, Stays, content, sector_after, stored}
 use Rattle.dm_map.specs.state.Fitting.{IsFitting}
 use Rattle.dm_map.specs.state.State.{State, start_state}
@@ -22,9 +19,13 @@ unfoldable pub rows_played : {V : Type 0} → (written : ℕ → V) → (device 
 rows_played written device sector [] rows = rows
 rows_played written device sector (unit ∷ units) rows = rows_played written device (sector_after unit sector) units (row_unit (written sector) device sector unit rows)
 
--- the rows of a stack at the start: what its sectors have
+-- the rows of a stack in a state: what the sectors of its devices have
+abbrev pub rows_in : {V : Type 0} → (zeros : V) → Description → State → Values V → Rows V
+rows_in zeros stack state values device sector = content zeros stack state values (Device device) sector
+
+-- the rows of a stack at the start
 abbrev pub first_rows : {V : Type 0} → (zeros : V) → Description → Values V → Rows V
-first_rows zeros stack values device sector = content zeros stack (start_state stack) values (Device device) sector
+first_rows zeros stack = rows_in zeros stack (start_state stack)
 
 -- each top device has its row, or errors
 pub record AreOwn {V : Type 0} (zeros : V) (stack : Description) (state : State) (values : Values V) (rows : Rows V) : Type 0 where

@@ -1,11 +1,6 @@
 -- A write of a sector of a top device, as all top devices see it.
-use Rattle.std.specs.Prelude.{◌≡◌, ℕ, true, false, List, [], ◌∷◌, ◌++◌}
-use Rattle.std.specs.List.{AllByRecursion}
+use Rattle.dm_map.specs.Base.{◌≡◌, ℕ, true, false, List, [], ◌∷◌, ◌++◌, AllByRecursion, Lower, Device, IsTop, Description}
 use Rattle.dm_stack.specs.declared.checks.graph.TheConstants.{MOST_DEPTH}
-use Rattle.dm_stack.specs.declared.id.Lower.{Lower}
-use Rattle.dm_stack.specs.declared.id.Lower.TheVariants.{Device}
-use Rattle.dm_stack.specs.claims.Claims.{IsTop}
-use Rattle.dm_stack.specs.Description.{Description}
 use Rattle.dm_map.specs.own.Contents.{Values, Stays, answers, content, played}
 use Rattle.dm_map.specs.state.Fitting.{IsFitting}
 use Rattle.dm_map.specs.walk.Mapping.{write_step}
@@ -18,23 +13,23 @@ use Rattle.dm_map.specs.pieces.Units.{BlockUnit, ReadOf, WriteOf}
 abbrev pub write : Description → State → Lower → (sector : ℕ) → Step
 write stack state lower sector = write_step stack MOST_DEPTH lower state sector
 
--- what it does to what top devices have, for values of any type: zeros is the value of a sector of zeros, and written gives what each sector is written with
+-- what the write of a sector does to what top devices have, for values of any type: zeros is the value of a sector of zeros, and written gives what each sector is written with
 pub record IsOwnWrite {V : Type 0} (zeros : V) (written : ℕ → V) (stack : Description) (state : State) (top sector : ℕ) (step : Step) : Type 0 where
-  -- its units copy or fill, and the last one answers
+  -- the units of the write copy or fill, and the last one answers
   pub front : List BlockUnit
   pub last : BlockUnit
   pub units : step.units ≡ front ++ last ∷ []
   pub moves : AllByRecursion (λ unit. answers unit ≡ false) front
   pub answered : answers last ≡ true
-  -- it leaves a state that the stack can be in
+  -- the write leaves a state that the stack can be in
   pub fits : IsFitting stack step.state
-  -- where it is halted before the last unit, all top devices have what they had in the state before it
+  -- if the write is halted before its last unit, all top devices have what they had, in the state before it
   pub torn : (values : Values V) (some rest : List BlockUnit) → front ≡ some ++ rest → (other other_sector : ℕ) → IsTop stack other
       → content zeros stack state (played zeros written sector some values) (Device other) other_sector ≡ content zeros stack state values (Device other) other_sector
-  -- up to the last unit they have the same in the state after it too, or an error
+  -- up to the last unit, they have the same in the state after the write, too, or an error
   pub kept : (values : Values V) (other other_sector : ℕ) → IsTop stack other
       → Stays (content zeros stack state values (Device other) other_sector) (content zeros stack step.state (played zeros written sector front values) (Device other) other_sector)
-  -- where the last unit writes, the sector that was written is read
+  -- where the last unit writes, the sector of the request is read afterwards
   pub reads : (disk at : ℕ) → last ≡ WriteOf disk at → read stack step.state (Device top) sector ≡ ReadOf disk at
-  -- and no other sector of a top device is
+  -- no other sector of a top device is read where the last unit writes
   pub alone : (disk at other other_sector : ℕ) → last ≡ WriteOf disk at → IsTop stack other → read stack step.state (Device other) other_sector ≡ ReadOf disk at → (other ≡ top) × (other_sector ≡ sector)

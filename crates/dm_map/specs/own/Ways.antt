@@ -1,9 +1,5 @@
 -- Ways: where the read of a sector passes on its way down to a disk.
-use Rattle.std.specs.Prelude.{ℕ, ◌≡◌, List, [], ◌∷◌}
-use Rattle.dm_stack.specs.declared.id.Lower.{Lower}
-use Rattle.dm_stack.specs.declared.id.Lower.TheVariants.{Device}
-use Rattle.dm_stack.specs.lines.Below.{Lies}
-use Rattle.dm_stack.specs.Description.{Description}
+use Rattle.dm_map.specs.Base.{ℕ, ◌≡◌, List, [], ◌∷◌, Lower, Device, Lies, Description}
 use Rattle.dm_map.specs.walk.Reads.{read_below}
 use Rattle.dm_map.specs.state.State.{State}
 

@@ -1,8 +1,5 @@
 -- A list of pieces as a sink.
-use Rattle.std.specs.Prelude.{◌≡◌, ℕ, List, ◌++◌}
-use Rattle.std.specs.List.{flat_map}
-use Rattle.dm_stack.specs.Description.{Description}
-use Rattle.dm_map.specs.declared.pieces.piece.Piece.{Piece}
+use Rattle.dm_map.specs.Base.{◌≡◌, ℕ, List, ◌++◌, flat_map, Description, Piece}
 use Rattle.dm_map.specs.pieces.Units.{BlockUnit, units_of}
 
 -- the pieces that were taken, and the count of those that were not

@@ -1,7 +1,5 @@
 -- What a mapper knows of a sink: what it can take, and what relates two states of it.
-use Rattle.std.specs.Prelude.{ℕ, ◌≡◌, ◌+◌, ◌≤◌, List, [], ◌++◌, Result, OnOk, OnErr}
-use Rattle.dm_table.specs.io.DeviceIo.{fault_of}
-use Rattle.dm_stack.specs.Description.{Description}
+use Rattle.dm_map.specs.Base.{ℕ, ◌≡◌, ◌+◌, ◌≤◌, List, [], ◌++◌, Result, OnOk, OnErr, fault_of, Description}
 use Rattle.dm_map.specs.pieces.Units.{BlockUnit}
 
 -- the stack on whose disks the pieces lie, the largest number of sectors that a piece without a disk may have, and how many pieces the sink has failed at so far

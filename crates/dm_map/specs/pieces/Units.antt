@@ -1,13 +1,6 @@
 -- What becomes of one sector of a request, the units of a piece, and where a piece lies.
-use Rattle.std.specs.Prelude.{ℕ, zero, suc, ◌+◌, ◌<◌, ◌≤◌, List, [], ◌∷◌, length}
-use Rattle.dm_table.specs.declared.requests.request.Op.{Op}
+use Rattle.dm_map.specs.Base.{ℕ, zero, suc, ◌+◌, ◌<◌, ◌≤◌, List, [], ◌∷◌, length, Op, Device, Disk, ResolvedTarget, Description, disk_len, Below, Lies, below_plain, LegsView, Piece}
 use Rattle.dm_table.specs.declared.requests.request.Op.TheVariants as ops
-use Rattle.dm_stack.specs.declared.id.Lower.TheVariants.{Device, Disk}
-use Rattle.dm_stack.specs.declared.lines.resolved_line.ResolvedTarget.{ResolvedTarget}
-use Rattle.dm_stack.specs.Description.{Description, disk_len}
-use Rattle.dm_stack.specs.lines.Below.{Below, Lies, below_plain}
-use Rattle.dm_stack.specs.lines.Leg.{LegsView}
-use Rattle.dm_map.specs.declared.pieces.piece.Piece.{Piece}
 use Rattle.dm_map.specs.declared.pieces.piece.Piece.TheVariants as pieces
 
 -- the unit of one sector: a read or a write of a sector of a disk, zeros, a write thrown away, an error, a copy of a disk's sector to another, or zeros written to a disk's sector
@@ -50,7 +43,7 @@ abbrev pub line_units : Op → ResolvedTarget → (distance len : ℕ) → List 
 line_units op target distance zero = []
 line_units op target distance (suc len) = below_unit op (below_plain target distance) ∷ line_units op target (suc distance) len
 
--- those of the sectors that are left of a row of legs on disks
+-- the units of the sectors that are left of a row of legs on disks
 abbrev pub legs_units : Op → LegsView → List BlockUnit
 legs_units op legs = line_units op legs.target legs.distance legs.left
 

@@ -1,6 +1,5 @@
 -- What a looker counted while something was done with it.
-use Rattle.std.specs.Prelude.{ℕ, ◌+◌, ◌-◌, ◌*◌, ◌≤◌}
-use Rattle.dm_stack.specs.Looker.{Looking}
+use Rattle.dm_map.specs.Base.{ℕ, ◌+◌, ◌-◌, ◌*◌, ◌≤◌, Looking}
 
 -- the counts of a looker: its searches, and their comparisons of a line's start with a sector
 pub record Counts : Type 0 where

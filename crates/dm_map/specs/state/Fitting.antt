@@ -1,8 +1,5 @@
 -- States that a stack can be in.
-use Rattle.std.specs.Prelude.{ℕ, ◌≡◌, ◌<◌, ◌≤◌, true, Some, length}
-use Rattle.dm_stack.specs.declared.lines.resolved_line.ResolvedSnapshot.{ResolvedSnapshot}
-use Rattle.dm_stack.specs.Description.{Description, lower_len}
-use Rattle.dm_stack.specs.lines.StoreLayout.{place_count}
+use Rattle.dm_map.specs.Base.{ℕ, ◌≡◌, ◌<◌, ◌≤◌, true, Some, length, ResolvedSnapshot, Description, lower_len, place_count}
 use Rattle.dm_map.specs.state.Snapshots.{has_place}
 use Rattle.dm_map.specs.state.State.{State, taken_at}
 use Rattle.dm_map.specs.state.Tables.{snapshot_at}

@@ -1,7 +1,5 @@
 -- Nodes of a trie in 32 bits.
-use Rattle.std.specs.Prelude.{ℕ, ◌-◌, ◌/◌, ◌%◌, ◌^◌, ◌==◌, nat_lt, if◌then◌else◌}
-use Rattle.dm_map.specs.declared.state.trie_taken.link.Node.{Node}
-use Rattle.dm_map.specs.declared.state.trie_taken.link.Node.TheVariants.{Empty, Number, Fork}
+use Rattle.dm_map.specs.Base.{ℕ, ◌-◌, ◌/◌, ◌%◌, ◌^◌, ◌==◌, nat_lt, if◌then◌else◌, Node, Empty, Number, Fork}
 
 -- the node that a word of 32 bits stands for
 abbrev pub node_of : (code : ℕ) → Node

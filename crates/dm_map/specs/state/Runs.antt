@@ -1,6 +1,5 @@
 -- Runs of taken chunks: neighbours that were taken one after the other.
-use Rattle.std.specs.Prelude.{ℕ, ◌≡◌, ◌<◌, ◌≤◌, ◌+◌, ◌-◌, ◌==◌, Bool, true, not, List, [], ◌∷◌, Option, Some, None, length, if◌then◌else◌}
-use Rattle.std.specs.List.{slice_index_or}
+use Rattle.dm_map.specs.Base.{ℕ, ◌≡◌, ◌<◌, ◌≤◌, ◌+◌, ◌-◌, ◌==◌, Bool, true, not, List, [], ◌∷◌, Option, Some, None, length, if◌then◌else◌, slice_index_or}
 use Rattle.dm_map.specs.declared.state.run_taken.run.Run.{Run}
 use Rattle.dm_map.specs.state.Snapshots.{number_in}
 
@@ -44,7 +43,7 @@ AreRuns runs chunks = record {
   rising : (i j : ℕ) → i < j → j < length runs → end_of (run_at runs i) ≤ (run_at runs j).first;
 }
 
--- so many runs begin at a chunk or before it, and the next one begins after it
+-- count runs begin at a chunk or before it, and the next one begins after it
 pub record AreBegunBy (runs : List Run) (chunk count : ℕ) : Type 0 where
   pub within : count ≤ length runs
   pub from : 0 < count → (run_at runs (count - 1)).first ≤ chunk

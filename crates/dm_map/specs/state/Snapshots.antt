@@ -1,9 +1,5 @@
 -- Where a snapshot's sectors are read (the kernel's admin guide, device-mapper/snapshot, and its exception store).
-use Rattle.std.specs.Prelude.{ℕ, suc, Bool, nat_le, ◌+◌, ◌*◌, ◌/◌, ◌%◌, ◌==◌, List, [], ◌∷◌, Option, Some, None, option_map, if◌then◌else◌}
-use Rattle.dm_stack.specs.declared.lines.resolved_line.ResolvedSnapshot.{ResolvedSnapshot}
-use Rattle.dm_stack.specs.Description.{Description, lower_len}
-use Rattle.dm_stack.specs.lines.Below.{Below, Lies, IsError}
-use Rattle.dm_stack.specs.lines.StoreLayout.{place}
+use Rattle.dm_map.specs.Base.{ℕ, suc, Bool, nat_le, ◌+◌, ◌*◌, ◌/◌, ◌%◌, ◌==◌, List, [], ◌∷◌, Option, Some, None, option_map, if◌then◌else◌, ResolvedSnapshot, Description, lower_len, Below, Lies, IsError, place}
 use Rattle.dm_map.specs.state.State.{Taken}
 
 -- the number of a chunk among those that were taken

@@ -1,7 +1,5 @@
 -- The state of a stack: which chunks the store of each snapshot has.
-use Rattle.std.specs.Prelude.{ℕ, Bool, true, false, List, [], ◌∷◌, ◌++◌, length, replicate}
-use Rattle.std.specs.List.{slice_index_or, slice_set}
-use Rattle.dm_stack.specs.Description.{Description}
+use Rattle.dm_map.specs.Base.{ℕ, Bool, true, false, List, [], ◌∷◌, ◌++◌, length, replicate, slice_index_or, slice_set, Description}
 
 -- the chunks that a snapshot's store has, in the order in which they were taken, and whether the snapshot is still valid
 pub record Taken : Type 0 where

@@ -1,10 +1,6 @@
 -- A trie of taken chunks: ways that lead from a table, by the slot of a chunk, over forks that test a bit each, to its number.
-use Rattle.std.specs.Prelude.{ℕ, zero, suc, ◌≡◌, ◌<◌, ◌≤◌, ◌+◌, ◌*◌, ◌/◌, ◌%◌, ◌^◌, Bool, true, false, List, [], ◌∷◌, if◌then◌else◌, length, nat_eq, nat_le}
-use Rattle.std.specs.Int.{bit_at}
-use Rattle.std.specs.Int.Bits.{bit_and, bit_xor}
-use Rattle.std.specs.List.{list_any, slice_index_or}
-use Rattle.dm_map.specs.declared.state.trie_taken.link.Node.{Node}
-use Rattle.dm_map.specs.declared.state.trie_taken.link.Node.TheVariants.{Empty, Number, Fork}
+use Rattle.dm_map.specs.Base.{ℕ, zero, suc, ◌≡◌, ◌<◌, ◌≤◌, ◌+◌, ◌*◌, ◌/◌, ◌%◌, ◌^◌, Bool, true, false, List, [], ◌∷◌, if◌then◌else◌, length, nat_eq, nat_le, bit_at, bit_xor, list_any, slice_index_or, Node, Empty, Number, Fork}
+use Rattle.std.specs.Int.Bits.{bit_and}
 use Rattle.dm_map.specs.declared.state.trie_taken.slots.Slots.{Slots}
 use Rattle.dm_map.specs.declared.state.trie_taken.slots.TheConstants.{SPREAD}
 
@@ -43,7 +39,7 @@ is_fork _ = false
 abbrev pub Agree : (bits : List ℕ) → (chunk other : ℕ) → Type 0
 Agree bits chunk other = (bit : ℕ) → list_any (nat_eq bit) bits ≡ true → bit_at chunk bit ≡ bit_at other bit
 
--- of each index, the bits that are tested on the way there, and a chunk that has the values that lead there
+-- for each index, the bits that are tested on the way to its node, and a chunk that has the values that lead there
 pub record Marks : Type 0 where
   pub tested : ℕ → List ℕ
   pub like : ℕ → ℕ
@@ -78,7 +74,7 @@ pub record HasMarks (chunks : List ℕ) (nodes : List Node) (slots : Slots) : Ty
   pub start : (at : ℕ) → at ≤ slots.mask → marks.tested at ≡ []
   pub fits : (at : ℕ) → at < length nodes → Fits marks chunks (length nodes) at (node_at nodes at)
 
--- and the way of each taken chunk ends at its number
+-- a trie: no way tests a bit twice, and the way of each taken chunk ends at its number
 pub record IsTrie (chunks : List ℕ) (nodes : List Node) (slots : Slots) : Type 0 where
   pub marked : HasMarks chunks nodes slots
   pub ends : (number : ℕ) → number < length chunks → node_at nodes (end_of nodes slots (chunk_at chunks number)) ≡ Number number

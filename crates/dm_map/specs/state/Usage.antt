@@ -1,8 +1,5 @@
 -- How much of a snapshot's store is used (the kernel's admin guide, device-mapper/snapshot, status).
-use Rattle.std.specs.Prelude.{length}
-use Rattle.dm_stack.specs.declared.lines.resolved_line.ResolvedSnapshot.{ResolvedSnapshot}
-use Rattle.dm_stack.specs.Description.{Description, lower_len}
-use Rattle.dm_stack.specs.lines.StoreLayout.{allocated, metadata}
+use Rattle.dm_map.specs.Base.{length, ResolvedSnapshot, Description, lower_len, allocated, metadata}
 use Rattle.dm_map.specs.declared.state.usage.Usage.{Usage}
 use Rattle.dm_map.specs.state.State.{Taken}
 

@@ -1,5 +1,5 @@
 -- A walker: what a walk down a stack goes by.
-use Rattle.dm_stack.specs.Description.{Description}
+use Rattle.dm_map.specs.Base.{Description}
 use Rattle.dm_map.specs.state.Counts.{Counts}
 use Rattle.dm_map.specs.state.State.{State}
 
@@ -9,11 +9,11 @@ pub record WalkerView : Type 0 where
   pub state : State
   pub looked : Counts
 
--- all of it but the counts: what look-ups leave as it is
+-- a walker without its counts: what look-ups leave as it is
 pub record StackState : Type 0 where
   pub stack : Description
   pub state : State
 
--- that of a walker
+-- the stack and the state of a walker
 abbrev pub stack_state : WalkerView → StackState
 stack_state walker = record { stack = walker.stack; state = walker.state }

@@ -1,15 +1,5 @@
 -- How sectors are mapped, and a bound on the searches of a read, by the stretches of what is read.
-use Rattle.std.specs.Prelude.{ℕ, ◌≡◌, ◌+◌, ◌-◌, ◌*◌, ◌≤◌, List, [], ◌∷◌, Result}
-use Rattle.dm_table.specs.declared.requests.request.Op.{Op}
-use Rattle.dm_table.specs.declared.requests.request.Op.TheVariants.{Read}
-use Rattle.dm_stack.specs.declared.lines.resolved_line.ResolvedOrigin.{ResolvedOrigin}
-use Rattle.dm_stack.specs.declared.lines.resolved_line.ResolvedTarget.{ResolvedTarget}
-use Rattle.dm_stack.specs.declared.id.Lower.{Lower}
-use Rattle.dm_stack.specs.declared.id.Lower.TheVariants.{Device}
-use Rattle.dm_stack.specs.lines.Below.{below_target, chunk_at}
-use Rattle.dm_stack.specs.checks.Depth.{lower_depth}
-use Rattle.dm_stack.specs.Description.{Description}
-use Rattle.dm_stack.specs.checks.Soundness.{IsSound, depth_of}
+use Rattle.dm_map.specs.Base.{ℕ, ◌≡◌, ◌+◌, ◌-◌, ◌*◌, ◌≤◌, List, [], ◌∷◌, Result, Op, Read, ResolvedOrigin, ResolvedTarget, Lower, Device, below_target, chunk_at, lower_depth, Description, IsSound, depth_of}
 use Rattle.dm_map.specs.pieces.Sink.{SinkPast}
 use Rattle.dm_map.specs.state.Snapshots.{read_over}
 use Rattle.dm_map.specs.state.State.{State, taken_at}
@@ -32,11 +22,11 @@ pub record Mapping : Type 0 where
 abbrev pub range_mapping : Op → ℕ → Lower → Mapping
 range_mapping op levels lower = record { op = op; step = λ stack. sector_step stack op levels lower; path = λ stack state. path stack state levels lower; depth = λ stack. lower_depth stack lower; found = 0 }
 
--- that of a device, once the line of the first of them was looked up
+-- the mapping of the sectors of a device, once the line of the first of them was looked up
 abbrev pub found_mapping : Op → ℕ → (device : ℕ) → Mapping
 found_mapping op levels device = record (range_mapping op levels (Device device)) { found = 1 }
 
--- that of an origin's device, through at most this many levels of devices below it
+-- the mapping of the sectors of an origin's device, through at most this many levels of devices below it
 abbrev pub origin_mapping : Op → ℕ → ResolvedOrigin → Mapping
 origin_mapping op levels origin = record (range_mapping op levels origin.to) { step = λ stack. served_sector stack op levels origin }
 

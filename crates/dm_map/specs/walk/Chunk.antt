@@ -1,10 +1,6 @@
 -- Sectors of one chunk of a snapshot, where they are read, and where they lie once it is taken.
-use Rattle.std.specs.Prelude.{ℕ, ◌≡◌, ◌+◌, ◌%◌, ◌<◌, ◌≤◌, true, Some}
-use Rattle.dm_stack.specs.declared.lines.resolved_line.ResolvedSnapshot.{ResolvedSnapshot}
-use Rattle.dm_stack.specs.Description.{Description, device_len, lower_len}
-use Rattle.dm_stack.specs.lines.Below.{Lies, IsSnapshotSound}
+use Rattle.dm_map.specs.Base.{ℕ, ◌≡◌, ◌+◌, ◌%◌, ◌<◌, ◌≤◌, true, Some, ResolvedSnapshot, Description, device_len, lower_len, Lies, IsSnapshotSound, HomeStretch}
 use Rattle.dm_map.specs.declared.walk.chunk.ReadAt.{ReadAt}
-use Rattle.dm_map.specs.declared.walk.homes.HomeStretch.{HomeStretch}
 use Rattle.dm_map.specs.state.Snapshots.{has_place, number_in, read_over, store_sector}
 use Rattle.dm_map.specs.state.State.{State, taken_at}
 use Rattle.dm_map.specs.state.Tables.{snapshot_at}
@@ -17,7 +13,7 @@ pub record AreInSnapshot (stack : Description) (device : ℕ) (snapshot : Resolv
   pub sound : IsSnapshotSound stack device 0 (device_len stack device) snapshot
   pub inside : sector + len ≤ device_len stack device
 
--- and they are all in one chunk
+-- a device is this snapshot, and has len sectors of one chunk from this one on
 pub record AreInChunk (stack : Description) (device : ℕ) (snapshot : ResolvedSnapshot) (sector len : ℕ) : Type 0 where
   pub whole : AreInSnapshot stack device snapshot sector len
   pub part : sector % snapshot.chunk + len ≤ snapshot.chunk

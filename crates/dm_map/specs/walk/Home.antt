@@ -1,12 +1,10 @@
 -- Where all sectors of a request lie, if they lie in a row on a disk: then they are not handed over, and this is returned.
-use Rattle.std.specs.Prelude.{ℕ, ◌≡◌, List, Option, None, Some, Result, Ok, Err}
-use Rattle.dm_table.specs.declared.requests.request.Op.{Op}
-use Rattle.dm_stack.specs.Description.{Description}
+use Rattle.dm_map.specs.Base.{ℕ, ◌≡◌, List, Option, None, Some, Result, Ok, Err, Op, Description}
 use Rattle.dm_map.specs.declared.walk.home.Home.{Home}
 use Rattle.dm_map.specs.pieces.Sink.{SinkPast}
 use Rattle.dm_map.specs.pieces.Units.{BlockUnit, IsOnDisk, disk_unit, units_in}
 
--- these are the units of len sectors of a disk from here on, and the disk has them
+-- units are those of len sectors of a disk from its home on, and the disk has these sectors
 pub record IsHome (stack : Description) (op : Op) (len : ℕ) (home : Home) (of : List BlockUnit) : Type 0 where
   pub units : of ≡ units_in (disk_unit op home.disk home.start) len
   pub lies : IsOnDisk stack home.disk home.start len

@@ -1,12 +1,6 @@
 -- Where a sector of a store lies on a disk.
-use Rattle.std.specs.Prelude.{◌≡◌, ℕ, zero, suc, ◌+◌, ◌<◌, ◌≤◌, length}
+use Rattle.dm_map.specs.Base.{◌≡◌, ℕ, zero, suc, ◌+◌, ◌<◌, ◌≤◌, length, Lower, Device, Disk, IsError, below, Description, depth_of, HomeStretch}
 use Rattle.dm_stack.specs.declared.checks.graph.TheConstants.{MOST_DEPTH}
-use Rattle.dm_stack.specs.declared.id.Lower.{Lower}
-use Rattle.dm_stack.specs.declared.id.Lower.TheVariants.{Device, Disk}
-use Rattle.dm_stack.specs.lines.Below.{IsError, below}
-use Rattle.dm_stack.specs.Description.{Description}
-use Rattle.dm_stack.specs.checks.Soundness.{depth_of}
-use Rattle.dm_map.specs.declared.walk.homes.HomeStretch.{HomeStretch}
 use Rattle.dm_map.specs.walk.Reads.{by_below}
 use Rattle.dm_map.specs.pieces.Units.{IsOnDisk}
 

@@ -1,9 +1,8 @@
 -- That the number of levels of devices that a sector is followed through plays no part.
-use Rattle.dm_table.specs.declared.requests.request.Op.TheVariants.{Read, Write}
-use Rattle.dm_stack.specs.Description.{Description}
+use Rattle.dm_map.specs.Base.{Read, Write, Description}
 use Rattle.dm_map.specs.walk.Homes.{AreHomesFreeOfLevels}
 use Rattle.dm_map.specs.walk.Mapping.{IsFreeOfLevels}
 
--- it never truncates a lookup, be it of a read, of a write or of where a store keeps a sector
+-- the number of levels never truncates a lookup, be it of a read, of a write or of where a store keeps a sector
 abbrev pub AreLevelsEnough : Description → Type 0
 AreLevelsEnough stack = IsFreeOfLevels stack Read × IsFreeOfLevels stack Write × AreHomesFreeOfLevels stack

@@ -1,17 +1,8 @@
 -- What becomes of each sector of a request (the kernel's admin guide, device-mapper/linear, striped, zero and snapshot).
-use Rattle.std.specs.Prelude.{ℕ, zero, suc, ◌+◌, ◌-◌, ◌≡◌, ◌≤◌, ◌<◌, [], ◌∷◌, Option, Some, None, length, nat_lt, replicate, if◌then◌else◌}
-use Rattle.dm_table.specs.declared.requests.request.Op.{Op}
+use Rattle.dm_map.specs.Base.{ℕ, zero, suc, ◌+◌, ◌-◌, ◌≡◌, ◌≤◌, ◌<◌, [], ◌∷◌, Option, Some, None, length, nat_lt, replicate, if◌then◌else◌, Op, Request, Lower, Device, Disk, ResolvedLine, ResolvedTarget, Description, device_len, is_ro_at, below_plain, found_at, depth_of}
 use Rattle.dm_table.specs.declared.requests.request.Op.TheVariants as ops
-use Rattle.dm_table.specs.declared.requests.request.Request.{Request}
-use Rattle.dm_stack.specs.declared.id.Lower.{Lower}
-use Rattle.dm_stack.specs.declared.id.Lower.TheVariants.{Device, Disk}
-use Rattle.dm_stack.specs.declared.lines.resolved_line.ResolvedLine.{ResolvedLine}
-use Rattle.dm_stack.specs.declared.lines.resolved_line.ResolvedTarget.{ResolvedTarget}
 use Rattle.dm_stack.specs.declared.lines.resolved_line.ResolvedTarget.TheVariants as found
 use Rattle.dm_stack.specs.declared.checks.graph.TheConstants.{MOST_DEPTH}
-use Rattle.dm_stack.specs.Description.{Description, device_len, is_ro_at}
-use Rattle.dm_stack.specs.lines.Below.{below_plain, found_at}
-use Rattle.dm_stack.specs.checks.Soundness.{depth_of}
 use Rattle.dm_map.specs.walk.Reads.{by_below, read_unit}
 use Rattle.dm_map.specs.walk.Serving.{served_step}
 use Rattle.dm_map.specs.walk.SnapshotWrites.{write_snapshot}
@@ -49,7 +40,7 @@ request_step stack op device start len state =
     if nat_lt (device_len stack device) (start + len) then keep (replicate len Fails) state
     else steps (sector_step stack op MOST_DEPTH (Device device)) state start len
 
--- the same, of a request as the code has it
+-- the step of a request as the code has it
 abbrev pub step_for : Description → Request → (device : ℕ) → State → Step
 step_for stack request device state = request_step stack request.op device request.start request.len state
 

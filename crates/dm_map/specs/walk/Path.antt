@@ -1,12 +1,6 @@
 -- The path of a sector that is read, and the stretches of a read: its sectors in runs of one path.
-use Rattle.std.specs.Prelude.{ℕ, zero, suc, ◌+◌, ◌-◌, ◌==◌, ◌&&◌, Bool, List, [], ◌∷◌, Option, Some, None, nat_lt, if◌then◌else◌}
-use Rattle.std.specs.Cmp.Lexicographic.{pointwise}
+use Rattle.dm_map.specs.Base.{ℕ, zero, suc, ◌+◌, ◌-◌, ◌==◌, ◌&&◌, Bool, List, [], ◌∷◌, Option, Some, None, nat_lt, if◌then◌else◌, pointwise, Lower, Device, Disk, ResolvedLine, Description, device_len, below_target, chunk_at, found_at, is_same_chunk}
 use Rattle.dm_stack.specs.declared.checks.graph.TheConstants.{MOST_DEPTH}
-use Rattle.dm_stack.specs.declared.id.Lower.{Lower}
-use Rattle.dm_stack.specs.declared.id.Lower.TheVariants.{Device, Disk}
-use Rattle.dm_stack.specs.declared.lines.resolved_line.ResolvedLine.{ResolvedLine}
-use Rattle.dm_stack.specs.Description.{Description, device_len}
-use Rattle.dm_stack.specs.lines.Below.{below_target, chunk_at, found_at, is_same_chunk}
 use Rattle.dm_map.specs.walk.Reads.{by_below}
 use Rattle.dm_map.specs.state.Snapshots.{read_over}
 use Rattle.dm_map.specs.state.State.{State, taken_at}
@@ -57,7 +51,7 @@ abbrev pub stretches : (ℕ → List PathStep) → (sector len : ℕ) → ℕ
 stretches paths sector zero = 0
 stretches paths sector (suc len) = suc (changes paths sector len)
 
--- those of a read of a device's sectors: none if it passes the device's end. No stack has more levels
+-- the stretches of a read of a device's sectors, through all levels that a stack can have: none if it passes the device's end
 abbrev pub read_stretches : Description → State → (device start len : ℕ) → ℕ
 read_stretches stack state device start len =
     if nat_lt (device_len stack device) (start + len) then 0 else stretches (path stack state MOST_DEPTH (Device device)) start len

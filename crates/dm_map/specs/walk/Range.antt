@@ -1,19 +1,8 @@
 -- What a walk down a stack hands over: the steps of ranges and of lines.
-use Rattle.std.specs.Prelude.{ℕ, ◌≡◌, ◌+◌, ◌≤◌, Bool, false, [], ◌∷◌, Result, OnOk, OnErr}
-use Rattle.dm_table.specs.declared.requests.request.Op.{Op}
-use Rattle.dm_table.specs.declared.requests.request.Op.TheVariants as ops
-use Rattle.dm_table.specs.io.DeviceIo.{fault_of}
-use Rattle.dm_stack.specs.declared.id.Lower.{Lower}
-use Rattle.dm_stack.specs.declared.lines.resolved_line.ResolvedLine.{ResolvedLine}
-use Rattle.dm_stack.specs.declared.lines.resolved_line.ResolvedOrigin.{ResolvedOrigin}
-use Rattle.dm_stack.specs.declared.lines.resolved_line.ResolvedSnapshot.{ResolvedSnapshot}
-use Rattle.dm_stack.specs.declared.lines.resolved_line.ResolvedTarget.{ResolvedTarget}
+use Rattle.dm_map.specs.Base.{ℕ, ◌≡◌, ◌+◌, ◌≤◌, Bool, false, [], ◌∷◌, Result, OnOk, OnErr, Op, Lower, ResolvedLine, ResolvedOrigin, ResolvedSnapshot, ResolvedTarget, fault_of, Description, is_ro_at, lower_len, Below, below_target, IsLine, IsLineOf, AreInside, IsBeneath, snapshots_over}
 use Rattle.dm_stack.specs.declared.lines.leg.Leg.{Leg}
+use Rattle.dm_table.specs.declared.requests.request.Op.TheVariants as ops
 use Rattle.dm_stack.specs.declared.checks.limits.TheConstants.{MOST_LENGTH}
-use Rattle.dm_stack.specs.Description.{Description, is_ro_at, lower_len}
-use Rattle.dm_stack.specs.lines.Below.{Below, below_target, IsLine, IsLineOf}
-use Rattle.dm_stack.specs.lines.Leg.{AreInside, IsBeneath}
-use Rattle.dm_stack.specs.lines.Over.{snapshots_over}
 use Rattle.dm_map.specs.state.Counts.{AreAdded}
 use Rattle.dm_map.specs.pieces.Sink.{OfBeginning, SinkPast}
 use Rattle.dm_map.specs.walk.Chunk.{AreInChunk, AreInSnapshot}
@@ -75,19 +64,19 @@ pub record AreAsked {S : Type 0} (past : SinkPast S) (taker : S) (stack : Descri
   pub inside : sector + len ≤ lower_len stack lower
   pub sink : HasRoomFor past taker stack len
 
--- they are asked of an origin's device, whose line lists the snapshots of what it names
+-- len sectors are asked of an origin's device, whose line lists the snapshots of what it names
 pub record AreAskedOfOrigin {S : Type 0} (past : SinkPast S) (taker : S) (stack : Description) (origin : ResolvedOrigin) (sector len : ℕ) : Type 0 where
   pub over : origin.over ≡ snapshots_over stack origin.to
   pub asked : AreAsked past taker stack origin.to sector len
 
--- they are asked of a snapshot
+-- len sectors are asked of a snapshot
 pub record AreAskedOfSnapshot {S : Type 0} (past : SinkPast S) (taker : S) (stack : Description) (device : ℕ) (snapshot : ResolvedSnapshot) (sector len : ℕ) : Type 0 where
   pub some : 1 ≤ len
   pub inside : AreInSnapshot stack device snapshot sector len
   pub small : sector + len ≤ MOST_LENGTH
   pub sink : HasRoomFor past taker stack len
 
--- they are asked of one chunk of a snapshot
+-- len sectors are asked of one chunk of a snapshot
 pub record AreAskedOfChunk {S : Type 0} (past : SinkPast S) (taker : S) (stack : Description) (device : ℕ) (snapshot : ResolvedSnapshot) (sector len : ℕ) : Type 0 where
   pub some : 1 ≤ len
   pub chunk : AreInChunk stack device snapshot sector len
@@ -118,7 +107,7 @@ pub record IsWalked {S R F : Type 0} (past : SinkPast S) (result : Result R F) (
   pub stack : after.stack ≡ before.stack
   pub looked : AreAdded before.looked after.looked
 
--- it took those of len writes to a snapshot
+-- a sink took the units of the writes of len sectors of a snapshot, or failed at a beginning of them
 abbrev pub IsSnapshotWritten : {S R F : Type 0} → SinkPast S → Result R F → (old new : S) → (before after : WalkerView) → ResolvedSnapshot → (device sector len : ℕ) → Type 0
 IsSnapshotWritten past result old new before after snapshot device sector len =
     IsWalked past result old new before after (steps (write_snapshot before.stack snapshot device) before.state sector len) len

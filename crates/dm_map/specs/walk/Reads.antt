@@ -1,9 +1,5 @@
 -- The read of a sector (the kernel's admin guide, device-mapper/linear, striped, zero and snapshot).
-use Rattle.std.specs.Prelude.{ℕ, zero, suc}
-use Rattle.dm_stack.specs.declared.id.Lower.{Lower}
-use Rattle.dm_stack.specs.declared.id.Lower.TheVariants.{Device, Disk}
-use Rattle.dm_stack.specs.Description.{Description}
-use Rattle.dm_stack.specs.lines.Below.{Below, Lies, IsZero, IsError, below}
+use Rattle.dm_map.specs.Base.{ℕ, zero, suc, Lower, Device, Disk, Description, Below, Lies, IsZero, IsError, below}
 use Rattle.dm_map.specs.state.Snapshots.{read_over}
 use Rattle.dm_map.specs.state.State.{State, taken_at}
 use Rattle.dm_map.specs.pieces.Units.{BlockUnit, ReadOf, Zeros, Fails}

@@ -1,8 +1,5 @@
 -- What a write of an origin's sector does before it: the chunk of that sector is taken in each of its snapshots (the kernel's admin guide, device-mapper/snapshot).
-use Rattle.std.specs.Prelude.{◌≡◌, ℕ, ◌/◌, ◌<◌, ◌≤◌, true, List, [], ◌∷◌, Some}
-use Rattle.std.specs.List.{AllByRecursion}
-use Rattle.dm_stack.specs.Description.{Description, device_len}
-use Rattle.dm_stack.specs.declared.lines.resolved_line.ResolvedOver.{ResolvedOver}
+use Rattle.dm_map.specs.Base.{◌≡◌, ℕ, ◌/◌, ◌<◌, ◌≤◌, true, List, [], ◌∷◌, Some, AllByRecursion, ResolvedOver, Description, device_len}
 use Rattle.dm_map.specs.walk.SnapshotWrites.{is_settled, take_chunk}
 use Rattle.dm_map.specs.state.State.{State, taken_at}
 use Rattle.dm_map.specs.walk.Steps.{Step, keep, and_then}

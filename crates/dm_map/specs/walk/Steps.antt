@@ -1,5 +1,5 @@
 -- Steps: units, and the state after them.
-use Rattle.std.specs.Prelude.{ℕ, zero, suc, List, [], ◌++◌}
+use Rattle.dm_map.specs.Base.{ℕ, zero, suc, List, [], ◌++◌}
 use Rattle.dm_map.specs.state.State.{State}
 use Rattle.dm_map.specs.pieces.Units.{BlockUnit}
 

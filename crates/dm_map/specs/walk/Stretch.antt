@@ -1,14 +1,14 @@
 -- What a stretch is read from.
-use Rattle.std.specs.Prelude.{ℕ, ◌≡◌, ◌≤◌}
-use Rattle.dm_table.specs.declared.requests.request.Op.TheVariants.{Read}
-use Rattle.dm_stack.specs.declared.id.Lower.{Lower}
-use Rattle.dm_stack.specs.Description.{Description}
+use Rattle.dm_map.specs.Base.{ℕ, ◌≡◌, ◌+◌, ◌<◌, ◌≤◌, Read, Lower, Description}
+use Rattle.dm_stack.specs.declared.checks.limits.TheConstants.{MOST_LENGTH}
 use Rattle.dm_map.specs.declared.walk.stretch.Ground.{Ground}
 use Rattle.dm_map.specs.declared.walk.stretch.Ground.TheVariants as grounds
 use Rattle.dm_map.specs.declared.walk.stretch.Stretch.{Stretch}
 use Rattle.dm_map.specs.state.Counts.{AreAdded}
+use Rattle.dm_map.specs.walk.SnapshotWrites.{read}
 use Rattle.dm_map.specs.walk.Steps.{Step, keep}
 use Rattle.dm_map.specs.pieces.Units.{BlockUnit, ReadOf, Zeros, Fails, IsOnDisk, units_in}
+use Rattle.dm_map.specs.state.State.{State}
 use Rattle.dm_map.specs.state.Walker.{WalkerView, stack_state}
 use Rattle.dm_map.specs.walk.Range.{range_step}
 
@@ -33,6 +33,25 @@ pub record IsFirst (before after : WalkerView) (reads : ℕ → Step) (len : ℕ
   pub same : stack_state after ≡ stack_state before
   pub looked : AreAdded before.looked after.looked
 
--- it is the first stretch of a range of a device or a disk, through at most this many levels of devices
+-- a stretch is the first of a range of a device or a disk, through at most this many levels of devices
 abbrev pub IsFirstOf : (before after : WalkerView) (levels : ℕ) → Lower → (sector len : ℕ) → Stretch → Type 0
 IsFirstOf before after levels lower sector len stretch = IsFirst before after (range_step before.stack Read levels lower before.state sector) len stretch
+
+-- what a sector of a ground reads, at a distance from its first one
+abbrev pub unit_at : Ground → (distance : ℕ) → BlockUnit
+unit_at (grounds.Disk disk start) distance = ReadOf disk (start + distance)
+unit_at grounds.Zeros distance = Zeros
+unit_at grounds.Fails distance = Fails
+
+-- the first sectors of a range of len of a device or a disk are read from this ground in this state, one after the other
+pub record IsFirstRead (stack : Description) (state : State) (lower : Lower) (sector len : ℕ) (first : Stretch) : Type 0 where
+  pub some : 1 ≤ first.len
+  pub most : first.len ≤ len
+  pub units : (i : ℕ) → i < first.len → read stack state lower (sector + i) ≡ unit_at first.ground i
+  pub lies : IsGroundInStack stack first.ground first.len
+
+-- where it is a disk, these sectors of it are small numbers
+abbrev pub IsGroundNear : Ground → (len : ℕ) → Type 0
+IsGroundNear (grounds.Disk disk start) len = start + len ≤ MOST_LENGTH
+IsGroundNear grounds.Zeros len = Unit {0}
+IsGroundNear grounds.Fails len = Unit {0}

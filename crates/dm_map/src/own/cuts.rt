@@ -1,6 +1,6 @@
 //! The law of power cuts.
 
-ghost use Rattle.dm_map.specs.own.Cuts.{AreCutAlone};
+ghost use Rattle.dm_map.specs.Prelude.{AreCutAlone};
 
 use dm_stack::Stack;
 

@@ -1,7 +1,6 @@
 //! The laws of errors: where they come from, and that none come where each store is large enough.
 
-ghost use Rattle.dm_map.specs.own.Ample.{AreAlwaysExact, AreNeverLost};
-ghost use Rattle.dm_map.specs.own.Errors.{HaveCauses};
+ghost use Rattle.dm_map.specs.Prelude.{AreAlwaysExact, AreNeverLost, HaveCauses};
 
 use dm_stack::Stack;
 

@@ -1,6 +1,6 @@
 //! The law that requests of top devices leave the lists of stores alone.
 
-ghost use Rattle.dm_map.specs.own.Lists.{LeaveLists};
+ghost use Rattle.dm_map.specs.Prelude.{LeaveLists};
 
 use dm_stack::Stack;
 

@@ -1,9 +1,6 @@
 //! Laws of what units make of disks, for values of any type.
 
-ghost use Rattle.std.specs.Prelude.{ℕ, ◌≡◌, ◌++◌, List, false};
-ghost use Rattle.std.specs.List.{AllByRecursion};
-ghost use Rattle.dm_map.specs.own.Contents.{Values, answers, played};
-ghost use Rattle.dm_map.specs.pieces.Units.{BlockUnit};
+ghost use Rattle.dm_map.specs.Prelude.{ℕ, ◌≡◌, ◌++◌, List, false, AllByRecursion, Values, answers, played, BlockUnit};
 
 /// Copies and fills before other units are played first, from values that count sector by sector
 /// alone. It does nothing: its contract is the law.

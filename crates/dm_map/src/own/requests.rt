@@ -1,6 +1,6 @@
 //! The law that each top device is like a disk of its own, whatever is asked of any of them.
 
-ghost use Rattle.dm_map.specs.own.Requests.{AreAlone};
+ghost use Rattle.dm_map.specs.Prelude.{AreAlone};
 
 use dm_stack::Stack;
 

@@ -5,12 +5,7 @@
 //! writes, and of no other, whatever it copies on its way. Each sector may become an error, where
 //! its snapshot is lost.
 
-ghost use Rattle.std.specs.Prelude.{ℕ};
-ghost use Rattle.dm_stack.specs.declared.id.Lower.TheVariants.{Device};
-ghost use Rattle.dm_stack.specs.claims.Claims.{IsTidy, IsTop};
-ghost use Rattle.dm_map.specs.state.Fitting.{IsFitting};
-ghost use Rattle.dm_map.specs.own.Tops.{IsOwnWrite, write};
-ghost use Rattle.dm_map.specs.state.State.{State, start_state};
+ghost use Rattle.dm_map.specs.Prelude.{ℕ, Device, IsTidy, IsTop, IsFitting, IsOwnWrite, write, State, start_state};
 
 use dm_stack::Stack;
 

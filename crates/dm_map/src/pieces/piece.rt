@@ -4,10 +4,7 @@
 //! kind of piece is a variant here, with arms of `len` and `with_len`, and an arm of each function in
 //! `specs/pieces/Units.antt`.
 
-ghost use Rattle.std.specs.Prelude.{◌≡◌};
-ghost use Rattle.dm_stack.specs.Description.{Description};
-ghost use Rattle.dm_map.specs.pieces.Units.{disk_unit, diskless_len, first_unit, piece_len, units_in, units_of};
-ghost use Rattle.dm_map.specs.pieces.Units.{IsOnDisk, IsOnDisks};
+ghost use Rattle.dm_map.specs.Prelude.{◌≡◌, Description, disk_unit, diskless_len, first_unit, piece_len, units_in, units_of, IsOnDisk, IsOnDisks};
 
 use dm_stack::DiskId;
 use dm_table::Op;

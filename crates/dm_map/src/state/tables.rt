@@ -2,11 +2,7 @@
 //!
 //! All memory for taken chunks is reserved here, before the first request.
 
-ghost use Rattle.std.specs.Prelude.{◌≡◌, ℕ, ◌+◌, ◌<◌, ◌≤◌, length, nat_lt, replicate, IfOk, IfSome};
-ghost use Rattle.std.specs.List.{All};
-ghost use Rattle.dm_stack.specs.checks.Snapshots.{snapshots};
-ghost use Rattle.dm_map.specs.state.State.{none_taken, start_state};
-ghost use Rattle.dm_map.specs.state.Tables.{AreTables, chunk_count, has_room, snapshot_at, state_of};
+ghost use Rattle.dm_map.specs.Prelude.{◌≡◌, ℕ, ◌+◌, ◌<◌, ◌≤◌, length, nat_lt, replicate, IfOk, IfSome, All, snapshots, none_taken, start_state, AreTables, has_room, snapshot_at, state_of, device_chunks};
 
 use crate::state::taken::Taken;
 use crate::state::walker::lower_len;
@@ -61,7 +57,7 @@ fn room_of(looker: &mut Looker<'_>, device: DeviceId) -> (usize, u64)
     requires { device < length looker.old.stack.devices }
     ensures places { (number : ℕ) → nat_lt number result.0 ≡ has_room looker.old.stack device number }
     ensures chunks { IfSome (snapshot_at looker.old.stack device)
-        (λ snapshot. result.1 ≡ chunk_count looker.old.stack snapshot device) }
+        (λ snapshot. result.1 ≡ device_chunks looker.old.stack snapshot device) }
     ensures stack { looker.new.stack ≡ looker.old.stack }
     ensures one { looker.new.searches ≤ looker.old.searches + 1 }
 {

@@ -5,10 +5,8 @@
 //! whether the snapshot is still valid. A way to keep them is an implementation; `PlainTaken` is the
 //! plainest. A chunk's number, its index in that list, says where in the store it is.
 
-ghost use Rattle.std.specs.Prelude.{◌≡◌, ℕ, ◌<◌, ◌≤◌, ◌==◌, [], ◌∷◌, ◌++◌};
-ghost use Rattle.std.specs.Prelude.{Bool, true, false, List, None, is_none, length, nat_eq, IfOk, if◌then◌else◌};
+ghost use Rattle.dm_map.specs.Base.{◌≡◌, ℕ, ◌<◌, ◌≤◌, ◌==◌, [], ◌∷◌, ◌++◌, Bool, true, false, List, None, is_none, length, nat_eq, IfOk, if◌then◌else◌, IsDistinct};
 ghost use Rattle.dm_map.specs.state.Snapshots.{number_in};
-ghost use Rattle.std.specs.List.{IsDistinct};
 
 use std::alloc::{AllocError, Global};
 

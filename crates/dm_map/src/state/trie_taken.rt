@@ -5,14 +5,10 @@
 //! chunk whose way ends at another one's number puts a fork there; nothing else is ever moved.
 //!
 //! Slots of their own, and what is read ahead, are here for speed alone: RESULTS.md has their gain as *chunks in slots
-//! of their own* and *a link that is read ahead is asked nothing*. Measure random first writes before and after a
-//! change.
+//! of their own*, *batches and reading ahead* and *links of a batch read in a row*. Measure random first writes before
+//! and after a change.
 
-ghost use Rattle.std.specs.Prelude.{◌≡◌, ◌<◌, ◌≤◌, ◌+◌, ◌*◌, ◌^◌, ◌++◌, ◌∷◌, [], None, true, length, nat_eq, replicate, vec_capacity, IfOk, OnOk};
-ghost use Rattle.std.specs.List.{IsDistinct};
-ghost use Rattle.std.specs.Int.{bit_at};
-ghost use Rattle.std.proofs.lemmas.Map.Keys.{IsDistinct-prop};
-ghost use Rattle.dm_map.specs.declared.state.trie_taken.link.Node.TheVariants.{Empty, Number};
+ghost use Rattle.dm_map.specs.Base.{◌≡◌, ◌<◌, ◌≤◌, ◌+◌, ◌*◌, ◌^◌, ◌++◌, ◌∷◌, [], None, true, length, nat_eq, replicate, vec_capacity, IfOk, OnOk, IsDistinct, bit_at, IsDistinct-prop, Empty, Number};
 ghost use Rattle.dm_map.specs.state.Snapshots.{number_in};
 ghost use Rattle.dm_map.specs.state.Trie.{AreInOwnSlots, IsTrie, end_of, node_at};
 
@@ -113,7 +109,7 @@ impl TrieTaken {
         (at, tested)
     }
 
-    /// Takes a chunk whose way ends at nothing.
+    /// Takes a chunk that the trie lacks: its search ended at this empty slot.
     fn put(&mut self, at: usize, chunk: u64)
         requires room { length self.old.chunks.items < self.old.places }
         requires fresh { number_in chunk self.old.chunks.items ≡ None }

@@ -1,13 +1,6 @@
 //! Usage: how much of a snapshot's store is used.
 
-ghost use Rattle.std.specs.Prelude.{◌≡◌, ◌+◌, ◌<◌, ◌≤◌, ◌^◌, IfSome};
-ghost use Rattle.dm_stack.specs.checks.Snapshots.{IsSnapshot};
-ghost use Rattle.dm_stack.specs.lines.StoreLayout.{allocated, metadata};
-ghost use Rattle.dm_map.specs.state.Counts.{AreAdded};
-ghost use Rattle.dm_map.specs.state.State.{taken_at};
-ghost use Rattle.dm_map.specs.state.Tables.{snapshot_at};
-ghost use Rattle.dm_map.specs.state.Usage.{usage_of};
-ghost use Rattle.dm_map.specs.state.Walker.{stack_state};
+ghost use Rattle.dm_map.specs.Prelude.{◌≡◌, ◌+◌, ◌<◌, ◌≤◌, ◌^◌, IfSome, IsSnapshot, allocated, metadata, AreAdded, taken_at, snapshot_at, usage_of, stack_state};
 
 use crate::state::taken::Taken;
 use crate::state::walker::Walker;

@@ -1,12 +1,7 @@
 //! Chunks of a snapshot: how a range is cut at them, and where their sectors are read.
 
-ghost use Rattle.std.specs.Prelude.{◌≡◌, ◌↔◌, ◌+◌, ◌-◌, ◌*◌, ◌%◌, ◌<◌, ◌≤◌};
-ghost use Rattle.std.specs.Prelude.{false, true, length, min, IfNone, IfSome};
-ghost use Rattle.dm_stack.specs.lines.StoreLayout.{place};
+ghost use Rattle.dm_map.specs.Prelude.{◌≡◌, ◌↔◌, ◌+◌, ◌-◌, ◌*◌, ◌%◌, ◌<◌, ◌≤◌, false, true, length, min, IfNone, IfSome, place, store_sector, taken_at, AreInChunk, AreReadAt};
 ghost use Rattle.dm_stack.specs.declared.checks.limits.TheConstants.{MOST_LENGTH};
-ghost use Rattle.dm_map.specs.state.Snapshots.{store_sector};
-ghost use Rattle.dm_map.specs.state.State.{taken_at};
-ghost use Rattle.dm_map.specs.walk.Chunk.{AreInChunk, AreReadAt};
 
 use crate::state::taken::Taken;
 use crate::state::walker::Walker;
@@ -68,7 +63,7 @@ pub(crate) fn read_at<T: Taken>(
     Some(source_of(walker, device, snapshot, sector, len))
 }
 
-/// The same of a snapshot that is valid.
+/// Where the sectors of a chunk of a valid snapshot are read, from one of them on.
 #[inline(always)]
 pub(crate) fn source_of<T: Taken>(
     walker: &Walker<'_, T>,

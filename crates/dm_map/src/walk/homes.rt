@@ -2,12 +2,7 @@
 //!
 //! A store is linear and striped lines alone, down to disks, so its sectors have a home whatever the state is.
 
-ghost use Rattle.std.specs.Prelude.{◌≡◌, ◌+◌, ◌≤◌};
-ghost use Rattle.dm_stack.specs.Description.{lower_len};
-ghost use Rattle.dm_stack.specs.checks.Store.{IsStore};
-ghost use Rattle.dm_map.specs.state.Counts.{AreAdded};
-ghost use Rattle.dm_map.specs.state.Walker.{stack_state};
-ghost use Rattle.dm_map.specs.walk.Homes.{IsFirstHomes};
+ghost use Rattle.dm_map.specs.Prelude.{◌≡◌, ◌+◌, ◌≤◌, lower_len, IsStore, AreAdded, stack_state, IsFirstHomes};
 
 use crate::state::taken::Taken;
 use crate::state::walker::Walker;

@@ -4,7 +4,7 @@
 //! contains. In a stack that passed its checks that number plays no part. A change of the mapping
 //! has to keep this true.
 
-ghost use Rattle.dm_map.specs.walk.Levels.{AreLevelsEnough};
+ghost use Rattle.dm_map.specs.Prelude.{AreLevelsEnough};
 
 use dm_stack::Stack;
 

@@ -8,22 +8,9 @@
 //! over, which state it leaves, and, of a read, how often it searches: at most once a level for each
 //! stretch of sectors with one path (`specs/walk/Path`).
 
-ghost use Rattle.std.specs.Prelude.{◌≡◌, ◌+◌, ◌<◌, ◌≤◌, true, length};
-ghost use Rattle.dm_table.specs.declared.requests.request.Op.TheVariants.{Read, Write};
-ghost use Rattle.dm_stack.specs.lines.Below.{is_striped, IsLine};
-ghost use Rattle.dm_stack.specs.Description.{Description};
+ghost use Rattle.dm_map.specs.Prelude.{◌≡◌, ◌+◌, ◌<◌, ◌≤◌, true, length, Read, Write, Device, is_striped, IsLine, Description, found_mapping, origin_mapping, range_mapping, target_mapping, IsMapped, diskless_len, piece_len, units_in, units_of, Fails, IsOnDisks, or_home, zero_unit, refuses, AreAsked, AreAskedOfOrigin, AreAskedOfSnapshot, IsHanded, HasRoomFor, IsAtLine, IsLegOf};
 ghost use Rattle.dm_stack.specs.declared.lines.resolved_line.ResolvedTarget.TheVariants.{Snapshot};
-ghost use Rattle.dm_stack.specs.declared.id.Lower.TheVariants.{Device};
 ghost use Rattle.dm_stack.specs.declared.checks.graph.TheConstants.{MOST_DEPTH};
-ghost use Rattle.dm_map.specs.walk.Bound.{found_mapping, origin_mapping, range_mapping, target_mapping};
-ghost use Rattle.dm_map.specs.walk.Bound.{IsMapped};
-ghost use Rattle.dm_map.specs.pieces.Units.{diskless_len, piece_len, units_in, units_of};
-ghost use Rattle.dm_map.specs.pieces.Units.{Fails, IsOnDisks};
-ghost use Rattle.dm_map.specs.walk.Home.{or_home};
-ghost use Rattle.dm_map.specs.walk.Range.{zero_unit, refuses};
-ghost use Rattle.dm_map.specs.walk.Range.{AreAsked, AreAskedOfOrigin, AreAskedOfSnapshot};
-ghost use Rattle.dm_map.specs.pieces.Sink.{IsHanded};
-ghost use Rattle.dm_map.specs.walk.Range.{HasRoomFor, IsAtLine, IsLegOf};
 
 use crate::pieces::piece::{Piece, disk_piece};
 use crate::pieces::sink::Sink;

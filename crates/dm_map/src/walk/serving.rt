@@ -4,13 +4,8 @@
 //! Then as many sectors are written as need no more of it: a range is cut where a snapshot has
 //! something left to do, and not wherever a chunk ends.
 
-ghost use Rattle.std.specs.Prelude.{◌≡◌, ◌+◌, ◌/◌, ◌≤◌, OnOk, true};
-ghost use Rattle.std.specs.List.{All};
+ghost use Rattle.dm_map.specs.Prelude.{◌≡◌, ◌+◌, ◌/◌, ◌≤◌, OnOk, true, All, serve, AreSettled, IsLongest, IsOver, is_settled, taken_at, HasRoomFor, IsWalked};
 ghost use Rattle.dm_stack.specs.declared.checks.limits.TheConstants.{MOST_LENGTH};
-ghost use Rattle.dm_map.specs.walk.Serving.{serve, AreSettled, IsLongest, IsOver};
-ghost use Rattle.dm_map.specs.walk.SnapshotWrites.{is_settled};
-ghost use Rattle.dm_map.specs.state.State.{taken_at};
-ghost use Rattle.dm_map.specs.walk.Range.{HasRoomFor, IsWalked};
 
 use crate::pieces::sink::Sink;
 use crate::state::taken::Taken;

@@ -2,7 +2,7 @@
 //!
 //! The walk and the search for a stretch go by the same steps, so neither needs the other.
 
-ghost use Rattle.std.specs.Prelude.{◌≡◌, ◌-◌, ◌<◌, min};
+ghost use Rattle.dm_map.specs.Prelude.{◌≡◌, ◌-◌, ◌<◌, min};
 
 use dm_stack::ResolvedLine;
 

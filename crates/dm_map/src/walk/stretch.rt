@@ -4,23 +4,17 @@
 //! no sink and no loop over sectors, at the cost of one look-up for each level. It serves copies, which
 //! need the origin's side and the store's side at once.
 
-ghost use Rattle.std.specs.Prelude.{◌+◌, ◌≤◌};
-ghost use Rattle.dm_table.specs.declared.requests.request.Op.TheVariants.{Read};
-ghost use Rattle.dm_stack.specs.lines.Below.{IsLine};
-ghost use Rattle.dm_stack.specs.Description.{lower_len};
-ghost use Rattle.dm_stack.specs.declared.id.Lower.TheVariants.{Device};
-ghost use Rattle.dm_map.specs.walk.Stretch.{IsFirst, IsFirstOf};
-ghost use Rattle.dm_map.specs.walk.Range.{line_step};
+ghost use Rattle.dm_map.specs.Prelude.{◌≡◌, ◌+◌, ◌≤◌, Read, IsLine, lower_len, Device, AreAdded, stack_state, IsFirst, IsFirstOf, IsFirstRead, IsGroundNear, line_step};
 
 use crate::state::taken::Taken;
 use crate::state::walker::Walker;
 use crate::walk::chunk::{part_of_chunk, read_at};
 use crate::walk::step::part_in;
-use dm_stack::{Beneath, DeviceId, DiskId, Leg, Lower, ResolvedLine};
+use dm_stack::{Beneath, DeviceId, DiskId, Leg, Lower, MOST_DEPTH, ResolvedLine};
 
 /// What consecutive sectors are read from.
 #[derive(Clone, Copy, PartialEq, Eq, Drop)]
-pub(crate) enum Ground {
+pub enum Ground {
     /// A disk, from `start` on.
     Disk { disk: DiskId, start: u64 },
     /// Nothing: they read as zeros.
@@ -31,9 +25,9 @@ pub(crate) enum Ground {
 
 /// `len` sectors that are read from one ground.
 #[derive(Clone, Copy, Drop)]
-pub(crate) struct Stretch {
-    pub(crate) ground: Ground,
-    pub(crate) len: u64,
+pub struct Stretch {
+    pub ground: Ground,
+    pub len: u64,
 }
 
 /// The first stretch of a range of a device or a disk, through at most this many levels of devices.
@@ -135,4 +129,22 @@ fn line_stretch<T: Taken>(
             }
         }
     }
+}
+
+/// What the first sectors of a range of a device are read from.
+pub(crate) fn first_read<T: Taken>(
+    walker: &mut Walker<'_, T>,
+    device: DeviceId,
+    sector: u64,
+    len: u64,
+) -> Stretch
+    requires some { 1 ≤ len }
+    requires inside { sector + len ≤ lower_len walker.old.stack (Device device) }
+    ensures is { IsFirstRead walker.old.stack walker.old.state (Device device) sector len result }
+    ensures near { IsGroundNear result.ground result.len }
+    ensures same { stack_state walker.new ≡ stack_state walker.old }
+    ensures looked { AreAdded walker.old.looked walker.new.looked }
+{
+    walker.recall_soundness();
+    first_stretch(walker, MOST_DEPTH, Lower::Device(device), sector, len)
 }

@@ -7,24 +7,9 @@
 //! store's sectors lie do not depend on the depth at which the snapshot was reached, so each is looked
 //! up through all levels.
 
-ghost use Rattle.std.specs.Prelude.{◌≡◌, ◌≢◌, ◌+◌, ◌*◌, ◌%◌, ◌<◌, ◌≤◌};
-ghost use Rattle.std.specs.Prelude.{Some, IfNone, IfOk, IfSome, is_some, length, false, true};
-ghost use Rattle.dm_stack.specs.Description.{Description, lower_len};
-ghost use Rattle.dm_stack.specs.checks.Store.{IsStore};
+ghost use Rattle.dm_map.specs.Prelude.{◌≡◌, ◌≢◌, ◌+◌, ◌*◌, ◌%◌, ◌<◌, ◌≤◌, Some, IfNone, IfOk, IfSome, is_some, length, false, true, Description, lower_len, IsStore, AreAdded, IsFirstHomes, AreInSnapshot, IsTakenAs, can_take, copies, copy_to, first_of, is_settled, reads_all, take_chunk, has_place, store_sector, taken_at, keep, ground_unit, IsFirstOf, IsGroundInStack, diskless_len, piece_len, units_in, units_of, IsOnDisk, IsOnDisks, stack_state, HasRoomFor, IsWalked};
 ghost use Rattle.dm_stack.specs.declared.checks.graph.TheConstants.{MOST_DEPTH};
-ghost use Rattle.dm_map.specs.state.Counts.{AreAdded};
-ghost use Rattle.dm_map.specs.walk.Homes.{IsFirstHomes};
-ghost use Rattle.dm_map.specs.walk.Chunk.{AreInSnapshot, IsTakenAs};
-ghost use Rattle.dm_map.specs.walk.SnapshotWrites.{can_take, copies, copy_to, first_of};
-ghost use Rattle.dm_map.specs.walk.SnapshotWrites.{is_settled, reads_all, take_chunk};
-ghost use Rattle.dm_map.specs.state.Snapshots.{has_place, store_sector};
-ghost use Rattle.dm_map.specs.state.State.{taken_at};
-ghost use Rattle.dm_map.specs.walk.Steps.{keep};
 ghost use Rattle.dm_map.specs.declared.walk.stretch.Ground.TheVariants.{Fails};
-ghost use Rattle.dm_map.specs.walk.Stretch.{ground_unit, IsFirstOf, IsGroundInStack};
-ghost use Rattle.dm_map.specs.pieces.Units.{diskless_len, piece_len, units_in, units_of, IsOnDisk, IsOnDisks};
-ghost use Rattle.dm_map.specs.state.Walker.{stack_state};
-ghost use Rattle.dm_map.specs.walk.Range.{HasRoomFor, IsWalked};
 
 use crate::pieces::piece::Piece;
 use crate::pieces::sink::Sink;
@@ -61,7 +46,7 @@ pub(crate) fn take_chunk<S: Sink, T: Taken>(
     Ok(())
 }
 
-/// The same for a chunk that a valid snapshot has not taken, which is the `number`th, from 0, if it is taken.
+/// Takes a chunk that a valid snapshot has not taken: it becomes the `number`th, from 0, if it is taken.
 /// It returns where the first of the chunk's sectors lie then, and nothing where the snapshot is lost.
 pub(crate) fn take_new_chunk<S: Sink, T: Taken>(
     walker: &mut Walker<'_, T>,

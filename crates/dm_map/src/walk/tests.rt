@@ -3,8 +3,7 @@
 //! Both are proved to be what the definitions say; these rows show that they also cut alike, so a
 //! copy goes on as long as a read does, but for chunks of a snapshot that are read in a row.
 
-ghost use Rattle.std.specs.Prelude.{◌≡◌, ◌+◌, ◌≤◌};
-ghost use Rattle.dm_stack.specs.Description.{lower_len};
+ghost use Rattle.dm_map.specs.Prelude.{◌≡◌, ◌+◌, ◌≤◌, lower_len};
 
 use crate::fixtures::stack_of;
 use crate::mapper::Mapper;
@@ -95,6 +94,8 @@ fn a_stretch_begins_the_first_piece_of_a_read(rt: HostRuntime) {
         let mut mapper: Mapper<'_, PlainTaken> = Mapper::new(alloc, stack.looker()).expect(
             &rt, "a mapper",
         );
+        let read = mapper.first_read(device, start, len);
+        assert!(&rt; read.ground == stretch.ground && read.len == want, "{line}");
         let mut list = PieceList::new(alloc, &stack);
         mapper
             .request(&request, device, &mut list)

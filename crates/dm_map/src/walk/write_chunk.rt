@@ -4,16 +4,7 @@
 //! The number under which a chunk was taken says where its sectors are in the store. Where a new chunk lies
 //! on a disk is known from its copies, so that it is not looked up again for the write.
 
-ghost use Rattle.std.specs.Prelude.{◌≡◌, ◌+◌, ◌/◌, ◌<◌, ◌≤◌, ◌&&◌, true, None, Some, length, not};
-ghost use Rattle.dm_stack.specs.Description.{lower_len};
-ghost use Rattle.dm_stack.specs.checks.Store.{IsStore};
-ghost use Rattle.dm_map.specs.state.Snapshots.{has_place, number_in};
-ghost use Rattle.dm_map.specs.state.State.{taken_at};
-ghost use Rattle.dm_map.specs.state.Tables.{snapshot_at};
-ghost use Rattle.dm_map.specs.walk.Range.{AreAskedOfChunk, AreAskedOfSnapshot};
-ghost use Rattle.dm_map.specs.walk.Range.{HasRoomFor, IsSnapshotWritten, IsWalked};
-ghost use Rattle.dm_map.specs.walk.SnapshotWrites.{is_keeping, store_writes};
-ghost use Rattle.dm_map.specs.walk.Steps.{keep};
+ghost use Rattle.dm_map.specs.Prelude.{◌≡◌, ◌+◌, ◌/◌, ◌<◌, ◌≤◌, ◌&&◌, true, None, Some, length, not, lower_len, IsStore, has_place, number_in, taken_at, snapshot_at, AreAskedOfChunk, AreAskedOfSnapshot, HasRoomFor, IsSnapshotWritten, IsWalked, is_keeping, store_writes, keep};
 
 use crate::pieces::piece::Piece;
 use crate::pieces::sink::Sink;
@@ -80,7 +71,7 @@ fn write_chunk<S: Sink, T: Taken>(
     }
 }
 
-/// The same of a valid snapshot that has not taken the chunk. Where the store keeps what it has and has
+/// Writes to sectors of a chunk that a valid snapshot has not taken. Where the store keeps what it has and has
 /// no place for one more, all of them fail, and nothing changes.
 fn write_new_chunk<S: Sink, T: Taken>(
     walker: &mut Walker<'_, T>,

@@ -1,9 +1,7 @@
 -- The laws of a sink, for a halting player. They are here because its impl cites them.
-use Rattle.std.proofs.Common.{◌≡◌, ℕ, ◌+◌, List, [], ◌++◌, length, take, refl, sym, ap, subst, ◌∙◌, arith}
+use Rattle.dm_replay.specs.Base.{◌≡◌, ℕ, ◌+◌, List, [], ◌++◌, length, take, refl, sym, ap, subst, ◌∙◌, length-append, Description, BlockUnit}
+use Rattle.std.proofs.Common.{arith}
 use Rattle.std.proofs.Math.Seq.{take-append-add}
-use Rattle.std.proofs.lemmas.List.{length-append}
-use Rattle.dm_stack.specs.Description.{Description}
-use Rattle.dm_map.specs.pieces.Units.{BlockUnit}
 use Rattle.dm_replay.specs.declared.halting.Halting.{Halting}
 use Rattle.dm_replay.specs.Halting.{HasHalted, HasTaken}
 use Rattle.dm_replay.specs.laws.OfDisks.{units_of-append}

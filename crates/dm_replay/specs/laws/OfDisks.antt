@@ -1,6 +1,5 @@
 -- Units on a stack's disks, in two parts. It is here because a sink's impl cites it.
-use Rattle.std.proofs.Common.{ℕ, List, [], ◌∷◌, ◌++◌}
-use Rattle.dm_map.specs.pieces.Units.{BlockUnit}
+use Rattle.dm_replay.specs.Base.{ℕ, List, [], ◌∷◌, ◌++◌, BlockUnit}
 use Rattle.dm_replay.specs.OfDisks.{AreUnitsOf}
 
 pub units_of-append : (disks : ℕ) (units more : List BlockUnit) → AreUnitsOf disks units → AreUnitsOf disks more → AreUnitsOf disks (units ++ more)

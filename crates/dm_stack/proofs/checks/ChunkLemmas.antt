@@ -1,20 +1,7 @@
 -- What the check of snapshots says of their chunks.
-use Rattle.std.proofs.Common.{◌≡◌, ℕ, ◌<◌, ◌≤◌, false, not, nat_lt, List, [], ◌∷◌, arith, length}
-use Rattle.std.specs.Prelude.{◌==◌, ◌||◌, count_ones}
-use Rattle.std.specs.Int.{is_power_of_two}
-use Rattle.std.specs.List.{All, AllByRecursion, flat_map}
-use Rattle.std.proofs.lemmas.Bool.{eqb-true, ltb-false, not-false, or_parts}
-use Rattle.std.proofs.lemmas.List.Elements.{All-from_recursion}
-use Rattle.std.proofs.lemmas.Nat.{ones_le_self}
-use Rattle.dm_table.specs.declared.load.load_fault.LoadKind.TheVariants.{Snapshot}
-use Rattle.dm_table.specs.declared.tables.table.DeviceSpec.{DeviceSpec}
-use Rattle.dm_table.specs.declared.tables.table.Line.{Line}
-use Rattle.dm_table.specs.declared.tables.table.Target.{Target}
+use Rattle.dm_stack.proofs.Prelude.{◌≡◌, ℕ, ◌<◌, ◌≤◌, false, not, nat_lt, List, [], ◌∷◌, arith, length, ◌==◌, ◌||◌, count_ones, is_power_of_two, All, AllByRecursion, flat_map, eqb-true, ltb-false, not-false, or_parts, All-from_recursion, ones_le_self, Snapshot, DeviceSpec, Line, Target, Description, lower_len, lower_of, HasGoodChunk, HaveGoodChunks, is_bad_chunk, is_bad_snapshot, snapshot, bad_snapshots_in, all_changed, append-nil_both}
 use Rattle.dm_table.specs.declared.tables.table.Target.TheVariants as targets
-use Rattle.dm_stack.specs.Description.{Description, lower_len, lower_of}
-use Rattle.dm_stack.specs.checks.Soundness.{HasGoodChunk, HaveGoodChunks, is_bad_chunk, is_bad_snapshot, snapshot, bad_snapshots_in}
 use Rattle.dm_stack.proofs.checks.Passes.{faults_by_none}
-use Rattle.dm_table.proofs.Lists.{all_changed, append-nil_both}
 
 pub chunk_within : (chunk : ℕ) → is_bad_chunk chunk ≡ false → (0 < chunk) × (chunk ≤ 1024)
 chunk_within chunk good =

@@ -1,21 +1,6 @@
 -- The places of all stores, counted line by line.
-use Rattle.std.proofs.Common.{◌≡◌, ℕ, ◌+◌, ◌<◌, ◌≤◌, Bool, false, nat_lt, List, [], ◌∷◌, None, arith, refl, sym, ap, ◌∙◌, zero-add, map, ◌++◌, drop, get_or, length}
-use Rattle.std.specs.List.{sum_by}
-use Rattle.std.proofs.lemmas.Bool.{le-ltb, ltb-false}
-use Rattle.std.proofs.lemmas.List.Sums.{sum_by-cons}
-use Rattle.dm_table.specs.declared.load.place.Place.{Place}
-use Rattle.dm_table.specs.declared.tables.table.Line.{Line}
-use Rattle.dm_table.specs.declared.tables.table.Target.{Target}
+use Rattle.dm_stack.proofs.Prelude.{◌≡◌, ℕ, ◌+◌, ◌<◌, ◌≤◌, Bool, false, nat_lt, List, [], ◌∷◌, None, arith, refl, sym, ap, ◌∙◌, zero-add, map, ◌++◌, drop, get_or, length, sum_by, le-ltb, ltb-false, sum_by-cons, Place, Line, Target, LoadKind, Limit, LoadFault, fault, faults_by, first_or, Description, all_places, places_of, resolved_target, HasGoodChunk, IsSound, WithBefore, all_lines, checks_after, target_places, with_before, first_fault-none, cond_none}
 use Rattle.dm_table.specs.declared.tables.table.Target.TheVariants as targets
-use Rattle.dm_table.specs.declared.load.load_fault.LoadKind.{LoadKind}
-use Rattle.dm_table.specs.declared.load.load_fault.LoadKind.TheVariants.{Limit}
-use Rattle.dm_table.specs.declared.load.load_fault.LoadFault.{LoadFault}
-use Rattle.dm_table.specs.load.LoadFault.{fault, faults_by, first_or}
-use Rattle.dm_stack.specs.Description.{Description}
-use Rattle.dm_stack.specs.checks.StoreLimit.{all_places, places_of}
-use Rattle.dm_stack.specs.lines.Below.{resolved_target}
-use Rattle.dm_stack.specs.checks.Soundness.{HasGoodChunk, IsSound, WithBefore, all_lines, checks_after, target_places, with_before}
-use Rattle.dm_table.proofs.FaultLemmas.{first_fault-none, cond_none}
 use Rattle.dm_stack.proofs.checks.PlacedLemmas.{next_before}
 use Rattle.dm_stack.proofs.checks.WithBefore.{further_on}
 

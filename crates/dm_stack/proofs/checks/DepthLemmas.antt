@@ -1,7 +1,5 @@
 -- Depths: what is named is less deep, a depth below its bound is final, and what reaches itself has none.
-use Rattle.std.proofs.Common.{◌≡◌, ℕ, zero, suc, ◌<◌, ◌≤◌, List, [], ◌∷◌, length, get_or, map, refl, ap, sym, ◌∙◌, arith}
-use Rattle.std.specs.List.{Contains}
-use Rattle.dm_stack.specs.checks.Graph.{links_of, Names, Reaches, greatest, depth_to}
+use Rattle.dm_stack.proofs.Prelude.{◌≡◌, ℕ, zero, suc, ◌<◌, ◌≤◌, List, [], ◌∷◌, length, get_or, map, refl, ap, sym, ◌∙◌, arith, Contains, links_of, Names, Reaches, greatest, depth_to}
 use Rattle.dm_stack.proofs.checks.PathLemmas.{Reaches-turned}
 
 -- the greatest of a list

@@ -1,13 +1,5 @@
 -- Checks that test each device by its id.
-use Rattle.std.proofs.Common.{◌≡◌, ℕ, suc, ◌+◌, ◌<◌, Bool, List, [], ◌∷◌, arith, refl, ◌∙◌, get_or, length}
-use Rattle.std.specs.Prelude.{nat_lt}
-use Rattle.std.proofs.lemmas.List.{length-map}
-use Rattle.dm_table.specs.declared.load.load_fault.LoadKind.{LoadKind}
-use Rattle.dm_table.specs.declared.load.load_fault.LoadKind.TheVariants.{Deep}
-use Rattle.dm_table.specs.declared.tables.table.DeviceSpec.{DeviceSpec}
-use Rattle.dm_stack.specs.Description.{Description, device_links, links}
-use Rattle.dm_stack.specs.checks.Graph.{depths_to}
-use Rattle.dm_stack.specs.checks.Soundness.{deep, depth_of, faults_by_id}
+use Rattle.dm_stack.proofs.Prelude.{◌≡◌, ℕ, suc, ◌+◌, ◌<◌, Bool, List, [], ◌∷◌, arith, refl, ◌∙◌, get_or, length, nat_lt, length-map, LoadKind, Deep, DeviceSpec, Description, device_links, links, depths_to, deep, depth_of, faults_by_id}
 use Rattle.dm_stack.proofs.checks.RoundLemmas.{depths_to-at, depths_to-length}
 
 -- tests that agree on the ids of these devices

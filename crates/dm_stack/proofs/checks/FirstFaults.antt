@@ -1,18 +1,5 @@
 -- The first fault of a check, by the element at which it is found.
-use Rattle.std.proofs.Common.{◌≡◌, inl, inr, ℕ, zero, suc, ◌+◌, ◌-◌, ◌<◌, ◌≤◌, Bool, List, [], ◌∷◌, ◌++◌, Option, Some, None, refl, ◌∙◌, arith, length, get_or, drop}
-use Rattle.std.specs.Prelude.{slice_get}
-use Rattle.std.proofs.lemmas.Bool.{cases_Bool}
-use Rattle.std.proofs.lemmas.List.{drop_more}
-use Rattle.dm_table.specs.declared.load.place.Place.{Place}
-use Rattle.dm_table.specs.declared.tables.table.Line.{Line}
-use Rattle.dm_table.specs.declared.tables.table.DeviceSpec.{DeviceSpec}
-use Rattle.dm_table.specs.declared.load.load_fault.LoadKind.{LoadKind}
-use Rattle.dm_table.specs.declared.load.load_fault.LoadKind.TheVariants.{Limit}
-use Rattle.dm_table.specs.declared.load.load_fault.LoadFault.{LoadFault}
-use Rattle.dm_table.specs.load.LoadFault.{fault, faults_by, first_or}
-use Rattle.dm_table.proofs.FaultLemmas.{first_or-passed, first_or-found}
-use Rattle.dm_stack.specs.Description.{Description, end_of}
-use Rattle.dm_stack.specs.checks.Soundness.{past, all_lines, too_many}
+use Rattle.dm_stack.proofs.Prelude.{◌≡◌, inl, inr, ℕ, zero, suc, ◌+◌, ◌-◌, ◌<◌, ◌≤◌, Bool, List, [], ◌∷◌, ◌++◌, Option, Some, None, refl, ◌∙◌, arith, length, get_or, drop, slice_get, cases_Bool, drop_more, Place, Line, DeviceSpec, LoadKind, Limit, LoadFault, fault, faults_by, first_or, first_or-passed, first_or-found, Description, end_of, past, all_lines, too_many}
 
 -- the fault at an element that was found, or else a later one
 abbrev pub at_found : {X : Type 0} → LoadKind → (X → Place) → Option X → Option LoadFault → Option LoadFault

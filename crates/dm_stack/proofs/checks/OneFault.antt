@@ -1,10 +1,5 @@
 -- A description is sound, or one fault refuses it, and never both.
-use Rattle.std.proofs.Common.{◌≡◌, ℕ, ◌<◌, ◌∷◌, Option, Some, None, arith, sym, ap, ◌∙◌, get_or, length}
-use Rattle.std.proofs.Math.Seq.{get_or-append_seam}
-use Rattle.std.proofs.lemmas.List.{length-append}
-use Rattle.dm_table.specs.declared.load.load_fault.LoadFault.{LoadFault}
-use Rattle.dm_stack.specs.Description.{Description}
-use Rattle.dm_stack.specs.checks.Soundness.{Early, HasNoCycle, IsFirstCycle, IsRefusedBy, IsSound, Late, OnCycle}
+use Rattle.dm_stack.proofs.Prelude.{◌≡◌, ℕ, ◌<◌, ◌∷◌, Option, Some, None, arith, sym, ap, ◌∙◌, get_or, length, get_or-append_seam, length-append, LoadFault, Description, Early, HasNoCycle, IsFirstCycle, IsRefusedBy, IsSound, Late, OnCycle}
 
 ring_within : (stack : Description) (found : LoadFault) (ring : IsFirstCycle stack found) → length ring.before < length stack.devices
 ring_within stack found ring = omega (arith, ap length ring.split, length-append ring.before (ring.device ∷ ring.after))

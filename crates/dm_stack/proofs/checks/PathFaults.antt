@@ -1,13 +1,5 @@
 -- The faults of a list of paths: a name that stands twice, and then one of no disk.
-use Rattle.std.proofs.Common.{◌≡◌, ◌≢◌, ℕ, List, Bool, true, false, Option, None, Some, Result, Ok, Err, OnOk, IfErr, sym, ap, ◌∙◌}
-use Rattle.std.specs.Prelude.{is_none, is_some, not}
-use Rattle.std.specs.Result.{result_err}
-use Rattle.dm_table.specs.declared.load.place.Part.TheVariants.{Source}
-use Rattle.dm_table.specs.declared.load.place.Place.{Place}
-use Rattle.dm_table.specs.declared.load.load_fault.LoadKind.TheVariants.{Memory, Unknown}
-use Rattle.dm_table.specs.declared.load.load_fault.LoadFault.{LoadFault}
-use Rattle.dm_table.specs.load.LoadFault.{IsMemoryFault, faults_by, first_or}
-use Rattle.dm_table.proofs.FaultLemmas.{first_or-passed}
+use Rattle.dm_stack.proofs.Prelude.{◌≡◌, ◌≢◌, ℕ, List, Bool, true, false, Option, None, Some, Result, Ok, Err, OnOk, IfErr, sym, ap, ◌∙◌, is_none, is_some, not, result_err, Source, Place, Memory, Unknown, LoadFault, IsMemoryFault, faults_by, first_or, first_or-passed}
 use Rattle.dm_stack.proofs.checks.HandedOn.{by_not_memory, first_not_memory}
 
 -- no name stands twice, and the second check ran

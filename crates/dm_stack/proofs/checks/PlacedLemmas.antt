@@ -1,15 +1,5 @@
 -- A walk over a list by what a test says of its next element.
-use Rattle.std.proofs.Common.{◌≡◌, ℕ, ◌+◌, ◌<◌, Bool, true, false, List, [], ◌∷◌, ◌++◌, Some, None, refl, sym, ap, drop, get_or, length}
-use Rattle.std.specs.List.{flat_map}
-use Rattle.std.proofs.lemmas.List.{drop_more}
-use Rattle.dm_table.specs.declared.load.load_fault.LoadFault.{LoadFault}
-use Rattle.dm_table.specs.declared.load.load_fault.LoadKind.{LoadKind}
-use Rattle.dm_table.specs.declared.load.place.Place.{Place}
-use Rattle.dm_table.specs.declared.tables.table.DeviceSpec.{DeviceSpec}
-use Rattle.dm_table.specs.declared.tables.table.Line.{Line}
-use Rattle.dm_table.specs.load.LoadFault.{fault, faults_by, first_or}
-use Rattle.dm_stack.specs.Description.{Description}
-use Rattle.dm_stack.specs.checks.Soundness.{all_lines, device_faults, line_faults}
+use Rattle.dm_stack.proofs.Prelude.{◌≡◌, ℕ, ◌+◌, ◌<◌, Bool, true, false, List, [], ◌∷◌, ◌++◌, Some, None, refl, sym, ap, drop, get_or, length, flat_map, drop_more, LoadFault, LoadKind, Place, DeviceSpec, Line, fault, faults_by, first_or, Description, all_lines, device_faults, line_faults}
 use Rattle.dm_stack.proofs.checks.FirstFaults.{by_append}
 
 pub next_of : {X : Type 0} (xs : List X) (i : ℕ) (x : X) → i < length xs → x ≡ get_or xs i x → drop i xs ≡ x ∷ drop (i + 1) xs
@@ -27,7 +17,7 @@ good_here kind place test xs i x within is good =
     let here = sym good in
     rw (at, here)
 
--- the same of a list with more after it
+-- an element of a list with more after it
 
 pub next_before : {X : Type 0} (items rest : List X) (i : ℕ) (x : X) → i < length items → x ≡ get_or items i x → drop i items ++ rest ≡ x ∷ (drop (i + 1) items ++ rest)
 next_before items rest i x within is = rw (next_of items i x within is)

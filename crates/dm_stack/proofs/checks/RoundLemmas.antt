@@ -1,11 +1,6 @@
 -- A round over the depths of n levels gives those of one level more, and rounds that change nothing are the last.
-use Rattle.std.proofs.Common.{◌≡◌, ℕ, zero, suc, ◌+◌, ◌-◌, ◌<◌, ◌≤◌, List, [], ◌∷◌, length, get_or, map, replicate, Vec, refl, ap, ◌∙◌, arith}
+use Rattle.dm_stack.proofs.Prelude.{◌≡◌, ℕ, zero, suc, ◌+◌, ◌-◌, ◌<◌, ◌≤◌, List, [], ◌∷◌, length, get_or, map, replicate, Vec, refl, ap, ◌∙◌, arith, Contains, All, range_with_len, get_or-map, get_or-replicate, length-map, length-replicate, All-map, All-same, Contains-get_or, get_or-map-range_with_len, length-map-range_with_len, fill_by_all, links_in, links_of, Names, IsClosed, Reaches, greatest, depth_to, depths_to, depth_over}
 use Rattle.std.specs.Global.{Global}
-use Rattle.std.specs.List.{Contains, All, range_with_len}
-use Rattle.std.proofs.lemmas.List.{get_or-map, get_or-replicate, length-map, length-replicate}
-use Rattle.std.proofs.lemmas.List.Elements.{All-map, All-same, Contains-get_or}
-use Rattle.std.proofs.lemmas.List.FromFn.{get_or-map-range_with_len, length-map-range_with_len, fill_by_all}
-use Rattle.dm_stack.specs.checks.Graph.{links_in, links_of, Names, IsClosed, Reaches, greatest, depth_to, depths_to, depth_over}
 use Rattle.dm_stack.proofs.checks.PathLemmas.{links_of-at}
 use Rattle.dm_stack.proofs.checks.DepthLemmas.{depth_to-le, depth_to-no_cycle}
 

@@ -1,12 +1,6 @@
 -- A search: what is visited is reached, and all that is reached is visited once nothing waits.
-use Rattle.std.proofs.Common.{◌≡◌, ◌⊎◌, inl, inr, ℕ, zero, suc, ◌+◌, ◌<◌, Bool, true, false, not, cond, List, [], ◌∷◌, ◌++◌, length, get_or, set, take, drop, replicate, Vec, sym, ap, ◌∙◌, true≢false, arith, get_or-set_other, get_or-set_same}
+use Rattle.dm_stack.proofs.Prelude.{◌≡◌, ◌⊎◌, inl, inr, ℕ, zero, suc, ◌+◌, ◌<◌, Bool, true, false, not, cond, List, [], ◌∷◌, ◌++◌, length, get_or, set, take, drop, replicate, Vec, sym, ap, ◌∙◌, true≢false, arith, get_or-set_other, get_or-set_same, Contains, cases_eq, take_more, take_all, take-append-le, length_push, length-map, length-replicate, Contains-append_left, Contains-push, Contains-push_cases, sum_by-set, links_in, links_of, Names, IsClosed, IsPath, Reaches, IsVisited, unvisited, Visits}
 use Rattle.std.specs.Global.{Global}
-use Rattle.std.specs.List.{Contains}
-use Rattle.std.proofs.lemmas.Bool.{cases_eq}
-use Rattle.std.proofs.lemmas.List.{take_more, take_all, take-append-le, length_push, length-map, length-replicate}
-use Rattle.std.proofs.lemmas.List.Elements.{Contains-append_left, Contains-push, Contains-push_cases}
-use Rattle.std.proofs.lemmas.List.Sums.{sum_by-set}
-use Rattle.dm_stack.specs.checks.Graph.{links_in, links_of, Names, IsClosed, IsPath, Reaches, IsVisited, unvisited, Visits}
 use Rattle.dm_stack.proofs.checks.PathLemmas.{links_of-at, Reaches-named, Reaches-more}
 
 -- marks

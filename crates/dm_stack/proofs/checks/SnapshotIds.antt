@@ -1,14 +1,5 @@
 -- The ids of snapshots, device by device.
-use Rattle.std.proofs.Common.{◌≡◌, ℕ, ◌+◌, ◌<◌, Bool, cond, List, [], ◌∷◌, ◌++◌, Some, arith, refl, sym, ap, ◌∙◌, get_or, length}
-use Rattle.std.specs.Prelude.{filter, slice_get}
-use Rattle.std.specs.List.{range_with_len}
-use Rattle.std.proofs.lemmas.List.Elements.{filter-append}
-use Rattle.std.proofs.lemmas.List.FromFn.{map-range_with_len_more}
-use Rattle.std.proofs.lemmas.Option.{slice_get_read}
-use Rattle.std.proofs.lemmas.List.{map-id}
-use Rattle.dm_table.specs.declared.tables.table.DeviceSpec.{DeviceSpec}
-use Rattle.dm_stack.specs.Description.{lines_at, lines_or_none}
-use Rattle.dm_stack.specs.checks.Snapshots.{has_snapshot}
+use Rattle.dm_stack.proofs.Prelude.{◌≡◌, ℕ, ◌+◌, ◌<◌, Bool, cond, List, [], ◌∷◌, ◌++◌, Some, arith, refl, sym, ap, ◌∙◌, get_or, length, filter, slice_get, range_with_len, filter-append, map-range_with_len_more, slice_get_read, map-id, DeviceSpec, lines_at, lines_or_none, has_snapshot}
 
 pub range_more : (n : ℕ) → range_with_len 0 (n + 1) ≡ range_with_len 0 n ++ n ∷ []
 range_more n =

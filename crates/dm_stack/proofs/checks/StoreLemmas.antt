@@ -1,30 +1,7 @@
 -- A device is a store exactly where its depth is within the limit, once those that no store may be made of name themselves.
-use Rattle.std.proofs.Common.{◌≡◌, ℕ, zero, suc, ◌+◌, ◌<◌, ◌≤◌, Bool, true, false, cond, not, nat_le, List, [], ◌∷◌, ◌++◌, arith, inl, inr, ◌⊎◌, refl, sym, ap, ◌∙◌, get_or, length, map, Some, Vec, Global}
-use Rattle.std.specs.Prelude.{◌&&◌, slice_get}
-use Rattle.std.specs.List.{Contains, flat_map, list_all, range_with_len}
-use Rattle.std.proofs.Math.Bool.{and-false, and-true, and_assoc}
-use Rattle.std.proofs.Math.Dec.{leb-suc-suc}
-use Rattle.std.proofs.Math.Path.{fun_ext}
-use Rattle.std.proofs.lemmas.Bool.{cases_lt, le-leb, lt-leb}
-use Rattle.std.proofs.lemmas.List.{append-nil, get_or_past, length-map, map-append}
-use Rattle.std.proofs.lemmas.List.Elements.{Contains-append_cases}
-use Rattle.std.proofs.lemmas.Option.{slice_get_past, slice_get_read}
-use Rattle.std.proofs.lemmas.List.Folds.{list_all-append}
-use Rattle.std.proofs.lemmas.List.FromFn.{get_or-map-range_with_len, length-map-range_with_len, map-range_with_len_more}
-use Rattle.dm_table.specs.declared.tables.table.DevRef.{DevRef}
+use Rattle.dm_stack.proofs.Prelude.{◌≡◌, ℕ, zero, suc, ◌+◌, ◌<◌, ◌≤◌, Bool, true, false, cond, not, nat_le, List, [], ◌∷◌, ◌++◌, arith, inl, inr, ◌⊎◌, refl, sym, ap, ◌∙◌, get_or, length, map, Some, Vec, Global, ◌&&◌, slice_get, Contains, flat_map, list_all, range_with_len, and-false, and-true, and_assoc, leb-suc-suc, fun_ext, cases_lt, le-leb, lt-leb, append-nil, get_or_past, length-map, map-append, Contains-append_cases, slice_get_past, slice_get_read, list_all-append, get_or-map-range_with_len, length-map-range_with_len, map-range_with_len_more, DevRef, DeviceSpec, Line, Target, Span, spans, Lower, Device, Disk, Description, device_links, is_ro_at, lines_at, lines_or_none, links, lower_of, ref_link, IsClosed, depth_to, depths_to, greatest, links_in, links_of, resolved_target, has_bad_store, has_deep_store, is_plain, is_shallow, is_store_to, may_store, store_links, store_links_at, store_links_of, line_links}
 use Rattle.dm_table.specs.declared.tables.table.DevRef.TheVariants as refs
-use Rattle.dm_table.specs.declared.tables.table.DeviceSpec.{DeviceSpec}
-use Rattle.dm_table.specs.declared.tables.table.Line.{Line}
-use Rattle.dm_table.specs.declared.tables.table.Target.{Target}
 use Rattle.dm_table.specs.declared.tables.table.Target.TheVariants as targets
-use Rattle.dm_stack.specs.declared.id.Lower.{Lower}
-use Rattle.dm_stack.specs.declared.id.Lower.TheVariants.{Device, Disk}
-use Rattle.dm_stack.specs.Description.{Description, device_links, is_ro_at, line_links, lines_at, lines_or_none, links, lower_of, ref_link}
-use Rattle.dm_stack.specs.checks.Graph.{IsClosed, depth_to, depths_to, greatest, links_in, links_of}
-use Rattle.dm_table.specs.tables.Span.{Span, spans}
-use Rattle.dm_stack.specs.lines.Below.{resolved_target}
-use Rattle.dm_stack.specs.checks.Soundness.{has_bad_store}
-use Rattle.dm_stack.specs.checks.Store.{has_deep_store, is_plain, is_shallow, is_store_to, may_store, store_links, store_links_at, store_links_of}
 use Rattle.dm_stack.proofs.checks.PathLemmas.{links_of-at}
 use Rattle.dm_stack.proofs.checks.RoundLemmas.{depths_to-at, depths_to-length}
 

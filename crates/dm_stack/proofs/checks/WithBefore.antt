@@ -1,7 +1,5 @@
 -- The elements of a list with those before them, one by one.
-use Rattle.std.proofs.Common.{◌≡◌, ℕ, zero, suc, ◌+◌, ◌<◌, ◌≤◌, List, [], ◌∷◌, arith, refl, sym, ap, ◌∙◌, drop, get_or, length, take}
-use Rattle.std.proofs.lemmas.List.{drop_all, drop_more, get_or-map, length-map}
-use Rattle.dm_stack.specs.checks.Soundness.{WithBefore, with_before}
+use Rattle.dm_stack.proofs.Prelude.{◌≡◌, ℕ, zero, suc, ◌+◌, ◌<◌, ◌≤◌, List, [], ◌∷◌, arith, refl, sym, ap, ◌∙◌, drop, get_or, length, take, drop_all, drop_more, get_or-map, length-map, WithBefore, with_before}
 
 -- an element further on
 abbrev pub further_on : {X : Type 0} → X → WithBefore X → WithBefore X

@@ -1,16 +1,6 @@
 -- Where no claims meet, two that may not share a sector are one column of one line.
-use Rattle.std.proofs.Common.{◌≡◌, ℕ, ◌<◌, ◌≤◌, false, Some, length, sym, ap, subst, ◌∙◌}
-use Rattle.std.specs.Prelude.{option_map, slice_get}
-use Rattle.std.specs.List.{range_with_len}
-use Rattle.std.proofs.lemmas.Option.{get_or_from_slice_get, slice_get-map, slice_get_within}
-use Rattle.dm_table.specs.declared.tables.table.Line.{Line}
-use Rattle.dm_table.specs.declared.tables.table.Use.{Use}
-use Rattle.dm_stack.specs.declared.claims.claim.Claim.{Claim}
-use Rattle.dm_stack.specs.declared.id.Lower.{Lower}
-use Rattle.dm_stack.specs.declared.id.Lower.TheVariants.{Device}
-use Rattle.dm_stack.specs.claims.Claims.{NeverMeet, HasSector, IsTidy, IsTop, claims, device_claims, line_claims, may_share, span_claim, span_end}
-use Rattle.dm_stack.specs.Description.{Description, lines_at, lower_len, lower_of}
-use Rattle.dm_table.specs.tables.Span.{Span, spans}
+use Rattle.dm_stack.proofs.Prelude.{◌≡◌, ℕ, ◌<◌, ◌≤◌, false, Some, length, sym, ap, subst, ◌∙◌, option_map, slice_get, range_with_len, get_or_from_slice_get, slice_get-map, slice_get_within, Line, Use, Span, spans, Claim, Lower, Device, NeverMeet, HasSector, IsTidy, IsTop, claims, device_claims, may_share, span_claim, span_end, Description, lines_at, lower_len, lower_of}
+use Rattle.dm_stack.specs.claims.Claims.{line_claims}
 use Rattle.dm_stack.proofs.claims.MeetLemmas.{share_turn}
 use Rattle.dm_stack.proofs.claims.Parts.{PairsAt, number_at, pairs_at, pairs_part, part_there, same_part, same_place}
 

@@ -1,17 +1,5 @@
 -- That two claims meet, as it is computed and as it is defined.
-use Rattle.std.proofs.Common.{◌≡◌, inl, inr, ℕ, true, false, not, refl, sym, ap, ◌∙◌, arith}
-use Rattle.std.specs.Prelude.{max, min, nat_lt}
-use Rattle.std.proofs.Math.Bool.{and_comm}
-use Rattle.std.proofs.lemmas.Bool.{and_from, and_parts, cases_Bool, eq-eqb, eqb-true, lt-ltb, ltb-true, not-true, true≢false}
-use Rattle.dm_table.specs.declared.tables.table.Use.{Use}
-use Rattle.dm_table.specs.declared.tables.table.Use.TheVariants.{Own, Reading, Serving}
-use Rattle.dm_stack.specs.declared.claims.claim.Claim.{Claim}
-use Rattle.dm_stack.specs.declared.id.Lower.{Lower}
-use Rattle.dm_stack.specs.declared.id.Lower.TheVariants.{Device, Disk}
-use Rattle.dm_stack.specs.declared.claims.tidy.Numbered.{Numbered}
-use Rattle.dm_stack.specs.claims.Claims.{NeverMeet, MeetAt, may_share}
-use Rattle.dm_stack.specs.Description.{is_same_lower}
-use Rattle.dm_stack.specs.claims.Sweep.{meets, rivals}
+use Rattle.dm_stack.proofs.Prelude.{◌≡◌, inl, inr, ℕ, true, false, not, refl, sym, ap, ◌∙◌, arith, max, min, nat_lt, and_comm, and_from, and_parts, cases_Bool, eq-eqb, eqb-true, lt-ltb, ltb-true, not-true, true≢false, Use, Own, Reading, Serving, Claim, Lower, Device, Disk, Numbered, NeverMeet, MeetAt, may_share, is_same_lower, meets, rivals}
 
 pub same_is : (one other : Lower) → is_same_lower one other ≡ true → one ≡ other
 same_is (Device one) (Device other) e = rw (eqb-true one other e)

@@ -1,16 +1,5 @@
 -- Lists in which a test passes for no two elements, in whichever order they stand.
-use Rattle.std.proofs.Common.{◌≡◌, ◌⊎◌, inl, inr, ℕ, zero, suc, ◌<◌, Bool, true, false, cond, List, [], ◌∷◌, ◌++◌, refl, sym, ap, subst, ◌∙◌, arith, get_or, length}
-use Rattle.std.specs.Prelude.{◌==◌}
-use Rattle.std.specs.List.{AllPairs, list_any, swap}
-use Rattle.std.specs.List.Sorted.{IsPermutation}
-use Rattle.std.proofs.lemmas.Bool.{eqb-true, eqb-false, or_parts}
-use Rattle.std.proofs.lemmas.List.{append-nil, append_assoc, get_or_append_left, length-append}
-use Rattle.std.proofs.Math.Seq.{get_or-append_seam}
-use Rattle.std.proofs.lemmas.List.Edits.{length-swap, swapped_from_swap}
-use Rattle.std.proofs.lemmas.List.Folds.{list_any_none}
-use Rattle.std.proofs.lemmas.List.Quantifiers.{all_pairs_push}
-use Rattle.std.proofs.lemmas.List.Sorted.{IsPermutation-keeps}
-use Rattle.dm_stack.specs.claims.Sweep.{has_pair}
+use Rattle.dm_stack.proofs.Prelude.{◌≡◌, ◌⊎◌, inl, inr, ℕ, zero, suc, ◌<◌, Bool, true, false, cond, List, [], ◌∷◌, ◌++◌, refl, sym, ap, subst, ◌∙◌, arith, get_or, length, ◌==◌, AllPairs, list_any, swap, IsPermutation, eqb-true, eqb-false, or_parts, append-nil, append_assoc, get_or_append_left, length-append, get_or-append_seam, length-swap, swapped_from_swap, list_any_none, all_pairs_push, IsPermutation-keeps, has_pair}
 
 -- at any two places
 pub record HasNoPair {X : Type 0} (test : X → X → Bool) (xs : List X) : Type 0 where

@@ -1,11 +1,5 @@
 -- What holds of each two elements of a list, where the list is made of parts: two elements of which it does not hold stand at one place.
-use Rattle.std.proofs.Common.{◌≡◌, ℕ, zero, suc, ◌+◌, ◌<◌, inl, inr, Bool, List, [], ◌∷◌, ◌++◌, Some, length, refl, sym, ap, ◌∙◌, arith}
-use Rattle.std.specs.Prelude.{find, slice_get}
-use Rattle.std.specs.List.{AllPairs, flat_map, position_or_len, range_with_len}
-use Rattle.std.proofs.lemmas.Bool.{cases_order}
-use Rattle.std.proofs.lemmas.List.Folds.{find_at}
-use Rattle.std.proofs.lemmas.List.FromFn.{get_or-range_with_len, length-range_with_len}
-use Rattle.std.proofs.lemmas.Option.{get_or_from_slice_get, slice_get-get_or, slice_get_within}
+use Rattle.dm_stack.proofs.Prelude.{◌≡◌, ℕ, zero, suc, ◌+◌, ◌<◌, inl, inr, Bool, List, [], ◌∷◌, ◌++◌, Some, length, refl, sym, ap, ◌∙◌, arith, find, slice_get, AllPairs, flat_map, position_or_len, range_with_len, cases_order, find_at, get_or-range_with_len, length-range_with_len, get_or_from_slice_get, slice_get-get_or, slice_get_within}
 use Rattle.dm_stack.proofs.checks.FirstFaults.{get_after, get_front}
 
 -- what holds of each two, by their places

@@ -1,21 +1,5 @@
 -- Claims in the order of their starts, and in that of their list: the same pairs meet, and so the same claim is the first that meets an earlier one.
-use Rattle.std.proofs.Common.{◌≡◌, ◌⊎◌, inl, inr, ℕ, zero, suc, ◌+◌, ◌<◌, ◌≤◌, Bool, true, false, not, List, [], ◌∷◌, ◌++◌, Option, Some, None, refl, sym, ap, subst, ◌∙◌, arith, get_or, length, take, drop}
-use Rattle.std.specs.Prelude.{◌&&◌, find, nat_lt, option_map, slice_get}
-use Rattle.std.specs.List.{All, AllPairs, after_first, position_or_len}
-use Rattle.std.specs.List.Sorted.{IsPermutation}
-use Rattle.std.proofs.Math.Bool.{and-false}
-use Rattle.std.proofs.Math.Seq.{drop-cons}
-use Rattle.std.proofs.lemmas.Bool.{cases_lt, lt-ltb, ltb-true, not-true, true≢false}
-use Rattle.std.proofs.lemmas.List.{drop_all, get_or-take, length-take, take-append-drop, take_more}
-use Rattle.std.proofs.lemmas.List.Folds.{find_at}
-use Rattle.std.proofs.lemmas.List.Sums.{fails_before_first, passes_at_first, split_at_first}
-use Rattle.std.proofs.lemmas.Option.{get_or_from_slice_get, slice_get-get_or, slice_get_within}
-use Rattle.std.proofs.lemmas.List.Quantifiers.{all_pairs_push}
-use Rattle.std.proofs.lemmas.List.Sorted.{All-permutation, IsPermutation-sym, length_permutation}
-use Rattle.dm_stack.specs.declared.claims.claim.Claim.{Claim}
-use Rattle.dm_stack.specs.declared.claims.tidy.Numbered.{Numbered}
-use Rattle.dm_stack.specs.claims.Claims.{NeverMeet, IsFirstClash}
-use Rattle.dm_stack.specs.claims.Sweep.{IsCounted, clash_of, clash_with, has_pair, is_tidy_to, meets, numbered, rivals}
+use Rattle.dm_stack.proofs.Prelude.{◌≡◌, ◌⊎◌, inl, inr, ℕ, zero, suc, ◌+◌, ◌<◌, ◌≤◌, Bool, true, false, not, List, [], ◌∷◌, ◌++◌, Option, Some, None, refl, sym, ap, subst, ◌∙◌, arith, get_or, length, take, drop, ◌&&◌, find, nat_lt, option_map, slice_get, All, AllPairs, after_first, position_or_len, IsPermutation, and-false, drop-cons, cases_lt, lt-ltb, ltb-true, not-true, true≢false, drop_all, get_or-take, length-take, take-append-drop, take_more, find_at, fails_before_first, passes_at_first, split_at_first, get_or_from_slice_get, slice_get-get_or, slice_get_within, all_pairs_push, All-permutation, IsPermutation-sym, length_permutation, Claim, Numbered, NeverMeet, IsFirstClash, IsCounted, clash_of, clash_with, has_pair, is_tidy_to, meets, numbered, rivals}
 use Rattle.dm_stack.proofs.claims.MeetLemmas.{never_meet_from, meet_from, none_from, rivals_turn}
 use Rattle.dm_stack.proofs.claims.PairLemmas.{no_pair_from_pairs, no_pair_moved, pairs_from_no_pair, pairs_from_search, search_from_pairs}
 use Rattle.dm_stack.proofs.claims.SweepLemmas.{not_met}

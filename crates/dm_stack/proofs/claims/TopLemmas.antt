@@ -1,43 +1,16 @@
 -- What the claims of a stack are on, and which devices none of them are on.
-use Rattle.std.proofs.Common.{◌≡◌, ℕ, zero, suc, ◌+◌, ◌<◌, ◌≤◌, Bool, true, false, not, List, [], ◌∷◌, ◌++◌, Option, Some, None, refl, sym, ap, subst, ◌∙◌, arith, get_or, length, map}
-use Rattle.std.specs.Prelude.{◌↔◌, IfOk, IfSome, IsTrue, is_none}
-use Rattle.std.proofs.Common.{Result, Ok, Err}
+use Rattle.dm_stack.proofs.Prelude.{◌≡◌, ℕ, zero, suc, ◌+◌, ◌<◌, ◌≤◌, Bool, true, false, not, List, [], ◌∷◌, ◌++◌, Option, Some, None, refl, sym, ap, subst, ◌∙◌, arith, get_or, length, map, ◌↔◌, IfOk, IfSome, IsTrue, is_none, Result, Ok, Err, All, AllByRecursion, AllPairs, flat_map, list_any, position_or_len, range_with_len, get_or-append_seam, eq-eqb, eqb-true, ltb-false, or_parts, true≢false, get_or-map, get_or_append_left, length-append, length-map, fill_by_all, All-from_recursion, All-map, prefix_len-le-length, Any-from_list_any, list_any-append, get_or_from_slice_get, slice_get-get_or, DevRef, DeviceSpec, Line, Span, spans, Claim, Clash, Lower, Device, Disk, AreTops, NeverMeet, IsClash, IsFirstClash, IsLower, IsThere, IsTidy, IsTop, MeetAt, claims, device_claims, span_claim, span_end, Description, is_same, lines_at, lower_len, lower_of, is_device, is_named, line_names, IsReport, report_text, ResolvedDevice, resolved_device, resolved_line, IsSound, passes, IsCounted, passes_end, all_changed}
 use Rattle.std.specs.declared.alloc.AllocError.{AllocError}
-use Rattle.std.specs.List.{All, AllByRecursion, AllPairs, flat_map, list_any, position_or_len, range_with_len}
-use Rattle.std.proofs.Math.Seq.{get_or-append_seam}
-use Rattle.std.proofs.lemmas.Bool.{eq-eqb, eqb-true, ltb-false, or_parts, true≢false}
-use Rattle.std.proofs.lemmas.List.{get_or-map, get_or_append_left, length-append, length-map}
-use Rattle.std.proofs.lemmas.List.FromFn.{fill_by_all}
-use Rattle.std.proofs.lemmas.List.Elements.{All-from_recursion, All-map}
-use Rattle.std.proofs.lemmas.List.Sums.{prefix_len-le-length}
-use Rattle.std.proofs.lemmas.List.Folds.{Any-from_list_any, list_any-append}
-use Rattle.std.proofs.lemmas.Option.{get_or_from_slice_get, slice_get-get_or}
-use Rattle.dm_table.specs.declared.tables.table.DevRef.{DevRef}
 use Rattle.dm_table.specs.declared.tables.table.DevRef.TheVariants as refs
-use Rattle.dm_table.specs.declared.tables.table.DeviceSpec.{DeviceSpec}
-use Rattle.dm_table.specs.declared.tables.table.Line.{Line}
-use Rattle.dm_stack.specs.declared.claims.claim.Claim.{Claim}
-use Rattle.dm_stack.specs.declared.claims.clash.Clash.{Clash}
-use Rattle.dm_stack.specs.declared.id.Lower.{Lower}
-use Rattle.dm_stack.specs.declared.id.Lower.TheVariants.{Device, Disk}
-use Rattle.dm_stack.specs.claims.Claims.{AreTops, NeverMeet, IsClash, IsFirstClash, IsLower, IsThere, IsTidy, IsTop, MeetAt, claims, device_claims, line_claims, span_claim, span_end}
-use Rattle.dm_stack.specs.Description.{Description, is_same, lines_at, lower_len, lower_of}
-use Rattle.dm_stack.specs.claims.Naming.{is_device, is_named, line_names}
-use Rattle.dm_stack.specs.Report.{IsReport, report_text}
-use Rattle.dm_stack.specs.declared.lines.resolved_table.ResolvedDevice.{ResolvedDevice}
-use Rattle.dm_stack.specs.Stack.{resolved_device}
-use Rattle.dm_stack.specs.lines.Below.{resolved_line}
+use Rattle.dm_stack.specs.claims.Claims.{line_claims}
 use Rattle.dm_stack.specs.lines.Span as by_id
-use Rattle.dm_stack.specs.checks.Soundness.{IsSound, is_past, passes, passes_end}
-use Rattle.dm_table.specs.tables.Span.{Span, spans}
-use Rattle.dm_stack.specs.claims.Sweep.{IsCounted}
+use Rattle.dm_stack.specs.checks.Soundness.{is_past}
 use Rattle.dm_stack.proofs.checks.HandedOn.{all_each, each_in}
 use Rattle.dm_stack.proofs.checks.OneFault.{same_place}
 use Rattle.dm_stack.proofs.claims.PairLemmas.{none_before}
 use Rattle.dm_stack.proofs.lines.SpanLemmas.{any_map, any_same, any_span, past_is}
 use Rattle.dm_stack.proofs.InStack.{device_there, disk_there}
 use Rattle.dm_stack.proofs.SoundLines.{device_sound, lines_there, there}
-use Rattle.dm_table.proofs.Lists.{all_changed}
 
 -- no line of a sound stack passes the end of what it names
 

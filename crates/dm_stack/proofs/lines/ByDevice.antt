@@ -1,17 +1,5 @@
 -- What is made of the lines of devices, one device after the other.
-use Rattle.std.proofs.Common.{◌≡◌, ℕ, ◌+◌, ◌<◌, List, [], ◌∷◌, ◌++◌, Option, Some, None, arith, refl, sym, ap, ◌∙◌, get_or, length, map}
-use Rattle.std.specs.Prelude.{option_map, slice_get}
-use Rattle.std.specs.List.{flat_map, range_with_len}
-use Rattle.std.proofs.lemmas.Grind.{flat_map-append}
-use Rattle.std.proofs.lemmas.List.{append-nil, get_or-map}
-use Rattle.std.proofs.lemmas.Option.{slice_get-map, slice_get_read}
-use Rattle.dm_table.specs.declared.tables.table.Line.{Line}
-use Rattle.dm_table.specs.declared.tables.table.DeviceSpec.{DeviceSpec}
-use Rattle.dm_stack.specs.declared.lines.resolved_line.ResolvedLine.{ResolvedLine}
-use Rattle.dm_stack.specs.declared.lines.resolved_table.ResolvedDevice.{ResolvedDevice}
-use Rattle.dm_stack.specs.Description.{Description, lines_at, lines_or_none}
-use Rattle.dm_stack.specs.Stack.{resolved_device}
-use Rattle.dm_stack.specs.lines.Below.{resolved_line}
+use Rattle.dm_stack.proofs.Prelude.{◌≡◌, ℕ, ◌+◌, ◌<◌, List, [], ◌∷◌, ◌++◌, Option, Some, None, arith, refl, sym, ap, ◌∙◌, get_or, length, map, option_map, slice_get, flat_map, range_with_len, flat_map-append, append-nil, get_or-map, slice_get-map, slice_get_read, Line, DeviceSpec, ResolvedLine, ResolvedDevice, Description, lines_at, lines_or_none, resolved_device, resolved_line}
 use Rattle.dm_stack.proofs.checks.SnapshotIds.{range_more}
 
 -- what is made of one more device
@@ -44,7 +32,7 @@ table_of : (stack : Description) (device : Option DeviceSpec) (found : ResolvedD
 table_of stack None found is = absurd cc
 table_of stack (Some device) found is = let same : resolved_device stack device ≡ found = cc in rw (← same)
 
--- the same of a device by ids alone
+-- the table of a device by its id
 pub table_at : (stack : Description) (by_ids : List ResolvedDevice) (id : ℕ) (found : ResolvedDevice) → by_ids ≡ map (resolved_device stack) stack.devices → id < length by_ids → found ≡ get_or by_ids id found → found.table ≡ map (resolved_line stack) (lines_at stack id)
 table_at stack by_ids id found made within is =
     table_of stack (slice_get stack.devices id) found (sym (slice_get-map (resolved_device stack) stack.devices id) ∙ ap (λ (list : List ResolvedDevice). slice_get list id) (sym made) ∙ slice_get_read by_ids (length by_ids) id found refl within is)

@@ -1,11 +1,5 @@
 -- Sizes of chunks: powers of two within the limit, and their exponents.
-use Rattle.std.proofs.Common.{◌≡◌, ℕ, ◌+◌, ◌-◌, ◌*◌, ◌/◌, ◌%◌, ◌^◌, ◌<◌, ◌≤◌, false, not, count_ones, nat_lt, bit_and, arith}
-use Rattle.std.proofs.Math.Nat.{mul_comm, one-le-pow, pow-le-pow_right}
-use Rattle.std.proofs.lemmas.Bool.{eqb-true, not-false, or_parts}
-use Rattle.std.proofs.lemmas.Nat.{and_mask, one_shl, ones_cat, pow-add, pow_below, zero_from_ones}
-use Rattle.std.specs.Int.{is_power_of_two}
-use Rattle.std.specs.Int.Count.{ones-ones}
-use Rattle.dm_stack.specs.checks.Soundness.{is_bad_chunk}
+use Rattle.dm_stack.proofs.Prelude.{◌≡◌, ℕ, ◌+◌, ◌-◌, ◌*◌, ◌/◌, ◌%◌, ◌^◌, ◌<◌, ◌≤◌, false, not, count_ones, nat_lt, bit_and, arith, mul_comm, one-le-pow, pow-le-pow_right, eqb-true, not-false, or_parts, and_mask, one_shl, ones_cat, pow-add, pow_below, zero_from_ones, is_power_of_two, ones-ones, is_bad_chunk}
 use Rattle.dm_stack.proofs.checks.ChunkLemmas.{chunk_within}
 
 -- a number with one bit set is the greatest power of two up to it

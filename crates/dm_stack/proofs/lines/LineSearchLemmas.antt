@@ -1,28 +1,11 @@
 -- Counts of comparisons against binary digits, and the line of a sector by the starts of lines in a row.
-use Rattle.std.proofs.Common.{◌≡◌, ◌⊎◌, inl, inr, ℕ, zero, suc, ◌+◌, ◌*◌, ◌/◌, ◌^◌, ◌<◌, ◌≤◌, true, false, List, [], ◌∷◌, ◌++◌, Some, drop, length, length-append, get_or, map, refl, sym, ap, subst, add-one, arith}
-use Rattle.std.specs.Prelude.{◌==◌, option_map, slice_get}
-use Rattle.std.specs.List.{AllByRecursion}
-use Rattle.std.proofs.lemmas.Nat.{pow_pos}
-use Rattle.std.proofs.lemmas.List.{length-drop}
-use Rattle.std.proofs.lemmas.List.Elements.{All-from_recursion, All-map, All-weaker}
-use Rattle.std.proofs.lemmas.Option.{slice_get-get_or}
-use Rattle.std.proofs.Math.Nat.{mul-le-mul_left, pow-succ'}
-use Rattle.dm_table.specs.load.LoadFault.{faults_by}
-use Rattle.dm_table.specs.declared.load.load_fault.LoadKind.TheVariants.{Limit}
-use Rattle.dm_table.specs.declared.tables.table.DeviceSpec.{DeviceSpec}
-use Rattle.dm_table.specs.declared.tables.table.Line.{Line}
-use Rattle.dm_stack.specs.declared.lines.resolved_line.ResolvedLine.{ResolvedLine}
-use Rattle.dm_stack.specs.lines.Below.{found_at, resolved_line, resolved_lines, line_of}
-use Rattle.dm_stack.specs.Description.{Description, device_len, end_of, lines_at}
-use Rattle.dm_stack.specs.lines.LineSearch.{EndsAreSmall, EndsAt, IsLast, StartsAfter, StartsBy, binary_digits, digits_to}
+use Rattle.dm_stack.proofs.Prelude.{◌≡◌, ◌⊎◌, inl, inr, ℕ, zero, suc, ◌+◌, ◌*◌, ◌/◌, ◌^◌, ◌<◌, ◌≤◌, true, false, List, [], ◌∷◌, ◌++◌, Some, drop, length, length-append, get_or, map, refl, sym, ap, subst, add-one, arith, ◌==◌, option_map, slice_get, AllByRecursion, pow_pos, length-drop, All-from_recursion, All-map, All-weaker, slice_get-get_or, mul-le-mul_left, pow-succ', Limit, DeviceSpec, Line, faults_by, ResolvedLine, found_at, resolved_line, resolved_lines, line_of, Description, device_len, end_of, lines_at, EndsAreSmall, EndsAt, IsLast, StartsAfter, StartsBy, binary_digits, digits_to, IsSound, all_lines, is_large, past, append-nil_both}
 use Rattle.dm_stack.specs.declared.lines.line_search.LastLine.{LastLine}
-use Rattle.dm_stack.specs.checks.Soundness.{IsSound, all_lines, is_large, past}
 use Rattle.dm_stack.proofs.checks.HandedOn.{line_within}
 use Rattle.dm_stack.proofs.checks.LayoutLemmas.{AreInRow}
 use Rattle.dm_stack.proofs.checks.Passes.{passes_all}
 use Rattle.dm_stack.proofs.lines.SameLine.{holds_none}
 use Rattle.dm_stack.proofs.SoundLines.{holds_from, device_small, device_sound, lines_filled, lines_there, positive, there}
-use Rattle.dm_table.proofs.Lists.{append-nil_both}
 
 -- Binary digits
 

@@ -1,21 +1,7 @@
 -- What was collected of the snapshot that a device is, is what the device's only line says.
-use Rattle.std.proofs.Common.{◌≡◌, ℕ, Bool, true, false, cond, not, List, [], ◌∷◌, Some, ap, arith, refl, sym, ◌∙◌, length}
-use Rattle.std.specs.Prelude.{◌==◌, slice_get}
-use Rattle.std.specs.List.{All, Contains, flat_map, list_any, range_with_len}
-use Rattle.std.proofs.lemmas.Bool.{and_from, eqb-true, not_from_false, true_from_ne_false}
-use Rattle.std.proofs.lemmas.List.Elements.{All-cons, All-nil}
-use Rattle.std.proofs.lemmas.Option.{get_or_from_slice_get, slice_get_within}
-use Rattle.dm_table.specs.declared.tables.table.DeviceSpec.{DeviceSpec}
-use Rattle.dm_table.specs.declared.tables.table.Line.{Line}
-use Rattle.dm_table.specs.declared.tables.table.Target.{Target}
+use Rattle.dm_stack.proofs.Prelude.{◌≡◌, ℕ, Bool, true, false, cond, not, List, [], ◌∷◌, Some, ap, arith, refl, sym, ◌∙◌, length, ◌==◌, slice_get, All, Contains, flat_map, list_any, range_with_len, and_from, eqb-true, not_from_false, true_from_ne_false, All-cons, All-nil, get_or_from_slice_get, slice_get_within, DeviceSpec, Line, Target, ResolvedOver, ResolvedSnapshot, Description, lines_at, is_snapshot, resolved_target, IsSnapshotOf, all_over, copied, device_over, has_crowd, is_whole, over_of}
 use Rattle.dm_table.specs.declared.tables.table.Target.TheVariants as targets
-use Rattle.dm_stack.specs.declared.lines.resolved_line.ResolvedOver.{ResolvedOver}
-use Rattle.dm_stack.specs.declared.lines.resolved_line.ResolvedSnapshot.{ResolvedSnapshot}
 use Rattle.dm_stack.specs.declared.lines.resolved_line.ResolvedTarget.TheVariants as found
-use Rattle.dm_stack.specs.Description.{Description, lines_at}
-use Rattle.dm_stack.specs.checks.Snapshots.{is_snapshot}
-use Rattle.dm_stack.specs.lines.Below.{resolved_target}
-use Rattle.dm_stack.specs.lines.Over.{IsSnapshotOf, all_over, copied, device_over, has_crowd, is_whole, over_of}
 use Rattle.dm_stack.proofs.SoundLines.{lines_there, there}
 use Rattle.dm_stack.proofs.lines.Members.{any_there, flat_part, none_there, only, range_within}
 use Rattle.dm_stack.proofs.lines.OverLemmas.{all_is, copied_is, target_one}

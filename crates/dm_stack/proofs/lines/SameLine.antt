@@ -1,16 +1,7 @@
 -- The line of a sector is also that of each other sector that it holds.
-use Rattle.std.proofs.Common.{◌≡◌, ℕ, ◌+◌, ◌<◌, ◌≤◌, false, List, [], ◌∷◌, length, Option, Some, None, refl, arith}
-use Rattle.std.specs.Prelude.{nat_le, option_map}
-use Rattle.std.proofs.lemmas.Bool.{le-ltb}
-use Rattle.std.proofs.Math.Bool.{and-false}
-use Rattle.dm_table.specs.declared.tables.table.Line.{Line}
-use Rattle.dm_stack.specs.declared.lines.resolved_line.ResolvedLine.{ResolvedLine}
-use Rattle.dm_stack.specs.Description.{Description, lines_at}
-use Rattle.dm_stack.specs.lines.Below.{holds, line_of, resolved_line, found_at, IsLineOf}
-use Rattle.dm_stack.specs.checks.Soundness.{IsSound}
+use Rattle.dm_stack.proofs.Prelude.{◌≡◌, ℕ, ◌+◌, ◌<◌, ◌≤◌, false, List, [], ◌∷◌, length, Option, Some, None, refl, arith, nat_le, option_map, le-ltb, and-false, Line, ResolvedLine, Description, lines_at, holds, line_of, resolved_line, found_at, IsLineOf, IsSound, mapped}
 use Rattle.dm_stack.proofs.checks.LayoutLemmas.{AreInRow}
 use Rattle.dm_stack.proofs.SoundLines.{HoldsSoundly, there, device_sound, lines_there}
-use Rattle.dm_table.proofs.Lists.{mapped}
 
 -- Lines that start where the one before ends
 

@@ -1,28 +1,14 @@
 -- The spans of a line by ids, one by one; they are those by names, with ids for these.
-use Rattle.std.proofs.Common.{◌≡◌, ℕ, zero, suc, ◌+◌, Bool, true, false, cond, not, List, [], ◌∷◌, Some, None, arith, refl, ap, ◌∙◌, drop, length, map}
-use Rattle.std.specs.Prelude.{find, is_none, nat_le, slice_get}
-use Rattle.std.specs.List.{flat_map, list_any, position_or_len}
-use Rattle.std.proofs.lemmas.List.{length-map}
-use Rattle.std.proofs.lemmas.List.Folds.{flat_map-map}
-use Rattle.std.proofs.lemmas.Simd.{map-map}
-use Rattle.std.proofs.Math.Dec.{leb-suc-suc, leb-suc-zero}
-use Rattle.dm_table.specs.declared.tables.table.DevRef.{DevRef}
+use Rattle.dm_stack.proofs.Prelude.{◌≡◌, ℕ, zero, suc, ◌+◌, Bool, true, false, cond, not, List, [], ◌∷◌, Some, None, arith, refl, ap, ◌∙◌, drop, length, map, find, is_none, nat_le, slice_get, flat_map, list_any, position_or_len, length-map, flat_map-map, map-map, leb-suc-suc, leb-suc-zero, DevRef, Line, Target, ResolvedLine, Description, device_links, is_same, lower_of, ref_link, resolved_device, is_unknown, is_unknown_ref, resolved_columns, resolved_line, resolved_target, is_missing, line_claims, lower_link, names_missing, target_spans}
 use Rattle.dm_table.specs.declared.tables.table.DevRef.TheVariants as refs
-use Rattle.dm_table.specs.declared.tables.table.Line.{Line}
-use Rattle.dm_table.specs.declared.tables.table.Target.{Target}
 use Rattle.dm_table.specs.declared.tables.table.Target.TheVariants as targets
 use Rattle.dm_table.specs.tables.Span as named
-use Rattle.dm_stack.specs.declared.lines.resolved_line.ResolvedLine.{ResolvedLine}
+use Rattle.dm_stack.specs.lines.Span.{line_links, passes_end, spans}
 use Rattle.dm_stack.specs.declared.lines.span.Span.{Span}
 use Rattle.dm_stack.specs.declared.lines.span.Spans.{Spans}
-use Rattle.dm_stack.specs.Description.{Description, device_links, is_same, lower_of, ref_link}
 use Rattle.dm_stack.specs.Description as by_names
-use Rattle.dm_stack.specs.Stack.{resolved_device}
-use Rattle.dm_stack.specs.checks.Soundness.{is_unknown, is_unknown_ref}
 use Rattle.dm_stack.specs.checks.Soundness as soundness
 use Rattle.dm_stack.specs.claims.Claims as claims
-use Rattle.dm_stack.specs.lines.Below.{resolved_columns, resolved_line, resolved_target}
-use Rattle.dm_stack.specs.lines.Span.{is_missing, line_claims, line_links, lower_link, names_missing, passes_end, spans, target_spans}
 
 pub drop_at : {X : Type 0} (xs : List X) (i : ℕ) (x : X) → Some x ≡ slice_get xs i → drop i xs ≡ x ∷ drop (i + 1) xs
 drop_at [] i x e = absurd cc

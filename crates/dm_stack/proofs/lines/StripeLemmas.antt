@@ -1,16 +1,5 @@
 -- Stripes: the column of a sector is one of the line's, its sector there is one of the column's share, and the next chunk is on the next column.
-use Rattle.std.proofs.Common.{◌≡◌, ℕ, zero, suc, false, ◌+◌, ◌-◌, ◌*◌, ◌/◌, ◌%◌, ◌<◌, ◌≤◌, List, [], ◌∷◌, Some, length, get_or, refl, sym, ap, arith}
-use Rattle.std.specs.Prelude.{◌==◌, slice_get}
-use Rattle.std.specs.List.{AllByRecursion}
-use Rattle.std.proofs.lemmas.Nat.{row_fits}
-use Rattle.std.proofs.lemmas.Option.{slice_get_read}
-use Rattle.std.proofs.Math.Nat.{div-lt_iff_lt-mul}
-use Rattle.dm_stack.specs.declared.lines.resolved_columns.ResolvedColumn.{ResolvedColumn}
-use Rattle.dm_stack.specs.Description.{Description, lower_len}
-use Rattle.dm_stack.specs.lines.Below.{AreStripes, column_of, in_column, below_stripes, Lies}
-use Rattle.dm_stack.specs.declared.lines.stripe_position.StripePosition.{StripePosition}
-use Rattle.dm_stack.specs.lines.StripePosition.{IsStripePosition}
-use Rattle.dm_table.proofs.Lists.{at_index}
+use Rattle.dm_stack.proofs.Prelude.{◌≡◌, ℕ, zero, suc, false, ◌+◌, ◌-◌, ◌*◌, ◌/◌, ◌%◌, ◌<◌, ◌≤◌, List, [], ◌∷◌, Some, length, get_or, refl, sym, ap, arith, ◌==◌, slice_get, AllByRecursion, row_fits, slice_get_read, div-lt_iff_lt-mul, ResolvedColumn, Description, lower_len, AreStripes, column_of, in_column, below_stripes, Lies, StripePosition, IsStripePosition, at_index}
 
 -- what is left of a chunk lies in its column's share of the line
 pub in_column_room : (chunk_size count column_len chunks len distance : ℕ) → 0 < chunk_size → 0 < count → len ≡ count * column_len → column_len ≡ chunks * chunk_size → distance < len

@@ -1,26 +1,10 @@
 -- Names by their places: how a set of names tests them, and which stand twice.
-use Rattle.std.proofs.Common.{◌≡◌, ◌≢◌, ℕ, zero, suc, ◌+◌, ◌<◌, ◌≤◌, Bool, true, false, List, [], ◌∷◌, ◌++◌, Option, Some, None, Err, String, arith, refl, sym, ap, ◌∙◌, cond, drop, get_or, length, map, take}
-use Rattle.std.specs.Prelude.{nat_lt, position, slice_get, string_bytes, unwrap_or}
-use Rattle.std.specs.List.{IsDistinct, list_any, position_or_len}
-use Rattle.std.proofs.lemmas.List.{length-map, map-append, take_more}
-use Rattle.std.proofs.Math.Path.{fun_ext}
-use Rattle.std.proofs.lemmas.Bool.{lt-ltb}
+use Rattle.dm_stack.proofs.Prelude.{◌≡◌, ◌≢◌, ℕ, zero, suc, ◌+◌, ◌<◌, ◌≤◌, Bool, true, false, List, [], ◌∷◌, ◌++◌, Option, Some, None, Err, String, arith, refl, sym, ap, ◌∙◌, cond, drop, get_or, length, map, take, nat_lt, position, slice_get, string_bytes, unwrap_or, IsDistinct, list_any, position_or_len, length-map, map-append, take_more, fun_ext, lt-ltb, IsDistinct-head, IsDistinct-tail, slice_get-map, slice_get_within, prefix_len-le-length, bytes_eq-Decides, Place, LoadFault, Memory, Twice, fault, faults_by, IsMemoryFault, first_or, unless, is_same, is_repeated, with_before, at_index, mapped}
 use Rattle.std.proofs.lemmas.Cmp.{nat_list_eq_equiv}
-use Rattle.std.proofs.lemmas.Map.Keys.{IsDistinct-head, IsDistinct-tail}
-use Rattle.std.proofs.lemmas.Option.{slice_get-map, slice_get_within}
-use Rattle.std.proofs.lemmas.List.Sums.{prefix_len-le-length}
-use Rattle.std.proofs.lemmas.Slice.Eq.{bytes_eq-Decides}
 use Rattle.dm_table.specs.declared.load.place.Part.{Part}
-use Rattle.dm_table.specs.declared.load.place.Place.{Place}
-use Rattle.dm_table.specs.declared.load.load_fault.LoadFault.{LoadFault}
-use Rattle.dm_table.specs.declared.load.load_fault.LoadKind.TheVariants.{Memory, Twice}
-use Rattle.dm_table.specs.load.LoadFault.{fault, faults_by, IsMemoryFault, first_or, unless}
-use Rattle.dm_stack.specs.Description.{is_same}
-use Rattle.dm_stack.specs.checks.Soundness.{is_repeated, with_before}
 use Rattle.dm_stack.proofs.lines.SpanLemmas.{any_map}
 use Rattle.dm_stack.proofs.SoundLines.{position-map}
 use Rattle.dm_stack.proofs.checks.WithBefore.{drop-with_before, none-with_before}
-use Rattle.dm_table.proofs.Lists.{at_index, mapped}
 
 pub is_same-sym : (a b : List ℕ) → is_same a b ≡ is_same b a
 is_same-sym a b = nat_list_eq_equiv.symm a b
@@ -55,7 +39,7 @@ found_distinct name keys number key apart at is =
     let below : number < length (map string_bytes keys) = rw (length-map keys string_bytes) (slice_get_within keys number key at) in
     rw (place_distinct name keys number key apart at is, lt-ltb number (length (map string_bytes keys)) below) refl
 
--- the same of the names themselves
+-- a name stands at its number, where names are distinct
 pub named_distinct : {A : Type 0} (name : List ℕ) (keys : List (String A)) (number : ℕ) → IsDistinct (λ one other. is_same (string_bytes one) (string_bytes other)) keys → slice_get (map string_bytes keys) number ≡ Some name
     → position (λ other. is_same other name) (map string_bytes keys) ≡ Some number
 named_distinct name keys number apart at =

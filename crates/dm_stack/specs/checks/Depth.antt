@@ -1,10 +1,8 @@
 -- How deep a stack is.
-use Rattle.std.specs.Prelude.{◌≡◌, ℕ, suc, ◌<◌, List, length, map}
-use Rattle.std.specs.List.{flat_map, range_with_len}
+use Rattle.dm_stack.specs.Base.{◌≡◌, ℕ, suc, ◌<◌, List, length, map, flat_map, range_with_len, spans}
 use Rattle.dm_stack.specs.declared.id.Lower.{Lower}
 use Rattle.dm_stack.specs.declared.id.Lower.TheVariants as lowers
 use Rattle.dm_stack.specs.Description.{Description, lines_at, lower_of}
-use Rattle.dm_table.specs.tables.Span.{spans}
 use Rattle.dm_stack.specs.checks.Graph.{greatest}
 use Rattle.dm_stack.specs.checks.Soundness.{depth_of}
 

@@ -1,9 +1,6 @@
 -- The checks of a list of paths against a stack.
-use Rattle.std.specs.Prelude.{Bool, List, [], ◌∷◌, is_none, position}
+use Rattle.dm_stack.specs.Base.{Bool, List, [], ◌∷◌, is_none, position, LoadFault, Unknown, faults_by}
 use Rattle.dm_table.specs.declared.tables.disk_path.DiskPath.{DiskPath}
-use Rattle.dm_table.specs.declared.load.load_fault.LoadFault.{LoadFault}
-use Rattle.dm_table.specs.declared.load.load_fault.LoadKind.TheVariants.{Unknown}
-use Rattle.dm_table.specs.load.LoadFault.{faults_by}
 use Rattle.dm_stack.specs.Description.{Description, is_same}
 use Rattle.dm_stack.specs.checks.Soundness.{twice_in}
 

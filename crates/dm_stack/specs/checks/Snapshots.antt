@@ -1,8 +1,5 @@
 -- Which devices are snapshots.
-use Rattle.std.specs.Prelude.{◌≡◌, ℕ, ◌<◌, Bool, true, false, List, Some, filter, length}
-use Rattle.std.specs.List.{All, Contains, list_any, range_with_len}
-use Rattle.dm_table.specs.declared.tables.table.Line.{Line}
-use Rattle.dm_table.specs.declared.tables.table.Target.{Target}
+use Rattle.dm_stack.specs.Base.{◌≡◌, ℕ, ◌<◌, Bool, true, false, List, Some, filter, length, All, Contains, list_any, range_with_len, Line, Target}
 use Rattle.dm_table.specs.declared.tables.table.Target.TheVariants as targets
 use Rattle.dm_stack.specs.declared.lines.resolved_line.ResolvedLine.{ResolvedLine}
 use Rattle.dm_stack.specs.declared.lines.resolved_line.ResolvedSnapshot.{ResolvedSnapshot}
@@ -19,7 +16,7 @@ is_snapshot _ = false
 abbrev pub has_snapshot : List Line → Bool
 has_snapshot lines = list_any (λ line. is_snapshot line.target) lines
 
--- the snapshots: those devices, in their order
+-- the devices that are snapshots, in their order
 abbrev pub snapshots : Description → List ℕ
 snapshots stack = filter (λ device. has_snapshot (lines_at stack device)) (range_with_len 0 (length stack.devices))
 
@@ -29,7 +26,7 @@ pub record IsSnapshot (stack : Description) (device : ℕ) : Type 0 where
   pub snapshot : ResolvedSnapshot
   pub line : found_at stack device 0 ≡ Some (record { start = 0; len = device_len stack device; target = found.Snapshot snapshot })
 
--- such are these devices, and all whose first sector lies in a snapshot's line are among them
+-- each of these devices is all of a snapshot, and they are all devices whose first sector lies in a snapshot's line
 pub record AreSnapshots (stack : Description) (devices : List ℕ) : Type 0 where
   pub each : All (IsSnapshot stack) devices
   pub among : (device : ℕ) (line : ResolvedLine) (snapshot : ResolvedSnapshot) → found_at stack device 0 ≡ Some line → line.target ≡ found.Snapshot snapshot → Contains devices device

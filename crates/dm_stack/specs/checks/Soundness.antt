@@ -1,20 +1,8 @@
 -- The checks of a load, over the devices and the disks that it is handed.
-use Rattle.std.specs.Prelude.{◌≡◌, ℕ, suc, ◌+◌, ◌/◌, ◌%◌, ◌≤◌, ◌<◌, Bool, true, false, not, ◌||◌, ◌==◌, List, [], ◌∷◌, ◌++◌, Option, Some, None, drop, filter, find, length, map, is_none, nat_lt, if◌then◌else◌}
-use Rattle.std.specs.Int.{is_power_of_two}
-use Rattle.std.specs.List.{All, flat_map, list_any, sum_by}
-use Rattle.dm_table.specs.declared.tables.table.DevRef.{DevRef}
+use Rattle.dm_stack.specs.Base.{◌≡◌, ℕ, suc, ◌+◌, ◌/◌, ◌%◌, ◌≤◌, ◌<◌, Bool, true, false, not, ◌||◌, ◌==◌, List, [], ◌∷◌, ◌++◌, Option, Some, None, drop, filter, find, length, map, is_none, nat_lt, if◌then◌else◌, is_power_of_two, All, flat_map, list_any, sum_by, DevRef, Target, Line, DeviceSpec, Place, LoadKind, Limit, Twice, Empty, Gap, Overlap, Unknown, Cycle, Deep, Stripe, Range, Snapshot, Store, LoadFault, fault, faults_by, first_fault, Span, spans}
 use Rattle.dm_table.specs.declared.tables.table.DevRef.TheVariants as refs
-use Rattle.dm_table.specs.declared.tables.table.Target.{Target}
 use Rattle.dm_table.specs.declared.tables.table.Target.TheVariants as targets
-use Rattle.dm_table.specs.declared.tables.table.Line.{Line}
-use Rattle.dm_table.specs.declared.tables.table.DeviceSpec.{DeviceSpec}
-use Rattle.dm_table.specs.declared.load.place.Place.{Place}
-use Rattle.dm_table.specs.declared.load.load_fault.LoadKind.{LoadKind}
-use Rattle.dm_table.specs.declared.load.load_fault.LoadKind.TheVariants.{Limit, Twice, Empty, Gap, Overlap, Unknown, Cycle, Deep, Stripe, Range, Snapshot, Store}
-use Rattle.dm_table.specs.declared.load.load_fault.LoadFault.{LoadFault}
-use Rattle.dm_table.specs.load.LoadFault.{fault, faults_by, first_fault}
 use Rattle.dm_stack.specs.Description.{Description, is_same, end_of, lower_of, lower_len, links}
-use Rattle.dm_table.specs.tables.Span.{Span, spans}
 use Rattle.dm_stack.specs.checks.Graph.{Reaches, depth_to}
 use Rattle.dm_stack.specs.lines.StoreLayout.{place_count}
 use Rattle.dm_stack.specs.checks.Store.{is_store_to}
@@ -29,7 +17,7 @@ all_lines devices = flat_map (λ device. device.lines) devices
 abbrev pub line_faults : LoadKind → (Line → Bool) → Description → List LoadFault
 line_faults kind bad stack = faults_by kind (λ line. line.at) bad (all_lines stack.devices)
 
--- the same of lines that are bad among so many of their device
+-- the faults of lines that are bad beside this many lines of their device
 abbrev pub device_faults : LoadKind → (ℕ → Line → Bool) → Description → List LoadFault
 device_faults kind bad stack = flat_map (λ device. faults_by kind (λ line. line.at) (bad (length device.lines)) device.lines) stack.devices
 

@@ -1,8 +1,5 @@
 -- What the store of a snapshot may be: a disk, or what linear and striped lines of writable devices make of disks.
-use Rattle.std.specs.Prelude.{◌≡◌, ℕ, zero, suc, ◌&&◌, Bool, true, false, not, List, [], ◌∷◌, ◌++◌, length, map, nat_le, if◌then◌else◌}
-use Rattle.std.specs.List.{list_all, range_with_len, slice_index_or}
-use Rattle.dm_table.specs.declared.tables.table.Line.{Line}
-use Rattle.dm_table.specs.declared.tables.table.Target.{Target}
+use Rattle.dm_stack.specs.Base.{◌≡◌, ℕ, zero, suc, ◌&&◌, Bool, true, false, not, List, [], ◌∷◌, ◌++◌, length, map, nat_le, if◌then◌else◌, list_all, range_with_len, slice_index_or, Line, Target, spans}
 use Rattle.dm_table.specs.declared.tables.table.Target.TheVariants as targets
 use Rattle.dm_stack.specs.declared.checks.graph.TheConstants.{MOST_DEPTH}
 use Rattle.dm_stack.specs.declared.id.Lower.{Lower}
@@ -11,9 +8,8 @@ use Rattle.dm_stack.specs.declared.lines.resolved_line.ResolvedTarget.{ResolvedT
 use Rattle.dm_stack.specs.declared.lines.resolved_line.ResolvedTarget.TheVariants as found
 use Rattle.dm_stack.specs.Description.{Description, is_ro_at, lines_at, links, lower_of}
 use Rattle.dm_stack.specs.checks.Graph.{links_of}
-use Rattle.dm_table.specs.tables.Span.{spans}
 
--- each sector of the line is one of what it names
+-- each sector of the line is one of what it names; on a target without a clause, no store may lie
 abbrev pub is_plain : Target → Bool
 is_plain (targets.Linear to offset) = true
 is_plain (targets.Striped chunk columns) = true
@@ -40,11 +36,11 @@ may_store ro lines = not ro && list_all (λ line. is_plain line.target) lines
 abbrev pub store_links_of : (may : Bool) → (device : ℕ) → List ℕ → List ℕ
 store_links_of may device links = links ++ (if may then [] else device ∷ [])
 
--- of a device by its id: what it names, and itself where no store may be made of it
+-- what the device with this id names, and itself where no store may be made of it
 abbrev pub store_links_at : Description → ℕ → List ℕ
 store_links_at stack device = store_links_of (may_store (is_ro_at stack device) (lines_at stack device)) device (links_of (links stack) device)
 
--- the same of each device, in the order of the devices
+-- for each device, in their order: what it names, and itself where no store may be made of it
 abbrev pub store_links : Description → List (List ℕ)
 store_links stack = map (store_links_at stack) (range_with_len 0 (length stack.devices))
 

@@ -1,15 +1,10 @@
 -- Claims: which sectors below each line of a stack relies on, and where two lines get in each other's way.
-use Rattle.std.specs.Prelude.{◌≡◌, ◌↔◌, ℕ, ◌+◌, ◌≤◌, ◌<◌, Bool, true, false, IsTrue, List, ◌∷◌, ◌++◌, Option, Some, None, length, map}
-use Rattle.std.specs.List.{All, AllPairs, flat_map, range_with_len, slice_index_or}
-use Rattle.dm_table.specs.declared.tables.table.Line.{Line}
-use Rattle.dm_table.specs.declared.tables.table.Use.{Use}
-use Rattle.dm_table.specs.declared.tables.table.Use.TheVariants.{Reading, Serving}
+use Rattle.dm_stack.specs.Base.{◌≡◌, ◌↔◌, ℕ, ◌+◌, ◌≤◌, ◌<◌, Bool, true, false, IsTrue, List, ◌∷◌, ◌++◌, Option, Some, None, length, map, All, AllPairs, flat_map, range_with_len, slice_index_or, Line, Use, Reading, Serving, Span, spans}
 use Rattle.dm_stack.specs.declared.claims.claim.Claim.{Claim}
 use Rattle.dm_stack.specs.declared.claims.clash.Clash.{Clash}
 use Rattle.dm_stack.specs.declared.id.Lower.{Lower}
 use Rattle.dm_stack.specs.declared.id.Lower.TheVariants.{Device, Disk}
 use Rattle.dm_stack.specs.Description.{Description, lines_at, lower_len, lower_of}
-use Rattle.dm_table.specs.tables.Span.{Span, spans}
 
 -- where a span ends: what is named whole is claimed to its end
 abbrev pub span_end : (whole offset : ℕ) → Option ℕ → ℕ
@@ -44,7 +39,7 @@ pub record HasSector (claim : Claim) (lower : Lower) (sector : ℕ) : Type 0 whe
   pub from : claim.start ≤ sector
   pub before : sector < claim.end
 
--- those that only read get along with one another, and with one that serves them
+-- two uses may share a sector: both only read, or one does and the other serves those that read
 abbrev pub may_share : Use → Use → Bool
 may_share Reading Reading = true
 may_share Reading Serving = true
@@ -57,7 +52,7 @@ pub record MeetAt (one other : Claim) (lower : Lower) (sector : ℕ) : Type 0 wh
   pub there : HasSector other lower sector
   pub rivals : may_share one.kind other.kind ≡ false
 
--- no sector is one where they meet
+-- two claims meet at no sector
 abbrev pub NeverMeet : Claim → Claim → Type 0
 NeverMeet one other = (lower : Lower) (sector : ℕ) → MeetAt one other lower sector → ⊥
 

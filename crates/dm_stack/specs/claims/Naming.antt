@@ -1,6 +1,5 @@
 -- Which lines name a device, as the code looks for it.
-use Rattle.std.specs.Prelude.{ℕ, Bool, false, ◌==◌, map}
-use Rattle.std.specs.List.{list_any}
+use Rattle.dm_stack.specs.Base.{ℕ, Bool, false, ◌==◌, map, list_any}
 use Rattle.dm_stack.specs.declared.lines.resolved_line.ResolvedLine.{ResolvedLine}
 use Rattle.dm_stack.specs.declared.id.Lower.{Lower}
 use Rattle.dm_stack.specs.declared.id.Lower.TheVariants.{Device, Disk}

@@ -1,10 +1,7 @@
 -- The line of a sector, and what lies below it (the kernel's admin guide, device-mapper/linear and striped).
-use Rattle.std.specs.Prelude.{ℕ, ◌+◌, ◌-◌, ◌*◌, ◌/◌, ◌%◌, ◌&&◌, ◌==◌, ◌≡◌, ◌≤◌, ◌<◌, Bool, true, false, List, Option, Some, None, find, length, map, nat_le, nat_lt, option_map, slice_get}
-use Rattle.std.specs.List.{AllByRecursion}
+use Rattle.dm_stack.specs.Base.{ℕ, ◌+◌, ◌-◌, ◌*◌, ◌/◌, ◌%◌, ◌&&◌, ◌==◌, ◌≡◌, ◌≤◌, ◌<◌, Bool, true, false, List, Option, Some, None, find, length, map, nat_le, nat_lt, option_map, slice_get, AllByRecursion, Target, Line}
 use Rattle.dm_table.specs.declared.tables.table.Column.{Column}
-use Rattle.dm_table.specs.declared.tables.table.Target.{Target}
 use Rattle.dm_table.specs.declared.tables.table.Target.TheVariants as targets
-use Rattle.dm_table.specs.declared.tables.table.Line.{Line}
 use Rattle.dm_stack.specs.declared.id.Lower.{Lower}
 use Rattle.dm_stack.specs.declared.lines.resolved_columns.ResolvedColumn.{ResolvedColumn}
 use Rattle.dm_stack.specs.declared.lines.resolved_line.ResolvedOrigin.{ResolvedOrigin}
@@ -66,31 +63,31 @@ abbrev pub below_stripes : (chunk : ℕ) → List ResolvedColumn → ℕ → Bel
 below_stripes chunk columns distance =
     below_column (slice_get columns (column_of chunk (length columns) distance)) (in_column chunk (length columns) distance)
 
--- whether what becomes of a line's sectors goes by what was written: so it does for these targets
+-- whether what becomes of a line's sectors depends on what was written; a target without a clause has no state
 abbrev pub has_state : ResolvedTarget → Bool
 has_state (found.Snapshot snapshot) = true
 has_state (found.Origin origin) = true
 has_state _ = false
 
--- whether its sectors lie in stripes
+-- whether its sectors lie in stripes; a target without a clause has none
 abbrev pub is_striped : ResolvedTarget → Bool
 is_striped (found.Striped chunk columns) = true
 is_striped _ = false
 
--- what lies below a sector at a distance from the start of a line of a target without a state
+-- what lies below a sector at a distance from the start of a line of a target without a state; a target without a clause is an error
 abbrev pub below_plain : ResolvedTarget → ℕ → Below
 below_plain (found.Linear to offset) distance = Lies to (offset + distance)
 below_plain (found.Striped chunk columns) distance = below_stripes chunk columns distance
 below_plain found.Zero distance = IsZero
 below_plain _ distance = IsError
 
--- the same for any target; over says it for the sectors of a snapshot, whose line starts at 0, since it changes with what was written
+-- what lies below a sector at a distance from the start of a line of any target; over says it for the sectors of a snapshot, whose line starts at 0, since it changes with what was written
 abbrev pub below_target : (over : ResolvedSnapshot → ℕ → Below) → ResolvedTarget → ℕ → Below
 below_target over (found.Snapshot snapshot) distance = over snapshot distance
 below_target over (found.Origin origin) distance = Lies origin.to distance
 below_target over target distance = below_plain target distance
 
--- the chunk that has a sector at a distance from the line's start, where its target has chunks
+-- the chunk that has a sector at a distance from the line's start, where its target has chunks; a target without a clause has none
 abbrev pub chunk_at : ResolvedTarget → (distance : ℕ) → Option ℕ
 chunk_at (found.Striped chunk columns) distance = Some (distance / chunk)
 chunk_at (found.Snapshot snapshot) distance = Some (distance / snapshot.chunk)

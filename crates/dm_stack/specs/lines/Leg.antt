@@ -1,5 +1,5 @@
 -- Legs: where the first sectors of a line lie, and how many go on like that.
-use Rattle.std.specs.Prelude.{ℕ, ◌≡◌, ◌+◌, ◌-◌, ◌≤◌, ◌<◌, Bool, false, true, List, length}
+use Rattle.dm_stack.specs.Base.{ℕ, ◌≡◌, ◌+◌, ◌-◌, ◌≤◌, ◌<◌, Bool, false, true, List, length, StripePosition}
 use Rattle.dm_stack.specs.declared.lines.resolved_columns.ResolvedColumn.{ResolvedColumn}
 use Rattle.dm_stack.specs.declared.id.Lower.TheVariants.{Disk}
 use Rattle.dm_stack.specs.declared.lines.resolved_line.ResolvedTarget.{ResolvedTarget}
@@ -8,7 +8,6 @@ use Rattle.dm_stack.specs.declared.lines.leg.Beneath.{Beneath}
 use Rattle.dm_stack.specs.declared.lines.leg.Beneath.TheVariants as beneath
 use Rattle.dm_stack.specs.declared.lines.leg.Leg.{Leg}
 use Rattle.dm_stack.specs.declared.checks.limits.TheConstants.{MOST_LENGTH}
-use Rattle.dm_stack.specs.declared.lines.stripe_position.StripePosition.{StripePosition}
 use Rattle.dm_stack.specs.lines.Below.{Below, Lies, IsZero, IsError, below_plain, chunk_at, has_state, is_same_chunk, is_striped, IsTargetSound}
 use Rattle.dm_stack.specs.Description.{Description, lower_len}
 use Rattle.dm_stack.specs.lines.ResolvedColumns.{are_on_disks}
@@ -59,7 +58,7 @@ pub record LegsView : Type 0 where
   pub distance : ℕ
   pub left : ℕ
 
--- the same after a leg
+-- the legs that are left after one of this length
 abbrev pub after_leg : LegsView → (len : ℕ) → LegsView
 after_leg legs len = record { target = legs.target; distance = legs.distance + len; left = legs.left - len }
 

@@ -1,6 +1,5 @@
 -- The line of a sector, found by the starts of lines.
-use Rattle.std.specs.Prelude.{◌≡◌, ℕ, zero, suc, ◌+◌, ◌*◌, ◌/◌, ◌^◌, ◌==◌, ◌≤◌, ◌<◌, ⊤, List, MatchOption, get_or, length, slice_get, if◌then◌else◌}
-use Rattle.std.specs.List.{All}
+use Rattle.dm_stack.specs.Base.{◌≡◌, ℕ, zero, suc, ◌+◌, ◌*◌, ◌/◌, ◌^◌, ◌==◌, ◌≤◌, ◌<◌, ⊤, List, MatchOption, get_or, length, slice_get, if◌then◌else◌, All}
 use Rattle.dm_stack.specs.declared.lines.resolved_line.ResolvedLine.{ResolvedLine}
 use Rattle.dm_stack.specs.declared.checks.limits.TheConstants.{MOST_LENGTH}
 use Rattle.dm_stack.specs.declared.lines.line_search.LastLine.{LastLine}

@@ -1,10 +1,5 @@
 -- The snapshots of an origin (the kernel's admin guide, device-mapper/snapshot).
-use Rattle.std.specs.Prelude.{◌≡◌, ℕ, ◌==◌, ◌&&◌, Bool, true, false, List, [], ◌∷◌, filter, length, not, if◌then◌else◌}
-use Rattle.std.specs.List.{flat_map, list_any, range_with_len}
-use Rattle.dm_table.specs.declared.tables.table.DevRef.{DevRef}
-use Rattle.dm_table.specs.declared.tables.table.DeviceSpec.{DeviceSpec}
-use Rattle.dm_table.specs.declared.tables.table.StoreKind.{StoreKind}
-use Rattle.dm_table.specs.declared.tables.table.Target.{Target}
+use Rattle.dm_stack.specs.Base.{◌≡◌, ℕ, ◌==◌, ◌&&◌, Bool, true, false, List, [], ◌∷◌, filter, length, not, if◌then◌else◌, flat_map, list_any, range_with_len, DevRef, DeviceSpec, StoreKind, Target}
 use Rattle.dm_table.specs.declared.tables.table.Target.TheVariants as targets
 use Rattle.dm_stack.specs.declared.lines.resolved_line.ResolvedOver.{ResolvedOver}
 use Rattle.dm_stack.specs.declared.lines.resolved_line.ResolvedSnapshot.{ResolvedSnapshot}
@@ -38,7 +33,7 @@ device_over stack device = flat_map (λ line. over_of stack device line.target) 
 unfoldable pub all_over : Description → List ResolvedOver
 all_over stack = flat_map (device_over stack) (range_with_len 0 (length stack.devices))
 
--- those whose origin is this device or disk
+-- the snapshots whose origin is this device or disk
 unfoldable pub snapshots_over : Description → Lower → List ResolvedOver
 snapshots_over stack to = filter (λ one. is_same_lower one.snapshot.origin to) (all_over stack)
 
@@ -56,6 +51,6 @@ has_crowd device = not (length device.lines == 1) && list_any (λ line. is_whole
 unfoldable pub copied : Description → List ResolvedOver
 copied stack = if list_any has_crowd stack.devices then [] else all_over stack
 
--- those of an origin
+-- the snapshots of an origin, as its line has copies of them
 unfoldable pub origin_over : Description → Lower → List ResolvedOver
 origin_over stack to = filter (λ one. is_same_lower one.snapshot.origin to) (copied stack)

@@ -1,6 +1,5 @@
 -- Columns of striped lines: whether they are on disks.
-use Rattle.std.specs.Prelude.{Bool, true, false, List}
-use Rattle.std.specs.List.{list_all}
+use Rattle.dm_stack.specs.Base.{Bool, true, false, List, list_all}
 use Rattle.dm_stack.specs.declared.id.Lower.{Lower}
 use Rattle.dm_stack.specs.declared.id.Lower.TheVariants.{Device, Disk}
 use Rattle.dm_stack.specs.declared.lines.resolved_columns.ResolvedColumn.{ResolvedColumn}

@@ -1,8 +1,5 @@
 -- What a line by ids names below, and where: what its spans by names say, with ids for names.
-use Rattle.std.specs.Prelude.{ℕ, ◌/◌, Bool, List, [], ◌∷◌, Some, None, length, map, nat_le}
-use Rattle.std.specs.List.{flat_map, list_any}
-use Rattle.dm_table.specs.declared.tables.table.Use.{Use}
-use Rattle.dm_table.specs.declared.tables.table.Use.TheVariants.{Own, Reading, Serving}
+use Rattle.dm_stack.specs.Base.{ℕ, ◌/◌, Bool, List, [], ◌∷◌, Some, None, length, map, nat_le, flat_map, list_any, Use, Own, Reading, Serving}
 use Rattle.dm_stack.specs.declared.claims.claim.Claim.{Claim}
 use Rattle.dm_stack.specs.declared.id.Lower.{Lower}
 use Rattle.dm_stack.specs.declared.id.Lower.TheVariants.{Device, Disk}

@@ -1,6 +1,5 @@
 -- How a store is laid out, by its kind: where it keeps the chunks that a snapshot took, for how many it has places, and how much of it is used (the exception stores of the kernel's admin guide, device-mapper/snapshot).
-use Rattle.std.specs.Prelude.{ℕ, ◌+◌, ◌-◌, ◌*◌, ◌/◌, ◌%◌, ◌==◌, ◌||◌, Bool, false}
-use Rattle.dm_table.specs.declared.tables.table.StoreKind.{StoreKind}
+use Rattle.dm_stack.specs.Base.{ℕ, ◌+◌, ◌-◌, ◌*◌, ◌/◌, ◌%◌, ◌==◌, ◌||◌, Bool, false, StoreKind}
 use Rattle.dm_table.specs.declared.tables.table.StoreKind.TheVariants.{Transient}
 
 -- the chunk of a store that the taken chunk of a number has: a transient store has nothing else; in others a header and an area of numbers come first, and an area after every 32 * chunk chunks
@@ -26,7 +25,7 @@ place_count kind chunk store_len = places_in (32 * chunk) (store_len / chunk - 2
 abbrev pub allocated : StoreKind → (chunk taken : ℕ) → ℕ
 allocated kind chunk taken = place kind chunk taken * chunk
 
--- its header, and the areas of chunk numbers up to there
+-- how many sectors of a store that has this many taken chunks hold its header and its areas
 abbrev pub metadata : StoreKind → (chunk taken : ℕ) → ℕ
 metadata Transient chunk taken = 0
 metadata kind chunk taken = (taken / (32 * chunk) + 2) * chunk

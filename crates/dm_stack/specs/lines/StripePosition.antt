@@ -1,6 +1,5 @@
 -- Where the sectors of a striped line lie in its columns.
-use Rattle.std.specs.Prelude.{ℕ, ◌≡◌, ◌*◌, ◌/◌, ◌%◌}
-use Rattle.dm_stack.specs.declared.lines.stripe_position.StripePosition.{StripePosition}
+use Rattle.dm_stack.specs.Base.{ℕ, ◌≡◌, ◌*◌, ◌/◌, ◌%◌, StripePosition}
 use Rattle.dm_stack.specs.lines.Below.{column_of}
 
 -- the position in stripes of a sector at a distance from the line's start

@@ -1,7 +1,5 @@
 -- Names that are indexed.
-use Rattle.std.specs.Prelude.{◌≡◌, ℕ, ◌-◌, ◌<◌, ◌++◌, List, Some, String, length, map, replicate, slice_get, string_bytes}
-use Rattle.std.specs.Int.{to_le_bytes, w64}
-use Rattle.std.specs.List.{All, IsDistinct}
+use Rattle.dm_stack.specs.Base.{◌≡◌, ℕ, ◌-◌, ◌<◌, ◌++◌, List, Some, String, length, map, replicate, slice_get, string_bytes, to_le_bytes, w64, All, IsDistinct}
 use Rattle.indexmap.specs.IndexSet.{IndexSet}
 use Rattle.dm_stack.specs.Description.{Description, is_same}
 use Rattle.dm_stack.specs.checks.Soundness.{HaveSmallEnds}
@@ -28,7 +26,7 @@ pub record IsPlaceOf (names : List (List ℕ)) (place : Place) : Type 0 where
   pub key : IsKeyOf name place.key
   pub found : slice_get names place.number ≡ Some name
 
--- so it is of each place with a short name
+-- each place with a short name has the number of that name
 abbrev pub ArePlaces : List (List ℕ) → List Place → Type 0
 ArePlaces names places = All (λ place. place.key.len < KEY_BYTES → IsPlaceOf names place) places
 

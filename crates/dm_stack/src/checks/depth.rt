@@ -3,13 +3,7 @@
 //! The depths come from `graph`, which says what a depth is and follows none further than one above
 //! the limit. Both functions here walk them once.
 
-ghost use Rattle.std.specs.Prelude.{◌≡◌, None, length, nat_lt};
-ghost use Rattle.std.specs.List.{slice_index_or};
-ghost use Rattle.std.specs.Result.{result_err};
-ghost use Rattle.dm_table.specs.load.LoadFault.{first_or};
-ghost use Rattle.dm_table.specs.declared.load.load_fault.LoadKind.TheVariants.{Deep};
-ghost use Rattle.dm_stack.specs.checks.Graph.{greatest};
-ghost use Rattle.dm_stack.specs.checks.Soundness.{faults_by_id};
+ghost use Rattle.dm_stack.specs.Prelude.{◌≡◌, None, length, nat_lt, slice_index_or, result_err, Deep, first_or, greatest, faults_by_id};
 
 use crate::checks::graph::MOST_DEPTH;
 use dm_table::{DeviceSpec, LoadFault, LoadKind};

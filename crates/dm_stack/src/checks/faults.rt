@@ -2,14 +2,8 @@
 //!
 //! A check that tests elements one by one says only which are bad; the fault is made here.
 
-ghost use Rattle.std.specs.Prelude.{◌≡◌, ℕ, Bool, IfErr, IfOk, None};
-ghost use Rattle.std.specs.Fn.{FnReturns, FnReturnsAt};
+ghost use Rattle.dm_stack.specs.Base.{◌≡◌, ℕ, Bool, IfErr, IfOk, None, FnReturns, FnReturnsAt, result_err, Source, Place, Line, IsMemoryFault, faults_by, first_or};
 ghost use denote.Ref.{Bor};
-ghost use Rattle.std.specs.Result.{result_err};
-ghost use Rattle.dm_table.specs.load.LoadFault.{IsMemoryFault, faults_by, first_or};
-ghost use Rattle.dm_table.specs.declared.load.place.Part.TheVariants.{Source};
-ghost use Rattle.dm_table.specs.declared.load.place.Place.{Place};
-ghost use Rattle.dm_table.specs.declared.tables.table.Line.{Line};
 ghost use Rattle.dm_stack.specs.checks.Soundness.{device_faults};
 ghost use Rattle.dm_stack.specs.declared.lines.resolved_line.ResolvedLine.{ResolvedLine};
 ghost use Rattle.dm_stack.specs.lines.Below.{resolved_line};
@@ -34,6 +28,16 @@ pub(crate) fn or_out_of_memory<T>(made: Result<T, AllocError>) -> Result<T, Load
     match made {
         Ok(value) => Ok(value),
         Err(_) => Err(out_of_memory()),
+    }
+}
+
+/// Fails with the first fault of a check, if it has one.
+pub(crate) fn refuse(first: Option<LoadFault>) -> Result<(), LoadFault>
+    ensures { result_err result ≡ first }
+{
+    match first {
+        Some(fault) => Err(fault),
+        None => Ok(()),
     }
 }
 

@@ -3,10 +3,8 @@
 //! Depths come first, by rounds that are linear in the links, since only a device that is too deep
 //! can reach itself; what a device reaches is then searched for few devices or none.
 
-ghost use Rattle.std.specs.Prelude.{◌≡◌, ◌≤◌, ◌<◌, ℕ, length, map, IfOk, IfSome, IfNone, OnOk, IsTrue, false};
-ghost use Rattle.std.specs.List.{All, Contains};
+ghost use Rattle.dm_stack.specs.Prelude.{◌≡◌, ◌≤◌, ◌<◌, ℕ, length, map, IfOk, IfSome, IfNone, OnOk, IsTrue, false, All, Contains, IsClosed, Names, Reaches, Visits, depth_over, depths_to, links_in};
 ghost use Rattle.dm_stack.specs.declared.checks.graph.TheConstants.{FOLLOWED_LEVELS};
-ghost use Rattle.dm_stack.specs.checks.Graph.{IsClosed, Names, Reaches, Visits, depth_over, depths_to, links_in};
 
 use std::alloc::{AllocError, Global};
 

@@ -3,14 +3,8 @@
 //! Sums of two numbers within the limits fit 64 bits, so every later check adds freely. The
 //! definitions name these constants, so a limit that changes here changes for them too.
 
-ghost use Rattle.std.specs.Prelude.{◌≡◌, [], None, nat_lt, option_copied, slice_get};
-ghost use Rattle.std.specs.List.{list_any};
-ghost use Rattle.std.specs.Result.{result_err};
-ghost use Rattle.dm_table.specs.load.LoadFault.{first_or};
-ghost use Rattle.dm_table.specs.declared.load.load_fault.LoadKind.TheVariants.{Limit};
-ghost use Rattle.dm_stack.specs.checks.Soundness.{all_lines, is_far, is_large, line_faults, past, too_large, too_many};
-ghost use Rattle.dm_table.specs.tables.Span.{spans};
-ghost use Rattle.dm_stack.specs.Description.{described};
+ghost use Rattle.dm_stack.specs.Prelude.{◌≡◌, [], None, nat_lt, option_copied, slice_get, list_any, result_err, Limit, first_or, all_lines, is_far, is_large, line_faults, past, too_large, too_many, described};
+ghost use Rattle.dm_table.specs.Prelude.{spans};
 ghost use Rattle.dm_stack.specs.declared.checks.limits.TheConstants.{MOST_LENGTH};
 
 use crate::checks::faults::{Placed, check_each};

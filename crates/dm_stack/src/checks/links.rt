@@ -1,10 +1,7 @@
 //! Which devices name which, by their ids.
 
-ghost use Rattle.std.specs.Prelude.{◌≡◌, ◌++◌, IfOk, OnOk};
-ghost use Rattle.std.specs.List.{flat_map};
-ghost use Rattle.dm_stack.specs.Description.{links};
-ghost use Rattle.dm_stack.specs.lines.Span.{line_links, lower_link};
-ghost use Rattle.dm_stack.specs.checks.Graph.{links_in};
+ghost use Rattle.dm_stack.specs.Prelude.{◌≡◌, ◌++◌, IfOk, OnOk, flat_map, links, lower_link, links_in};
+ghost use Rattle.dm_stack.specs.lines.Span.{line_links};
 
 use crate::id::Lower;
 use crate::lines::resolved::Resolved;

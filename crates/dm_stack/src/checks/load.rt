@@ -3,30 +3,20 @@
 //! Each check fails with its first fault, and none runs after one that fails, so later checks may
 //! rely on what earlier ones passed. A new check takes its place here and in `specs/checks/Soundness.antt`.
 
-ghost use Rattle.std.specs.Prelude.{◌≡◌, ◌⊎◌, IfErr, IfOk, None, OnOk, map, take};
-ghost use Rattle.dm_table.specs.load.LoadFault.{IsMemoryFault, first_fault};
-ghost use Rattle.dm_table.specs.declared.load.place.Part.TheVariants.{Source};
+ghost use Rattle.dm_stack.specs.Prelude.{◌≡◌, ◌⊎◌, IfErr, IfOk, None, OnOk, map, take, Source, IsMemoryFault, first_fault, described, links, IsClosed, IsFirstRing, depths_to, IsLoaded, stack_depth, HasNoCycle, IsFirstCycle, IsRefusedBy, IsSound, checks_before, store_links, AreFirst};
 ghost use Rattle.dm_stack.specs.declared.checks.graph.TheConstants.{FOLLOWED_LEVELS};
-ghost use Rattle.dm_stack.specs.Description.{described, links};
-ghost use Rattle.dm_stack.specs.checks.Graph.{IsClosed, IsFirstRing, depths_to};
-ghost use Rattle.dm_stack.specs.Stack.{IsLoaded};
-ghost use Rattle.dm_stack.specs.checks.Depth.{stack_depth};
-ghost use Rattle.dm_stack.specs.checks.Soundness.{HasNoCycle, IsFirstCycle, IsRefusedBy, IsSound};
-ghost use Rattle.dm_stack.specs.checks.Soundness.{checks_before};
-ghost use Rattle.dm_stack.specs.checks.Store.{store_links};
 
 use crate::checks::depth::{check_depths, deepest};
-use crate::checks::faults::or_out_of_memory;
+use crate::checks::faults::{or_out_of_memory, refuse};
 use crate::checks::graph::{depths, first_cycle};
-use crate::checks::layout::{check_lengths, check_starts};
+use crate::checks::layout::check_lengths;
 use crate::checks::limits::{check_counts, check_numbers};
+use crate::checks::lines::{BadLines, bad_lines};
 use crate::checks::links::links;
 use crate::checks::names::{Names, check_names};
-use crate::checks::ranges::{check_ranges, check_references};
-use crate::checks::snapshots::{check_snapshots, snapshots};
+use crate::checks::snapshots::snapshots;
 use crate::checks::store_limit::check_places;
 use crate::checks::stores::{check_stores, store_depths};
-use crate::checks::stripes::check_stripes;
 use crate::id::DeviceId;
 use crate::lines::resolve::resolved_devices;
 use crate::lines::resolved::Resolved;
@@ -83,37 +73,39 @@ pub(crate) fn check(
     })
 }
 
-/// The five checks before lines have ids, and the names that they index.
+/// The three checks before lines have ids, and the names that they index.
 fn check_texts(alloc: Global, devices: &[DeviceSpec], disks: &[Disk]) -> Result<Names, LoadFault>
     ensures devices { IfOk result (λ names. names.devices ≡ map (λ device. device.name) devices.now) }
     ensures disks { IfOk result (λ names. names.disks ≡ map (λ disk. disk.name) disks.now) }
-    ensures passed { OnOk result (first_fault (take 5 (checks_before (described devices.now disks.now))) ≡ None) }
+    ensures passed { OnOk result (first_fault (take 3 (checks_before (described devices.now disks.now))) ≡ None) }
     ensures fault { IfErr result (λ fault.
         IsRefusedBy (described devices.now disks.now) fault ⊎ IsMemoryFault Source fault) }
 {
     check_counts(devices, disks)?;
     check_numbers(devices, disks)?;
     let names = check_names(alloc, devices, disks)?;
-    check_lengths(devices, disks)?;
-    check_starts(devices)?;
     Ok(names)
 }
 
 /// The checks by ids, and the depth of the stack.
 fn check_ids(alloc: Global, stack: &Resolved) -> Result<u32, LoadFault>
-    requires { first_fault (take 5 (checks_before stack.now)) ≡ None }
+    requires { first_fault (take 3 (checks_before stack.now)) ≡ None }
     ensures sound { OnOk result (IsSound stack.now) }
     ensures depth { IfOk result (λ depth. depth ≡ stack_depth stack.now) }
     ensures fault { IfErr result (λ fault. IsRefusedBy stack.now fault ⊎ IsMemoryFault Source fault) }
 {
-    check_references(stack)?;
+    let found = bad_lines(stack);
+    check_lengths(stack, found.empty)?;
+    refuse(found.misplaced)?;
+    refuse(found.unknown)?;
     let graph = or_out_of_memory(follow(alloc, stack))?;
-    check_graph(stack, &graph)?;
+    check_graph(stack, &found, &graph)?;
     Ok(deepest(&graph.depths))
 }
 
-/// The checks by what devices name, with what was followed of that.
-fn check_graph(stack: &Resolved, graph: &Graph) -> Result<(), LoadFault>
+/// The checks by what devices name, with what was followed of that, and those after them.
+fn check_graph(stack: &Resolved, found: &BadLines, graph: &Graph) -> Result<(), LoadFault>
+    requires lines { AreFirst stack.now found.now }
     requires before { first_fault (checks_before stack.now) ≡ None }
     requires depths { graph.now.depths.items ≡ depths_to (links stack.now) FOLLOWED_LEVELS }
     requires stores { graph.now.store_depths.items ≡ depths_to (store_links stack.now) FOLLOWED_LEVELS }
@@ -123,9 +115,9 @@ fn check_graph(stack: &Resolved, graph: &Graph) -> Result<(), LoadFault>
 {
     check_cycles(stack, graph.cycle)?;
     check_depths(stack.devices(), &graph.depths)?;
-    check_stripes(stack)?;
-    check_ranges(stack)?;
-    check_snapshots(stack)?;
+    refuse(found.stripe)?;
+    refuse(found.range)?;
+    refuse(found.snapshot)?;
     check_stores(stack, &graph.store_depths)?;
     check_places(stack)
 }

@@ -1,11 +1,6 @@
 //! The names in a list of paths: each is that of a disk of the stack, and stands there once.
 
-ghost use Rattle.std.specs.Prelude.{◌≡◌, ◌≢◌, IfErr, None, OnOk, Some};
-ghost use Rattle.std.specs.Result.{result_err};
-ghost use Rattle.dm_table.specs.load.LoadFault.{IsMemoryFault, faults_by, first_fault, first_or};
-ghost use Rattle.dm_table.specs.declared.load.load_fault.LoadKind.TheVariants.{Memory, Unknown};
-ghost use Rattle.dm_table.specs.declared.load.place.Part.TheVariants.{Source};
-ghost use Rattle.dm_stack.specs.checks.Paths.{is_unknown_path, path_faults};
+ghost use Rattle.dm_stack.specs.Prelude.{◌≡◌, ◌≢◌, IfErr, None, OnOk, Some, result_err, Memory, Unknown, Source, IsMemoryFault, faults_by, first_fault, first_or, is_unknown_path, path_faults};
 
 use crate::checks::faults::check_each;
 use crate::checks::names::index_of;

@@ -4,33 +4,15 @@
 //! A device ends where its last line does, so that the length of what is named takes one look-up
 //! and no walk. The spans of a line say what it names, and how much of it.
 
-ghost use Rattle.std.specs.Prelude.{◌≡◌, None};
-ghost use Rattle.std.specs.Result.{result_err};
-ghost use Rattle.dm_table.specs.load.LoadFault.{first_or};
-ghost use Rattle.dm_stack.specs.checks.Soundness.{range, unknown};
-ghost use Rattle.dm_stack.specs.lines.Span.{is_past, names_missing, passes_end};
+ghost use Rattle.dm_stack.specs.Prelude.{◌≡◌, is_past, names_missing};
+ghost use Rattle.dm_stack.specs.lines.Span.{passes_end};
 
-use crate::checks::faults::check_by_ids;
 use crate::lines::resolved::Resolved;
 use crate::lines::resolved_line::ResolvedLine;
 use crate::lines::span::{Span, Spans};
-use dm_table::{LoadFault, LoadKind};
-
-/// Fails at the first line that names a device or a disk that is not there.
-///
-/// Cost: linear in the lines and their columns.
-pub(crate) fn check_references(stack: &Resolved) -> Result<(), LoadFault>
-    ensures { result_err result ≡ first_or (unknown stack.now) None }
-{
-    check_by_ids(
-        LoadKind::Unknown,
-        stack,
-        |_, by_ids, _| names_missing(stack, by_ids),
-    )
-}
 
 /// Whether a line names a device or a disk that is not there.
-fn names_missing(stack: &Resolved, line: &ResolvedLine) -> bool
+pub(crate) fn names_missing(stack: &Resolved, line: &ResolvedLine) -> bool
     ensures { result ≡ names_missing stack.now line.now }
 {
     for span in Spans::of(line) {
@@ -41,21 +23,8 @@ fn names_missing(stack: &Resolved, line: &ResolvedLine) -> bool
     false
 }
 
-/// Fails at the first line that passes the end of what it names.
-///
-/// Cost: linear in the lines and their columns.
-pub(crate) fn check_ranges(stack: &Resolved) -> Result<(), LoadFault>
-    ensures { result_err result ≡ first_or (range stack.now) None }
-{
-    check_by_ids(
-        LoadKind::Range,
-        stack,
-        |_, by_ids, _| passes_end(stack, by_ids),
-    )
-}
-
 /// Whether a line passes the end of something that it names.
-fn passes_end(stack: &Resolved, line: &ResolvedLine) -> bool
+pub(crate) fn passes_end(stack: &Resolved, line: &ResolvedLine) -> bool
     ensures { result ≡ passes_end stack.now line.now }
 {
     for span in Spans::of(line) {

@@ -4,37 +4,24 @@
 //! Each is a whole device: its line stands alone in its table and is as long as the origin that it
 //! names. Mapping relies on it, and shifts where it would divide by a chunk, so that no rule here may be let go.
 
-ghost use Rattle.std.specs.Prelude.{◌≡◌, ◌∷◌, ◌++◌, [], IfOk, None, OnOk, if◌then◌else◌};
-ghost use Rattle.std.specs.Result.{result_err};
-ghost use Rattle.dm_table.specs.load.LoadFault.{first_or};
-ghost use Rattle.dm_stack.specs.Description.{described};
-ghost use Rattle.dm_stack.specs.lines.Below.{resolved_target};
-ghost use Rattle.dm_stack.specs.checks.Snapshots.{has_snapshot, snapshots};
-ghost use Rattle.dm_stack.specs.checks.Soundness.{is_bad_snapshot, snapshot};
+ghost use Rattle.dm_stack.specs.Prelude.{◌≡◌, ◌∷◌, ◌++◌, [], IfOk, OnOk, if◌then◌else◌, described, resolved_target, has_snapshot, snapshots, is_bad_snapshot};
 
-use crate::checks::faults::check_by_ids;
 use crate::id::DeviceId;
 use crate::lines::chunk_size::is_bad_chunk;
 use crate::lines::resolved::Resolved;
 use crate::lines::resolved_line::ResolvedTarget;
-use dm_table::{DeviceSpec, Line, LoadFault, LoadKind, Target};
+use dm_table::{DeviceSpec, Line, Target};
 use std::alloc::{AllocError, Global};
 
-/// Fails at the first line of a snapshot, or of a device over an origin, that does not stand alone in its
-/// table, or is not as long as the origin that it names; or of a snapshot whose chunk is no power of two
-/// from 1 to 1,024 sectors.
-///
-/// Cost: a walk over the lines.
-pub(crate) fn check_snapshots(stack: &Resolved) -> Result<(), LoadFault>
-    ensures { result_err result ≡ first_or (snapshot stack.now) None }
-{
-    check_by_ids(LoadKind::Snapshot, stack, |line, by_ids, count| {
-        is_bad_snapshot(stack, count, line, &by_ids.target)
-    })
-}
-
-/// Whether a line, among so many of its device, is such a one.
-fn is_bad_snapshot(stack: &Resolved, lines: usize, line: &Line, target: &ResolvedTarget) -> bool
+/// Whether a line, among so many of its device, is that of a snapshot or an origin that does not stand alone in
+/// its table, or is not as long as the origin that it names; or of a snapshot whose chunk is no power of two from
+/// 1 to 1,024 sectors.
+pub(crate) fn is_bad_snapshot(
+    stack: &Resolved,
+    lines: usize,
+    line: &Line,
+    target: &ResolvedTarget,
+) -> bool
     ensures { target.now ≡ resolved_target stack.now line.now.target
         → result ≡ is_bad_snapshot stack.now lines line.now.len line.now.target }
 {

@@ -1,11 +1,6 @@
 //! The limit on the places for chunks that all stores have together.
 
-ghost use Rattle.std.specs.Prelude.{◌≡◌, None};
-ghost use Rattle.std.specs.List.{All};
-ghost use Rattle.std.specs.Result.{result_err};
-ghost use Rattle.dm_table.specs.load.LoadFault.{first_or};
-ghost use Rattle.dm_stack.specs.checks.Soundness.{HaveGoodChunks, crowded};
-ghost use Rattle.dm_stack.specs.checks.StoreLimit.{places_of};
+ghost use Rattle.dm_stack.specs.Prelude.{◌≡◌, None, All, result_err, first_or, HaveGoodChunks, crowded, places_of};
 
 use crate::checks::limits::MOST_PLACES;
 use crate::lines::resolved::Resolved;

@@ -4,16 +4,8 @@
 //! rounds that find depths find this for all devices at once: among the links here each device of
 //! another kind names itself, so that it and all above it are too deep, as what reaches a ring is.
 
-ghost use Rattle.std.specs.Prelude.{◌≡◌, IfOk, None};
-ghost use Rattle.std.specs.List.{list_all};
-ghost use Rattle.std.specs.Result.{result_err};
-ghost use Rattle.dm_table.specs.load.LoadFault.{first_or};
+ghost use Rattle.dm_stack.specs.Prelude.{◌≡◌, IfOk, None, list_all, result_err, first_or, links, IsClosed, depths_to, links_in, store, has_deep_store, is_plain, is_shallow, may_store, store_links, store_links_of};
 ghost use Rattle.dm_stack.specs.declared.checks.graph.TheConstants.{FOLLOWED_LEVELS};
-ghost use Rattle.dm_stack.specs.Description.{links};
-ghost use Rattle.dm_stack.specs.checks.Graph.{IsClosed, depths_to, links_in};
-ghost use Rattle.dm_stack.specs.checks.Soundness.{store};
-ghost use Rattle.dm_stack.specs.checks.Store.{has_deep_store, is_plain, is_shallow, may_store, store_links};
-ghost use Rattle.dm_stack.specs.checks.Store.{store_links_of};
 
 use crate::checks::faults::check_by_ids;
 use crate::checks::graph::{MOST_DEPTH, depths};

@@ -3,10 +3,7 @@
 //! Whoever goes over claims in the order of their starts needs no more of those that came before:
 //! one that starts below their greatest end meets some of them.
 
-ghost use Rattle.std.specs.Prelude.{◌≡◌, IfOk, length, if◌then◌else◌};
-ghost use Rattle.dm_stack.specs.Description.{is_same_lower};
-ghost use Rattle.dm_stack.specs.claims.Sweep.{IsCounted, no_reach, reach_at, reach_meets, reach_with};
-ghost use Rattle.dm_stack.specs.declared.id.Lower.{Lower};
+ghost use Rattle.dm_stack.specs.Prelude.{◌≡◌, IfOk, length, if◌then◌else◌, is_same_lower, IsCounted, no_reach, reach_at, reach_meets, reach_with, Lower};
 
 use crate::claims::claim::Claim;
 use crate::id::Lower;

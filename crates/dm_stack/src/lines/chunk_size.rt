@@ -5,10 +5,8 @@
 //! This is here for speed alone: RESULTS.md has its gain as *chunk sizes by their exponent*. It rests on sizes that
 //! are powers of two, which a load checks. Change it only if you measure random first writes before and after.
 
-ghost use Rattle.std.specs.Prelude.{◌≡◌, ◌*◌, ◌/◌, ◌%◌, ◌<◌, ◌≤◌};
-ghost use Rattle.dm_stack.specs.checks.Soundness.{is_bad_chunk};
+ghost use Rattle.dm_stack.specs.Prelude.{◌≡◌, ◌*◌, ◌/◌, ◌%◌, ◌<◌, ◌≤◌, is_bad_chunk, fit_chunk};
 ghost use Rattle.dm_stack.specs.declared.checks.limits.TheConstants.{MOST_SNAPSHOT_CHUNK};
-ghost use Rattle.dm_stack.specs.lines.Over.{fit_chunk};
 
 use crate::checks::limits::MOST_SNAPSHOT_CHUNK;
 use std::marker::Model;
@@ -21,8 +19,7 @@ pub struct ChunkSize {
 }
 
 impl Model for ChunkSize {
-    ghost use Rattle.std.specs.Prelude.{◌≤◌, ◌-◌, ◌^◌, ℕ, count_ones};
-    ghost use Rattle.std.specs.Int.Count.{ones-ones};
+    ghost use Rattle.dm_stack.specs.Base.{◌≤◌, ◌-◌, ◌^◌, ℕ, count_ones, ones-ones};
 
     ghost Value = { ℕ };
 

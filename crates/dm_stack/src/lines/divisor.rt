@@ -7,7 +7,7 @@
 //! rests on an inverse that is at most one too small, so the quotient is, too, and is put right once. Change it
 //! only if you measure these requests before and after.
 
-ghost use Rattle.std.specs.Prelude.{◌≡◌, ◌+◌, ◌*◌, ◌^◌, ◌/◌, ◌%◌, ◌<◌, ◌≤◌};
+ghost use Rattle.dm_stack.specs.Prelude.{◌≡◌, ◌+◌, ◌*◌, ◌^◌, ◌/◌, ◌%◌, ◌<◌, ◌≤◌};
 
 use std::marker::Model;
 
@@ -20,7 +20,7 @@ pub struct Divisor {
 }
 
 impl Model for Divisor {
-    ghost use Rattle.std.specs.Prelude.{◌≤◌, ◌<◌, ◌+◌, ◌*◌, ◌^◌, ℕ};
+    ghost use Rattle.dm_stack.specs.Base.{◌≤◌, ◌<◌, ◌+◌, ◌*◌, ◌^◌, ℕ};
 
     ghost Value = { ℕ };
 
@@ -70,7 +70,7 @@ impl Divisor {
         ensures whole { number ≡ result.0 * self.now + result.1 }
         ensures small { result.1 < self.now }
     {
-        let quotient = self.near(number);
+        let quotient = self.quotient_or_less(number);
         let rest = number - quotient * self.value;
         if rest < self.value {
             return (quotient, rest);
@@ -81,7 +81,7 @@ impl Divisor {
     /// The quotient of a number, or one less.
     #[tactic(auto, using(crate::proofs::lines::Inverses::near))]
     #[inline(always)]
-    fn near(&self, number: u64) -> u64
+    fn quotient_or_less(&self, number: u64) -> u64
         requires { 0 < self.now }
         ensures below { result * self.now ≤ number }
         ensures above { number < result * self.now + self.now + self.now }

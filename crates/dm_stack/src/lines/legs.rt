@@ -5,17 +5,15 @@
 //! it in registers.
 //!
 //! This is here for speed alone, as `ResolvedTarget::leg` finds each leg, too: RESULTS.md has its gain as *rows of
-//! legs* and *legs on disks in one go*. It rests on `next_chunk`, which goes on from a position as `position_at`
+//! legs* and *legs on disks in one go*. It rests on `next_stripe_chunk`, which goes on from a position as `position_at`
 //! finds the next one. Change it only if you measure large requests over 16 columns before and after.
 
-ghost use Rattle.std.specs.Prelude.{◌≡◌, true, IfNone, IfSome};
-ghost use Rattle.dm_stack.specs.lines.Below.{is_striped};
-ghost use Rattle.dm_stack.specs.lines.Leg.{after_leg, has_disk_columns, HasSectors, IsLeg};
+ghost use Rattle.dm_stack.specs.Prelude.{◌≡◌, true, IfNone, IfSome, is_striped, after_leg, has_disk_columns, HasSectors, IsLeg};
 
 use crate::lines::leg::{Beneath, Leg};
 use crate::lines::resolved_columns::ResolvedColumn;
 use crate::lines::resolved_line::ResolvedTarget;
-use crate::lines::stripe_position::{StripePosition, next_chunk, position_at};
+use crate::lines::stripe_position::{StripePosition, next_stripe_chunk, position_at};
 use std::marker::Model;
 
 /// The legs that are left of a part of a striped line. A clause sees the line's target, the distance of
@@ -92,7 +90,7 @@ impl<'l> Legs<'l> {
         let column = self.columns[self.position.column];
         let sector = column.offset + self.position.in_column();
         let len = self.left.min(self.chunk_size - self.position.past);
-        self.position = next_chunk(self.chunk_size, self.columns.len(), self.position);
+        self.position = next_stripe_chunk(self.chunk_size, self.columns.len(), self.position);
         self.distance += len;
         self.left -= len;
         Some(Leg {

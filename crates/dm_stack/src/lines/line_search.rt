@@ -12,8 +12,7 @@
 //! its end, which lies past every device where there is none. Change these only if you measure such requests, and
 //! random ones on 65,536 lines, before and after.
 
-ghost use Rattle.std.specs.Prelude.{◌≡◌, ◌⊎◌, ◌<◌, ◌≤◌, ◌+◌, ◌^◌, length, nat_le};
-ghost use Rattle.dm_stack.specs.lines.LineSearch.{EndsAt, Finds, EndsAreSmall, StartsAfter, StartsBy};
+ghost use Rattle.dm_stack.specs.Prelude.{◌≡◌, ◌⊎◌, ◌<◌, ◌≤◌, ◌+◌, ◌^◌, length, nat_le, EndsAt, Finds, EndsAreSmall, StartsAfter, StartsBy};
 
 use crate::id::DeviceId;
 use crate::lines::resolved_line::ResolvedLine;
@@ -66,8 +65,8 @@ pub(crate) fn find(
     }
 }
 
-/// The same among up to three lines. No jump asks where the sector lies, since among few lines that is
-/// rarely foreseen.
+/// Finds the line of a sector among up to three lines. No jump asks where the sector lies, since among few lines
+/// that is rarely foreseen.
 #[inline(always)]
 fn find_of_few(lines: &[ResolvedLine], sector: u64) -> (usize, u64)
     requires first { StartsBy lines.now 0 sector }
@@ -101,7 +100,7 @@ fn starts_by(start: u64, sector: u64, comparisons: &mut u64) -> bool
     start <= sector
 }
 
-/// The same among many lines, out of the way of those that have few.
+/// Finds the line of a sector among many lines, out of the way of devices that have few.
 #[inline(never)]
 fn find_among(
     table: &ResolvedTable,

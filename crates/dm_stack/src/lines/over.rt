@@ -3,10 +3,7 @@
 //! All snapshots of a stack are collected once a load. Each line of an origin has a copy of its own, so that a write
 //! to one neither goes over the devices nor searches their lines; the line of a snapshot has what was collected of it.
 
-ghost use Rattle.std.specs.Prelude.{◌≡◌, ◌++◌, IfOk, IfSome, OnOk, filter};
-ghost use Rattle.std.specs.List.{Contains, flat_map, list_any};
-ghost use Rattle.dm_stack.specs.Description.{is_same_lower};
-ghost use Rattle.dm_stack.specs.lines.Over.{all_over, copied, has_crowd, is_whole, over_of, resolved_snapshot};
+ghost use Rattle.dm_stack.specs.Prelude.{◌≡◌, ◌++◌, IfOk, IfSome, OnOk, filter, Contains, flat_map, list_any, is_same_lower, all_over, copied, has_crowd, is_whole, over_of, resolved_snapshot};
 
 use crate::id::{DeviceId, Lower};
 use crate::lines::chunk_size::ChunkSize;
@@ -118,7 +115,7 @@ pub(crate) fn resolved_snapshot(
 /// it is next.
 ///
 /// This is here for speed alone: where nothing is found, the names of the device's line are looked up.
-pub(crate) fn next_over<'a>(
+pub(crate) fn snapshot_of_next<'a>(
     over: &'a [ResolvedOver],
     next: &mut usize,
     device: DeviceId,

@@ -4,16 +4,12 @@
 //! there has an id past the last, which `check_references` finds. The checks from there on look no name up. A new
 //! target is an arm of `target` here and of `resolved_target` in the specs.
 
-ghost use Rattle.std.specs.Prelude.{◌≡◌, IfOk, IfSome, map};
-ghost use Rattle.std.specs.List.{All};
-ghost use Rattle.dm_stack.specs.lines.Below.{resolved_columns, resolved_line, resolved_target};
-ghost use Rattle.dm_stack.specs.Stack.{resolved_device};
-ghost use Rattle.dm_stack.specs.lines.Over.{IsSnapshotOf, copied};
+ghost use Rattle.dm_stack.specs.Prelude.{◌≡◌, IfOk, IfSome, map, All, resolved_columns, resolved_line, resolved_target, resolved_device, IsSnapshotOf, copied};
 
 use crate::checks::layout::end_of;
 use crate::id::DeviceId;
 use crate::lines::divisor::Divisor;
-use crate::lines::over::{copied, next_over, resolved_snapshot, snapshots_over};
+use crate::lines::over::{copied, resolved_snapshot, snapshot_of_next, snapshots_over};
 use crate::lines::resolved_columns::{ResolvedColumn, ResolvedColumns};
 use crate::lines::resolved_line::{
     ResolvedLine, ResolvedOrigin, ResolvedOver, ResolvedSnapshot, ResolvedTarget,
@@ -39,7 +35,7 @@ pub(crate) fn resolved_devices(
     let mut next = 0;
     for (id, device) in devices.iter().enumerate() {
         let lines = device.lines.as_slice();
-        let own = next_over(&over, &mut next, DeviceId::new(id));
+        let own = snapshot_of_next(&over, &mut next, DeviceId::new(id));
         found.push(ResolvedDevice {
             end: end_of(lines),
             ro: device.ro,

@@ -3,10 +3,7 @@
 //!
 //! A clause sees the description alone; the invariant says that the lines by ids are its lines.
 
-ghost use Rattle.std.specs.Prelude.{◌≡◌, map};
-ghost use Rattle.dm_stack.specs.Description.{described, lower_len};
-ghost use Rattle.dm_stack.specs.Stack.{resolved_device};
-ghost use Rattle.dm_stack.specs.lines.Span.{is_missing};
+ghost use Rattle.dm_stack.specs.Prelude.{◌≡◌, map, described, lower_len, resolved_device, is_missing};
 
 use crate::id::Lower;
 use crate::lines::resolved_table::ResolvedDevice;
@@ -22,7 +19,7 @@ pub(crate) struct Resolved<'a> {
 }
 
 impl<'a> Model for Resolved<'a> {
-    ghost use Rattle.std.specs.Prelude.{◌≡◌, map};
+    ghost use Rattle.dm_stack.specs.Base.{◌≡◌, map};
     ghost use Rattle.dm_stack.specs.Description.{Description, described};
     ghost use Rattle.dm_stack.specs.Stack.{resolved_device};
 
@@ -63,6 +60,13 @@ impl<'a> Resolved<'a> {
         ensures { result.now ≡ map (resolved_device self.now) self.now.devices }
     {
         self.by_ids
+    }
+
+    /// The disks in their order.
+    pub(crate) fn disks(&self) -> &'a [Disk]
+        ensures { result.now ≡ self.now.disks }
+    {
+        self.disks
     }
 
     /// Whether no device or disk has the id.

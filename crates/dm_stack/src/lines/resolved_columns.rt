@@ -2,8 +2,7 @@
 //!
 //! They are boxed, so that a line without columns takes no room for them.
 
-ghost use Rattle.std.specs.Prelude.{◌≡◌, IfOk, length};
-ghost use Rattle.dm_stack.specs.lines.ResolvedColumns.{are_on_disks};
+ghost use Rattle.dm_stack.specs.Prelude.{◌≡◌, IfOk, length, are_on_disks};
 
 use crate::id::Lower;
 use crate::lines::divisor::Divisor;
@@ -33,7 +32,7 @@ struct CountedColumns {
 }
 
 impl Model for ResolvedColumns {
-    ghost use Rattle.std.specs.Prelude.{◌≡◌, List, length};
+    ghost use Rattle.dm_stack.specs.Base.{◌≡◌, List, length};
     ghost use Rattle.dm_stack.specs.declared.lines.resolved_columns.ResolvedColumn.{ResolvedColumn};
     ghost use Rattle.dm_stack.specs.lines.ResolvedColumns.{are_on_disks};
 

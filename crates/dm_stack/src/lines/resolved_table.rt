@@ -8,11 +8,10 @@
 //! the one of the next bucket's first sector; these are mostly close to each other.
 //!
 //! Buckets, and what is read ahead, are here for speed alone: RESULTS.md has their gain as *finer buckets, four
-//! lines read ahead* and *buckets with room reserved*. Buckets rest on `AreFirsts`; without any, all lines are
-//! searched. Change them only if you measure random requests on 65,536 lines, and their load, before and after.
+//! lines read ahead*. Buckets rest on `AreFirsts`; without any, all lines are searched. Change them only if you
+//! measure random requests on 65,536 lines, and their load, before and after.
 
-ghost use Rattle.std.specs.Prelude.{◌≡◌, ◌+◌, ◌^◌, ◌<◌, ◌≤◌, IfOk, length};
-ghost use Rattle.dm_stack.specs.lines.LineSearch.{AreFirsts, IsStartOf, StartsAfter, StartsBy};
+ghost use Rattle.dm_stack.specs.Prelude.{◌≡◌, ◌+◌, ◌^◌, ◌<◌, ◌≤◌, IfOk, length, AreFirsts, IsStartOf, StartsAfter, StartsBy};
 
 use crate::checks::limits::{MOST_LENGTH, MOST_LINES};
 use crate::lines::resolved_line::{ResolvedLine, ResolvedTarget};
@@ -31,7 +30,7 @@ pub(crate) struct ResolvedTable {
 }
 
 impl Model for ResolvedTable {
-    ghost use Rattle.std.specs.Prelude.{List};
+    ghost use Rattle.dm_stack.specs.Base.{List};
     ghost use Rattle.dm_stack.specs.declared.lines.resolved_line.ResolvedLine.{ResolvedLine};
     ghost use Rattle.dm_stack.specs.lines.LineSearch.{AreFirsts};
 

@@ -4,9 +4,7 @@
 //! target: a new target says what it names here, in `span_at`, and in `target_spans`
 //! (`specs/lines/Span`, and by names `specs/tables/Span` of `dm_table`). No memory is taken.
 
-ghost use Rattle.std.specs.Prelude.{◌≡◌, ◌+◌, ◌/◌, ◌<◌, ◌^◌, IfSome, drop, length, map, slice_get};
-ghost use Rattle.std.specs.Iterator.{YieldsFirst, item_count};
-ghost use Rattle.dm_stack.specs.lines.Span.{column_span, spans, whole_span};
+ghost use Rattle.dm_stack.specs.Prelude.{◌≡◌, ◌+◌, ◌/◌, ◌<◌, ◌^◌, IfSome, drop, length, map, slice_get, YieldsFirst, item_count, column_span, spans, whole_span};
 
 use crate::id::Lower;
 use crate::lines::resolved_columns::ResolvedColumn;

@@ -4,8 +4,7 @@
 //! so a row of chunks costs the divisions of the first one. The rule that assigns chunks to columns
 //! is in this file alone.
 
-ghost use Rattle.std.specs.Prelude.{◌≡◌, ◌+◌, ◌-◌, ◌<◌, ◌^◌, ℕ};
-ghost use Rattle.dm_stack.specs.lines.StripePosition.{IsStripePosition};
+ghost use Rattle.dm_stack.specs.Prelude.{◌≡◌, ◌+◌, ◌-◌, ◌<◌, ◌^◌, ℕ, IsStripePosition};
 
 use crate::lines::divisor::Divisor;
 
@@ -46,7 +45,11 @@ pub(crate) fn position_at(chunk_size: &Divisor, count: &Divisor, distance: u64) 
 
 /// The position of the first sector of the next chunk: on the next column, or, after the last column,
 /// on the first one, a chunk further on.
-pub(crate) fn next_chunk(chunk_size: u64, count: usize, position: StripePosition) -> StripePosition
+pub(crate) fn next_stripe_chunk(
+    chunk_size: u64,
+    count: usize,
+    position: StripePosition,
+) -> StripePosition
     requires chunk { 0 < chunk_size }
     requires column { position.column < count }
     requires small { position.chunk_start + chunk_size < 2 ^ 64 }

@@ -3,10 +3,7 @@
 //! What makes lines by ids looks names up here, and no check does. A clause sees the description alone; the
 //! invariant says that the indexes are those of its names.
 
-ghost use Rattle.std.specs.Prelude.{◌≡◌, map};
-ghost use Rattle.std.specs.List.{All};
-ghost use Rattle.dm_stack.specs.Description.{described, lower_of};
-ghost use Rattle.dm_stack.specs.checks.Soundness.{HaveSmallEnds};
+ghost use Rattle.dm_stack.specs.Prelude.{◌≡◌, map, All, described, lower_of, HaveSmallEnds};
 
 use crate::id::{DeviceId, DiskId, Lower};
 use crate::names::name_index::NameIndex;

@@ -11,12 +11,7 @@
 //! name's number tried before its hash* and *requests read where they stand*. Measure small requests, and loads of
 //! many lines, before and after a change.
 
-ghost use Rattle.std.specs.Prelude.{◌≡◌, ◌+◌, ◌++◌, ◌∷◌, ◌<◌, ◌≤◌, [], IfOk, IfSome, List, ℕ, Some};
-ghost use Rattle.std.specs.Prelude.{drop, get_or, if◌then◌else◌, length, not, position, take};
-ghost use Rattle.std.specs.List.{list_any};
-ghost use Rattle.dm_table.specs.words.Bytes.{code};
-ghost use Rattle.dm_stack.specs.Description.{is_same};
-ghost use Rattle.dm_stack.specs.names.NameIndex.{ArePlaces, IsKeyOf, IsPlaceOf};
+ghost use Rattle.dm_stack.specs.Prelude.{◌≡◌, ◌+◌, ◌++◌, ◌∷◌, ◌<◌, ◌≤◌, [], IfOk, IfSome, List, ℕ, Some, drop, get_or, if◌then◌else◌, length, not, position, take, list_any, code, is_same, ArePlaces, IsKeyOf, IsPlaceOf};
 ghost use Rattle.dm_stack.specs.declared.names.name_key.TheConstants.{KEY_BYTES};
 
 use crate::names::name_key::{KEY_BYTES, NameKey, first_space};
@@ -59,7 +54,7 @@ pub(crate) struct NameIndex {
 }
 
 impl Model for NameIndex {
-    ghost use Rattle.std.specs.Prelude.{List, ℕ};
+    ghost use Rattle.dm_stack.specs.Base.{List, ℕ};
     ghost use Rattle.dm_stack.specs.names.NameIndex.{IsIndex, names_in};
 
     ghost Value = { List (List ℕ) };
@@ -143,7 +138,7 @@ impl NameIndex {
         Some((number, len))
     }
 
-    /// The same for a name of 16 bytes or more.
+    /// The number and the length of a name of 16 bytes or more at the front of a text, up to a space.
     #[inline(never)]
     fn find_long(&self, text: &[u8]) -> Option<(usize, usize)>
         ensures number { IfSome result

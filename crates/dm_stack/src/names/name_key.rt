@@ -7,10 +7,7 @@
 //! They are here for speed alone: RESULTS.md has the gain as *short names compared at once*. Measure small requests
 //! before and after a change.
 
-ghost use Rattle.std.specs.Prelude.{◌≡◌, ◌-◌, ◌<◌, ◌≤◌, ◌++◌, ◌↔◌, IfSome, IsTrue, get_or, length, replicate, take};
-ghost use Rattle.std.specs.Int.{to_le_bytes, w64};
-ghost use Rattle.dm_table.specs.words.Bytes.{code};
-ghost use Rattle.dm_stack.specs.names.NameIndex.{IsKeyOf};
+ghost use Rattle.dm_stack.specs.Prelude.{◌≡◌, ◌-◌, ◌<◌, ◌≤◌, ◌++◌, ◌↔◌, IfSome, IsTrue, get_or, length, replicate, take, to_le_bytes, w64, code, IsKeyOf};
 ghost use Rattle.dm_stack.specs.declared.names.name_key.TheConstants.{KEY_BYTES};
 
 use dm_table::{as_array, put_bytes};

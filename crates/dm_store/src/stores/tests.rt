@@ -1,6 +1,6 @@
 //! Stores in memory, and what is read of them. What each word is for is tested on the built program.
 
-ghost use Rattle.std.specs.Prelude.{◌≡◌};
+ghost use Rattle.dm_store.specs.Prelude.{◌≡◌};
 
 use super::*;
 use crate::image_list::listed_images;
@@ -31,7 +31,12 @@ static ROWS: [([u32; 4], &[(u64, u64)], usize, &str); 14] = [
     ([0, 0, 0, 0], &[], 1, ""),
     (USED, &[], 2, ""),
     (USED, &[(7, 2), (99, 3)], 2, ""),
-    (USED, &[(7, 2), (0, 0), (7, 2)], 2, ""),
+    (
+        USED,
+        &[(7, 2), (0, 0), (8, 4)],
+        2,
+        "dmremap: store s: gap\n",
+    ),
     ([0x7041_6e53, 0, 1, 8], &[(7, 2)], 1, ""),
     (USED, &[], 0, "dmremap: store s: read\n"),
     (USED, &[], 1, "dmremap: store s: read\n"),

@@ -1,10 +1,5 @@
 -- The fewest pieces are pieces of their units and apart, no other pieces are, and none are fewer.
-use Rattle.std.proofs.Common.{◌≡◌, ℕ, zero, suc, ◌<◌, ◌≤◌, Bool, true, false, cond, List, [], ◌∷◌, ◌++◌, length, refl, sym, ap, ◌∙◌, arith}
-use Rattle.std.specs.List.{flat_map, AllByRecursion}
-use Rattle.std.proofs.lemmas.List.{append-nil}
-use Rattle.dm_map.specs.pieces.Units.{BlockUnit, next_unit, units_in}
-use Rattle.dm_stream.specs.laws.Join.{onto_begins}
-use Rattle.dm_stream.specs.pieces.Pieces.{UnitRun, piece_units, joins, is_after, onto, fewest, ArePiecesOf, NoneContinues, AreFewest}
+use Rattle.dm_stream.proofs.Prelude.{◌≡◌, ℕ, zero, suc, ◌<◌, ◌≤◌, Bool, true, false, cond, List, [], ◌∷◌, ◌++◌, length, refl, sym, ap, ◌∙◌, arith, flat_map, AllByRecursion, append-nil, BlockUnit, next_unit, units_in, onto_begins, UnitRun, piece_units, joins, is_after, onto, fewest, ArePiecesOf, NoneContinues, AreFewest}
 use Rattle.dm_stream.proofs.pieces.PieceLemmas.{joins-next, joined_next, is_after-one, is_after-more, onto-joined, fewest-apart, fewest-run}
 
 -- a unit before pieces: the units, the lengths and the number of the pieces that come of it

@@ -1,11 +1,7 @@
 -- What fits on the disks of a stack is few sectors.
-use Rattle.std.proofs.Common.{◌<◌, ◌^◌, ℕ, arith}
-use Rattle.dm_stack.specs.Description.{Description}
-use Rattle.dm_stack.specs.checks.Soundness.{IsSound}
+use Rattle.dm_stream.proofs.Prelude.{◌<◌, ◌^◌, ℕ, arith, Description, IsSound, BlockUnit, CopyOf, FillOf, ReadOf, WriteOf, IsOnDisk, Fits}
 use Rattle.dm_stack.specs.declared.id.Lower.TheVariants as lowers
-use Rattle.dm_map.specs.pieces.Units.{BlockUnit, CopyOf, FillOf, ReadOf, WriteOf, IsOnDisk}
 use Rattle.dm_stack.proofs.InStack.{lower_small}
-use Rattle.dm_stream.specs.pieces.Pending.{Fits}
 
 -- what a disk has is few sectors
 few : (stack : Description) (disk sector len : ℕ) → IsSound stack → IsOnDisk stack disk sector len → len < 2 ^ 64

@@ -1,21 +1,7 @@
 -- What a join took and left at one piece.
-use Rattle.std.proofs.Common.{◌≡◌, ℕ, zero, suc, ◌+◌, ◌≤◌, Bool, true, false, List, [], ◌∷◌, ◌++◌, Option, Some, None, refl, sym, ap, subst, ◌∙◌, append_assoc, arith}
-use Rattle.std.proofs.lemmas.List.{append-nil}
-use Rattle.std.proofs.lemmas.Grind.{flat_map-append}
-use Rattle.dm_table.specs.io.DeviceIo.{since}
-use Rattle.dm_stack.specs.Description.{Description}
+use Rattle.dm_stream.proofs.Prelude.{◌≡◌, ℕ, zero, suc, ◌+◌, ◌≤◌, Bool, true, false, List, [], ◌∷◌, ◌++◌, Option, Some, None, refl, sym, ap, subst, ◌∙◌, append_assoc, arith, append-nil, flat_map-append, since, Description, BlockUnit, first_unit, next_unit, piece_len, units_in, units_of, Pending, AreApart, HoldsNoRange, IsHeld, IsNoRange, goes_on, held_of, held_units, piece_of, piece_view, range_piece, DiskRange, HasUnits, HasLeft, HasTaken, last_of_units, some_before, beginning-before, fewest, is_after, all_but_last, piece_text, pieces_text, since-same, IsBeginning, IsCutShort}
 use Rattle.dm_map.specs.declared.pieces.piece.Piece as coded
 use Rattle.dm_map.specs.declared.pieces.piece.Piece.TheVariants as kinds
-use Rattle.dm_map.specs.pieces.Units.{BlockUnit, first_unit, next_unit, piece_len, units_in, units_of}
-use Rattle.dm_stream.specs.pieces.Pending.{Pending, AreApart, HoldsNoRange, IsHeld, IsNoRange, goes_on, held_of, held_units, piece_of, piece_view, range_piece}
-use Rattle.dm_stream.specs.declared.pieces.disk_range.DiskRange.{DiskRange}
-use Rattle.dm_stream.specs.pieces.Join.{HasUnits, HasLeft, HasTaken}
-use Rattle.dm_stream.specs.laws.Join.{last_of_units, some_before, beginning-before}
-use Rattle.dm_stream.specs.pieces.Pieces.{fewest, is_after}
-use Rattle.dm_table.specs.words.Fields.{all_but_last}
-use Rattle.dm_stream.specs.pieces.PieceText.{piece_text, pieces_text}
-use Rattle.dm_table.specs.laws.Progress.{since-same}
-use Rattle.dm_table.specs.io.WriteAll.{IsBeginning, IsCutShort}
 use Rattle.dm_stream.proofs.pieces.PieceLemmas.{fewest-apart, fewest-run, units_joined}
 
 -- where a piece does not go on from another, that one is whole

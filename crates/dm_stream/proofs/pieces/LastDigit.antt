@@ -1,10 +1,5 @@
 -- The text of a number of which only the last digit is new.
-use Rattle.std.proofs.Common.{◌≡◌, ℕ, zero, suc, ◌+◌, ◌-◌, ◌<◌, ◌^◌, ◌/◌, ◌%◌, ◌++◌, List, [], ◌∷◌, ◌≤◌, length, take, set, decimal, refl, ap, arith, append_assoc, length-append, length-take-le, inl, inr}
-use Rattle.std.proofs.Math.Nat.{div-eq_of_lt, mod-eq_of_lt}
-use Rattle.std.proofs.Math.Seq.{set-append_seam, take-set-lt}
-use Rattle.std.proofs.lemmas.Bool.{cases_lt}
-use Rattle.std.proofs.lemmas.Fmt.{decimal_digit, decimal_step}
-use Rattle.dm_stream.specs.pieces.NumberPrefix.{number_prefix}
+use Rattle.dm_stream.proofs.Prelude.{◌≡◌, ℕ, zero, suc, ◌+◌, ◌-◌, ◌<◌, ◌^◌, ◌/◌, ◌%◌, ◌++◌, List, [], ◌∷◌, ◌≤◌, length, take, set, decimal, refl, ap, arith, append_assoc, length-append, length-take-le, inl, inr, div-eq_of_lt, mod-eq_of_lt, set-append_seam, take-set-lt, cases_lt, decimal_digit, decimal_step, number_prefix}
 
 -- the digits before the last one, by the tens
 abbrev tens_text : ℕ → List ℕ

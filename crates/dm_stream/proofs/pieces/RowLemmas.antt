@@ -1,22 +1,10 @@
 -- A join that takes a row of legs: the range between two of them is at hand, and it is as if that were held.
-use Rattle.std.proofs.Common.{◌≡◌, ℕ, ◌≤◌, true, false, Bool, List, Some, refl, arith}
-use Rattle.std.specs.Prelude.{Ok, Err}
-use Rattle.dm_table.specs.declared.requests.request.Op.{Op}
-use Rattle.dm_table.specs.io.DeviceIo.{OutputPast}
-use Rattle.dm_table.specs.io.Progress.{HasWritten, IsSameReference}
+use Rattle.dm_stream.proofs.Prelude.{◌≡◌, ℕ, ◌≤◌, true, false, Bool, List, Some, refl, arith, Ok, Err, Op, OutputPast, HasWritten, IsSameReference, Description, AreOnDisks, IsLeg, LegsView, LiesOnDisk, leg_lies_on, leg_on_disk, IsDiskLeg, IsHanded, BlockUnit, IsOnDisk, disk_unit, diskless_len, units_in, units_of, DiskRange, HasLeft, HasTaken, join_past, IsHeld, held_diskless, holding, piece_of, range_piece}
 use Rattle.dm_stack.specs.declared.id.Lower.TheVariants.{Disk}
 use Rattle.dm_stack.specs.declared.lines.leg.Beneath.{Beneath}
 use Rattle.dm_stack.specs.declared.lines.leg.Beneath.TheVariants as beneath
 use Rattle.dm_stack.specs.declared.lines.leg.Leg.{Leg}
-use Rattle.dm_stack.specs.Description.{Description}
-use Rattle.dm_stack.specs.lines.Leg.{AreOnDisks, IsLeg, LegsView, LiesOnDisk}
-use Rattle.dm_stack.proofs.LegLemmas.{leg_lies_on, leg_on_disk, IsDiskLeg}
-use Rattle.dm_map.specs.pieces.Sink.{IsHanded}
-use Rattle.dm_map.specs.pieces.Units.{BlockUnit, IsOnDisk, disk_unit, diskless_len, units_in, units_of}
-use Rattle.dm_stream.specs.declared.pieces.disk_range.DiskRange.{DiskRange}
 use Rattle.dm_stream.specs.declared.pieces.join.Join.{Join}
-use Rattle.dm_stream.specs.pieces.Join.{HasLeft, HasTaken, join_past}
-use Rattle.dm_stream.specs.pieces.Pending.{IsHeld, held_diskless, holding, piece_of, range_piece}
 
 -- the join as it would be if it held a range
 abbrev pub at_hand : {W : Type 0} → Join W → DiskRange → Join W

@@ -1,13 +1,6 @@
 -- A line that says a request is that request, and what is read of the held bytes comes next.
-use Rattle.std.proofs.Common.{◌≡◌, ℕ, ◌+◌, ◌<◌, ◌≤◌, List, [], ◌∷◌, ◌++◌, length, take, drop, length-take-le, arith}
-use Rattle.std.proofs.lemmas.Bool.{le-ltb}
-use Rattle.std.proofs.lemmas.List.{append-nil}
-use Rattle.dm_table.specs.io.DeviceIo.{Stand, Open, since}
-use Rattle.dm_table.specs.requests.RequestLine.{RequestValues, DescribesRequest}
+use Rattle.dm_stream.proofs.Prelude.{◌≡◌, ℕ, ◌+◌, ◌<◌, ◌≤◌, List, [], ◌∷◌, ◌++◌, length, take, drop, length-take-le, arith, le-ltb, append-nil, Stand, Open, since, RequestValues, DescribesRequest, ALine, line_parts, next_answer, since-same, grows-same, NumberedRequest, Requests, after_requests, line_requests}
 use Rattle.dm_table.proofs.RequestLemmas.{read-said}
-use Rattle.dm_stream.specs.requests.Lines.{ALine, line_parts, next_answer}
-use Rattle.dm_table.specs.laws.Progress.{since-same, grows-same}
-use Rattle.dm_stream.specs.requests.Requests.{NumberedRequest, Requests, after_requests, line_requests}
 use Rattle.dm_stream.specs.declared.requests.lines.TheConstants.{MOST_LINE_BYTES}
 use Rattle.dm_stream.specs.declared.requests.handling.TheConstants.{MOST_REQUESTS}
 use Rattle.dm_stream.proofs.requests.LineParts.{next_held}

@@ -1,17 +1,9 @@
 -- One turn over the lines: a request that is handed on, or the end.
-use Rattle.std.proofs.Common.{◌≡◌, ◌≤◌, ◌==◌, cond, true, false, Bool, ltb, ℕ, suc, ◌+◌, List, [], ◌∷◌, ◌++◌, length, drop, sym, ap, ◌∙◌, refl, append_assoc, add-one, arith}
-use Rattle.std.specs.List.{onto_first}
-use Rattle.std.proofs.lemmas.Bool.{ltb-false}
-use Rattle.std.proofs.lemmas.List.{append-nil}
-use Rattle.dm_table.specs.io.DeviceIo.{Clean, InputPast, Stand, delivery, since, stand_of}
-use Rattle.dm_stream.specs.requests.Lines.{Answer, ALine, ALong, line_parts, next_answer, rest_answer}
-use Rattle.dm_table.specs.io.Progress.{HasGrown, MetNothing}
-use Rattle.dm_table.specs.laws.Progress.{since-same}
-use Rattle.dm_stream.specs.requests.Requests.{HasMet, IsAmong, NumberedRequest, Requests, after_requests, ends as only_ends, line_requests, next_requests, requests_from, requests_of}
+use Rattle.dm_stream.proofs.Prelude.{◌≡◌, ◌≤◌, ◌==◌, cond, true, false, Bool, ltb, ℕ, suc, ◌+◌, List, [], ◌∷◌, ◌++◌, length, drop, sym, ap, ◌∙◌, refl, append_assoc, add-one, arith, onto_first, ltb-false, append-nil, Clean, InputPast, Stand, delivery, since, stand_of, Answer, ALine, ALong, line_parts, next_answer, rest_answer, HasGrown, MetNothing, since-same, HasMet, IsAmong, NumberedRequest, Requests, after_requests, line_requests, next_requests, requests_from, requests_of, since_more}
+use Rattle.dm_stream.specs.requests.Requests.{ends as only_ends}
 use Rattle.dm_stream.specs.declared.requests.lines.TheConstants.{MOST_LINE_BYTES}
 use Rattle.dm_stream.specs.declared.runs.ending.Ending as ending
 use Rattle.dm_stream.specs.declared.runs.ending.RequestWord as word
-use Rattle.dm_table.specs.laws.Progress.{since_more}
 use Rattle.dm_stream.proofs.requests.LineParts.{some_part, next_line}
 
 -- The first part
@@ -91,7 +83,7 @@ told_more all held new line done more n stand told next is = λ at_end later.
     let rest = requests_from at_end (n + 1) (line_parts (drop (length line + 1) (held ++ new) ++ later)) in
     cc (append_assoc all new later, told at_end (new ++ later), append_assoc held new later, line_first at_end (held ++ new) line later n (next_is stand (line_parts (held ++ new)) line next), is rest, append_assoc done more rest.all)
 
--- the same, by what the input handed out
+-- a line more is a request, where the input handed out bytes in turns
 pub told_turn : (h0 h1 h2 held after line : List ℕ) (done more : List NumberedRequest) (n : ℕ) (stand : Stand) → Told (since h0 h1) held done n
     → h1 ≡ h0 ++ since h0 h1 → h2 ≡ h1 ++ since h1 h2
     → ALine line ≡ next_answer stand (line_parts (held ++ since h1 h2)) → ((rest : Requests) → line_requests n line rest ≡ after_requests more rest)

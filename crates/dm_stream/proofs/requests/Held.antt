@@ -1,9 +1,5 @@
 -- Ranges of a buffer: what is held after a read, and after a line is gone.
-use Rattle.std.proofs.Common.{◌≡◌, ℕ, ◌+◌, ◌-◌, ◌<◌, ◌≤◌, ◌++◌, List, length, take, drop, slice_range, ap, ◌∙◌, arith, length-take, length-take-le}
-use Rattle.std.proofs.Math.Seq.{take-add}
-use Rattle.std.proofs.lemmas.List.{take-take, drop-drop, drop-take}
-use Rattle.dm_table.specs.io.DeviceIo.{since}
-use Rattle.dm_table.specs.laws.Progress.{since_is}
+use Rattle.dm_stream.proofs.Prelude.{◌≡◌, ℕ, ◌+◌, ◌-◌, ◌<◌, ◌≤◌, ◌++◌, List, length, take, drop, slice_range, ap, ◌∙◌, arith, length-take, length-take-le, take-add, take-take, drop-drop, drop-take, since, since_is}
 
 -- a range keeps its bytes where all before its end keep theirs
 pub same_range : (new old held : List ℕ) (start len : ℕ) → take (start + len) new ≡ take (start + len) old → slice_range old start (start + len) ≡ held → slice_range new start (start + len) ≡ held
@@ -40,7 +36,7 @@ after_line buffer held start end n e l =
     let place : start + n + 1 ≡ start + (n + 1) = omega arith in
     cc (drop-drop (n + 1) start buffer, drop-take (n + 1) len (drop start buffer))
 
--- the same, where the line's length is that of its bytes
+-- what is held after a line of which the bytes are given, and its newline
 pub after_bytes : (buffer held : List ℕ) (start end n : ℕ) → slice_range buffer start end ≡ held → n < length held → slice_range buffer (start + n + 1) end ≡ drop (length (slice_range buffer start (start + n)) + 1) held
 after_bytes buffer held start end n e l =
     let whole : length (slice_range buffer start (start + n)) ≡ n = ap length (line_at buffer held start end n e l) ∙ length-take-le n held (omega arith) in

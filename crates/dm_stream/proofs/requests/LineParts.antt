@@ -1,13 +1,6 @@
 -- Where the parts between newlines end.
-use Rattle.std.proofs.Common.{◌≡◌, ℕ, zero, suc, ◌+◌, ◌<◌, ◌≤◌, ◌++◌, ◌==◌, cond, Bool, true, false, List, [], ◌∷◌, length, get_or, take, drop, refl, sym, ap, ◌∙◌, arith, length-take, take-append-drop}
-use Rattle.std.specs.List.{onto_first}
-use Rattle.std.proofs.lemmas.List.Splits.{slice_split-cons_yes, slice_split-cons_no}
-use Rattle.std.proofs.lemmas.Bool.{le-ltb, false_from_ne_true}
-use Rattle.std.proofs.lemmas.List.{drop-drop}
-use Rattle.std.proofs.Math.Seq.{take-add}
-use Rattle.dm_table.specs.io.DeviceIo.{Stand}
+use Rattle.dm_stream.proofs.Prelude.{◌≡◌, ℕ, zero, suc, ◌+◌, ◌<◌, ◌≤◌, ◌++◌, ◌==◌, cond, Bool, true, false, List, [], ◌∷◌, length, get_or, take, drop, refl, sym, ap, ◌∙◌, arith, length-take, take-append-drop, onto_first, slice_split-cons_yes, slice_split-cons_no, le-ltb, false_from_ne_true, drop-drop, take-add, Stand, line_parts, next_answer, ALine}
 use Rattle.dm_stream.specs.declared.requests.lines.TheConstants.{MOST_LINE_BYTES}
-use Rattle.dm_stream.specs.requests.Lines.{line_parts, next_answer, ALine}
 
 abbrev pub is_newline : ℕ → Bool
 is_newline b = b == 10

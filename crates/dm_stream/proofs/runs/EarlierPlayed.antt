@@ -1,12 +1,5 @@
 -- What playing requests in a row leaves.
-use Rattle.std.proofs.Common.{◌≡◌, [], Some}
-use Rattle.std.proofs.lemmas.List.{append-nil}
-use Rattle.dm_table.specs.io.DeviceIo.{Delivery}
-use Rattle.dm_stack.specs.Description.{Description}
-use Rattle.dm_map.specs.state.State.{State}
-use Rattle.dm_stream.specs.runs.Earlier.{HasMoved}
-use Rattle.dm_stream.specs.runs.Outcome.{requests_outcome}
-use Rattle.dm_stream.specs.requests.Requests.{requests_of}
+use Rattle.dm_stream.proofs.Prelude.{◌≡◌, [], Some, append-nil, Delivery, Description, State, HasMoved, requests_outcome, requests_of}
 use Rattle.dm_stream.specs.declared.runs.ending.Ending as ending
 
 -- all were played, and end by themselves

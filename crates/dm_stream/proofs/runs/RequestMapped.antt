@@ -1,31 +1,9 @@
 -- What is written for a request: its units were taken, or a part of them was left; and what it adds to the outcome.
-use Rattle.std.proofs.Common.{◌≡◌, ℕ, ◌++◌, List, [], ◌∷◌, Option, None, Some, Result, Ok, Err, OnOk, refl, ◌∙◌, append_assoc, subst, decimal}
-use Rattle.std.proofs.lemmas.Grind.{flat_map-append}
-use Rattle.std.proofs.lemmas.List.{append-nil}
-use Rattle.dm_table.specs.io.DeviceIo.{OutputPast, since, written_since}
-use Rattle.dm_stack.specs.Description.{Description}
-use Rattle.dm_map.specs.Mapper.{OnSinkFault}
-use Rattle.dm_table.specs.declared.requests.request.Op.{Op}
+use Rattle.dm_stream.proofs.Prelude.{◌≡◌, ℕ, ◌++◌, List, [], ◌∷◌, Option, None, Some, Result, Ok, Err, OnOk, refl, ◌∙◌, append_assoc, subst, decimal, flat_map-append, append-nil, OutputPast, since, written_since, Description, OnSinkFault, Op, BlockUnit, HasTakenOrIsHome, IsHome, Pending, held_units, HasTaken, HasLeft, HasUnits, onto_begins, some_before, MapperView, HasStopped, device_of, request_answer, NumberedRequest, State, UnitRun, fewest, all_but_last, piece_text, pieces_text, unit_text, IsBeginning, IsCutShort, and_then, HasWritten, Wrote}
 use Rattle.dm_map.specs.declared.walk.home.Home.{Home}
-use Rattle.dm_map.specs.pieces.Units.{BlockUnit}
-use Rattle.dm_map.specs.walk.Home.{HasTakenOrIsHome, IsHome}
 use Rattle.dm_map.specs.declared.mapper.MapFault.{MapFault}
 use Rattle.dm_map.specs.declared.mapper.MapFault.TheVariants as faults
-use Rattle.dm_stream.specs.pieces.Pending.{Pending, held_units}
-use Rattle.dm_stream.specs.pieces.Join.{HasTaken, HasLeft, HasUnits}
-use Rattle.dm_stream.specs.laws.Join.{onto_begins, some_before}
-use Rattle.dm_map.specs.Mapper.{MapperView}
-use Rattle.dm_stream.specs.runs.Mapped.{HasStopped}
-use Rattle.dm_stream.specs.runs.Outcome.{device_of, request_answer}
-use Rattle.dm_stream.specs.requests.Requests.{NumberedRequest}
-use Rattle.dm_map.specs.state.State.{State}
 use Rattle.dm_stream.specs.declared.runs.ending.NotMapped.TheVariants as causes
-use Rattle.dm_stream.specs.pieces.Pieces.{UnitRun, fewest}
-use Rattle.dm_table.specs.words.Fields.{all_but_last}
-use Rattle.dm_stream.specs.pieces.PieceText.{piece_text, pieces_text, unit_text}
-use Rattle.dm_table.specs.io.WriteAll.{IsBeginning, IsCutShort}
-use Rattle.dm_table.proofs.WriteLemmas.{and_then}
-use Rattle.dm_table.specs.io.Progress.{HasWritten, Wrote}
 
 pub on_sink : {R F : Type 0} (r : Result R (MapFault F)) (fault : F) (P : Type 0) → r ≡ Err (faults.Sink fault) → OnSinkFault r P → P
 on_sink {R} {F} r fault P e h = rw e at h

@@ -1,18 +1,6 @@
 -- What the requests mapped so far say of the outcome of a run.
-use Rattle.std.proofs.Common.{◌≡◌, ◌≢◌, ℕ, Bool, List, [], ◌++◌, Option, Some, Result, Ok, Err, IsErr, OnErr, OnOk, ◌∙◌, refl}
-use Rattle.std.proofs.lemmas.List.{append-nil}
-use Rattle.dm_table.specs.io.DeviceIo.{Delivery, InputPast, OutputPast, since, written_since}
-use Rattle.dm_stack.specs.Description.{Description}
-use Rattle.dm_map.specs.Mapper.{MapperView}
-use Rattle.dm_stream.specs.runs.Mapped.{HasAnswered, HasStopped}
-use Rattle.dm_stream.specs.runs.Outcome.{Outcome, if_done, outcome_from, requests_outcome, with_status}
-use Rattle.dm_table.specs.io.Progress.{HasWritten, IsClosedAfter, MetNothing, Wrote}
-use Rattle.dm_table.specs.laws.Progress.{closed_as}
-use Rattle.dm_stream.specs.runs.StatusLines.{status_text}
+use Rattle.dm_stream.proofs.Prelude.{◌≡◌, ◌≢◌, ◌<◌, ap, arith, ℕ, Bool, List, [], ◌++◌, Option, Some, Result, Ok, Err, IsErr, OnErr, OnOk, ◌∙◌, refl, append-nil, Delivery, InputPast, OutputPast, since, written_since, Description, MapperView, HasAnswered, HasStopped, Outcome, if_done, outcome_from, requests_outcome, with_status, HasWritten, IsClosedAfter, MetNothing, Wrote, closed_as, status_text, HasMet, IsAmong, NumberedRequest, requests_of, HasRun, IsMapped, ending_for, write_faults, State}
 use Rattle.dm_stream.proofs.runs.RequestMapped.{cut_of_more}
-use Rattle.dm_stream.specs.requests.Requests.{HasMet, IsAmong, NumberedRequest, requests_of}
-use Rattle.dm_stream.specs.runs.Run.{HasRun, IsMapped, ending_for, write_faults}
-use Rattle.dm_map.specs.state.State.{State}
 use Rattle.dm_stream.specs.declared.runs.ending.Ending as ending
 use Rattle.dm_stream.specs.declared.runs.ending.NotMapped.{NotMapped}
 use Rattle.dm_stream.specs.declared.runs.ending.NotMapped.TheVariants as causes
@@ -81,12 +69,23 @@ ran_whole E old new stack status outcome text left after e no_fault same mapped 
     record {
       output = closed_as (IsErr {T = Unit {0}} {E = E} (Ok tt)) (e ≡ ending.TheVariants.WriteFault) (λ err. absurd cc) (λ is. absurd (no_fault is)) closed;
       ends = λ n. (whole.1, same ∙ whole.2);
+      settled = λ more. (e, whole.1);
     }
 
+-- where it was flushed, no write had failed, so that all was answered
+settled_by : {E X : Type 0} → (past : X → OutputPast) (start : OutputPast) (mid new : X) (wrote : Result (Unit {0}) E) (Q : Type 0) (outcome : Outcome) (text : List ℕ) (left : State) (e : ending.Ending) → OnOk wrote (e ≢ ending.TheVariants.WriteFault) → OnErr wrote (Q × (new ≡ mid))
+    → (past mid).flushes ≡ start.flushes → IsMapped outcome text left e → start.flushes < (past new).flushes → (last : ending.Ending) × (outcome.ending ≡ Some last)
+settled_by past start mid new (Ok done) Q outcome text left e no_fault untouched same mapped more = (e, (mapped.whole no_fault).1)
+settled_by past start mid new (Err fault) Q outcome text left e no_fault untouched same mapped more =
+    let kept : (past new).flushes ≡ (past mid).flushes = ap (λ (x : _). (past x).flushes) untouched.1 in
+    absurd (omega (arith, kept, same, more))
+
 -- the output failed
-pub ran_failed : (E : Type 0) (old new : OutputPast) (fault : E) (outcome : Outcome) (left : State) → IsClosedAfter old new (IsErr {T = Unit {0}} (Err fault)) outcome.output
-    → HasRun old new outcome left ending.TheVariants.WriteFault
-ran_failed E old new fault outcome left closed = record {
+pub ran_failed : {E X : Type 0} → (past : X → OutputPast) (start : OutputPast) (mid new : X) (wrote : Result (Unit {0}) E) (fault : E) (Q : Type 0) (stack : Description) (status : Bool) (outcome : Outcome) (text : List ℕ) (left after : State) (e : ending.Ending)
+    → OnOk wrote (e ≢ ending.TheVariants.WriteFault) → OnErr wrote (Q × (new ≡ mid)) → Wrote start (past mid) wrote (with_status stack status outcome).output → IsMapped outcome text left e
+    → IsClosedAfter start (past new) (IsErr {T = Unit {0}} (Err fault)) (with_status stack status outcome).output → HasRun start (past new) (with_status stack status outcome) after ending.TheVariants.WriteFault
+ran_failed past start mid new wrote fault Q stack status outcome text left after e no_fault untouched done mapped closed = record {
   output = closed_as _ _ (λ err. refl) (λ is. refl) closed;
   ends = λ other. absurd (other refl);
+  settled = settled_by past start mid new wrote Q outcome text left e no_fault untouched done.moved.unflushed mapped;
 }

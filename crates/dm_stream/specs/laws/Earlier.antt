@@ -1,7 +1,5 @@
 -- The laws of a player of earlier requests as a handler: what it played, and then played or stopped at, is one.
-use Rattle.std.proofs.Common.{ℕ, List, [], ◌++◌, refl, ap, ◌∙◌, append_assoc}
-use Rattle.dm_stack.specs.Description.{Description}
-use Rattle.dm_map.specs.state.State.{State}
+use Rattle.dm_stream.specs.Base.{ℕ, List, [], ◌++◌, refl, ap, ◌∙◌, append_assoc, Description, State}
 use Rattle.dm_stream.specs.runs.Earlier.{HasMoved, HasStoppedAt}
 use Rattle.dm_stream.specs.runs.Outcome.{outcome_from}
 use Rattle.dm_stream.specs.requests.Requests.{NumberedRequest}

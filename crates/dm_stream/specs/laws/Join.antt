@@ -1,19 +1,10 @@
 -- The laws of a join as a sink: what it took, and then took or left, is one. They are here since an `impl` cites them.
-use Rattle.std.proofs.Common.{◌≡◌, ℕ, suc, Bool, true, false, cond, List, [], ◌∷◌, ◌++◌, refl, sym, ap, subst, ◌∙◌, append_assoc}
-use Rattle.std.proofs.lemmas.List.{append-nil}
+use Rattle.dm_stream.specs.Base.{◌≡◌, ℕ, suc, Bool, true, false, cond, List, [], ◌∷◌, ◌++◌, refl, sym, ap, subst, ◌∙◌, append_assoc, append-nil, OutputPast, since, since_more, written_to_more, written_to_none, Description, IsLawful, BlockUnit, all_but_last, since-same, IsBeginning}
 use Rattle.std.proofs.lemmas.Grind.{flat_map-append}
-use Rattle.dm_table.specs.io.DeviceIo.{OutputPast, since}
-use Rattle.dm_table.specs.laws.Progress.{since_more, written_to_more, written_to_none}
-use Rattle.dm_stack.specs.Description.{Description}
-use Rattle.dm_map.specs.pieces.Sink.{IsLawful}
-use Rattle.dm_map.specs.pieces.Units.{BlockUnit}
 use Rattle.dm_stream.specs.pieces.Pending.{Pending, held_units}
 use Rattle.dm_stream.specs.pieces.Join.{HasUnits, HasTaken, HasLeft, join_past}
 use Rattle.dm_stream.specs.pieces.Pieces.{UnitRun, fewest, joins, onto}
-use Rattle.dm_table.specs.words.Fields.{all_but_last}
 use Rattle.dm_stream.specs.pieces.PieceText.{piece_text, pieces_text}
-use Rattle.dm_table.specs.laws.Progress.{since-same}
-use Rattle.dm_table.specs.io.WriteAll.{IsBeginning}
 
 -- the first of the fewest pieces begins with the first unit
 pub record BeginsWith (unit : BlockUnit) (pieces : List UnitRun) : Type 0 where

@@ -1,16 +1,9 @@
 -- The laws of a request mapper as a handler: what it answered, and then answered or stopped at, is one.
-use Rattle.std.proofs.Common.{◌≡◌, ℕ, List, [], ◌∷◌, ◌++◌, Option, Some, sym, ap, ◌∙◌, append_assoc}
-use Rattle.dm_table.specs.io.DeviceIo.{since}
-use Rattle.dm_table.specs.laws.Progress.{since_more}
-use Rattle.dm_stack.specs.Description.{Description}
-use Rattle.dm_map.specs.Mapper.{MapperView}
-use Rattle.dm_map.specs.state.State.{State}
+use Rattle.dm_stream.specs.Base.{◌≡◌, ℕ, List, [], ◌∷◌, ◌++◌, Option, Some, sym, ap, ◌∙◌, append_assoc, since, since_more, Description, MapperView, State, since-same, NotMapped}
 use Rattle.dm_stream.specs.runs.Mapped.{HasAnswered, HasStopped}
 use Rattle.dm_stream.specs.runs.Outcome.{Outcome, after_text, outcome_from}
-use Rattle.dm_table.specs.laws.Progress.{since-same}
 use Rattle.dm_stream.specs.requests.Requests.{NumberedRequest}
 use Rattle.dm_stream.specs.declared.runs.ending.Ending as ending
-use Rattle.dm_stream.specs.declared.runs.ending.NotMapped.{NotMapped}
 use Rattle.dm_stream.specs.declared.runs.ending.NotMapped.TheVariants as causes
 use Rattle.dm_stream.specs.declared.runs.ending.RequestWord as word
 

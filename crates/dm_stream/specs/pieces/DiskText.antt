@@ -1,6 +1,5 @@
 -- The name of a disk as lines have it.
-use Rattle.std.specs.Prelude.{◌≡◌, ℕ, ◌+◌, Bool, true, false, List, [], ◌∷◌, ◌++◌, get_or, length, take}
-use Rattle.dm_table.specs.words.Bytes.{code}
+use Rattle.dm_stream.specs.Base.{◌≡◌, ℕ, ◌+◌, Bool, true, false, List, [], ◌∷◌, ◌++◌, get_or, length, take, code}
 
 -- the name of a disk as lines have it: with a space after it
 abbrev pub disk_text : List ℕ → List ℕ

@@ -1,15 +1,9 @@
 -- What a join took, and what it left, by what is held and what was written.
-use Rattle.std.specs.Prelude.{◌≡◌, ℕ, ◌-◌, ◌^◌, List, [], ◌∷◌, ◌++◌, None}
-use Rattle.dm_table.specs.io.DeviceIo.{OutputPast, since}
-use Rattle.dm_table.specs.io.Progress.{HasWrittenTo}
-use Rattle.dm_map.specs.pieces.Sink.{SinkPast}
-use Rattle.dm_map.specs.pieces.Units.{BlockUnit}
+use Rattle.dm_stream.specs.Base.{◌≡◌, ℕ, ◌-◌, ◌^◌, List, [], ◌∷◌, ◌++◌, None, OutputPast, since, HasWrittenTo, SinkPast, BlockUnit, all_but_last, IsBeginning}
 use Rattle.dm_stream.specs.declared.pieces.join.Join.{Join}
 use Rattle.dm_stream.specs.pieces.Pending.{Pending, held_diskless, held_units}
 use Rattle.dm_stream.specs.pieces.Pieces.{UnitRun, fewest}
-use Rattle.dm_table.specs.words.Fields.{all_but_last}
 use Rattle.dm_stream.specs.pieces.PieceText.{pieces_text}
-use Rattle.dm_table.specs.io.WriteAll.{IsBeginning}
 
 -- whatever units follow, some pieces are settled, and what is held stands for the others; the settled ones were written
 pub record HasTaken (old new : Pending) (units : List BlockUnit) (before after : List ℕ) : Type 0 where

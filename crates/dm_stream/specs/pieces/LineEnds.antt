@@ -1,6 +1,5 @@
 -- The ends of lines, as they are kept.
-use Rattle.std.specs.Prelude.{◌≡◌, ◌<◌, ◌≤◌, ℕ, List, [], ◌∷◌, ◌++◌, get_or, length, take, decimal}
-use Rattle.dm_table.specs.words.Bytes.{code}
+use Rattle.dm_stream.specs.Base.{◌≡◌, ◌<◌, ◌≤◌, ℕ, List, [], ◌∷◌, ◌++◌, get_or, length, take, decimal, code}
 
 -- a length and a newline
 abbrev pub line_end : ℕ → List ℕ

@@ -1,9 +1,7 @@
 -- What is held of a request: the piece that is still to be written.
-use Rattle.std.specs.Prelude.{ℕ, ◌<◌, ◌≤◌, ◌^◌, Bool, true, false, List, [], Option, Some, None}
-use Rattle.dm_stack.specs.Description.{Description}
+use Rattle.dm_stream.specs.Base.{ℕ, ◌<◌, ◌≤◌, ◌^◌, Bool, true, false, List, [], Option, Some, None, Description, BlockUnit, ReadOf, WriteOf, Zeros, Drops, Fails, CopyOf, FillOf, units_of, first_unit, piece_len, diskless_len, IsOnDisk, IsOnDisks}
 use Rattle.dm_map.specs.declared.pieces.piece.Piece.{Piece}
 use Rattle.dm_map.specs.declared.pieces.piece.Piece.TheVariants as coded
-use Rattle.dm_map.specs.pieces.Units.{BlockUnit, ReadOf, WriteOf, Zeros, Drops, Fails, CopyOf, FillOf, units_of, first_unit, piece_len, diskless_len, IsOnDisk, IsOnDisks}
 use Rattle.dm_stream.specs.pieces.Pieces as pieces
 use Rattle.dm_stream.specs.declared.pieces.disk_range.DiskRange.{DiskRange}
 
@@ -26,7 +24,7 @@ range_piece false disk start len = coded.Read disk start len
 abbrev pub piece_of : DiskRange → Piece
 piece_of range = range_piece range.letter range.disk range.start range.len
 
--- the same where a range is held
+-- what is pending, but with this range of a disk as the held piece
 abbrev pub holding : Pending → DiskRange → Pending
 holding pending range = record pending { piece = Some (piece_of range) }
 

@@ -1,9 +1,5 @@
 -- How pieces are written: a line each, under the number of their request.
-use Rattle.std.specs.Prelude.{ℕ, List, [], ◌∷◌, ◌++◌, codes, decimal}
-use Rattle.std.specs.List.{flat_map}
-use Rattle.dm_table.specs.words.Bytes.{code}
-use Rattle.dm_stack.specs.Description.{Description, disk_name_at}
-use Rattle.dm_map.specs.pieces.Units.{BlockUnit, ReadOf, WriteOf, Zeros, Drops, Fails, CopyOf, FillOf}
+use Rattle.dm_stream.specs.Base.{ℕ, List, [], ◌∷◌, ◌++◌, codes, decimal, flat_map, code, Description, disk_name_at, BlockUnit, ReadOf, WriteOf, Zeros, Drops, Fails, CopyOf, FillOf}
 use Rattle.dm_map.specs.declared.pieces.piece.Piece as coded
 use Rattle.dm_stream.specs.pieces.Pieces.{UnitRun}
 

@@ -1,7 +1,5 @@
 -- Pieces of units: consecutive units as one, and the fewest of them.
-use Rattle.std.specs.Prelude.{◌≡◌, ℕ, suc, ◌+◌, ◌<◌, ◌≤◌, Bool, true, false, ◌&&◌, ◌==◌, List, [], ◌∷◌, length, if◌then◌else◌}
-use Rattle.std.specs.List.{flat_map, AllByRecursion}
-use Rattle.dm_map.specs.pieces.Units.{BlockUnit, ReadOf, WriteOf, Zeros, Drops, Fails, CopyOf, FillOf, next_unit, units_in}
+use Rattle.dm_stream.specs.Base.{◌≡◌, ℕ, suc, ◌+◌, ◌<◌, ◌≤◌, Bool, true, false, ◌&&◌, ◌==◌, List, [], ◌∷◌, length, if◌then◌else◌, flat_map, AllByRecursion, BlockUnit, ReadOf, WriteOf, Zeros, Drops, Fails, CopyOf, FillOf, next_unit, units_in}
 
 -- a unit, and how many consecutive ones begin with it
 pub record UnitRun : Type 0 where
@@ -12,7 +10,7 @@ pub record UnitRun : Type 0 where
 abbrev pub piece_units : UnitRun → List BlockUnit
 piece_units piece = units_in piece.first piece.len
 
--- they are the same unit: of one kind, at the same sectors of the same disks
+-- two units are the same: of one kind, at the same sectors of the same disks
 abbrev pub is_unit : BlockUnit → BlockUnit → Bool
 is_unit (ReadOf disk sector) (ReadOf other_disk other_sector) = disk == other_disk && sector == other_sector
 is_unit (WriteOf disk sector) (WriteOf other_disk other_sector) = disk == other_disk && sector == other_sector

@@ -1,8 +1,7 @@
 -- The range that a line ends with.
-use Rattle.std.specs.Prelude.{◌≡◌, ◌<◌, ℕ, List, [], ◌∷◌, ◌++◌, length, decimal}
-use Rattle.dm_table.specs.words.Bytes.{code}
+use Rattle.dm_stream.specs.Base.{◌≡◌, ◌<◌, ℕ, List, [], ◌∷◌, ◌++◌, length, decimal, code}
 
--- its start, its length and a newline
+-- the text of a range: its start, its length and a newline
 abbrev pub range_text : ℕ → ℕ → List ℕ
 range_text start len = decimal start ++ code " " ∷ decimal len ++ code "\n" ∷ []
 

@@ -1,6 +1,5 @@
 -- Requests at the front of held bytes that are answered together.
-use Rattle.std.specs.Prelude.{◌≡◌, ℕ, ◌+◌, ◌≤◌, List, ◌++◌, Result, Ok, Err, drop, length, map}
-use Rattle.dm_table.specs.io.DeviceIo.{Stand}
+use Rattle.dm_stream.specs.Base.{◌≡◌, ℕ, ◌+◌, ◌≤◌, List, ◌++◌, Result, Ok, Err, drop, length, map, Stand}
 use Rattle.dm_stream.specs.requests.Lines.{line_parts}
 use Rattle.dm_stream.specs.requests.Requests.{IsAmong, NumberedRequest, after_requests, numbered, requests_from}
 use Rattle.dm_stream.specs.declared.requests.batch.Answered.{Answered}
@@ -25,14 +24,14 @@ abbrev pub IsAmongFirst : (IsThis : List NumberedRequest → Type 0) → (n : �
 IsAmongFirst IsThis n bytes =
     (requests : List NumberedRequest) × (k : ℕ) × (rest : List ℕ) × AreFirst n bytes requests k rest × IsAmong IsThis requests
 
--- so many requests at the front of the bytes, after others, were answered, their lines have so many bytes, and more can come
+-- requests at the front of the bytes were answered, after others; their number and the bytes of their lines are known, and more can come
 pub record HasAnsweredFronts {H S : Type 0} (IsReady : H → S → Type 0) (AreAnswered : H → S → List NumberedRequest → H → S → Type 0) (others : ℕ) (bytes : List ℕ) (fronts : Answered) (h0 : H) (s0 : S) (h1 : H) (s1 : S) : Type 0 where
   pub answered : AreFirstAnswered AreAnswered (others + 1) bytes (others + fronts.count + 1) (drop fronts.len bytes) h0 s0 h1 s1
   pub within : fronts.len ≤ length bytes
   pub few : others + fronts.count ≤ MOST_REQUESTS
   pub ready : IsReady h1 s1
 
--- they were, or it stopped at one of them
+-- requests at the front of the bytes were answered, or the handler stopped at one of them
 abbrev pub AnswersFronts : {H S F : Type 0} → (IsReady : H → S → Type 0) → (AreAnswered : H → S → List NumberedRequest → H → S → Type 0) → (AreStopped : H → S → List NumberedRequest → F → H → S → Type 0) → (others : ℕ) (bytes : List ℕ) → H → S → H → S → Result Answered F → Type 0
 AnswersFronts IsReady AreAnswered AreStopped others bytes h0 s0 h1 s1 (Ok fronts) = HasAnsweredFronts IsReady AreAnswered others bytes fronts h0 s0 h1 s1
 AnswersFronts IsReady AreAnswered AreStopped others bytes h0 s0 h1 s1 (Err fault) = IsAmongFirst (λ first. AreStopped h0 s0 first fault h1 s1) (others + 1) bytes

@@ -1,8 +1,5 @@
 -- The lines of the bytes that an input delivered.
-use Rattle.std.specs.Prelude.{ℕ, ◌+◌, List, [], ◌∷◌, length, drop, nat_lt, if◌then◌else◌}
-use Rattle.dm_table.specs.words.Fields.{parts_at}
-use Rattle.dm_table.specs.io.DeviceIo.{Stand, Clean, Failed, Open}
-use Rattle.dm_table.specs.words.Bytes.{code}
+use Rattle.dm_stream.specs.Base.{ℕ, ◌+◌, List, [], ◌∷◌, length, drop, nat_lt, if◌then◌else◌, parts_at, Stand, Clean, Failed, Open, code}
 use Rattle.dm_stream.specs.declared.requests.lines.TheConstants.{MOST_LINE_BYTES}
 use Rattle.dm_stream.specs.declared.requests.lines.Next as next
 

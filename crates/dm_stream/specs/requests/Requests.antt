@@ -1,11 +1,8 @@
 -- The requests that an input delivered, and how they end.
-use Rattle.std.specs.Prelude.{◌≡◌, ◌<◌, ◌≤◌, ℕ, ◌+◌, List, [], ◌∷◌, ◌++◌, Option, None, Some, Result, Ok, Err, nat_lt, if◌then◌else◌}
+use Rattle.dm_stream.specs.Base.{◌≡◌, ◌<◌, ◌≤◌, ℕ, ◌+◌, List, [], ◌∷◌, ◌++◌, Option, None, Some, Result, Ok, Err, nat_lt, if◌then◌else◌, Delivery, InputPast, Stand, MetNothing, RequestValues, values_of, request_reading}
 use Rattle.dm_table.specs.declared.requests.request.Request.{Request}
 use Rattle.dm_table.specs.declared.requests.request.RequestFault.{RequestFault}
 use Rattle.dm_table.specs.declared.requests.request.RequestFault.TheVariants as faults
-use Rattle.dm_table.specs.io.DeviceIo.{Delivery, InputPast, Stand}
-use Rattle.dm_table.specs.io.Progress.{MetNothing}
-use Rattle.dm_table.specs.requests.RequestLine.{RequestValues, values_of, request_reading}
 use Rattle.dm_stream.specs.requests.Lines.{Answer, ALine, AnEnd, AnUnended, ALong, AFault, Waits, line_parts, next_answer}
 use Rattle.dm_stream.specs.declared.runs.ending.Ending as ending
 use Rattle.dm_stream.specs.declared.runs.ending.RequestWord as word

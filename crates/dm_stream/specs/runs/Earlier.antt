@@ -1,10 +1,7 @@
 -- What playing earlier requests leaves: requests that were carried out before a run, whose answers nobody waits for.
-use Rattle.std.specs.Prelude.{◌≡◌, ℕ, List, ◌++◌, Option, Some, Result, Ok, Err, IfErr, OnOk}
-use Rattle.dm_stack.specs.Description.{Description}
-use Rattle.dm_map.specs.state.State.{State}
+use Rattle.dm_stream.specs.Base.{◌≡◌, ℕ, List, ◌++◌, Option, Some, Result, Ok, Err, IfErr, OnOk, Description, State, EarlierFault}
 use Rattle.dm_stream.specs.runs.Outcome.{Outcome, outcome_from}
 use Rattle.dm_stream.specs.requests.Requests.{NumberedRequest}
-use Rattle.dm_stream.specs.declared.runs.earlier.EarlierFault.{EarlierFault}
 use Rattle.dm_stream.specs.declared.runs.earlier.EarlierFault.TheVariants as faults
 use Rattle.dm_stream.specs.declared.runs.ending.Ending as ending
 use Rattle.dm_stream.specs.declared.runs.ending.RequestWord as word

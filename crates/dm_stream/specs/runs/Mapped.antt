@@ -1,16 +1,10 @@
 -- What a request mapper answered to the requests that it was handed, and why it stopped.
-use Rattle.std.specs.Prelude.{◌≡◌, ℕ, List, ◌++◌, Option, None, Some, false}
-use Rattle.dm_table.specs.io.DeviceIo.{since}
-use Rattle.dm_table.specs.io.WriteAll.{IsCutShort}
-use Rattle.dm_stack.specs.Description.{Description}
-use Rattle.dm_map.specs.Mapper.{MapperView}
-use Rattle.dm_map.specs.state.State.{State}
+use Rattle.dm_stream.specs.Base.{◌≡◌, ℕ, List, ◌++◌, Option, None, Some, false, since, IsCutShort, Description, MapperView, State, NotMapped}
 use Rattle.dm_stream.specs.pieces.Pending.{Pending}
 use Rattle.dm_stream.specs.runs.Outcome.{after_text, outcome_from}
 use Rattle.dm_stream.specs.requests.Requests.{NumberedRequest}
 use Rattle.dm_stream.specs.runs.Run.{ending_for, write_faults}
 use Rattle.dm_stream.specs.declared.runs.ending.Ending as ending
-use Rattle.dm_stream.specs.declared.runs.ending.NotMapped.{NotMapped}
 use Rattle.dm_stream.specs.declared.runs.ending.NotMapped.TheVariants as causes
 use Rattle.dm_stream.specs.declared.runs.ending.RequestWord as word
 

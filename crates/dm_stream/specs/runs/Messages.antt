@@ -1,9 +1,5 @@
 -- The message of each ending, and how a message is told.
-use Rattle.std.specs.Prelude.{◌≡◌, ◌≤◌, ℕ, ◌+◌, List, [], ◌++◌, Result, Ok, Err, codes, decimal}
-use Rattle.dm_table.specs.io.DeviceIo.{OutputPast, written_since}
-use Rattle.dm_table.specs.io.WriteAll.{IsBeginning}
-use Rattle.dm_table.specs.io.Progress.{HasGrown}
-use Rattle.dm_stream.specs.declared.runs.earlier.EarlierFault.{EarlierFault}
+use Rattle.dm_stream.specs.Base.{◌≡◌, ◌≤◌, ℕ, ◌+◌, List, [], ◌++◌, Result, Ok, Err, codes, decimal, OutputPast, written_since, IsBeginning, HasGrown, EarlierFault}
 use Rattle.dm_stream.specs.declared.runs.earlier.EarlierFault.TheVariants as earlier
 use Rattle.dm_stream.specs.declared.runs.ending.Ending.{Ending}
 use Rattle.dm_stream.specs.declared.runs.ending.Ending.TheVariants as endings
@@ -50,7 +46,7 @@ pub record IsTold (message : List ℕ) (old new : OutputPast) : Type 0 where
   pub beginning : IsBeginning message (written_since old new)
   pub whole : new.faults ≡ old.faults → written_since old new ≡ message
 
--- it was told on a stream, which only took more, and was not flushed; nothing is told after a write that failed
+-- the message was told on a stream, which only took more, and was not flushed; nothing is told after a write that failed
 pub record HasTold (message : List ℕ) (old new : OutputPast) : Type 0 where
   pub appends : HasGrown old.written new.written
   pub told : IsTold message old new

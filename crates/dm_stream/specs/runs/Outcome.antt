@@ -1,10 +1,5 @@
 -- What a run writes for what its requests delivered, the state that they leave, and how it ends.
-use Rattle.std.specs.Prelude.{ℕ, Bool, List, [], ◌∷◌, ◌++◌, Option, None, Some, position, if◌then◌else◌}
-use Rattle.dm_table.specs.io.DeviceIo.{Delivery}
-use Rattle.dm_stack.specs.Description.{Description, is_same}
-use Rattle.dm_map.specs.walk.Mapping.{request_step}
-use Rattle.dm_map.specs.state.State.{State}
-use Rattle.dm_map.specs.walk.Steps.{Step}
+use Rattle.dm_stream.specs.Base.{ℕ, Bool, List, [], ◌∷◌, ◌++◌, Option, None, Some, position, if◌then◌else◌, Delivery, Description, is_same, request_step, State, Step}
 use Rattle.dm_stream.specs.pieces.PieceText.{pieces_text}
 use Rattle.dm_stream.specs.pieces.Pieces.{fewest}
 use Rattle.dm_stream.specs.requests.Requests.{NumberedRequest, requests_of}
@@ -54,7 +49,7 @@ abbrev pub requests_outcome : Description → State → Delivery → Outcome
 requests_outcome stack state delivered =
     let requests = requests_of delivered in outcome_from stack state requests.all requests.ending
 
--- this text if it is asked for and all requests were answered, up to a clean end
+-- the text that comes after the answers: this one, if it is asked for and all requests were answered, up to a clean end; otherwise none
 abbrev pub if_done : (asked : Bool) → Option ending.Ending → List ℕ → List ℕ
 if_done asked (Some ending.TheVariants.Done) text = if asked then text else []
 if_done asked (Some (ending.TheVariants.BadRequest number w)) text = []

@@ -1,17 +1,10 @@
 -- What a run did, against the outcome of what it was given.
-use Rattle.std.specs.Prelude.{◌≡◌, ◌≢◌, ℕ, List, Some, false}
-use Rattle.dm_table.specs.io.DeviceIo.{InputPast, OutputPast, delivery, written_since}
-use Rattle.dm_table.specs.io.Progress.{HasWritten, IsClosedAfter, IsReadOn}
-use Rattle.dm_table.specs.io.WriteAll.{IsCutShort}
+use Rattle.dm_stream.specs.Base.{◌≡◌, ◌≢◌, ◌<◌, ℕ, List, Some, false, InputPast, OutputPast, delivery, written_since, HasWritten, IsClosedAfter, IsReadOn, IsCutShort, NotMapped, MapperView, State, Description}
 use Rattle.dm_stream.specs.declared.runs.ending.Ending as ending
-use Rattle.dm_stream.specs.declared.runs.ending.NotMapped.{NotMapped}
 use Rattle.dm_stream.specs.declared.runs.ending.NotMapped.TheVariants as causes
 use Rattle.dm_stream.specs.declared.runs.ending.RequestWord as word
 use Rattle.dm_stream.specs.runs.Outcome.{Outcome, requests_outcome}
 use Rattle.dm_stream.specs.requests.Requests.{HasMet}
-use Rattle.dm_map.specs.Mapper.{MapperView}
-use Rattle.dm_map.specs.state.State.{State}
-use Rattle.dm_stack.specs.Description.{Description}
 
 -- how a run ends where not all was mapped
 abbrev pub ending_for : NotMapped → ending.Ending
@@ -37,7 +30,7 @@ pub record IsLeft (mapper_old mapper_new : MapperView) (requests_old requests_ne
   pub going : e ≢ ending.TheVariants.WriteFault → mapper_new.failed ≡ false
   -- requests are only read on, and nothing is read after an end or a fault
   pub reads : IsReadOn requests_old requests_new
-  -- reading failed where the run ends so, and not where it ends as done. Nothing is read after a bad line: any read may fail or come to an end, and neither was met, but for the end that leaves a line unended
+  -- a read of the requests failed if the run ends by a failed read, and none failed if it ends as done. A run that ends at a bad line met neither a failed read nor the end of its input, except the end that leaves a line unended
   pub met : HasMet e requests_old requests_new
 
 -- what was done before the flush: the whole of an outcome, or, where a write failed, a beginning of its output that is not all of it
@@ -55,3 +48,5 @@ pub record HasMappedAll (stack : Description) (mapper_old mapper_new : MapperVie
 pub record HasRun (old new : OutputPast) (outcome : Outcome) (left : State) (e : ending.Ending) : Type 0 where
   pub output : IsClosedAfter old new (e ≡ ending.TheVariants.WriteFault) outcome.output
   pub ends : e ≢ ending.TheVariants.WriteFault → (outcome.ending ≡ Some e) × (left ≡ outcome.state)
+  -- a flush, also one that failed, comes after all that there is to write: it is settled how the outcome ends
+  pub settled : old.flushes < new.flushes → (last : ending.Ending) × (outcome.ending ≡ Some last)

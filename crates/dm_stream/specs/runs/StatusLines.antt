@@ -1,14 +1,7 @@
 -- The status lines of snapshots (the kernel's admin guide, device-mapper/snapshot, status; dmsetup(8), the command status).
-use Rattle.std.specs.Prelude.{ℕ, List, [], ◌∷◌, ◌++◌, Option, None, Some, codes, decimal, if◌then◌else◌}
-use Rattle.std.specs.List.{flat_map}
-use Rattle.dm_table.specs.words.Bytes.{code}
-use Rattle.dm_stack.specs.Description.{Description, device_len, name_at}
-use Rattle.dm_stack.specs.checks.Snapshots.{snapshots}
+use Rattle.dm_stream.specs.Base.{ℕ, List, [], ◌∷◌, ◌++◌, Option, None, Some, codes, decimal, if◌then◌else◌, flat_map, code, Description, device_len, name_at, snapshots, State, taken_at, snapshot_at, usage_of}
 use Rattle.dm_stack.specs.declared.lines.resolved_line.ResolvedSnapshot.{ResolvedSnapshot}
 use Rattle.dm_map.specs.declared.state.usage.Usage.{Usage}
-use Rattle.dm_map.specs.state.State.{State, taken_at}
-use Rattle.dm_map.specs.state.Tables.{snapshot_at}
-use Rattle.dm_map.specs.state.Usage.{usage_of}
 
 -- how much of a store is used, in sectors, or that its snapshot is not valid
 abbrev pub usage_text : Usage → List ℕ

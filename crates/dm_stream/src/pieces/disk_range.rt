@@ -2,11 +2,7 @@
 //!
 //! Both kinds go one way: which of them comes next is not foreseen by the processor.
 
-ghost use Rattle.std.specs.Prelude.{◌≡◌, ◌+◌, ◌≤◌, ◌==◌, Some, MatchOption};
-ghost use Rattle.dm_stack.specs.Description.{Description};
-ghost use Rattle.dm_map.specs.pieces.Units.{IsOnDisk, disk_unit, first_unit, units_in, units_of};
-ghost use Rattle.dm_stream.specs.pieces.Pending.{Fits, IsHeld, IsNoRange, piece_of};
-ghost use Rattle.dm_stream.specs.pieces.Pieces.{is_after};
+ghost use Rattle.dm_stream.specs.Prelude.{◌≡◌, ◌+◌, ◌≤◌, ◌==◌, Some, MatchOption, Description, IsOnDisk, disk_unit, first_unit, units_in, units_of, Fits, IsHeld, IsNoRange, piece_of, is_after};
 
 use crate::pieces::disk_texts::DiskTexts;
 use crate::pieces::letter::Letter;

@@ -7,10 +7,7 @@
 //! ready*. It rests on an array that is longer than a short text, and on a block with space after it. Change it only
 //! if you measure small requests, and large ones over 16 columns, before and after.
 
-ghost use Rattle.std.specs.Prelude.{◌≡◌, ◌∷◌, ◌+◌, ◌≤◌, length, take};
-ghost use Rattle.dm_table.specs.io.Block.{IsPut};
-ghost use Rattle.dm_table.specs.words.Bytes.{code};
-ghost use Rattle.dm_stream.specs.pieces.DiskText.{disk_text, line_head};
+ghost use Rattle.dm_stream.specs.Prelude.{◌≡◌, ◌∷◌, ◌+◌, ◌≤◌, length, take, IsPut, code, disk_text, line_head};
 
 use crate::pieces::letter::Letter;
 use dm_table::{DiskName, put_array, put_bytes};
@@ -35,7 +32,7 @@ pub(crate) struct DiskText {
 }
 
 impl Model for DiskText {
-    ghost use Rattle.std.specs.Prelude.{◌≤◌, List, ℕ, take};
+    ghost use Rattle.dm_stream.specs.Base.{◌≤◌, List, ℕ, take};
     ghost use Rattle.dm_stream.specs.pieces.DiskText.{AreHeads};
 
     ghost Value = { List ℕ };
@@ -117,7 +114,7 @@ fn put_long(block: &mut [u8], at: usize, text: &[u8], len: usize) -> usize
     put_bytes(block, at, &text[..len])
 }
 
-/// The same after a letter and a space.
+/// Puts a letter, a space and the first bytes of a long text at an offset of a block.
 #[cold]
 #[inline(never)]
 fn put_long_head(block: &mut [u8], at: usize, letter: Letter, text: &[u8], len: usize) -> usize

@@ -3,10 +3,7 @@
 //! Disks are few and lines come by the hundreds of millions, so these texts are made once, before a run. They are
 //! apart from the stack, since only a run writes lines, and from the run, since that takes no memory.
 
-ghost use Rattle.std.specs.Prelude.{◌≡◌, ◌<◌, IfOk, length, map};
-ghost use Rattle.dm_stack.specs.Description.{disk_name_at};
-ghost use Rattle.dm_stack.specs.checks.Soundness.{IsSound};
-ghost use Rattle.dm_stream.specs.pieces.DiskText.{disk_text};
+ghost use Rattle.dm_stream.specs.Prelude.{◌≡◌, ◌<◌, IfOk, length, map, disk_name_at, IsSound, disk_text};
 
 use crate::pieces::disk_text::DiskText;
 use dm_stack::{DiskId, Stack};
@@ -22,8 +19,7 @@ pub struct DiskTexts<'s> {
 }
 
 impl<'s> Model for DiskTexts<'s> {
-    ghost use Rattle.std.specs.Prelude.{◌≡◌, map};
-    ghost use Rattle.dm_stack.specs.Description.{Description};
+    ghost use Rattle.dm_stream.specs.Base.{◌≡◌, map, Description};
     ghost use Rattle.dm_stream.specs.pieces.DiskText.{disk_text};
 
     ghost Value = { Description };

@@ -1,10 +1,7 @@
 //! What the lines of pieces without a disk begin with after the number: a word and a space, which are
 //! copied as one array, as *texts kept ready* of RESULTS.md are.
 
-ghost use Rattle.std.specs.Prelude.{◌≡◌, ◌+◌, ◌≤◌, length};
-ghost use Rattle.dm_table.specs.io.Block.{IsPut};
-ghost use Rattle.dm_map.specs.pieces.Units.{first_unit};
-ghost use Rattle.dm_stream.specs.pieces.PieceText.{IsDiskless, diskless_word};
+ghost use Rattle.dm_stream.specs.Prelude.{◌≡◌, ◌+◌, ◌≤◌, length, IsPut, first_unit, IsDiskless, diskless_word};
 
 use dm_map::Piece;
 use dm_table::put_bytes;
@@ -21,7 +18,7 @@ pub(crate) struct DisklessWord {
 }
 
 impl Model for DisklessWord {
-    ghost use Rattle.std.specs.Prelude.{◌≤◌, ℕ, List, take};
+    ghost use Rattle.dm_stream.specs.Base.{◌≤◌, ℕ, List, take};
 
     ghost Value = { List ℕ };
 

@@ -8,15 +8,7 @@
 //! at once*. All that rests on `AreApart`: a range and another piece are never held together. Change it only if you
 //! measure small requests, and requests over stripes, before and after.
 
-ghost use Rattle.std.specs.Bool.{OnTrue, OnFalse};
-ghost use Rattle.std.specs.Prelude.{◌≡◌, ◌+◌, ◌-◌, ◌≤◌, ◌++◌, ◌^◌, IfOk, List, OnErr, OnOk, Some, None};
-ghost use Rattle.dm_table.specs.io.DeviceIo.{fault_of};
-ghost use Rattle.dm_map.specs.pieces.Units.{BlockUnit, IsOnDisks, diskless_len, first_unit, piece_len, units_of};
-ghost use Rattle.dm_stream.specs.pieces.Join.{HasLeft, HasTaken};
-ghost use Rattle.dm_stream.specs.pieces.Pending.{Fits, HoldsNoRange, IsHeld, IsNoRange, goes_on, held_diskless, held_units, holding, piece_of};
-ghost use Rattle.dm_stream.specs.pieces.PieceText.{pieces_text};
-ghost use Rattle.dm_stream.specs.pieces.Pieces.{fewest, is_after};
-ghost use Rattle.dm_table.specs.io.Progress.{HasWritten, Wrote};
+ghost use Rattle.dm_stream.specs.Prelude.{OnTrue, OnFalse, ◌≡◌, ◌+◌, ◌-◌, ◌≤◌, ◌++◌, ◌^◌, IfOk, List, OnErr, OnOk, Some, None, fault_of, BlockUnit, IsOnDisks, diskless_len, first_unit, piece_len, units_of, HasWritten, Wrote, HasLeft, HasTaken, Fits, HoldsNoRange, IsHeld, IsNoRange, goes_on, held_diskless, held_units, holding, piece_of, pieces_text, fewest, is_after};
 
 use crate::pieces::disk_range::{DiskRange, follows};
 use crate::pieces::disk_texts::DiskTexts;
@@ -271,7 +263,7 @@ impl<'s> HeldPiece<'s> {
         self.write_other(writer)
     }
 
-    /// The same where no range is held.
+    /// Writes the line of the held piece, if that is no range of a disk.
     #[inline(always)]
     fn write_other<W: Output>(&mut self, writer: &mut W) -> Result<(), OutFault>
         requires { HoldsNoRange self.old.piece }

@@ -6,9 +6,7 @@
 //! This is here for speed alone: RESULTS.md has its gain as *texts kept ready*. It rests on the array always having
 //! the text of its number. Change it only if you measure small requests before and after.
 
-ghost use Rattle.std.specs.Prelude.{◌≡◌, ◌+◌, ◌≤◌, length, take};
-ghost use Rattle.dm_table.specs.io.Block.{IsPut};
-ghost use Rattle.dm_stream.specs.pieces.NumberPrefix.{number_prefix};
+ghost use Rattle.dm_stream.specs.Prelude.{◌≡◌, ◌+◌, ◌≤◌, length, take, IsPut, number_prefix};
 
 use dm_table::{put_array, put_bytes, put_digits};
 use std::marker::Model;
@@ -28,7 +26,7 @@ pub(crate) struct NumberPrefix {
 }
 
 impl Model for NumberPrefix {
-    ghost use Rattle.std.specs.Prelude.{◌≡◌, ◌+◌, ◌%◌, ◌≤◌, ℕ, take};
+    ghost use Rattle.dm_stream.specs.Base.{◌≡◌, ◌+◌, ◌%◌, ◌≤◌, ℕ, take};
     ghost use Rattle.dm_stream.specs.pieces.NumberPrefix.{number_prefix};
 
     ghost Value = { ℕ };

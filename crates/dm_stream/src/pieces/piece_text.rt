@@ -8,16 +8,7 @@
 //! It rests on no line being longer than `TEXT_ROOM`. Change it only if you measure small requests, and large ones
 //! over 16 columns, before and after.
 
-ghost use Rattle.std.specs.Prelude.{◌≡◌, ◌++◌, ◌+◌, ◌<◌, ◌≤◌, ◌∷◌, [], length, decimal};
-ghost use Rattle.dm_table.specs.io.Block.{IsPut};
-ghost use Rattle.dm_stack.specs.Description.{disk_name_at};
-ghost use Rattle.dm_stream.specs.pieces.DiskText.{disk_text};
-ghost use Rattle.dm_map.specs.pieces.Units.{CopyOf, FillOf, IsOnDisks, first_unit, piece_len};
-ghost use Rattle.dm_stream.specs.pieces.Pending.{IsNoRange, piece_of, piece_view};
-ghost use Rattle.dm_stream.specs.pieces.PieceText.{IsOther, piece_text, sector_text, unit_text};
-ghost use Rattle.dm_stream.specs.pieces.RangeText.{IsKept};
-ghost use Rattle.dm_table.specs.io.Progress.{Wrote};
-ghost use Rattle.dm_table.specs.words.Bytes.{code};
+ghost use Rattle.dm_stream.specs.Prelude.{◌≡◌, ◌++◌, ◌+◌, ◌<◌, ◌≤◌, ◌∷◌, [], length, decimal, IsPut, disk_name_at, CopyOf, FillOf, IsOnDisks, first_unit, piece_len, Wrote, code, disk_text, IsNoRange, piece_of, piece_view, IsOther, piece_text, sector_text, unit_text, IsKept};
 
 use crate::pieces::disk_range::DiskRange;
 use crate::pieces::disk_texts::DiskTexts;
@@ -41,7 +32,7 @@ struct RangeLine<'a> {
 }
 
 impl<'a> Model for RangeLine<'a> {
-    ghost use Rattle.std.specs.Prelude.{ℕ, List, ◌<◌, length};
+    ghost use Rattle.dm_stream.specs.Base.{ℕ, List, ◌<◌, length};
     ghost use Rattle.dm_stream.specs.pieces.DiskText.{letter_for};
     ghost use Rattle.dm_stream.specs.pieces.RangeText.{IsKept};
     ghost use Rattle.dm_stream.specs.pieces.PieceText.{range_line};
@@ -80,7 +71,7 @@ struct DisklessLine<'a> {
 }
 
 impl<'a> Model for DisklessLine<'a> {
-    ghost use Rattle.std.specs.Prelude.{ℕ, List};
+    ghost use Rattle.dm_stream.specs.Base.{ℕ, List};
     ghost use Rattle.dm_stream.specs.pieces.PieceText.{plain_line};
 
     ghost Value = { List ℕ };
@@ -109,8 +100,7 @@ struct CopyLine<'a> {
 }
 
 impl<'a> Model for CopyLine<'a> {
-    ghost use Rattle.std.specs.Prelude.{ℕ, List};
-    ghost use Rattle.dm_map.specs.pieces.Units.{IsOnDisks};
+    ghost use Rattle.dm_stream.specs.Base.{ℕ, List, IsOnDisks};
     ghost use Rattle.dm_stream.specs.pieces.Pending.{piece_view};
     ghost use Rattle.dm_stream.specs.pieces.PieceText.{IsOther, piece_text};
 

@@ -8,9 +8,7 @@
 //! is called before each line. Change it only if you measure large requests over 16 columns, and others that never
 //! repeat a range, before and after.
 
-ghost use Rattle.std.specs.Prelude.{◌≡◌, ◌+◌, ◌≤◌, ℕ, length};
-ghost use Rattle.dm_table.specs.io.Block.{IsPut};
-ghost use Rattle.dm_stream.specs.pieces.RangeText.{range_text, IsKept};
+ghost use Rattle.dm_stream.specs.Prelude.{◌≡◌, ◌+◌, ◌≤◌, ℕ, length, IsPut, range_text, IsKept};
 
 use crate::pieces::line_ends::LineEnds;
 use dm_table::{put_array, put_bytes, put_digits};
@@ -32,7 +30,7 @@ pub(crate) struct RangeText {
 }
 
 impl Model for RangeText {
-    ghost use Rattle.std.specs.Prelude.{◌≡◌, ◌<◌, ◌≤◌, ℕ, List, take};
+    ghost use Rattle.dm_stream.specs.Base.{◌≡◌, ◌<◌, ◌≤◌, ℕ, List, take};
     ghost use Rattle.dm_stream.specs.pieces.RangeText.{range_text};
 
     ghost Value = { List ℕ };
@@ -124,7 +122,7 @@ fn put_next_range(ends: &LineEnds, block: &mut [u8], at: usize, start: u64, len:
     ends.put_into(block, at, len)
 }
 
-/// The same without ends that were made before.
+/// Puts a start, a length and a newline, whose end wasn't made before.
 #[inline(never)]
 fn put_range(block: &mut [u8], at: usize, start: u64, len: u64) -> usize
     requires { at + RANGE_BYTES ≤ length block.old }

@@ -8,11 +8,7 @@
 //! `Handler::prefetch` answering nothing. Change it only if you measure random requests on 65,536 lines, random
 //! first writes, and requests in a row, before and after.
 
-ghost use Rattle.std.specs.Prelude.{◌≡◌, ◌+◌, ◌≤◌, [], length, drop, IfErr, OnOk, Some};
-ghost use Rattle.std.specs.List.{All};
-ghost use Rattle.dm_stream.specs.requests.Batch.{AnswersFronts, AreFirst, front_requests};
-ghost use Rattle.dm_stream.specs.runs.Outcome.{device_of};
-ghost use Rattle.dm_stream.specs.requests.Requests.{IsAmong};
+ghost use Rattle.dm_stream.specs.Prelude.{◌≡◌, ◌+◌, ◌≤◌, [], length, drop, IfErr, OnOk, Some, All, AnswersFronts, AreFirst, front_requests, device_of, IsAmong};
 ghost use Rattle.dm_stream.specs.declared.requests.handling.TheConstants.{MOST_REQUESTS};
 
 use crate::requests::front::{Front, front_of};

@@ -1,11 +1,7 @@
 //! The slice in which lines are held: where a line ends, room for a read, and the read.
 //! These work on a plain slice and two places in it, so that `lines` deals only with its value.
 //! Held bytes move only when there is too little room after them: a buffer full of short lines stays put.
-ghost use Rattle.std.specs.Prelude.{◌≡◌, ◌+◌, ◌-◌, ◌<◌, ◌≤◌, ◌∷◌, [], length, take, drop, slice_range, IfOk, MatchOption};
-ghost use Rattle.dm_table.specs.io.DeviceIo.{given};
-ghost use Rattle.dm_table.specs.words.Fields.{parts_at};
-ghost use Rattle.dm_table.specs.io.Progress.{HasRead};
-ghost use Rattle.dm_table.specs.words.Bytes.{code};
+ghost use Rattle.dm_stream.specs.Prelude.{◌≡◌, ◌+◌, ◌-◌, ◌<◌, ◌≤◌, ◌∷◌, [], length, take, drop, slice_range, IfOk, MatchOption, given, parts_at, HasRead, code};
 
 use crate::requests::handler::ReadsFrom;
 use dm_table::InFault;

@@ -2,12 +2,8 @@
 //! Clauses see only those bytes, so lines depend on the bytes and never on how reads cut them.
 //! No memory is taken, and the search for a newline continues where the last one stopped: each byte is
 //! searched once.
-ghost use Rattle.std.specs.Prelude.{◌≡◌, ◌+◌, ◌≤◌, ◌++◌, ◌≢◌, [], ◌∷◌, length, take, drop, IfOk, OnErr};
-ghost use Rattle.std.specs.Bool.{OnTrue, OnFalse};
-ghost use Rattle.std.specs.Borrow.{sem};
+ghost use Rattle.dm_stream.specs.Prelude.{◌≡◌, ◌+◌, ◌≤◌, ◌++◌, ◌≢◌, [], ◌∷◌, length, take, drop, IfOk, OnErr, OnTrue, OnFalse, sem, delivery, since, HasRead, IsReadOn, MetNothing};
 ghost use Rattle.std.specs.Io.BufRead.{Rests};
-ghost use Rattle.dm_table.specs.io.DeviceIo.{delivery, since};
-ghost use Rattle.dm_table.specs.io.Progress.{HasRead, IsReadOn, MetNothing};
 
 use crate::requests::handler::{ReadsFrom, Unanswered};
 use crate::requests::line_buffer::{line_len, make_room, read_after};
@@ -53,7 +49,7 @@ pub struct Lines {
 }
 
 impl Model for Lines {
-    ghost use Rattle.std.specs.Prelude.{◌≤◌, List, ℕ, slice_range};
+    ghost use Rattle.dm_stream.specs.Base.{◌≤◌, List, ℕ, slice_range};
     ghost use Rattle.dm_stream.specs.declared.requests.lines.TheConstants.{BUFFER_BYTES};
 
     ghost Value = { List ℕ };
@@ -202,7 +198,7 @@ impl Lines {
         self.next_for(input, &Unanswered)
     }
 
-    /// The same of requests that somebody answers.
+    /// The next line of requests that somebody answers, or why there is none.
     pub(crate) fn next_for<Q, H: ReadsFrom<Q>>(&mut self, requests: &mut Q, handler: &H) -> Next<'_>
         // Nothing is read where a whole line is held, and else all answers are out.
         requires { line_parts self.old ≡ self.old ∷ [] → H.is_out handler.now }

@@ -2,10 +2,7 @@
 //!
 //! `run` ends here, and so does every other command of the program that isn't refused.
 
-ghost use Rattle.std.specs.Prelude.{◌≡◌, ◌+◌, ℕ, List, IsErr, OnErr, OnOk};
-ghost use Rattle.dm_table.specs.io.DeviceIo.{OutputPast};
-ghost use Rattle.dm_table.specs.io.Progress.{IsClosedAfter, Wrote};
-ghost use Rattle.dm_stream.specs.runs.Messages.{HasTold, told_at_close};
+ghost use Rattle.dm_stream.specs.Prelude.{◌≡◌, ◌+◌, ℕ, List, IsErr, OnErr, OnOk, OutputPast, IsClosedAfter, Wrote, HasTold, told_at_close};
 
 use crate::runs::ending::Ending;
 use crate::runs::message::{message_of, tell};

@@ -3,17 +3,9 @@
 //! What is written depends on the bytes and ends that the requests delivered, and on the mapper's
 //! state: see `specs/runs/Outcome.antt`. `handling` reads the lines, `request_mapper` answers them.
 
-ghost use Rattle.std.specs.Prelude.{◌≡◌, ◌≢◌, List, OnOk};
-ghost use Rattle.dm_map.specs.Mapper.{with_looked};
-ghost use Rattle.dm_map.specs.pieces.Units.{BlockUnit};
-ghost use Rattle.dm_stream.specs.runs.Messages.{HasTold, ending_message};
-ghost use Rattle.dm_stream.specs.runs.Outcome.{Outcome, run_outcome, with_status};
-ghost use Rattle.dm_stream.specs.pieces.Pieces.{AreFewest, fewest};
-ghost use Rattle.dm_stream.specs.runs.Run.{CanMap, HasMappedAll, HasRun, IsLeft, IsMapped, ending_for, write_faults};
+ghost use Rattle.dm_stream.specs.Prelude.{◌≡◌, ◌≢◌, List, OnOk, with_looked, BlockUnit, HasTold, ending_message, Outcome, run_outcome, with_status, AreFewest, fewest, CanMap, HasMappedAll, HasRun, IsLeft, IsMapped, ending_for, write_faults, OutputPast, delivery, written_since, HasWritten, Wrote};
 ghost use Rattle.dm_stream.specs.declared.requests.lines.TheConstants.{MOST_LINE_BYTES};
 ghost use Rattle.dm_stream.specs.declared.requests.handling.TheConstants.{MOST_REQUESTS};
-ghost use Rattle.dm_table.specs.io.DeviceIo.{OutputPast, delivery, written_since};
-ghost use Rattle.dm_table.specs.io.Progress.{HasWritten, Wrote};
 
 use crate::pieces::disk_texts::DiskTexts;
 use crate::pieces::join::Join;

@@ -3,14 +3,8 @@
 //! It hands the units of a request through a mapper to a join, which writes them. `specs/runs/Outcome.antt` says what is written, and `specs/runs/Mapped.antt` what one
 //! request adds to it.
 
-ghost use Rattle.std.specs.Prelude.{◌≡◌, ◌<◌, None, false, length, OnOk};
-ghost use Rattle.dm_stream.specs.runs.Mapped.{IsReady, HasAnswered, HasStopped, failed_writes};
+ghost use Rattle.dm_stream.specs.Prelude.{◌≡◌, ◌<◌, None, false, length, OnOk, HasWrittenTo, IsSameReference, Wrote, written_to_none, written_to_more, refl, ◌∙◌, IsReady, HasAnswered, HasStopped, failed_writes, request_answer, step_of, numbered};
 ghost use Rattle.dm_stream.specs.laws.Mapped.{answered_none, answered_more, stopped_more};
-ghost use Rattle.dm_stream.specs.runs.Outcome.{request_answer, step_of};
-ghost use Rattle.dm_table.specs.io.Progress.{HasWrittenTo, IsSameReference, Wrote};
-ghost use Rattle.dm_table.specs.laws.Progress.{written_to_none, written_to_more};
-ghost use Rattle.dm_stream.specs.requests.Requests.{numbered};
-ghost use Rattle.std.proofs.Common.{refl, ◌∙◌};
 
 use crate::pieces::disk_range::DiskRange;
 use crate::pieces::join::Join;
@@ -96,7 +90,7 @@ pub(crate) fn read_ahead<T: Taken>(
 #[derive(Drop)]
 pub(crate) struct RequestMapper<'m, 's, T, W> {
     pub(crate) join: Join<'m, W>,
-    /// What was read ahead of requests, added up: nobody asks for it, but without it nothing would be read.
+    /// The sum of what was read ahead of requests. Nobody uses it, but without it a compiler would leave the reads out.
     pub(crate) prefetched: u64,
     /// The stack of the mapper that the answers come from, and how it keeps taken chunks.
     pub(crate) mapper: PhantomData<(&'s Stack, T)>,

@@ -3,12 +3,7 @@
 //! They come once a run, after its last answer, so each is put together in an array of its own and
 //! written by plain calls. What they say is in `specs/runs/StatusLines.antt`.
 
-ghost use Rattle.std.specs.Prelude.{◌≡◌, ◌++◌, ◌<◌, ◌≤◌, ◌∷◌, [], length};
-ghost use Rattle.dm_table.specs.io.Progress.{Wrote};
-ghost use Rattle.dm_table.specs.words.Bytes.{code};
-ghost use Rattle.dm_stack.specs.Description.{device_len, name_at};
-ghost use Rattle.dm_map.specs.Mapper.{with_looked};
-ghost use Rattle.dm_stream.specs.runs.StatusLines.{after_name, status_text, usage_text};
+ghost use Rattle.dm_stream.specs.Prelude.{◌≡◌, ◌++◌, ◌<◌, ◌≤◌, ◌∷◌, [], length, Wrote, code, device_len, name_at, with_looked, after_name, status_text, usage_text};
 
 use arrayvec::ArrayVec;
 use dm_map::{Mapper, Taken, Usage};

@@ -1,12 +1,5 @@
 -- Lists that only grow, told by what is new.
-use Rattle.std.proofs.Common.{Ok, Err, [], ◌∷◌, ◌≡◌, ◌<◌, ◌≤◌, ℕ, ◌+◌, ◌-◌, List, ◌++◌, length, take, drop, sym, ap, ◌∙◌, add-zero, append_assoc, take-append-drop, arith}
-use Rattle.std.proofs.Math.Seq.{take-add}
-use Rattle.std.proofs.lemmas.List.{take_rest, append-nil, drop-drop, length-drop}
-use Rattle.dm_table.specs.declared.io.device_io.OutFault.{OutFault}
-use Rattle.dm_table.specs.io.DeviceIo.{OutputPast, after_write, since, with_fault}
-use Rattle.dm_table.specs.io.Progress.{HasWritten, Wrote}
-use Rattle.dm_table.specs.io.WriteAll.{IsBeginning, IsCutShort}
-use Rattle.dm_table.specs.laws.Progress.{since_is}
+use Rattle.dm_table.proofs.Prelude.{Ok, Err, [], ◌∷◌, ◌≡◌, ◌<◌, ◌≤◌, ℕ, ◌+◌, ◌-◌, List, ◌++◌, length, take, drop, sym, ap, ◌∙◌, add-zero, append_assoc, take-append-drop, arith, take-add, take_rest, append-nil, drop-drop, length-drop, OutFault, OutputPast, after_write, since, with_fault, HasWritten, Wrote, IsBeginning, IsCutShort, since_is}
 use Rattle.dm_table.proofs.io.Portions.{rest_after}
 
 -- a list after which nothing was added

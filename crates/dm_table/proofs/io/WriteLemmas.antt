@@ -1,20 +1,5 @@
 -- Texts written part by part.
-use Rattle.std.proofs.Common.{◌≡◌, ℕ, ◌+◌, ◌-◌, ◌<◌, ◌≤◌, map, arith, List, [], ◌∷◌, ◌++◌, length, take, drop, get_or, Result, Ok, Err, IsErr, IsErrAnd, inl, inr, refl, sym, ◌∙◌, append_assoc, take-append-drop}
-use Rattle.std.specs.List.{flat_map, join_with_byte}
-use Rattle.std.proofs.Math.Seq.{take-add}
-use Rattle.std.proofs.lemmas.Grind.{flat_map-append}
-use Rattle.std.proofs.lemmas.List.{drop_more, append-nil, take_rest}
-use Rattle.std.proofs.lemmas.Result.{err_from_is_err_and}
-use Rattle.std.specs.Prelude.{decimal}
-use Rattle.dm_table.specs.io.DeviceIo.{OutputPast, after_flush}
-use Rattle.dm_table.specs.laws.Progress.{written_more}
-use Rattle.dm_table.specs.io.Progress.{IsClosedAfter, Wrote}
-use Rattle.dm_table.specs.declared.tables.table.Line.{Line}
-use Rattle.dm_table.specs.declared.tables.table.Target.{Target}
-use Rattle.dm_table.specs.declared.tables.table.Target.TheVariants.{Striped}
-use Rattle.dm_table.specs.tables.LineBody.{column_text, target_text, body_text}
-use Rattle.dm_table.specs.tables.LineHead.{target_head, body_head, columns_of}
-use Rattle.dm_table.specs.laws.Progress.{since_more}
+use Rattle.dm_table.proofs.Prelude.{◌≡◌, ℕ, ◌+◌, ◌-◌, ◌<◌, ◌≤◌, map, arith, List, [], ◌∷◌, ◌++◌, length, take, drop, get_or, Result, Ok, Err, IsErr, IsErrAnd, inl, inr, refl, sym, ◌∙◌, append_assoc, take-append-drop, flat_map, join_with_byte, take-add, flat_map-append, drop_more, append-nil, take_rest, err_from_is_err_and, decimal, OutputPast, after_flush, written_more, IsClosedAfter, Wrote, Line, Target, Striped, column_text, target_text, body_text, target_head, body_head, columns_of, since_more}
 use Rattle.dm_table.proofs.tables.BodyRows.{columns_text}
 
 -- a part with a fault, before the rest of the text
@@ -129,7 +114,7 @@ pub joined_first : {X : Type 0} (byte : ℕ) (f : X → List ℕ) (x : X) (xs : 
 joined_first byte f x [] = sym (append-nil (f x))
 joined_first byte f x (y ∷ xs) = rw (joined_first byte f y xs)
 
--- the same of a slice's elements
+-- elements of a slice, the first of which is given, with a byte between them
 pub joined_slice : {X : Type 0} (byte : ℕ) (f : X → List ℕ) (xs : List X) (x : X) → 1 ≤ length xs → x ≡ get_or xs 0 x → join_with_byte byte (map f xs) ≡ f x ++ flat_map (λ y. byte ∷ f y) (take (length xs - 1) (drop 1 xs))
 joined_slice byte f [] x h is = absurd (omega arith)
 joined_slice byte f (y ∷ ys) x h is = rw (take_rest (y ∷ ys) 1, is) (joined_first byte f y ys)

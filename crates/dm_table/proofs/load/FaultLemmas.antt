@@ -1,14 +1,5 @@
 -- Checks that find something, and checks that find nothing.
-use Rattle.std.proofs.Common.{◌≡◌, ◌≢◌, ◌≤◌, length, arith, inl, inr, ℕ, suc, Bool, true, false, cond, List, [], ◌∷◌, ◌++◌, Option, Some, None, Result, Ok, Err, refl, ap}
-use Rattle.std.specs.List.{AllByRecursion}
-use Rattle.std.proofs.lemmas.Bool.{cases_Bool}
-use Rattle.dm_table.specs.declared.load.place.Part.{Part}
-use Rattle.dm_table.specs.declared.load.place.Part.TheVariants.{Source}
-use Rattle.dm_table.specs.declared.load.load_fault.LoadKind.{LoadKind}
-use Rattle.dm_table.specs.declared.load.load_fault.LoadKind.TheVariants.{Memory}
-use Rattle.dm_table.specs.declared.load.load_fault.LoadFault.{LoadFault}
-use Rattle.dm_table.specs.load.LoadMessage.{part_word}
-use Rattle.dm_table.specs.load.LoadFault.{Answers, fault_at, first_or, first_fault, faults_from, unless, unended}
+use Rattle.dm_table.proofs.Prelude.{◌≡◌, ◌≢◌, ◌≤◌, length, arith, inl, inr, ℕ, suc, Bool, true, false, cond, List, [], ◌∷◌, ◌++◌, Option, Some, None, Result, Ok, Err, refl, ap, AllByRecursion, cases_Bool, Part, Source, LoadKind, Memory, LoadFault, part_word, Answers, fault_at, first_or, first_fault, faults_from, unless, unended}
 
 -- One check before others
 

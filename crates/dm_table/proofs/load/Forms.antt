@@ -1,17 +1,6 @@
 -- A form of texts: a text passes all checks of its form exactly if it describes values, and it describes those that its rows say.
-use Rattle.std.proofs.Common.{◌≡◌, ℕ, suc, Bool, true, false, not, List, [], ◌∷◌, ◌++◌, map, Option, Some, None, Result, refl, sym, ap, ◌∙◌, append_assoc}
+use Rattle.dm_table.proofs.Prelude.{◌≡◌, ℕ, suc, Bool, true, false, not, List, [], ◌∷◌, ◌++◌, map, Option, Some, None, Result, refl, sym, ap, ◌∙◌, append_assoc, cons_option, AllByRecursion, option_to_list, not-false, not_from_true, append-nil, Part, NotText, Syntax, Field, Name, LoadFault, parts_at, lines_of, rest_of, Answers, first_fault, untexts, unended, row_checks, unless, IsParsed, SayEach, LinesSay, values_from, with_rows}
 use Rattle.std.specs.Global.{Vec}
-use Rattle.std.specs.List.{cons_option, AllByRecursion}
-use Rattle.std.specs.Option.{option_to_list}
-use Rattle.std.proofs.lemmas.Bool.{not-false, not_from_true}
-use Rattle.std.proofs.lemmas.List.{append-nil}
-use Rattle.dm_table.specs.declared.load.place.Part.{Part}
-use Rattle.dm_table.specs.declared.load.load_fault.LoadKind.TheVariants.{NotText, Syntax, Field, Name}
-use Rattle.dm_table.specs.declared.load.load_fault.LoadFault.{LoadFault}
-use Rattle.dm_table.specs.words.Fields.{parts_at, lines_of, rest_of}
-use Rattle.dm_table.specs.load.LoadFault.{Answers, first_fault, untexts, unended, row_checks, unless}
-use Rattle.dm_table.specs.load.Parsed.{IsParsed}
-use Rattle.dm_table.specs.load.Reading.{SayEach, LinesSay, values_from, with_rows}
 use Rattle.dm_table.proofs.words.FieldLemmas.{last_split, some_parts}
 use Rattle.dm_table.proofs.load.FaultLemmas.{first_fault-none, first_fault-all, faults_from-nil, faults_from-good, unended-nil}
 use Rattle.dm_table.proofs.load.Parsing.{parsed}

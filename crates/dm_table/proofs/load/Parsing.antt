@@ -1,10 +1,6 @@
 -- A reader that gives the values of a text where its checks find nothing, and else their fault, keeps what is promised of readers.
-use Rattle.std.proofs.Common.{◌≡◌, List, None, Result, Ok, Err, refl, sym, ap, subst, ◌∙◌}
+use Rattle.dm_table.proofs.Prelude.{◌≡◌, List, None, Result, Ok, Err, refl, sym, ap, subst, ◌∙◌, Part, LoadFault, Answers, first_fault, unless, IsParsed}
 use Rattle.std.specs.Global.{Vec}
-use Rattle.dm_table.specs.declared.load.place.Part.{Part}
-use Rattle.dm_table.specs.declared.load.load_fault.LoadFault.{LoadFault}
-use Rattle.dm_table.specs.load.LoadFault.{Answers, first_fault, unless}
-use Rattle.dm_table.specs.load.Parsed.{IsParsed}
 use Rattle.dm_table.proofs.load.FaultLemmas.{unless-ok, unless-err}
 
 pub parsed : {X : Type 0} (part : Part) (describes : List X → Type 0) (checks : List (List LoadFault)) (values : List X) (answer : Result (Vec X) LoadFault)

@@ -1,12 +1,6 @@
 -- A row that was read, and those that are left.
-use Rattle.std.proofs.Common.{◌≡◌, ◌≢◌, OnOk, ℕ, suc, List, ◌∷◌, Option, Some, None, Result, sym, ap, ◌∙◌}
-use Rattle.dm_table.specs.declared.load.place.Part.{Part}
-use Rattle.dm_table.specs.declared.load.row_faults.RowFault.{RowFault}
+use Rattle.dm_table.proofs.Prelude.{◌≡◌, ◌≢◌, OnOk, ℕ, suc, List, ◌∷◌, Option, Some, None, Result, sym, ap, ◌∙◌, Part, RowFault, FirstFaults, unless, with_rows, Reads, fault_in, noted_at, noted_rows, first_noted}
 use Rattle.dm_table.specs.declared.load.row_faults.RowFault.TheVariants.{Memory}
-use Rattle.dm_table.specs.declared.load.row_faults.FirstFaults.{FirstFaults}
-use Rattle.dm_table.specs.load.LoadFault.{unless}
-use Rattle.dm_table.specs.load.Reading.{with_rows}
-use Rattle.dm_table.specs.load.RowFaults.{Reads, fault_in, noted_at, noted_rows, first_noted}
 use Rattle.dm_table.proofs.load.RowFaultLemmas.{found_read, read_clear}
 
 -- the values, where nothing is wrong so far

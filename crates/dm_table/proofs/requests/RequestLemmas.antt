@@ -1,23 +1,6 @@
 -- A line that says a request, and its fields: the one gives the other, so a line says one request at most.
-use Rattle.std.proofs.Common.{◌≡◌, ◌≢◌, ℕ, ◌^◌, ◌<◌, ◌≤◌, ◌⊎◌, inl, inr, Bool, true, false, cond, eqb, nat_le, ◌||◌, List, [], ◌∷◌, ◌++◌, length, get_or, take, Option, Some, None, refl, sym, ap, ◌∙◌, append_assoc, arith}
-use Rattle.std.specs.Prelude.{decimal, ◌==◌, nat_eq, Result, Ok, Err}
-use Rattle.std.specs.Cmp.Lexicographic.{pointwise}
-use Rattle.std.specs.List.{join_with_byte, list_all}
-use Rattle.std.specs.Char.{is_ascii_digit}
-use Rattle.std.proofs.lemmas.Bool.{and_parts, and_from, le-leb, or_cases, and_right, eqb-true, leb-true, false_from_ne_true}
-use Rattle.std.proofs.lemmas.Bool.Decides.{nat_tests}
-use Rattle.std.proofs.lemmas.List.Splits.{length-slice_split}
+use Rattle.dm_table.proofs.Prelude.{◌≡◌, ◌≢◌, ℕ, ◌^◌, ◌<◌, ◌≤◌, ◌⊎◌, inl, inr, Bool, true, false, cond, eqb, nat_le, ◌||◌, List, [], ◌∷◌, ◌++◌, length, get_or, take, Option, Some, None, refl, sym, ap, ◌∙◌, append_assoc, arith, decimal, ◌==◌, nat_eq, Result, Ok, Err, pointwise, join_with_byte, list_all, is_ascii_digit, and_parts, and_from, le-leb, or_cases, and_right, eqb-true, leb-true, false_from_ne_true, nat_tests, length-slice_split, Op, Read, Write, RequestFault, Form, Number, Length, is_device_name, is_device_byte, number_of, fields, RequestValues, AreNumbers, are_two, is_length, DescribesRequest, request_text, row_of, op_text, is_op, has_form, values_in, values_reading, request_reading, if_both, All-list_all}
 use Rattle.dm_table.specs.declared.requests.request.TheConstants.{MOST_SECTORS}
-use Rattle.dm_table.specs.declared.requests.request.Op.{Op}
-use Rattle.dm_table.specs.declared.requests.request.Op.TheVariants.{Read, Write}
-use Rattle.dm_table.specs.declared.requests.request.RequestFault.{RequestFault}
-use Rattle.dm_table.specs.declared.requests.request.RequestFault.TheVariants.{Form, Number, Length}
-use Rattle.dm_table.specs.words.Name.{is_device_name, is_device_byte}
-use Rattle.dm_table.specs.words.Number.{number_of}
-use Rattle.dm_table.specs.words.Fields.{fields}
-use Rattle.dm_table.specs.requests.RequestLine.{RequestValues, AreNumbers, are_two, is_length, DescribesRequest, request_text, row_of, op_text, is_op, has_form, values_in, values_reading, request_reading}
-use Rattle.dm_table.specs.tables.LineBody.{if_both}
-use Rattle.dm_table.specs.laws.NameLaws.{All-list_all}
 use Rattle.dm_table.proofs.words.ByteLemmas.{StandsFirst, stands_first, device_name_parts, digits-clear, plain-device_name}
 use Rattle.dm_table.proofs.words.FieldLemmas.{IsClearOf, parts_at-first, parts_at-clear, join-parts_at}
 use Rattle.dm_table.proofs.words.NumberLemmas.{Spells-number_of, number_of-decimal, decimal_digits, decimal_some}

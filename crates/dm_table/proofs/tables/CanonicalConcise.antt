@@ -1,14 +1,5 @@
 -- Concise text that is written of a description describes it, places aside.
-use Rattle.std.proofs.Common.{◌≡◌, inl, inr, ℕ, suc, ◌≤◌, Bool, true, false, List, [], ◌∷◌, ◌++◌, length, map, refl, sym, ap, ◌∙◌, append_assoc, arith}
-use Rattle.std.specs.Prelude.{codes, if◌then◌else◌}
-use Rattle.std.specs.List.{join_with_byte}
-use Rattle.dm_table.specs.declared.tables.table.Line.{Line}
-use Rattle.dm_table.specs.declared.tables.table.DeviceSpec.{DeviceSpec}
-use Rattle.dm_table.specs.declared.load.place.Place.{Place}
-use Rattle.dm_table.specs.load.Reading.{SayEach}
-use Rattle.dm_table.specs.tables.LineBody.{body_text}
-use Rattle.dm_table.specs.tables.ConciseText.{place_of, is_ro, is_flags, SaysLines, SaysDevice, DescribesConcise}
-use Rattle.dm_table.specs.tables.CanonicalText.{ReadsBack, flag_text, concise_device, concise_text, lines_at, as_concise}
+use Rattle.dm_table.proofs.Prelude.{◌≡◌, inl, inr, ℕ, suc, ◌≤◌, Bool, true, false, List, [], ◌∷◌, ◌++◌, length, map, refl, sym, ap, ◌∙◌, append_assoc, arith, codes, if◌then◌else◌, join_with_byte, Line, DeviceSpec, Place, SayEach, body_text, place_of, is_ro, is_flags, SaysLines, SaysDevice, DescribesConcise, ReadsBack, flag_text, concise_device, concise_text, lines_at, as_concise}
 
 -- Places are not written
 

@@ -1,18 +1,5 @@
 -- Table text that is written of a description describes it, places and flags aside.
-use Rattle.std.proofs.Common.{◌≡◌, inl, ℕ, suc, ◌+◌, true, List, [], ◌∷◌, ◌++◌, length, map, refl, sym, ap, ◌∙◌, arith}
-use Rattle.std.specs.List.{flat_map, AllByRecursion}
-use Rattle.std.proofs.lemmas.Grind.{flat_map-append}
-use Rattle.std.proofs.lemmas.List.{map-append}
-use Rattle.dm_table.specs.declared.tables.table.Line.{Line}
-use Rattle.dm_table.specs.declared.tables.table.DeviceSpec.{DeviceSpec}
-use Rattle.dm_table.specs.declared.load.place.Place.{Place}
-use Rattle.dm_table.specs.declared.load.place.Part.TheVariants.{Source}
-use Rattle.dm_table.specs.words.Name.{is_device_name}
-use Rattle.dm_table.specs.words.Fields.{lines_of, rest_of}
-use Rattle.dm_table.specs.load.Reading.{SayEach}
-use Rattle.dm_table.specs.tables.LineBody.{IsBody}
-use Rattle.dm_table.specs.tables.TableText.{NamedLine, line_text, SaysLine, named_lines, HasPlaceOf, IsDescribed, DifferInName, DescribesTable}
-use Rattle.dm_table.specs.tables.CanonicalText.{ReadsBack, lines_text, table_text, placed_lines, as_table}
+use Rattle.dm_table.proofs.Prelude.{◌≡◌, inl, ℕ, suc, ◌+◌, true, List, [], ◌∷◌, ◌++◌, length, map, refl, sym, ap, ◌∙◌, arith, flat_map, AllByRecursion, flat_map-append, map-append, Line, DeviceSpec, Place, Source, is_device_name, lines_of, rest_of, SayEach, IsBody, NamedLine, line_text, SaysLine, named_lines, HasPlaceOf, IsDescribed, DifferInName, DescribesTable, ReadsBack, lines_text, table_text, placed_lines, as_table}
 use Rattle.dm_table.proofs.words.ByteLemmas.{is_shown-clear}
 use Rattle.dm_table.proofs.words.FieldLemmas.{IsClearOf, lines_of-lines, rest_of-lines}
 use Rattle.dm_table.proofs.load.Forms.{each_said}

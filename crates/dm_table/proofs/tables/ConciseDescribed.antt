@@ -1,19 +1,6 @@
 -- A text of the concise form in which no check finds anything describes the devices that are read from it, and one that describes devices is read as them.
-use Rattle.std.proofs.Common.{◌≡◌, ◌⊎◌, inl, inr, ℕ, ◌≤◌, true, false, not, eqb, List, [], ◌∷◌, ◌++◌, length, take, get_or, ◌-◌, None, Result, Ok, Err, refl, sym, ap, ◌∙◌, arith}
+use Rattle.dm_table.proofs.Prelude.{◌≡◌, ◌⊎◌, inl, inr, ℕ, ◌≤◌, true, false, not, eqb, List, [], ◌∷◌, ◌++◌, length, take, get_or, ◌-◌, None, Result, Ok, Err, refl, sym, ap, ◌∙◌, arith, join_with_byte, AllByRecursion, and_parts, cases_Bool, not-true, eqb-true, append-nil, length-append, map-id, DeviceSpec, Source, LoadFault, parts_at, all_but_last, last_or, Answers, first_fault, first_or, is_printable, not_text, row_checks, unless, IsParsed, SayEach, SaysDevice, DescribesConcise, lacks, entries, without_newline, parts_of, devices_of, is_device, has_values, has_names, concise_checks, device_in, devices_from, parts_reading, read_concise, All-list_all}
 use Rattle.std.specs.Global.{Vec}
-use Rattle.std.specs.List.{join_with_byte, AllByRecursion}
-use Rattle.std.proofs.lemmas.Bool.{and_parts, cases_Bool, not-true, eqb-true}
-use Rattle.std.proofs.lemmas.List.{append-nil, length-append, map-id}
-use Rattle.dm_table.specs.declared.tables.table.DeviceSpec.{DeviceSpec}
-use Rattle.dm_table.specs.declared.load.place.Part.TheVariants.{Source}
-use Rattle.dm_table.specs.declared.load.load_fault.LoadFault.{LoadFault}
-use Rattle.dm_table.specs.words.Fields.{parts_at, all_but_last, last_or}
-use Rattle.dm_table.specs.load.LoadFault.{Answers, first_fault, first_or, is_printable, not_text, row_checks, unless}
-use Rattle.dm_table.specs.load.Parsed.{IsParsed}
-use Rattle.dm_table.specs.load.Reading.{SayEach}
-use Rattle.dm_table.specs.tables.ConciseText.{SaysDevice, DescribesConcise, lacks, entries, without_newline, parts_of, devices_of, is_device, has_values, has_names, concise_checks}
-use Rattle.dm_table.specs.tables.ConciseReading.{device_in, devices_from, parts_reading, read_concise}
-use Rattle.dm_table.specs.laws.NameLaws.{All-list_all}
 use Rattle.dm_table.proofs.words.ByteLemmas.{list_all-weaker}
 use Rattle.dm_table.proofs.load.FaultLemmas.{Answers-refused, unless-passed}
 use Rattle.dm_table.proofs.load.Forms.{Form, IsRead, IsLawful, each_said, none_says, says_none}

@@ -1,21 +1,5 @@
 -- The text of a body in the concise form and its fields, and the text of a device and its entries.
-use Rattle.std.proofs.Common.{◌≡◌, ◌⊎◌, inl, inr, ℕ, ◌≤◌, Bool, true, false, not, eqb, nat_le, nat_lt, ◌&&◌, ◌||◌, List, [], ◌∷◌, ◌++◌, length, drop, Some, refl, sym, ap, ◌∙◌, arith}
-use Rattle.std.specs.Prelude.{codes, decimal}
-use Rattle.std.specs.List.{list_all, join_with_byte, AllByRecursion}
-use Rattle.std.proofs.lemmas.Bool.{and_parts, and_from, cases_Bool, eqb-true}
-use Rattle.std.proofs.lemmas.Bool.Decides.{nat_tests}
-use Rattle.std.proofs.lemmas.List.{length-append}
-use Rattle.dm_table.specs.declared.tables.table.Line.{Line}
-use Rattle.dm_table.specs.declared.tables.table.DeviceSpec.{DeviceSpec}
-use Rattle.dm_table.specs.declared.load.place.Place.{Place}
-use Rattle.dm_table.specs.words.Name.{is_device_byte, is_device_name}
-use Rattle.dm_table.specs.words.Number.{number_in}
-use Rattle.dm_table.specs.words.Fields.{fields, row_fields, without_last_space}
-use Rattle.dm_table.specs.tables.LineBody.{body_text, target_fields, IsBody, is_body_row, is_body, has_body_names}
-use Rattle.dm_table.specs.tables.LineReading.{line_in}
-use Rattle.dm_table.specs.tables.ConciseText.{is_uuid, is_minor, is_ro, is_flags, place_of, WritesBody, SaysLines, SaysDevice, lacks, entries, without_first_space, body_fields, is_label, has_label_values, has_label_names, is_device, has_values, has_names}
-use Rattle.dm_table.specs.tables.ConciseReading.{lines_in, device_in}
-use Rattle.dm_table.specs.laws.NameLaws.{All-list_all}
+use Rattle.dm_table.proofs.Prelude.{◌≡◌, ◌⊎◌, inl, inr, ℕ, ◌≤◌, Bool, true, false, not, eqb, nat_le, nat_lt, ◌&&◌, ◌||◌, List, [], ◌∷◌, ◌++◌, length, drop, Some, refl, sym, ap, ◌∙◌, arith, codes, decimal, list_all, join_with_byte, AllByRecursion, and_parts, and_from, cases_Bool, eqb-true, nat_tests, length-append, Line, DeviceSpec, Place, is_device_byte, is_device_name, number_in, fields, row_fields, without_last_space, body_text, target_fields, IsBody, is_body_row, is_body, has_body_names, line_in, is_uuid, is_minor, is_ro, is_flags, place_of, WritesBody, SaysLines, SaysDevice, lacks, entries, without_first_space, body_fields, is_label, has_label_values, has_label_names, is_device, has_values, has_names, lines_in, device_in, All-list_all}
 use Rattle.dm_table.proofs.words.ByteLemmas.{list_all-weaker, list_all-both}
 use Rattle.dm_table.proofs.words.FieldLemmas.{IsClearOf, parts_at-join, join-parts_at}
 use Rattle.dm_table.proofs.tables.BodyRows.{body_there, body_again, body_said, body_placed, body_inked, body_row_passes, body_passes, body_names_pass, line_again, is_ink, IsInked, name_inked, number_inked, number_spelled, device_ink}

@@ -1,20 +1,6 @@
 -- Disk lists keep the law of forms.
-use Rattle.std.proofs.Common.{◌≡◌, ℕ, ◌^◌, ◌<◌, true, List, [], ◌∷◌, ◌++◌, map, Some, None, Result, refl, sym, ap, ◌∙◌}
+use Rattle.dm_table.proofs.Prelude.{◌≡◌, ℕ, ◌^◌, ◌<◌, true, List, [], ◌∷◌, ◌++◌, map, Some, None, Result, refl, sym, ap, ◌∙◌, decimal, nat_le, ◌&&◌, option_map, option_to_list, join_with_byte, and_from, lt-ltb, Disk, Disks, LoadFault, is_disk_name, number_of, lines_of, fields, Answers, first_fault, is_printable, unless, IsParsed, values_from, with_rows, disk_line, IsDiskOf, DescribesDisks, is_pair, disk_at, disk_in, has_sectors, has_name, disk_checks}
 use Rattle.std.specs.Global.{Vec}
-use Rattle.std.specs.Prelude.{decimal, nat_le, ◌&&◌}
-use Rattle.std.specs.Option.{option_map, option_to_list}
-use Rattle.std.specs.List.{join_with_byte}
-use Rattle.std.proofs.lemmas.Bool.{and_from, lt-ltb}
-use Rattle.dm_table.specs.declared.tables.disk.Disk.{Disk}
-use Rattle.dm_table.specs.declared.load.place.Part.TheVariants.{Disks}
-use Rattle.dm_table.specs.declared.load.load_fault.LoadFault.{LoadFault}
-use Rattle.dm_table.specs.words.Name.{is_disk_name}
-use Rattle.dm_table.specs.words.Number.{number_of}
-use Rattle.dm_table.specs.words.Fields.{lines_of, fields}
-use Rattle.dm_table.specs.load.LoadFault.{Answers, first_fault, is_printable, unless}
-use Rattle.dm_table.specs.load.Parsed.{IsParsed}
-use Rattle.dm_table.specs.load.Reading.{values_from, with_rows}
-use Rattle.dm_table.specs.tables.DiskList.{disk_line, IsDiskOf, DescribesDisks, is_pair, disk_at, disk_in, has_sectors, has_name, disk_checks}
 use Rattle.dm_table.proofs.words.NumberLemmas.{Spells-number_of, number_of-decimal, decimal_digits, decimal_some}
 use Rattle.dm_table.proofs.words.ByteLemmas.{is_shown, list_all-both, disk_name_parts, is_shown-digits, is_shown-printed, digits-clear, plain-disk_name}
 use Rattle.dm_table.proofs.words.FieldLemmas.{parts_at-first, parts_at-clear, join-parts_at}

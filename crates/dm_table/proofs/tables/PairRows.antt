@@ -1,16 +1,6 @@
 -- Rows of two fields: the first a disk's name, the second what says a value.
-use Rattle.std.proofs.Common.{◌≡◌, ◌≢◌, inl, inr, ℕ, Bool, true, false, List, [], ◌∷◌, length, Option, Some, None, Ok, Err, refl, sym, ap, ◌∙◌}
-use Rattle.std.specs.Prelude.{is_some, if◌then◌else◌}
-use Rattle.std.specs.Option.{option_map}
-use Rattle.std.proofs.lemmas.Bool.{cases_Bool}
-use Rattle.dm_table.specs.declared.load.row_faults.RowFault.{RowFault}
+use Rattle.dm_table.proofs.Prelude.{◌≡◌, ◌≢◌, inl, inr, ℕ, Bool, true, false, List, [], ◌∷◌, length, Option, Some, None, Ok, Err, refl, sym, ap, ◌∙◌, is_some, if◌then◌else◌, option_map, cases_Bool, RowFault, is_disk_name, texts, unless, fault_in, first_failed, row_fault, has_name, is_pair, pair_in, reading_of}
 use Rattle.dm_table.specs.declared.load.row_faults.RowFault.TheVariants.{Syntax}
-use Rattle.dm_table.specs.words.Name.{is_disk_name}
-use Rattle.dm_table.specs.words.Fields.{texts}
-use Rattle.dm_table.specs.load.LoadFault.{unless}
-use Rattle.dm_table.specs.load.RowFaults.{fault_in, first_failed, row_fault}
-use Rattle.dm_table.specs.tables.DiskList.{has_name, is_pair, pair_in}
-use Rattle.dm_table.specs.tables.LineReading.{reading_of}
 use Rattle.dm_table.proofs.tables.TargetRows.{read_parts}
 use denote.Ref.{Bor}
 

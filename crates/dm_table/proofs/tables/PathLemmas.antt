@@ -1,19 +1,6 @@
 -- Lists of paths keep the law of forms.
-use Rattle.std.proofs.Common.{◌≡◌, ℕ, ◌+◌, ◌<◌, true, List, [], ◌∷◌, ◌++◌, length, map, Some, None, Result, Ok, Err, refl, ap, ◌∙◌}
+use Rattle.dm_table.proofs.Prelude.{◌≡◌, ℕ, ◌+◌, ◌<◌, true, List, [], ◌∷◌, ◌++◌, length, map, Some, None, Result, Ok, Err, refl, ap, ◌∙◌, drop, get_or, nat_lt, option_map, option_to_list, and_parts, and_from, lt-ltb, ltb-true, is_utf8-from_IsUtf8, IsUtf8-nil, DiskPath, Paths, LoadFault, fields, parts_at, lines_of, rest_of, Answers, first_fault, first_or, unless, untexts, row_checks, IsParsed, values_from, with_rows, has_name, is_pair, IsPathOf, DescribesPaths, is_path_text, name_and_path, place_in, path_at, path_in, has_place, path_checks, read_paths}
 use Rattle.std.specs.Global.{Vec}
-use Rattle.std.specs.Prelude.{drop, get_or, nat_lt}
-use Rattle.std.specs.Option.{option_map, option_to_list}
-use Rattle.std.proofs.lemmas.Bool.{and_parts, and_from, lt-ltb, ltb-true}
-use Rattle.std.proofs.lemmas.Str.{is_utf8-from_IsUtf8, IsUtf8-nil}
-use Rattle.dm_table.specs.declared.tables.disk_path.DiskPath.{DiskPath}
-use Rattle.dm_table.specs.declared.load.place.Part.TheVariants.{Paths}
-use Rattle.dm_table.specs.declared.load.load_fault.LoadFault.{LoadFault}
-use Rattle.dm_table.specs.words.Fields.{fields, parts_at, lines_of, rest_of}
-use Rattle.dm_table.specs.load.LoadFault.{Answers, first_fault, first_or, unless, untexts, row_checks}
-use Rattle.dm_table.specs.load.Parsed.{IsParsed}
-use Rattle.dm_table.specs.load.Reading.{values_from, with_rows}
-use Rattle.dm_table.specs.tables.DiskList.{has_name, is_pair}
-use Rattle.dm_table.specs.tables.PathList.{IsPathOf, DescribesPaths, is_path_text, name_and_path, place_in, path_at, path_in, has_place, path_checks, read_paths}
 use Rattle.dm_table.proofs.words.ByteLemmas.{disk_name_parts, plain-disk_name}
 use Rattle.dm_table.proofs.load.FaultLemmas.{Answers-refused, unless-passed}
 use Rattle.dm_table.proofs.load.Forms.{Form, IsRead, lines_parsed, values_after}

@@ -1,18 +1,7 @@
 -- How a line of paths is cut, and what its path says.
-use Rattle.std.proofs.Common.{◌≡◌, ℕ, ◌+◌, ◌-◌, ◌/◌, ◌%◌, ◌<◌, ◌≤◌, inl, inr, false, eqb, ◌&&◌, List, [], ◌∷◌, ◌++◌, length, take, drop, get_or, Some, None, Result, Ok, Err, refl, sym, ap, ◌∙◌, arith}
-use Rattle.std.specs.Prelude.{MatchResult, is_ok}
-use Rattle.std.specs.List.{join_with_byte, onto_first}
-use Rattle.std.specs.Str.{IsUtf8, is_utf8}
-use Rattle.std.proofs.lemmas.Bool.Decides.{nat_tests}
-use Rattle.std.proofs.lemmas.Bool.{cases_Bool, eq-eqb, ne_eqb, false_from_ne_true}
-use Rattle.std.proofs.lemmas.Grind.{elements, common_steps}
-use Rattle.std.proofs.lemmas.List.{drop-drop, drop_all, drop_more, take-append-drop, take_rest}
-use Rattle.std.proofs.lemmas.List.Splits.{slice_split-cons_yes, slice_split-cons_no}
-use Rattle.std.proofs.lemmas.Str.{IsUtf8-from_is_utf8, is_utf8-from_IsUtf8}
-use Rattle.std.proofs.Math.Seq.{drop-append_seam}
+use Rattle.dm_table.proofs.Prelude.{◌≡◌, ℕ, ◌+◌, ◌-◌, ◌/◌, ◌%◌, ◌<◌, ◌≤◌, inl, inr, false, eqb, ◌&&◌, List, [], ◌∷◌, ◌++◌, length, take, drop, get_or, Some, None, Result, Ok, Err, refl, sym, ap, ◌∙◌, arith, MatchResult, is_ok, join_with_byte, onto_first, IsUtf8, is_utf8, nat_tests, cases_Bool, eq-eqb, ne_eqb, false_from_ne_true, elements, common_steps, drop-drop, drop_all, drop_more, take-append-drop, take_rest, slice_split-cons_yes, slice_split-cons_no, IsUtf8-from_is_utf8, is_utf8-from_IsUtf8, drop-append_seam, after_equals, name_and_path, place_in, fields, last_or, parts_at}
 use Rattle.memchr.specs.Find.{is_byte, IsFirstByte, IsLastByte}
-use Rattle.dm_table.specs.tables.PathList.{after_equals, name_and_path, place_in, place_of}
-use Rattle.dm_table.specs.words.Fields.{fields, last_or, parts_at}
+use Rattle.dm_table.specs.tables.PathList.{place_of}
 use Rattle.dm_table.proofs.words.FieldLemmas.{IsClearOf, join-parts_at, last_or-push, parts_at-clear, parts_at-first, parts_at-found, parts_at-nowhere}
 
 -- ---- UTF-8

@@ -1,15 +1,8 @@
 -- Table text keeps the law of forms, and its lines, joined, are its devices.
-use Rattle.std.proofs.Common.{◌≡◌, ℕ, List, [], None, Result, refl, ap, ◌∙◌}
+use Rattle.dm_table.proofs.Prelude.{◌≡◌, ℕ, List, [], None, Result, refl, ap, ◌∙◌, DeviceSpec, Source, LoadFault, lines_of, row_fields, Answers, first_fault, is_printable, unless, IsParsed, values_from, with_rows, NamedLine, SaysLine, DescribesTable, named_lines, is_row, table_checks, named_in, add_said, joined, rows_of}
 use Rattle.std.specs.Global.{Vec}
-use Rattle.dm_table.specs.declared.tables.table.DeviceSpec.{DeviceSpec}
-use Rattle.dm_table.specs.declared.load.place.Part.TheVariants.{Source}
-use Rattle.dm_table.specs.declared.load.load_fault.LoadFault.{LoadFault}
-use Rattle.dm_table.specs.words.Fields.{lines_of, row_fields}
-use Rattle.dm_table.specs.load.LoadFault.{Answers, first_fault, is_printable, unless}
-use Rattle.dm_table.specs.load.Parsed.{IsParsed}
-use Rattle.dm_table.specs.load.Reading.{values_from, with_rows}
-use Rattle.dm_table.specs.tables.TableText.{NamedLine, SaysLine, DescribesTable, named_lines, is_row, has_values, has_names, table_checks}
-use Rattle.dm_table.specs.tables.TableReading.{named_in, add_said, joined, devices_from, rows_of}
+use Rattle.dm_table.specs.tables.TableText.{has_values, has_names}
+use Rattle.dm_table.specs.tables.TableReading.{devices_from}
 use Rattle.dm_table.proofs.words.ByteLemmas.{is_shown-printed}
 use Rattle.dm_table.proofs.load.Forms.{Form, IsRead, IsLawful, lines_said, lines_again}
 use Rattle.dm_table.proofs.load.Parsing.{parsed}

@@ -1,26 +1,8 @@
 -- What the tests of rows say, by places: the last field, and all before it.
-use Rattle.std.proofs.Common.{◌≡◌, ℕ, suc, ◌-◌, ◌≤◌, true, false, eqb, List, [], ◌∷◌, length, get_or, take, refl, arith}
-use Rattle.std.proofs.lemmas.Bool.{lt-ltb, ne_eqb}
-use Rattle.dm_table.specs.words.Fields.{texts, all_but_last, last_or, without_last_space, ends_empty}
+use Rattle.dm_table.proofs.Prelude.{◌≡◌, ℕ, suc, ◌-◌, ◌≤◌, true, false, eqb, List, [], ◌∷◌, length, get_or, take, refl, arith, lt-ltb, ne_eqb, take_rest, inl, inr, Option, Some, None, Ok, Err, ◌&&◌, slice_index_or, drop, unwrap_or, is_some, option_map, cases_Bool, and-false, texts, all_but_last, last_or, without_last_space, ends_empty, Line, Place, Source, RowFault, is_device_name, first_failed, fault_in, is_body_row, Body, body_in, has_target_names, line_at, line_in, reading_of, body_reading, NamedLine, name_in, is_row, named_in, named_reading, has_line_names, table_row_fault, row_reading}
 use Rattle.dm_table.specs.tables.TableText.{is_label}
-use Rattle.std.proofs.lemmas.List.{take_rest}
-use Rattle.std.proofs.Common.{inl, inr, Option, Some, None, Ok, Err}
-use Rattle.std.specs.Prelude.{◌&&◌, slice_index_or, drop, unwrap_or, is_some}
-use Rattle.std.specs.Option.{option_map}
-use Rattle.dm_table.specs.declared.tables.table.Line.{Line}
-use Rattle.dm_table.specs.declared.load.place.Place.{Place}
-use Rattle.dm_table.specs.declared.load.place.Part.TheVariants.{Source}
-use Rattle.dm_table.specs.declared.load.row_faults.RowFault.{RowFault}
-use Rattle.dm_table.specs.words.Name.{is_device_name}
-use Rattle.dm_table.specs.load.RowFaults.{first_failed, fault_in}
-use Rattle.dm_table.specs.tables.LineBody.{is_body_row, Body, body_in, has_target_names}
-use Rattle.dm_table.specs.tables.LineReading.{line_at, line_in, reading_of, body_reading}
-use Rattle.dm_table.specs.tables.TableText.{NamedLine, name_in, is_row}
-use Rattle.dm_table.specs.tables.TableReading.{named_in, named_reading, has_line_names, table_row_fault, row_reading}
 use Rattle.dm_table.proofs.tables.PairRows.{said_by}
 use Rattle.dm_table.proofs.tables.TargetRows.{made_fault, read_parts}
-use Rattle.std.proofs.lemmas.Bool.{cases_Bool}
-use Rattle.std.proofs.Math.Bool.{and-false}
 use denote.Ref.{Bor}
 
 last_place : {X : Type 0} (x y : X) (xs : List X) → length (x ∷ y ∷ xs) - 1 ≡ suc (length (y ∷ xs) - 1)

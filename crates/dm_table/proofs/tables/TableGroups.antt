@@ -1,14 +1,5 @@
 -- Neighbouring lines of one name, joined into devices: what they say, and that nothing else says it.
-use Rattle.std.proofs.Common.{◌≡◌, ◌≢◌, inl, inr, ℕ, Bool, true, false, nat_eq, List, [], ◌∷◌, ◌++◌, map, refl, sym, ap, ◌∙◌}
-use Rattle.std.specs.Cmp.Lexicographic.{pointwise}
-use Rattle.std.specs.List.{AllByRecursion}
-use Rattle.std.proofs.lemmas.Slice.Eq.{bytes_eq-Decides}
-use Rattle.std.proofs.lemmas.Bool.{cases_Bool, false_from_ne_true}
-use Rattle.dm_table.specs.declared.tables.table.Line.{Line}
-use Rattle.dm_table.specs.declared.tables.table.DeviceSpec.{DeviceSpec}
-use Rattle.dm_table.specs.declared.load.place.Place.{Place}
-use Rattle.dm_table.specs.tables.TableText.{NamedLine, named_lines, HasPlaceOf, IsDescribed, DifferInName}
-use Rattle.dm_table.specs.tables.TableReading.{alone, join_line, joined}
+use Rattle.dm_table.proofs.Prelude.{◌≡◌, ◌≢◌, inl, inr, ℕ, Bool, true, false, nat_eq, List, [], ◌∷◌, ◌++◌, map, refl, sym, ap, ◌∙◌, pointwise, AllByRecursion, bytes_eq-Decides, cases_Bool, false_from_ne_true, Line, DeviceSpec, Place, NamedLine, named_lines, HasPlaceOf, IsDescribed, DifferInName, alone, join_line, joined}
 
 -- the test of names, and what it says
 

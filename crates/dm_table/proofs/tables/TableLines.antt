@@ -1,21 +1,5 @@
 -- Lines of table text added one after the other: the devices are those of all of them.
-use Rattle.std.proofs.Common.{◌≡◌, OnOk, inl, inr, ℕ, zero, suc, ◌+◌, true, false, nat_eq, List, [], ◌∷◌, ◌++◌, length, Option, Some, None, Result, Ok, Err, refl, sym, ap, ◌∙◌, append_assoc, arith}
-use Rattle.std.specs.Cmp.Lexicographic.{pointwise}
-use Rattle.std.specs.Prelude.{slice_index_or, slice_set}
-use Rattle.std.specs.List.{cons_option}
-use Rattle.std.proofs.lemmas.Bool.{cases_Bool}
-use Rattle.std.proofs.lemmas.List.{append-nil}
-use Rattle.dm_table.specs.declared.tables.table.Line.{Line}
-use Rattle.dm_table.specs.declared.tables.table.DeviceSpec.{DeviceSpec}
-use Rattle.dm_table.specs.declared.load.place.Place.{Place}
-use Rattle.dm_table.specs.words.Name.{is_device_name}
-use Rattle.dm_table.specs.declared.load.row_faults.RowFault.{RowFault}
-use Rattle.dm_table.specs.load.RowFaults.{Reads, fault_in}
-use Rattle.dm_table.specs.load.LoadFault.{unless}
-use Rattle.dm_table.specs.load.Reading.{values_from, with_rows}
-use Rattle.dm_table.specs.tables.LineReading.{body_reading, made_of, with_line}
-use Rattle.dm_table.specs.tables.TableText.{NamedLine}
-use Rattle.dm_table.specs.tables.TableReading.{named_in, named_reading, alone, join_line, joined, add_line, add_said, table_row_fault, row_reading}
+use Rattle.dm_table.proofs.Prelude.{◌≡◌, OnOk, inl, inr, ℕ, zero, suc, ◌+◌, true, false, nat_eq, List, [], ◌∷◌, ◌++◌, length, Option, Some, None, Result, Ok, Err, refl, sym, ap, ◌∙◌, append_assoc, arith, pointwise, slice_index_or, slice_set, cons_option, cases_Bool, append-nil, Line, DeviceSpec, Place, is_device_name, RowFault, Reads, fault_in, unless, values_from, with_rows, body_reading, made_of, with_line, NamedLine, named_in, named_reading, alone, join_line, joined, add_line, add_said, table_row_fault, row_reading}
 use Rattle.dm_table.proofs.tables.TableGroups.{same_name, is_same_name, other_name, is_other_name}
 use Rattle.dm_table.proofs.tables.TableFields.{row_found, row_taken, line_name, line_place, named_fault, named_line}
 use Rattle.dm_table.proofs.tables.TargetRows.{read_ok}

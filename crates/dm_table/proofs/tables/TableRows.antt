@@ -1,15 +1,6 @@
 -- A line of table text and its row of fields: a row that the tests pass is that of a line, and the row of a line passes them.
-use Rattle.std.proofs.Common.{◌≡◌, ◌⊎◌, inl, inr, ℕ, ◌<◌, true, false, eqb, nat_lt, List, [], ◌∷◌, ◌++◌, length, Some, refl, sym, ap, ◌∙◌, append_assoc, arith}
-use Rattle.std.specs.List.{list_all, join_with_byte, AllByRecursion}
-use Rattle.std.specs.Option.{option_map}
-use Rattle.std.proofs.lemmas.Bool.{and_parts, and_from, ltb-true, lt-ltb, eqb-true, eq-eqb}
-use Rattle.std.proofs.lemmas.List.{length-append}
-use Rattle.dm_table.specs.words.Name.{is_device_name}
-use Rattle.dm_table.specs.words.Fields.{last_or, fields, row_fields, without_last_space}
-use Rattle.dm_table.specs.tables.LineBody.{is_body_row, has_body_names}
-use Rattle.dm_table.specs.tables.TableText.{NamedLine, line_text, Writes, IsSaid, is_label, name_in, is_row, has_values, has_names}
-use Rattle.dm_table.specs.tables.LineReading.{line_in}
-use Rattle.dm_table.specs.tables.TableReading.{named_in}
+use Rattle.dm_table.proofs.Prelude.{◌≡◌, ◌⊎◌, inl, inr, ℕ, ◌<◌, true, false, eqb, nat_lt, List, [], ◌∷◌, ◌++◌, length, Some, refl, sym, ap, ◌∙◌, append_assoc, arith, list_all, join_with_byte, AllByRecursion, option_map, and_parts, and_from, ltb-true, lt-ltb, eqb-true, eq-eqb, length-append, is_device_name, last_or, fields, row_fields, without_last_space, is_body_row, has_body_names, NamedLine, line_text, Writes, IsSaid, name_in, is_row, line_in, named_in}
+use Rattle.dm_table.specs.tables.TableText.{is_label, has_values, has_names}
 use Rattle.dm_table.proofs.words.ByteLemmas.{is_shown, list_all-weaker, list_all-both}
 use Rattle.dm_table.proofs.tables.TableFields.{place, with_label}
 use Rattle.dm_table.proofs.words.FieldLemmas.{parts_at-first, parts_at-clear, join-parts_at, all_but_last-push, last_or-push, last_split}

@@ -1,16 +1,5 @@
 -- What the tests of bytes say of whole texts.
-use Rattle.std.proofs.Common.{◌≡◌, ◌≢◌, ℕ, suc, ◌+◌, ◌<◌, ◌≤◌, ◌⊎◌, inl, inr, Bool, true, false, cond, eqb, nat_le, nat_lt, not, ◌&&◌, ◌||◌, List, [], ◌∷◌, ◌++◌, length, take, take_all, drop, refl, sym, ap, ◌∙◌, arith}
-use Rattle.std.specs.Char.{is_ascii_digit}
-use Rattle.std.specs.List.{list_all, AllByRecursion, prefix_len, join_with_byte, onto_first}
-use Rattle.std.proofs.lemmas.Bool.{and_parts, and_from, not-false, not_from_true, cases_Bool, le-leb, leb-true, false_from_ne_true, eq-eqb, ne_eqb, cases_eq}
-use Rattle.std.proofs.lemmas.Bool.Decides.{nat_tests}
-use Rattle.std.proofs.Math.Seq.{take-append_seam, drop-append_seam}
-use Rattle.std.proofs.lemmas.List.Folds.{length-prefix_len, list_all_at}
-use Rattle.std.proofs.lemmas.List.Sums.{prefix_len-le-length, prefix_len_stops}
-use Rattle.dm_table.specs.words.Fields.{parts_at}
-use Rattle.dm_table.specs.load.LoadFault.{is_printable}
-use Rattle.dm_table.specs.laws.NameLaws.{All-list_all}
-use Rattle.dm_table.specs.words.Name.{is_device_byte, is_device_name, is_disk_byte, is_disk_name, names_device}
+use Rattle.dm_table.proofs.Prelude.{◌≡◌, ◌≢◌, ℕ, suc, ◌+◌, ◌<◌, ◌≤◌, ◌⊎◌, inl, inr, Bool, true, false, cond, eqb, nat_le, nat_lt, not, ◌&&◌, ◌||◌, List, [], ◌∷◌, ◌++◌, length, take, take_all, drop, refl, sym, ap, ◌∙◌, arith, is_ascii_digit, list_all, AllByRecursion, prefix_len, join_with_byte, onto_first, and_parts, and_from, not-false, not_from_true, cases_Bool, le-leb, leb-true, false_from_ne_true, eq-eqb, ne_eqb, cases_eq, nat_tests, take-append_seam, drop-append_seam, length-prefix_len, list_all_at, prefix_len-le-length, prefix_len_stops, parts_at, is_printable, All-list_all, is_device_byte, is_device_name, is_disk_byte, is_disk_name, names_device}
 use Rattle.dm_table.proofs.words.FieldLemmas.{IsClearOf, join-parts_at}
 
 -- Texts of which each byte passes a test

@@ -1,13 +1,5 @@
 -- Digits as lanes, and the numbers that they are of.
-use Rattle.std.proofs.Common.{◌≡◌, ℕ, suc, ◌+◌, ◌*◌, ◌%◌, ◌^◌, ◌<◌, ◌≤◌, inl, inr, true, false, not, List, [], ◌∷◌, ◌++◌, get_or, length, map, take, refl, arith, add-mul, mul_assoc}
-use Rattle.std.specs.Prelude.{nat_lt}
-use Rattle.std.specs.Char.{digit_value, is_ascii_digit}
-use Rattle.std.specs.Int.Digits.{number_from_digits, number_from_digits_after, AllBelowBase}
-use Rattle.std.specs.List.{list_all, prefix_len}
-use Rattle.std.proofs.lemmas.Bool.{and_from, and_parts, cases_lt}
-use Rattle.std.proofs.lemmas.Bool.Decides.{nat_tests}
-use Rattle.std.proofs.lemmas.Str.{digit_value_digit}
-use Rattle.std.proofs.Math.Nat.{pow-succ'}
+use Rattle.dm_table.proofs.Prelude.{◌≡◌, ℕ, suc, ◌+◌, ◌*◌, ◌%◌, ◌^◌, ◌<◌, ◌≤◌, inl, inr, true, false, not, List, [], ◌∷◌, ◌++◌, get_or, length, map, take, refl, arith, add-mul, mul_assoc, nat_lt, digit_value, is_ascii_digit, number_from_digits, number_from_digits_after, AllBelowBase, list_all, prefix_len, and_from, and_parts, cases_lt, nat_tests, digit_value_digit, pow-succ'}
 use Rattle.dm_table.proofs.words.NumberLemmas.{digit_range}
 use lib.Lanes.{Each1}
 

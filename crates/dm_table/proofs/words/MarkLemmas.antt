@@ -1,16 +1,6 @@
 -- Marks of a text: those of its parts, and the first of them.
-use Rattle.std.proofs.Common.{◌≡◌, ◌≢◌, ℕ, suc, ◌+◌, ◌-◌, ◌*◌, ◌%◌, ◌^◌, ◌<◌, ◌≤◌, Bool, true, false, not, List, [], ◌∷◌, ◌++◌, length, map, take, drop, Some, None, sym, ap, ◌∙◌, arith, mul_assoc, pow_pos, pow_mono, pos_of_ne-zero}
-use Rattle.std.specs.Prelude.{◌/◌, ◌==◌, bit_or}
-use Rattle.std.specs.List.{prefix_len}
-use Rattle.std.proofs.lemmas.Bool.{not-false, not-true}
-use Rattle.std.proofs.lemmas.Grind.{common_steps}
-use Rattle.std.proofs.lemmas.List.{drop-map, drop-drop, take-append-drop, take-map, take_rest, length-map}
-use Rattle.std.proofs.lemmas.List.Sums.{prefix_len_passes, prefix_len_stops}
-use Rattle.std.proofs.lemmas.Nat.{or_shifted}
-use Rattle.std.proofs.lemmas.Simd.{leading_from_mask_l, mask_l-lt, trailing_mask_l}
-use Rattle.std.proofs.Math.Nat.{add-mul-div_left, div-eq_of_lt, mul_comm, pow-succ'}
+use Rattle.dm_table.proofs.Prelude.{◌≡◌, ◌≢◌, ℕ, suc, ◌+◌, ◌-◌, ◌*◌, ◌%◌, ◌^◌, ◌<◌, ◌≤◌, Bool, true, false, not, List, [], ◌∷◌, ◌++◌, length, map, take, drop, Some, None, sym, ap, ◌∙◌, arith, mul_assoc, pow_pos, pow_mono, pos_of_ne-zero, ◌/◌, ◌==◌, bit_or, prefix_len, not-false, not-true, common_steps, drop-map, drop-drop, take-append-drop, take-map, take_rest, length-map, prefix_len_passes, prefix_len_stops, or_shifted, leading_from_mask_l, mask_l-lt, trailing_mask_l, add-mul-div_left, div-eq_of_lt, mul_comm, pow-succ', marks_of}
 use Rattle.memchr.specs.Find.{IsFirstByte, is_byte}
-use Rattle.dm_table.specs.words.Marks.{marks_of}
 use lib.Count.{count_trailing_zeros}
 use lib.Lanes.{mask_l}
 

@@ -1,9 +1,6 @@
 -- Digits that are read as one word: every second byte gets the value of two, and then the values are added.
-use Rattle.std.proofs.Common.{◌≡◌, ℕ, zero, suc, ◌+◌, ◌-◌, ◌*◌, ◌/◌, ◌%◌, ◌^◌, ◌<◌, ◌≤◌, List, [], ◌∷◌, get_or, length, take, ap, ◌∙◌, arith, bit_and}
-use Rattle.std.specs.Int.Digits.{number_from_digits}
-use Rattle.std.specs.Int.{from_le_bytes, w64}
+use Rattle.dm_table.proofs.Prelude.{◌≡◌, ℕ, zero, suc, ◌+◌, ◌-◌, ◌*◌, ◌/◌, ◌%◌, ◌^◌, ◌<◌, ◌≤◌, List, [], ◌∷◌, get_or, length, take, ap, ◌∙◌, arith, bit_and, number_from_digits, from_le_bytes, w64, and_block, and_mask, shr_split}
 use lib.Lanes.{Each1}
-use Rattle.std.proofs.lemmas.Nat.{and_block, and_mask, shr_split}
 
 -- eight bytes as a word, the first of them the lowest
 abbrev pub word : ℕ → ℕ → ℕ → ℕ → ℕ → ℕ → ℕ → ℕ → ℕ

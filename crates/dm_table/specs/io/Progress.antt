@@ -1,6 +1,5 @@
 -- How inputs and outputs moved on, told by their past: each fact once, for every contract that speaks of one.
-use Rattle.std.specs.Prelude.{◌≡◌, ◌⊎◌, ◌≤◌, ◌<◌, ◌↔◌, ◌+◌, ◌++◌, ℕ, List, [], Result, OnOk, OnErr}
-use Rattle.std.specs.Borrow.{MutBor}
+use Rattle.dm_table.specs.Base.{◌≡◌, ◌⊎◌, ◌≤◌, ◌<◌, ◌↔◌, ◌+◌, ◌++◌, ℕ, List, [], Result, OnOk, OnErr, MutBor}
 use Rattle.dm_table.specs.io.DeviceIo.{InputPast, OutputPast, ends_added, fault_of, since, written_since}
 use Rattle.dm_table.specs.io.WriteAll.{IsCutShort}
 
@@ -38,7 +37,7 @@ pub record HasWritten (old new : OutputPast) (failed : ℕ) : Type 0 where
   pub fails : new.faults ≡ old.faults + failed
   pub unflushed : new.flushes ≡ old.flushes
 
--- the same of an output that is borrowed, by a reference that stays the same
+-- a borrowed output only took more, and its reference stays the same. This many writes failed
 pub record HasWrittenTo {X : Type 0} (past : X → OutputPast) (old new : MutBor X) (failed : ℕ) : Type 0 where
   pub moved : HasWritten (past old.now) (past new.now) failed
   pub same_reference : IsSameReference old new

@@ -1,5 +1,5 @@
 -- What a write that stops early leaves.
-use Rattle.std.specs.Prelude.{◌≡◌, List, ℕ, ◌++◌, ◌∷◌}
+use Rattle.dm_table.specs.Base.{◌≡◌, List, ℕ, ◌++◌, ◌∷◌}
 
 -- the text begins so
 abbrev pub IsBeginning : List ℕ → List ℕ → Type 0

@@ -1,7 +1,7 @@
 -- Laws of how inputs and outputs moved on: what is new in a list that grew, and what an output took in two steps.
-use Rattle.std.proofs.Common.{◌≡◌, ℕ, ◌+◌, List, [], ◌∷◌, ◌++◌, length, drop, MutBor, sym, ap, ◌∙◌, refl, add-zero, append_assoc}
+use Rattle.dm_table.specs.Base.{◌≡◌, ℕ, ◌+◌, List, [], ◌∷◌, ◌++◌, length, drop, MutBor, sym, ap, ◌∙◌, refl, append_assoc, append-nil}
+use Rattle.std.proofs.Common.{add-zero}
 use Rattle.std.proofs.Math.Seq.{drop-append_seam}
-use Rattle.std.proofs.lemmas.List.{append-nil}
 use Rattle.dm_table.specs.io.DeviceIo.{InputPast, OutputPast, since}
 use Rattle.dm_table.specs.io.Progress.{HasWritten, HasWrittenTo, IsClosedAfter, IsFinished}
 
@@ -68,7 +68,7 @@ written_more a b c failed first second = record {
   unflushed = second.unflushed ∙ first.unflushed;
 }
 
--- ---- the same of an output that is borrowed
+-- ---- what a borrowed output took
 
 pub written_to_none : {X : Type 0} (past : X → OutputPast) (x : MutBor X) → HasWrittenTo past x x 0
 written_to_none past x = record { moved = written_none (past x.now); same_reference = refl }

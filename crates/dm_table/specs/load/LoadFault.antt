@@ -1,11 +1,6 @@
 -- Checks in a fixed order, and the one fault that is returned: the terms in which every check of a load is stated.
-use Rattle.std.specs.Prelude.{◌≡◌, ◌≢◌, ℕ, suc, ◌+◌, ◌==◌, Bool, not, ◌&&◌, ◌||◌, nat_le, List, [], ◌∷◌, ◌++◌, length, Option, Some, None, Result, Ok, Err, if◌then◌else◌}
-use Rattle.std.specs.List.{list_all}
-use Rattle.dm_table.specs.declared.load.place.Part.{Part}
-use Rattle.dm_table.specs.declared.load.place.Place.{Place}
-use Rattle.dm_table.specs.declared.load.load_fault.LoadKind.{LoadKind}
-use Rattle.dm_table.specs.declared.load.load_fault.LoadKind.TheVariants.{Memory, NotText, Syntax, Field, Name}
-use Rattle.dm_table.specs.declared.load.load_fault.LoadFault.{LoadFault}
+use Rattle.dm_table.specs.Base.{◌≡◌, ◌≢◌, ℕ, suc, ◌+◌, ◌==◌, Bool, not, ◌&&◌, ◌||◌, nat_le, List, [], ◌∷◌, ◌++◌, length, Option, Some, None, Result, Ok, Err, if◌then◌else◌, list_all, Part, Place, LoadKind, Memory, NotText, LoadFault}
+use Rattle.dm_table.specs.declared.load.load_fault.LoadKind.TheVariants.{Syntax, Field, Name}
 use Rattle.dm_table.specs.words.Bytes.{code}
 
 -- a fault of a kind at a place
@@ -35,7 +30,7 @@ abbrev pub faults_by : {X : Type 0} → LoadKind → (X → Place) → (X → Bo
 faults_by kind place bad [] = []
 faults_by kind place bad (x ∷ xs) = if bad x then fault kind (place x) ∷ faults_by kind place bad xs else faults_by kind place bad xs
 
--- the same at elements that are told by their number in a part, from n on
+-- the faults of a kind at the elements that are bad, each at its number in a part, from n on
 abbrev pub faults_from : {X : Type 0} → Part → LoadKind → (X → Bool) → ℕ → List X → List LoadFault
 faults_from part kind bad n [] = []
 faults_from part kind bad n (x ∷ xs) =
@@ -61,7 +56,7 @@ is_printable text = list_all (λ b. b == code "\n" || (nat_le 32 b && nat_le b 1
 abbrev pub untexts : (is_text : List ℕ → Bool) → Part → List (List ℕ) → List LoadFault
 untexts is_text part pieces = faults_from part NotText (λ piece. not (is_text piece)) 1 pieces
 
--- the same where a text has those bytes alone
+-- the pieces of a text with bytes other than printable ones and newlines
 abbrev pub not_text : Part → List (List ℕ) → List LoadFault
 not_text = untexts is_printable
 

@@ -1,10 +1,6 @@
 -- The message of a refused load.
-use Rattle.std.specs.Prelude.{ℕ, List, ◌++◌, codes, decimal}
-use Rattle.dm_table.specs.declared.load.place.Part.{Part}
-use Rattle.dm_table.specs.declared.load.place.Part.TheVariants.{Source, Disks, Paths}
-use Rattle.dm_table.specs.declared.load.load_fault.LoadKind.{LoadKind}
+use Rattle.dm_table.specs.Base.{ℕ, List, ◌++◌, codes, decimal, Part, Source, Disks, Paths, LoadKind, LoadFault}
 use Rattle.dm_table.specs.declared.load.load_fault.LoadKind.TheVariants as kinds
-use Rattle.dm_table.specs.declared.load.load_fault.LoadFault.{LoadFault}
 
 -- the word of a part
 abbrev pub part_word : Part → List ℕ

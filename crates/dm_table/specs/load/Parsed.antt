@@ -1,9 +1,6 @@
 -- What is promised of a reader of texts, over what a text may describe and the checks that it has to pass.
-use Rattle.std.specs.Prelude.{◌≡◌, ◌≢◌, List, None, Some, Result, Ok, IfOk, IfErr, OnOk}
+use Rattle.dm_table.specs.Base.{◌≡◌, ◌≢◌, List, None, Some, Result, Ok, IfOk, IfErr, OnOk, Part, Memory, LoadFault}
 use Rattle.std.specs.Global.{Vec}
-use Rattle.dm_table.specs.declared.load.place.Part.{Part}
-use Rattle.dm_table.specs.declared.load.load_fault.LoadKind.TheVariants.{Memory}
-use Rattle.dm_table.specs.declared.load.load_fault.LoadFault.{LoadFault}
 use Rattle.dm_table.specs.load.LoadFault.{Answers, IsMemoryFault, first_fault}
 
 -- the answer of a reader of a part, where texts describe values in this sense and have to pass these checks in this order

@@ -1,8 +1,5 @@
 -- What a part of a load delivers: a text, or why it was not read.
-use Rattle.std.specs.Prelude.{ℕ, List, length, nat_lt, if◌then◌else◌}
-use Rattle.dm_table.specs.declared.load.place.Part.{Part}
-use Rattle.dm_table.specs.declared.load.load_fault.LoadFault.{LoadFault}
-use Rattle.dm_table.specs.declared.load.load_fault.LoadKind.TheVariants.{Read, Long}
+use Rattle.dm_table.specs.Base.{ℕ, List, length, nat_lt, if◌then◌else◌, Part, LoadFault, Read, Long}
 use Rattle.dm_table.specs.load.LoadFault.{fault_at}
 use Rattle.dm_table.specs.io.DeviceIo.{Stand, Clean, Failed, Open, Delivery}
 use Rattle.dm_table.specs.declared.load.part_input.TheConstants.{MOST_PART_BYTES}

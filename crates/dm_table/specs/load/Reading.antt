@@ -1,8 +1,5 @@
 -- What a text says line by line, the checks of its rows, and, for the functions that the public calls stand on, the values of its rows.
-use Rattle.std.specs.Prelude.{◌≡◌, ℕ, suc, Bool, List, [], ◌∷◌, map, Option}
-use Rattle.std.specs.List.{cons_option}
-use Rattle.dm_table.specs.declared.load.place.Part.{Part}
-use Rattle.dm_table.specs.declared.load.load_fault.LoadFault.{LoadFault}
+use Rattle.dm_table.specs.Base.{◌≡◌, ℕ, suc, Bool, List, [], ◌∷◌, map, Option, cons_option, Part, LoadFault}
 use Rattle.dm_table.specs.words.Fields.{parts_at, lines_of, rest_of}
 use Rattle.dm_table.specs.load.LoadFault.{untexts, row_checks}
 use Rattle.dm_table.specs.words.Bytes.{code}

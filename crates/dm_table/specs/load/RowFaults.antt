@@ -1,11 +1,7 @@
 -- What is wrong with a row, and the first fault of each kind. Each row is read once, though by definition each check runs over all rows.
-use Rattle.std.specs.Prelude.{◌≡◌, ◌≢◌, ℕ, suc, Bool, List, [], ◌∷◌, Option, Some, None, Result, Ok, Err, if◌then◌else◌}
-use Rattle.std.specs.Option.{ok_or}
-use Rattle.dm_table.specs.declared.load.place.Part.{Part}
+use Rattle.dm_table.specs.Base.{◌≡◌, ◌≢◌, ℕ, suc, Bool, List, [], ◌∷◌, Option, Some, None, Result, Ok, Err, if◌then◌else◌, ok_or, Part, LoadFault, RowFault, Syntax, Field, Name}
 use Rattle.dm_table.specs.declared.load.load_fault.LoadKind.TheVariants as kinds
-use Rattle.dm_table.specs.declared.load.load_fault.LoadFault.{LoadFault}
-use Rattle.dm_table.specs.declared.load.row_faults.RowFault.{RowFault}
-use Rattle.dm_table.specs.declared.load.row_faults.RowFault.TheVariants.{Syntax, Field, Name, Memory}
+use Rattle.dm_table.specs.declared.load.row_faults.RowFault.TheVariants.{Memory}
 use Rattle.dm_table.specs.declared.load.row_faults.FirstFaults.{FirstFaults}
 use Rattle.dm_table.specs.load.LoadFault.{fault_at}
 
@@ -50,17 +46,17 @@ noted part seen n Field = record seen { field = either seen.field (Some (fault_a
 noted part seen n Name = record seen { name = either seen.name (Some (fault_at part kinds.Name n)) }
 noted part seen n Memory = seen
 
--- the same with a row's fault, if it has one
+-- the faults so far and that of row n, if it has one
 abbrev pub noted_at : Part → FirstFaults → ℕ → Option RowFault → FirstFaults
 noted_at part seen n None = seen
 noted_at part seen n (Some fault) = noted part seen n fault
 
--- the same with those of all rows, numbered from n
+-- the faults so far and those of all rows, numbered from n
 abbrev pub noted_rows : {X : Type 0} → Part → (X → Option RowFault) → FirstFaults → ℕ → List X → FirstFaults
 noted_rows part fault_of seen n [] = seen
 noted_rows part fault_of seen n (row ∷ rows) = noted_rows part fault_of (noted_at part seen n (fault_of row)) (suc n) rows
 
--- the same with a rest that no newline ends, as line n
+-- the faults so far and one at line n, if there is a rest that no newline ends
 abbrev pub noted_rest : Part → FirstFaults → ℕ → List ℕ → FirstFaults
 noted_rest part seen n [] = seen
 noted_rest part seen n (byte ∷ bytes) = noted part seen n Syntax

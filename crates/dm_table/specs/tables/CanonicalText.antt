@@ -1,10 +1,7 @@
 -- The one text that a description is written as, in table text and in concise text (dmsetup(8)).
-use Rattle.std.specs.Prelude.{◌≡◌, ℕ, suc, Bool, false, length, List, [], ◌∷◌, ◌++◌, map, codes, if◌then◌else◌, ◌+◌}
-use Rattle.std.specs.List.{flat_map, join_with_byte}
+use Rattle.dm_table.specs.Base.{◌≡◌, ℕ, suc, Bool, false, length, List, [], ◌∷◌, ◌++◌, map, codes, if◌then◌else◌, ◌+◌, flat_map, join_with_byte, Place, Source}
 use Rattle.dm_table.specs.declared.tables.table.Line.{Line}
 use Rattle.dm_table.specs.declared.tables.table.DeviceSpec.{DeviceSpec}
-use Rattle.dm_table.specs.declared.load.place.Place.{Place}
-use Rattle.dm_table.specs.declared.load.place.Part.TheVariants.{Source}
 use Rattle.dm_table.specs.tables.LineBody.{body_text}
 use Rattle.dm_table.specs.tables.TableText.{line_text}
 use Rattle.dm_table.specs.tables.ConciseText.{place_of}

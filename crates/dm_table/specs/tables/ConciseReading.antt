@@ -1,13 +1,7 @@
 -- How a device of the concise form is read, for the functions that the public call stands on.
-use Rattle.std.specs.Prelude.{ℕ, Bool, ◌&&◌, List, [], ◌∷◌, drop, Option, Some, None, Result}
-use Rattle.std.specs.List.{filter_map}
+use Rattle.dm_table.specs.Base.{ℕ, Bool, ◌&&◌, List, [], ◌∷◌, drop, Option, Some, None, Result, filter_map, Place, Source, LoadFault, RowFault, Syntax, Field, Name}
 use Rattle.dm_table.specs.declared.tables.table.Line.{Line}
 use Rattle.dm_table.specs.declared.tables.table.DeviceSpec.{DeviceSpec}
-use Rattle.dm_table.specs.declared.load.place.Place.{Place}
-use Rattle.dm_table.specs.declared.load.place.Part.TheVariants.{Source}
-use Rattle.dm_table.specs.declared.load.load_fault.LoadFault.{LoadFault}
-use Rattle.dm_table.specs.declared.load.row_faults.RowFault.{RowFault}
-use Rattle.dm_table.specs.declared.load.row_faults.RowFault.TheVariants.{Syntax, Field, Name}
 use Rattle.dm_table.specs.load.LoadFault.{first_fault, row_checks, unless}
 use Rattle.dm_table.specs.load.Reading.{values_from}
 use Rattle.dm_table.specs.load.RowFaults.{row_fault, said_unless}

@@ -1,14 +1,9 @@
 -- Disk lists: a line NAME SECTORS for each disk.
-use Rattle.std.specs.Prelude.{◌≡◌, ℕ, ◌^◌, ◌<◌, Bool, true, false, ◌&&◌, List, [], ◌∷◌, ◌++◌, length, nat_lt, decimal, is_some, Option, None, Result, Err, if◌then◌else◌}
-use Rattle.std.specs.Option.{option_map}
+use Rattle.dm_table.specs.Base.{◌≡◌, ℕ, ◌^◌, ◌<◌, Bool, true, false, ◌&&◌, List, [], ◌∷◌, ◌++◌, length, nat_lt, decimal, is_some, Option, None, Result, Err, if◌then◌else◌, option_map, Disks, LoadFault, RowFault, Syntax}
 use Rattle.dm_table.specs.declared.tables.disk.Disk.{Disk}
-use Rattle.dm_table.specs.declared.load.place.Part.TheVariants.{Disks}
-use Rattle.dm_table.specs.declared.load.load_fault.LoadFault.{LoadFault}
 use Rattle.dm_table.specs.words.Name.{is_disk_name}
 use Rattle.dm_table.specs.words.Number.{number_of}
 use Rattle.dm_table.specs.words.Fields.{fields}
-use Rattle.dm_table.specs.declared.load.row_faults.RowFault.{RowFault}
-use Rattle.dm_table.specs.declared.load.row_faults.RowFault.TheVariants.{Syntax}
 use Rattle.dm_table.specs.load.LoadFault.{is_printable}
 use Rattle.dm_table.specs.load.Reading.{LinesSay, line_checks}
 use Rattle.dm_table.specs.tables.LineReading.{reading_of}

@@ -1,8 +1,5 @@
 -- The body of a table's line: a start, a length, and a target with its arguments (dmsetup(8)). How a line is labelled is up to the form.
-use Rattle.std.specs.Prelude.{◌≡◌, ℕ, ◌+◌, ◌*◌, ◌^◌, ◌<◌, ◌==◌, Bool, true, ◌&&◌, List, [], ◌∷◌, ◌++◌, length, nat_le, nat_lt, nat_eq, codes, decimal, drop, Option, Some, None, is_some, unwrap_or, map, if◌then◌else◌}
-use Rattle.std.specs.Option.{option_map}
-use Rattle.std.specs.List.{flat_map, list_all, join_with_byte, AllByRecursion}
-use Rattle.std.specs.Cmp.Lexicographic.{pointwise}
+use Rattle.dm_table.specs.Base.{◌≡◌, ℕ, ◌+◌, ◌*◌, ◌^◌, ◌<◌, ◌==◌, Bool, true, ◌&&◌, List, [], ◌∷◌, ◌++◌, length, nat_le, nat_lt, nat_eq, codes, decimal, drop, Option, Some, None, is_some, unwrap_or, map, if◌then◌else◌, option_map, flat_map, list_all, join_with_byte, AllByRecursion, pointwise}
 use Rattle.dm_table.specs.declared.tables.table.DevRef.{DevRef}
 use Rattle.dm_table.specs.declared.tables.table.DevRef.TheVariants.{Device, Disk}
 use Rattle.dm_table.specs.declared.tables.table.Column.{Column}
@@ -205,6 +202,6 @@ has_name (Flag kind) = true
 abbrev pub has_target_names : Target → Bool
 has_target_names target = list_all has_name (target_row target).arguments
 
--- the same for the body that fields say; where they say none, there is no name to check
+-- each name in the body that fields say is valid; where they say none, there is no name to check
 abbrev pub has_body_names : List (List ℕ) → Bool
 has_body_names fields = unwrap_or (option_map (λ body. has_target_names body.target) (body_in fields)) true

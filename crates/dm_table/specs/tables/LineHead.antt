@@ -1,5 +1,5 @@
 -- The line of a table in two parts: one that has a greatest length, and the columns of a striped line.
-use Rattle.std.specs.Prelude.{ℕ, List, [], ◌∷◌, ◌++◌, length, codes, decimal}
+use Rattle.dm_table.specs.Base.{ℕ, List, [], ◌∷◌, ◌++◌, length, codes, decimal}
 use Rattle.dm_table.specs.declared.tables.table.Column.{Column}
 use Rattle.dm_table.specs.declared.tables.table.Line.{Line}
 use Rattle.dm_table.specs.declared.tables.table.Target.{Target}

@@ -1,22 +1,18 @@
 -- What is read of the fields of a body, a value or a fault, for the functions that read them once.
-use Rattle.std.specs.Prelude.{ℕ, Bool, List, [], ◌∷◌, ◌++◌, Option, Some, None, is_some, Result, Ok, Err, if◌then◌else◌}
-use Rattle.std.specs.Option.{option_map}
-use Rattle.std.specs.List.{flat_map, list_all}
+use Rattle.dm_table.specs.Base.{ℕ, Bool, List, [], ◌∷◌, ◌++◌, Option, Some, None, is_some, Result, Ok, Err, if◌then◌else◌, option_map, flat_map, list_all, Place, RowFault, Syntax, Field, Name}
 use Rattle.dm_table.specs.declared.tables.table.DevRef.{DevRef}
 use Rattle.dm_table.specs.declared.tables.table.Column.{Column}
 use Rattle.dm_table.specs.declared.tables.table.Target.{Target}
 use Rattle.dm_table.specs.declared.tables.table.Line.{Line}
 use Rattle.dm_table.specs.declared.tables.line_body.BodyHead.{BodyHead}
-use Rattle.dm_table.specs.declared.load.place.Place.{Place}
-use Rattle.dm_table.specs.declared.load.row_faults.RowFault.{RowFault}
-use Rattle.dm_table.specs.declared.load.row_faults.RowFault.TheVariants.{Syntax, Field, Name, Memory}
+use Rattle.dm_table.specs.declared.load.row_faults.RowFault.TheVariants.{Memory}
 use Rattle.dm_table.specs.tables.LineBody.{column_arguments, is_dev_ref, dev_in, columns_in, arguments_in, Body, body_in, has_name, has_target_names}
 
 -- the line of a body, at a place
 abbrev pub line_at : Place → Body → Line
 line_at at body = record { start = body.start; len = body.len; target = body.target; at = at }
 
--- the same of the body that fields say
+-- the line that fields say, if they say a body
 abbrev pub line_in : Place → List (List ℕ) → Option Line
 line_in at fields = option_map (line_at at) (body_in fields)
 

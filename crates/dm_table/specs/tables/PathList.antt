@@ -1,13 +1,5 @@
 -- Lists of paths: a line DISK PATH for each disk that has an image.
-use Rattle.std.specs.Prelude.{◌≡◌, ℕ, ◌+◌, ◌-◌, ◌/◌, ◌%◌, ◌<◌, ◌==◌, Bool, true, ◌&&◌, List, [], ◌∷◌, ◌++◌, length, take, drop, get_or, nat_eq, nat_le, is_some, map, codes, Option, None, Some, Result, Err, if◌then◌else◌}
-use Rattle.std.specs.Char.{is_ascii_digit}
-use Rattle.std.specs.List.{ends_with, list_all}
-use Rattle.std.specs.Str.{is_utf8}
-use Rattle.std.specs.Str.Parse.{digits_value}
-use Rattle.dm_table.specs.declared.load.place.Part.TheVariants.{Paths}
-use Rattle.dm_table.specs.declared.load.load_fault.LoadFault.{LoadFault}
-use Rattle.dm_table.specs.declared.load.row_faults.RowFault.{RowFault}
-use Rattle.dm_table.specs.declared.load.row_faults.RowFault.TheVariants.{Syntax}
+use Rattle.dm_table.specs.Base.{◌≡◌, ℕ, ◌+◌, ◌-◌, ◌/◌, ◌%◌, ◌<◌, ◌==◌, Bool, true, ◌&&◌, List, [], ◌∷◌, ◌++◌, length, take, drop, get_or, nat_eq, nat_le, is_some, map, codes, Option, None, Some, Result, Err, if◌then◌else◌, is_ascii_digit, ends_with, list_all, is_utf8, digits_value, Paths, LoadFault, RowFault, Syntax}
 use Rattle.dm_table.specs.declared.tables.disk_path.DiskPath.{DiskPath}
 use Rattle.dm_table.specs.load.LoadFault.{first_fault, unless}
 use Rattle.dm_table.specs.load.Reading.{LinesSay, line_checks, values_from}

@@ -1,5 +1,5 @@
 -- What a line names below, and where.
-use Rattle.std.specs.Prelude.{ℕ, ◌/◌, List, [], ◌∷◌, Option, Some, None, length, map}
+use Rattle.dm_table.specs.Base.{ℕ, ◌/◌, List, [], ◌∷◌, Option, Some, None, length, map}
 use Rattle.dm_table.specs.declared.tables.table.DevRef.{DevRef}
 use Rattle.dm_table.specs.declared.tables.table.Column.{Column}
 use Rattle.dm_table.specs.declared.tables.table.Target.{Target}

@@ -1,12 +1,6 @@
 -- How a row of table text is read, for the functions that the public call stands on.
-use Rattle.std.specs.Prelude.{ℕ, Bool, false, ◌&&◌, List, [], ◌∷◌, ◌++◌, map, nat_eq, Option, Some, None, Result, Err, if◌then◌else◌}
-use Rattle.std.specs.Option.{option_map}
-use Rattle.std.specs.Cmp.Lexicographic.{pointwise}
+use Rattle.dm_table.specs.Base.{ℕ, Bool, false, ◌&&◌, List, [], ◌∷◌, ◌++◌, map, nat_eq, Option, Some, None, Result, Err, if◌then◌else◌, option_map, pointwise, Place, Source, RowFault, Syntax}
 use Rattle.dm_table.specs.declared.tables.table.DeviceSpec.{DeviceSpec}
-use Rattle.dm_table.specs.declared.load.place.Place.{Place}
-use Rattle.dm_table.specs.declared.load.place.Part.TheVariants.{Source}
-use Rattle.dm_table.specs.declared.load.row_faults.RowFault.{RowFault}
-use Rattle.dm_table.specs.declared.load.row_faults.RowFault.TheVariants.{Syntax}
 use Rattle.dm_table.specs.words.Fields.{row_fields}
 use Rattle.dm_table.specs.load.Reading.{values_from}
 use Rattle.dm_table.specs.words.Name.{is_device_name}
@@ -50,7 +44,7 @@ add_line (device ∷ []) named =
     if pointwise nat_eq named.name device.name then record device { lines = device.lines ++ named.line ∷ [] } ∷ [] else device ∷ alone named ∷ []
 add_line (device ∷ next ∷ devices) named = device ∷ add_line (next ∷ devices) named
 
--- the same of what a row says, if it says a line
+-- devices, and then the line that a row says, if it says one
 abbrev pub add_said : List DeviceSpec → Option NamedLine → List DeviceSpec
 add_said devices None = devices
 add_said devices (Some named) = add_line devices named

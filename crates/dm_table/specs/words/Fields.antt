@@ -1,6 +1,5 @@
 -- Texts cut at a byte: lines at newlines, fields at spaces.
-use Rattle.std.specs.Prelude.{ℕ, ◌==◌, Bool, true, false, List, [], ◌∷◌, map}
-use Rattle.std.specs.List.{slice_split}
+use Rattle.dm_table.specs.Base.{ℕ, ◌==◌, Bool, true, false, List, [], ◌∷◌, map, slice_split}
 use Rattle.dm_table.specs.words.Bytes.{code}
 use denote.Ref.{Bor}
 

@@ -1,5 +1,5 @@
 -- The places of a byte in a text, as the bits of a number: the lowest bit stands for the first byte.
-use Rattle.std.specs.Prelude.{ℕ, ◌==◌, List, map}
+use Rattle.dm_table.specs.Base.{ℕ, ◌==◌, List, map}
 use lib.Lanes.{mask_l}
 
 abbrev pub marks_of : ℕ → List ℕ → ℕ

@@ -1,7 +1,5 @@
 -- Names of devices and of disks (dmsetup(8); the bytes that are allowed are this project's profile).
-use Rattle.std.specs.Prelude.{ℕ, ◌==◌, Bool, ◌&&◌, ◌||◌, not, List, length, nat_le, nat_eq, codes}
-use Rattle.std.specs.List.{list_all, starts_with}
-use Rattle.std.specs.Char.{is_ascii_digit}
+use Rattle.dm_table.specs.Base.{ℕ, ◌==◌, Bool, ◌&&◌, ◌||◌, not, List, length, nat_le, nat_eq, codes, list_all, starts_with, is_ascii_digit}
 use Rattle.dm_table.specs.words.Bytes.{code}
 
 -- an ASCII letter, a digit, or one of # + - . : = @ _

@@ -8,8 +8,7 @@
 //! ready*. They rest on the space after a text that each `requires` asks for, which a block has by `TEXT_ROOM`.
 //! Change them only if you measure small requests, and large ones over 16 columns, before and after.
 
-ghost use Rattle.std.specs.Prelude.{◌≡◌, ◌++◌, ◌+◌, ◌≤◌, length, take, drop, decimal};
-ghost use Rattle.dm_table.specs.io.Block.{IsPut};
+ghost use Rattle.dm_table.specs.Prelude.{◌≡◌, ◌++◌, ◌+◌, ◌≤◌, length, take, drop, decimal, IsPut};
 
 use crate::words::array::as_array;
 use crate::words::number_text::MOST_DIGITS;

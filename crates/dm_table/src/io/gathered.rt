@@ -5,10 +5,7 @@
 //! One test before each text finds that the block is full, or that the other output failed: the
 //! limit is 0 then.
 
-ghost use Rattle.std.specs.Prelude.{◌≡◌, ◌↔◌, ◌+◌, ◌-◌, ◌<◌, ◌≤◌, ◌++◌, [], false, length, slice_range, take, true, IfOk, IsErr, OnOk, nat_lt};
-ghost use Rattle.dm_table.specs.io.DeviceIo.{after_flush, after_write, with_fault};
-ghost use Rattle.dm_table.specs.io.Gathered.{MindsFaults, past_of};
-ghost use Rattle.dm_table.specs.io.Progress.{Wrote};
+ghost use Rattle.dm_table.specs.Prelude.{◌≡◌, ◌↔◌, ◌+◌, ◌-◌, ◌<◌, ◌≤◌, ◌++◌, [], false, length, slice_range, take, true, IfOk, IsErr, OnOk, nat_lt, after_flush, after_write, with_fault, MindsFaults, past_of, Wrote};
 
 use crate::io::block::put_bytes;
 use crate::io::device_io::{OutFault, Output};
@@ -41,7 +38,7 @@ pub struct Gathered<W: Output> {
 }
 
 impl<W: Output> Model for Gathered<W> {
-    ghost use Rattle.std.specs.Prelude.{◌≤◌, ◌==◌, take};
+    ghost use Rattle.dm_table.specs.Base.{◌≤◌, ◌==◌, take};
     ghost use Rattle.dm_table.specs.declared.io.gathered.TheConstants.{FULL, BLOCK_BYTES};
     ghost use Rattle.dm_table.specs.io.Gathered.{Gathering};
 

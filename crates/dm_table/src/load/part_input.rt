@@ -4,12 +4,7 @@
 //! first byte over the limit, however much more there is. Every part is read by this one function:
 //! a new one is a variant of `Part` and no change here.
 
-ghost use Rattle.std.specs.Prelude.{◌≡◌, ◌≢◌, IfOk, IfErr};
-ghost use Rattle.dm_table.specs.io.DeviceIo.{delivery};
-ghost use Rattle.dm_table.specs.load.LoadFault.{IsMemoryFault};
-ghost use Rattle.dm_table.specs.load.PartInput.{Refuses, TextOf, part_read};
-ghost use Rattle.dm_table.specs.io.Progress.{IsReadOn};
-ghost use Rattle.dm_table.specs.declared.load.load_fault.LoadKind.TheVariants.{Memory};
+ghost use Rattle.dm_table.specs.Prelude.{◌≡◌, ◌≢◌, IfOk, IfErr, delivery, IsMemoryFault, Refuses, TextOf, part_read, IsReadOn, Memory};
 
 use crate::io::device_io::{InFault, Input};
 use crate::load::load_fault::{LoadFault, LoadKind};

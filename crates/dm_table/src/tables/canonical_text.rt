@@ -6,15 +6,7 @@
 //! newline. A new target is an arm in `line_head`; only one whose text has no greatest length, as a
 //! striped line's, is an arm here too.
 
-ghost use Rattle.std.specs.Prelude.{◌≡◌, ◌≤◌, ◌∷◌, ◌++◌, length, map};
-ghost use Rattle.std.specs.List.{flat_map, join_with_byte};
-ghost use Rattle.dm_table.specs.tables.LineBody.{column_text, body_text};
-ghost use Rattle.dm_table.specs.tables.LineHead.{columns_of};
-ghost use Rattle.dm_table.specs.tables.TableText.{DescribesTable};
-ghost use Rattle.dm_table.specs.tables.ConciseText.{DescribesConcise};
-ghost use Rattle.dm_table.specs.tables.CanonicalText.{ReadsBack, as_table, lines_text, table_text, flag_text, concise_device, concise_text, as_concise};
-ghost use Rattle.dm_table.specs.io.Progress.{Wrote};
-ghost use Rattle.dm_table.specs.words.Bytes.{code};
+ghost use Rattle.dm_table.specs.Prelude.{◌≡◌, ◌≤◌, ◌∷◌, ◌++◌, length, map, flat_map, join_with_byte, column_text, body_text, columns_of, DescribesTable, DescribesConcise, ReadsBack, as_table, lines_text, table_text, flag_text, concise_device, concise_text, as_concise, Wrote, code};
 
 use crate::io::device_io::{OutFault, Output};
 use crate::io::writing::write_all;

@@ -4,13 +4,7 @@
 //! A device is cut and read once. Its label and each of its bodies may have a fault; the device's is
 //! the one whose check runs first. Bodies are read by `line_body`, which knows nothing of labels.
 
-ghost use Rattle.std.specs.Prelude.{◌≡◌, ◌++◌, None, OnOk, IfOk};
-ghost use Rattle.std.specs.Option.{option_to_list};
-ghost use Rattle.dm_table.specs.words.Fields.{texts};
-ghost use Rattle.dm_table.specs.load.RowFaults.{Reads};
-ghost use Rattle.dm_table.specs.tables.ConciseText.{lacks, is_uuid, is_minor, is_ro, is_flags, without_first_space, body_fields, is_label, has_label_values, has_label_names};
-ghost use Rattle.dm_table.specs.tables.LineReading.{line_in};
-ghost use Rattle.dm_table.specs.tables.ConciseReading.{earlier_of, fault_of_body, fault_of_label, bodies_reading, entries_reading, device_reading};
+ghost use Rattle.dm_table.specs.Prelude.{◌≡◌, ◌++◌, None, OnOk, IfOk, option_to_list, texts, Reads, lacks, is_uuid, is_minor, is_ro, is_flags, without_first_space, body_fields, is_label, has_label_values, has_label_names, line_in, earlier_of, fault_of_body, fault_of_label, bodies_reading, entries_reading, device_reading};
 
 use crate::load::place::{Part, Place};
 use crate::load::row_faults::RowFault;
@@ -51,7 +45,7 @@ fn read_entries<'a>(
 ) -> Result<DeviceSpec, RowFault>
     ensures { Reads (λ device. device) result (entries_reading number on_a_line (texts entries.now)) }
 {
-    let fault = label_fault(on_a_line, entries);
+    let fault = entry_label_fault(on_a_line, entries);
     let [name, _, _, flags, bodies @ ..] = entries else {
         return Err(RowFault::Syntax);
     };
@@ -69,7 +63,7 @@ fn read_entries<'a>(
 }
 
 /// What is wrong with the label of entries, which stand on one line or do not.
-fn label_fault(on_a_line: bool, entries: &[&[u8]]) -> Option<RowFault>
+fn entry_label_fault(on_a_line: bool, entries: &[&[u8]]) -> Option<RowFault>
     ensures { result ≡ fault_of_label on_a_line (texts entries.now) }
 {
     if !on_a_line || !is_label(entries) {

@@ -5,15 +5,8 @@
 //! end, where the checks take precedence in the order of the definitions. What a device says is read
 //! by `concise_device`; a new target type belongs in `line_body`.
 
-ghost use Rattle.std.specs.Prelude.{◌≡◌, ◌++◌, None, Ok, IfOk, OnOk};
-ghost use Rattle.std.specs.Option.{option_to_list};
-ghost use Rattle.dm_table.specs.declared.load.place.Part.TheVariants.{Source};
-ghost use Rattle.dm_table.specs.words.Fields.{texts};
-ghost use Rattle.dm_table.specs.load.LoadFault.{Answers, unless};
-ghost use Rattle.dm_table.specs.load.RowFaults.{Reads, first_noted, no_faults, noted_rows};
-ghost use Rattle.dm_table.specs.load.Parsed.{IsParsed};
-ghost use Rattle.dm_table.specs.tables.ConciseText.{DescribesConcise, without_newline, parts_of, entries as entries_of, concise_checks};
-ghost use Rattle.dm_table.specs.tables.ConciseReading.{fault_of_device, device_in, devices_from, parts_reading};
+ghost use Rattle.dm_table.specs.Prelude.{◌≡◌, ◌++◌, None, Ok, IfOk, OnOk, option_to_list, Source, texts, Answers, unless, Reads, first_noted, no_faults, noted_rows, IsParsed, DescribesConcise, without_newline, parts_of, concise_checks, fault_of_device, device_in, devices_from, parts_reading};
+ghost use Rattle.dm_table.specs.tables.ConciseText.{entries as entries_of};
 
 use crate::load::load_fault::LoadFault;
 use crate::load::place::Part;

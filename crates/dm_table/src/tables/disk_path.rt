@@ -1,6 +1,6 @@
 //! A listed path: where a disk lies.
 
-ghost use Rattle.std.specs.Prelude.{◌≡◌, ◌<◌, ◌^◌};
+ghost use Rattle.dm_table.specs.Prelude.{◌≡◌, ◌<◌, ◌^◌};
 
 use crate::load::place::Place;
 use crate::reserved::ReservedText;
@@ -23,7 +23,7 @@ pub struct FirstSector {
 }
 
 impl Model for FirstSector {
-    ghost use Rattle.std.specs.Prelude.{◌<◌, ◌^◌, ℕ};
+    ghost use Rattle.dm_table.specs.Base.{◌<◌, ◌^◌, ℕ};
 
     ghost Value = { ℕ };
 

@@ -5,8 +5,7 @@
 //! `read_target`. In `specs/tables/LineBody.antt` it is an arm in `target_row` and one in `other_in`.
 //! What it names is an arm of `target_spans`, in `specs/tables/Span.antt`.
 
-ghost use Rattle.std.specs.Prelude.{◌≡◌, ◌++◌, ◌∷◌, ◌&&◌, [], ℕ, Bool, List, Option, Ok, true, false, length, drop, is_some, nat_lt, MatchOption};
-ghost use Rattle.std.specs.List.{list_all};
+ghost use Rattle.dm_table.specs.Base.{◌≡◌, ◌++◌, ◌∷◌, ◌&&◌, [], ℕ, Bool, List, Option, Ok, true, false, length, drop, is_some, nat_lt, MatchOption, list_all};
 ghost use Rattle.dm_table.specs.words.Fields.{texts};
 ghost use Rattle.dm_table.specs.words.Name.{names_device, mapper};
 ghost use Rattle.dm_table.specs.words.Number.{number_of};

@@ -4,10 +4,7 @@
 //! Such a text has a greatest length, and a striped line has none. A new target is an arm of
 //! `put_target` here; one whose text has no greatest length has arms in `specs/tables/LineHead.antt` too.
 
-ghost use Rattle.std.specs.Prelude.{◌≡◌, ◌++◌, ◌+◌, ◌<◌, ◌≤◌, length, decimal};
-ghost use Rattle.dm_table.specs.io.Block.{IsPut};
-ghost use Rattle.dm_table.specs.tables.LineBody.{column_text, dev_text, kind_text};
-ghost use Rattle.dm_table.specs.tables.LineHead.{body_head, target_head};
+ghost use Rattle.dm_table.specs.Prelude.{◌≡◌, ◌++◌, ◌+◌, ◌<◌, ◌≤◌, length, decimal, IsPut, column_text, dev_text, kind_text, body_head, target_head};
 
 use crate::io::block::{put_bytes, put_digits};
 use crate::io::text::Text;
@@ -23,7 +20,7 @@ pub(crate) struct LineHead<'a> {
 }
 
 impl<'a> Model for LineHead<'a> {
-    ghost use Rattle.std.specs.Prelude.{ℕ, List, length, ◌≤◌, ◌++◌};
+    ghost use Rattle.dm_table.specs.Base.{ℕ, List, length, ◌≤◌, ◌++◌};
     ghost use Rattle.dm_table.specs.tables.LineHead.{body_head};
 
     ghost Value = { List ℕ };
@@ -64,7 +61,7 @@ pub(crate) struct ColumnText<'a> {
 }
 
 impl<'a> Model for ColumnText<'a> {
-    ghost use Rattle.std.specs.Prelude.{ℕ, List};
+    ghost use Rattle.dm_table.specs.Base.{ℕ, List};
     ghost use Rattle.dm_table.specs.tables.LineBody.{column_text};
 
     ghost Value = { List ℕ };

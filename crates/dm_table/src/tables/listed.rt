@@ -3,7 +3,7 @@
 //! A contract compares lists, but not where a `Vec` lies in memory; so what others own holds this in
 //! place of a `Vec`.
 
-ghost use Rattle.std.specs.Prelude.{◌≡◌, ◌++◌, ◌∷◌, [], OnOk};
+ghost use Rattle.dm_table.specs.Prelude.{◌≡◌, ◌++◌, ◌∷◌, [], OnOk};
 
 use crate::reserved::Reserved;
 use std::alloc::{AllocError, Global};
@@ -16,7 +16,7 @@ pub struct Listed<T> {
 }
 
 impl<T> Model for Listed<T> {
-    ghost use Rattle.std.specs.Prelude.{List};
+    ghost use Rattle.dm_table.specs.Base.{List};
 
     ghost Value = { List T };
 

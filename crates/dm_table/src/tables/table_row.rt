@@ -1,7 +1,7 @@
 //! The label of a row of table text, which stands before a line's body.
 
-ghost use Rattle.std.specs.Prelude.{◌≡◌};
-ghost use Rattle.dm_table.specs.tables.TableText.{is_label, name_in};
+ghost use Rattle.dm_table.specs.Prelude.{◌≡◌, name_in};
+ghost use Rattle.dm_table.specs.tables.TableText.{is_label};
 
 /// Whether a field is a name and a colon after it.
 pub(crate) fn is_label(field: &[u8]) -> bool

@@ -4,13 +4,8 @@
 //! them is kept until the end, where the checks take precedence in the order of the definitions. A
 //! new target type belongs in `line_body`.
 
-ghost use Rattle.dm_table.specs.declared.load.place.Part.TheVariants.{Source};
-ghost use Rattle.dm_table.specs.load.Parsed.{IsParsed};
-ghost use Rattle.dm_table.specs.load.RowFaults.{Reads};
-ghost use Rattle.dm_table.specs.tables.LineReading.{made_of};
-ghost use Rattle.dm_table.specs.tables.TableText.{DescribesTable, is_row, has_values, has_names, table_checks};
-ghost use Rattle.dm_table.specs.words.Fields.{row_fields, texts};
-ghost use Rattle.dm_table.specs.tables.TableReading.{named_in, named_reading, alone, add_line, add_said};
+ghost use Rattle.dm_table.specs.Prelude.{Source, IsParsed, Reads, made_of, DescribesTable, is_row, table_checks, row_fields, texts, named_in, named_reading, alone, add_line, add_said};
+ghost use Rattle.dm_table.specs.tables.TableText.{has_values, has_names};
 
 use crate::load::load_fault::LoadFault;
 use crate::load::place::{Part, Place};

@@ -1,7 +1,7 @@
 //! Bytes whose number is known, as one value: they are compared, copied or read as a number in an
 //! instruction or two.
 
-ghost use Rattle.std.specs.Prelude.{◌≡◌, length};
+ghost use Rattle.dm_table.specs.Prelude.{◌≡◌, length};
 
 /// Bytes of a known length, as an array.
 #[inline(always)]

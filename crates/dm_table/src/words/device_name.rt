@@ -2,10 +2,7 @@
 //!
 //! Their rule is this project's profile of what dmsetup(8) takes; change it in `specs/words/Name.antt` first.
 
-ghost use Rattle.std.specs.Prelude.{◌≡◌, IfNone, IfSome, IsTrue, false, take};
-ghost use Rattle.std.specs.List.{list_all, prefix_len};
-ghost use Rattle.dm_table.specs.words.Name.{is_device_byte, is_device_name};
-ghost use Rattle.dm_table.specs.laws.NameLaws.{ascii-device_name};
+ghost use Rattle.dm_table.specs.Prelude.{◌≡◌, IfNone, IfSome, IsTrue, false, take, list_all, prefix_len, is_device_byte, is_device_name, ascii-device_name};
 
 use crate::words::name::{CheckedName, NameRule};
 

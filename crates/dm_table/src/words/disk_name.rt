@@ -3,10 +3,7 @@
 //! Their rule is this project's own, so that no disk is taken for a device; change it in
 //! `specs/words/Name.antt` first.
 
-ghost use Rattle.std.specs.Prelude.{◌≡◌};
-ghost use Rattle.std.specs.List.{list_all};
-ghost use Rattle.dm_table.specs.words.Name.{is_disk_byte, is_disk_name, names_device};
-ghost use Rattle.dm_table.specs.laws.NameLaws.{ascii-disk_name};
+ghost use Rattle.dm_table.specs.Prelude.{◌≡◌, list_all, is_disk_byte, is_disk_name, names_device, ascii-disk_name};
 
 use crate::words::name::{CheckedName, NameRule};
 

@@ -5,9 +5,7 @@
 //!
 //! Short texts are cut by `marks` for speed alone; `cut_searched` would do for all.
 
-ghost use Rattle.std.specs.Prelude.{◌≡◌, ◌++◌, ◌≤◌, IfOk, OnOk, length};
-ghost use Rattle.dm_table.specs.words.Fields.{ends_empty, parts_at, row_fields, texts};
-ghost use Rattle.dm_table.specs.words.Marks.{marks_of};
+ghost use Rattle.dm_table.specs.Prelude.{◌≡◌, ◌++◌, ◌≤◌, IfOk, OnOk, length, ends_empty, parts_at, row_fields, texts, marks_of};
 
 use crate::words::marks::marks;
 use memchr::memchr;

@@ -4,9 +4,7 @@
 //! for all names, and a rule for each kind of them: those of devices in `device_name`, and those of
 //! disks in `disk_name`.
 
-ghost use Rattle.std.specs.Prelude.{◌≡◌, ◌↔◌, Some, Err, true, false, IsTrue, IfOk, OnOk, List, ℕ, Bool};
-ghost use Rattle.std.specs.Str.{IsAscii};
-ghost use Rattle.std.specs.String.{string_bytes};
+ghost use Rattle.dm_table.specs.Base.{◌≡◌, ◌↔◌, Some, Err, true, false, IsTrue, IfOk, OnOk, List, ℕ, Bool, IsAscii, string_bytes};
 
 use crate::reserved::ReservedText;
 use std::alloc::{AllocError, Global};
@@ -46,7 +44,7 @@ pub struct CheckedName<R: NameRule> {
 }
 
 impl<R: NameRule> Model for CheckedName<R> {
-    ghost use Rattle.std.specs.Prelude.{◌≡◌, List, ℕ, true};
+    ghost use Rattle.dm_table.specs.Base.{◌≡◌, List, ℕ, true};
 
     ghost Value = { List ℕ };
 

@@ -3,10 +3,7 @@
 //! Texts and requests share this one form, so that what is read is written back byte by byte.
 //! To take more digits, change `specs/words/Number.antt` and see that the value still fits a `u64`.
 
-ghost use Rattle.std.specs.Prelude.{◌≡◌, ◌<◌, ◌≤◌, is_some, length, Some, None, IfSome, IfNone, IsTrue, take};
-ghost use Rattle.std.specs.List.{prefix_len};
-ghost use Rattle.std.specs.Char.{is_ascii_digit};
-ghost use Rattle.dm_table.specs.words.Number.{number_of, number_in};
+ghost use Rattle.dm_table.specs.Prelude.{◌≡◌, ◌<◌, ◌≤◌, is_some, length, Some, None, IfSome, IfNone, IsTrue, take, prefix_len, is_ascii_digit, number_of, number_in};
 
 /// The number that a text spells, or `None` where it spells none. One pass.
 pub(crate) fn number(text: &[u8]) -> Option<u64>

@@ -7,8 +7,7 @@
 //! compiler, which compares arrays of a known length in an instruction or two. Change it only if you measure small
 //! requests and loads by names before and after.
 
-ghost use Rattle.std.specs.Prelude.{◌≡◌, ◌≢◌, ◌*◌, ◌≤◌, length};
-ghost use Rattle.std.specs.Bool.{OnTrue, OnFalse};
+ghost use Rattle.dm_table.specs.Prelude.{◌≡◌, ◌≢◌, ◌*◌, ◌≤◌, length, OnTrue, OnFalse};
 
 use crate::words::array::as_array;
 

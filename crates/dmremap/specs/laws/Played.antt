@@ -1,15 +1,6 @@
 -- The laws of a player of requests as a handler: what it answered, and then answered or stopped at, is one.
-use Rattle.std.proofs.Common.{◌≡◌, ℕ, List, [], ◌∷◌, ◌++◌, map, sym, ap, subst, ◌∙◌, append_assoc}
-use Rattle.std.proofs.lemmas.List.{append-nil, map-append}
-use Rattle.dm_table.specs.io.DeviceIo.{since}
-use Rattle.dm_table.specs.laws.Progress.{since_more}
-use Rattle.dm_stack.specs.Description.{Description}
-use Rattle.dm_table.specs.laws.Progress.{since-same}
-use Rattle.dm_map.specs.state.State.{State}
-use Rattle.dm_stream.specs.requests.Requests.{NumberedRequest}
-use Rattle.dm_replay.specs.Histories.{Asked}
+use Rattle.dmremap.specs.Base.{◌≡◌, ℕ, List, [], ◌∷◌, ◌++◌, map, sym, ap, subst, ◌∙◌, append_assoc, append-nil, map-append, since, since_more, Description, since-same, State, NumberedRequest, Asked, Exit}
 use Rattle.dm_stream.specs.declared.runs.ending.Ending.TheVariants as endings
-use Rattle.dmremap.specs.declared.exit.Exit.{Exit}
 use Rattle.dmremap.specs.declared.exit.Exit.TheVariants as exits
 use Rattle.dmremap.specs.ReplayOutcome.{AreAnswered, HasPlayed, HasStopped, IsCutReplay, StopsAt, asked_of}
 
@@ -29,7 +20,7 @@ both stack start old (u ∷ us) vs s t first second =
       sym (append_assoc first.0 first.1 t) ∙ ap (λ (text : List ℕ). text ++ t) first.4,
     )
 
--- the same for what was written since
+-- requests that were played, and then more of them
 told_more : (stack : Description) (start : State) (a b : List Asked) (us vs : List NumberedRequest) (w0 w1 : List ℕ) (text : List ℕ) → HasPlayed stack start a b us w0 w1 → AreAnswered stack start b vs text → AreAnswered stack start a (us ++ vs) (since w0 w1 ++ text)
 told_more stack start a b us vs w0 w1 text first second =
     both stack start a us vs (since w0 w1) text first.told (subst (λ (all : List Asked). AreAnswered stack start all vs text) first.asked second)

@@ -2,10 +2,11 @@
 //!
 //! All else is tested on the built program (`tests/outside`).
 
-ghost use Rattle.std.specs.Prelude.{◌<◌};
+ghost use Rattle.dmremap.specs.Prelude.{◌<◌};
 
 use super::*;
-use crate::job::TableForm;
+use crate::job::{Format, TableForm};
+use crate::parts::Parts;
 use dm_store::MemoryImages;
 use dm_table::{ShortIn, ShortOut};
 use std::process::Abort;
@@ -89,16 +90,18 @@ fn check(rt: &impl Abort, alloc: Global, case: &Case<'_>, step: usize)
     let mut earlier = Some(input(case.earlier, step, case.fails_after));
     let mut written = ShortOut::new(alloc, step, 4096).expect(rt, "an output");
     let mut messages = ShortOut::new(alloc, step, 4096).expect(rt, "an output");
-    let mut paths: Option<ShortIn<'_>> = None;
-    let mut images = MemoryImages::new(&[], 0);
+    let paths: Option<ShortIn<'_>> = None;
+    let mut parts = Parts {
+        format: Format::Tables(TableForm::Table),
+        source: input(SOURCE, step, None),
+        disks: Some(input(DISKS, step, None)),
+        paths,
+        images: MemoryImages::new(&[], 0),
+    };
     let status = map_stored(
         alloc,
-        Format::Tables(TableForm::Table),
         false,
-        &mut input(SOURCE, step, None),
-        &mut Some(input(DISKS, step, None)),
-        &mut paths,
-        &mut images,
+        &mut parts,
         &mut earlier,
         &mut input(b"R s 8 1\n", step, None),
         &mut written,

@@ -3,12 +3,14 @@
 //! What is printed of which texts is tested on the built program (`tests/outside`). Here each command is
 //! called with ample memory, and its output and its messages fail after each of their bytes in turn.
 
-ghost use Rattle.std.specs.Prelude.{◌<◌, ◌≡◌, true};
-ghost use Rattle.dmremap.specs.Job.{job_words};
-ghost use Rattle.dmremap.specs.OtherWhole.{is_other};
+ghost use Rattle.dmremap.specs.Prelude.{◌<◌, ◌≡◌, true, job_words, is_other};
+
+mod replays;
 
 use super::*;
 use crate::job::{Format, Source, TableForm};
+use crate::parts::Parts;
+use dm_store::MemoryImages;
 use dm_table::{ShortIn, ShortOut};
 use std::process::Abort;
 
@@ -139,13 +141,33 @@ const STEADY: Streams = Streams {
 
 /// A source of a format, of which no path is opened here.
 fn source_in(format: Format) -> Source<'static> {
-    match format {
-        Format::Lvm => Source::Lvm { file: "" },
-        Format::Tables(form) => Source::Tables {
-            form,
-            file: "",
-            disks: "",
-        },
+    Source::Files {
+        format,
+        file: "",
+        disks: None,
+    }
+}
+
+/// The parts of a load without a list of paths.
+fn parts_of<'a>(
+    format: Format,
+    source: &'a str,
+    disks: &'a str,
+) -> Parts<ShortIn<'a>, ShortIn<'a>, ShortIn<'a>, MemoryImages<'static>> {
+    Parts {
+        format,
+        source: ShortIn::new(source.as_bytes(), PLENTY),
+        disks: Some(ShortIn::new(disks.as_bytes(), 1)),
+        paths: None,
+        images: MemoryImages::new(&[], 0),
+    }
+}
+
+/// The format in which a source is read.
+fn format_of(asked: Asked) -> Format {
+    match asked {
+        Asked::Print(_, format) => format,
+        _ => Format::Tables(TableForm::Table),
     }
 }
 
@@ -158,7 +180,7 @@ fn job_of(asked: Asked) -> Job<'static>
             form,
             source: source_in(format),
         },
-        Asked::Check => Job::Check(source_in(Format::Tables(TableForm::Table))),
+        Asked::Check => Job::Check(source_in(format_of(asked))),
         Asked::Name(vg, lv) => Job::Name {
             vg,
             lv,
@@ -188,8 +210,8 @@ fn check(
     let got = other_whole(
         alloc,
         &job_of(asked),
-        &mut Some(ShortIn::new(source.as_bytes(), PLENTY)),
-        &mut Some(ShortIn::new(disks.as_bytes(), 1)),
+        &mut parts_of(format_of(asked), source, disks),
+        &mut ShortIn::new(b"", 1),
         &mut output,
         &mut messages,
     );

@@ -96,28 +96,22 @@ fn shown_source(
         Some(path) => (" after ", path),
         None => ("", ""),
     };
-    let text = match source {
-        Source::Lvm { file } => format!(in alloc; "{command} lvm {file}{after}{path}"),
-        Source::Tables { form, file, disks } => {
-            format!(in alloc; "{command} {}{file} {disks}{after}{path}", shown_form(form))
-        }
+    let (format, file, disks) = match source {
+        Source::Files {
+            format,
+            file,
+            disks,
+        } => match format {
+            Format::Lvm => ("lvm ", file, disks),
+            Format::Tables(form) => (shown_form(form), file, disks),
+        },
+        Source::Images { list } => ("images ", list, None),
+    };
+    let text = match disks {
+        Some(disks) => format!(in alloc; "{command} {format}{file} {disks}{after}{path}"),
+        None => format!(in alloc; "{command} {format}{file}{after}{path}"),
     };
     text.expect(rt, "a text")
-}
-
-/// A command and its list of images, as a text, and the file of earlier requests.
-fn shown_images(
-    rt: &impl Abort,
-    alloc: Global,
-    command: &str,
-    paths: &str,
-    earlier: Option<&str>,
-) -> String {
-    let (after, path) = match earlier {
-        Some(path) => (" after ", path),
-        None => ("", ""),
-    };
-    format!(in alloc; "{command} images {paths}{after}{path}").expect(rt, "a text")
 }
 
 /// A job as a text.
@@ -137,24 +131,7 @@ fn shown(rt: &impl Abort, alloc: Global, job: Job<'_>) -> String {
             };
             (command, source, earlier)
         }
-        Job::MapImages {
-            paths,
-            earlier,
-            status,
-        } => {
-            let command = if status { "status of" } else { "map" };
-            return shown_images(rt, alloc, command, paths, earlier);
-        }
-        Job::OfImages { paths, task } => {
-            let command = match task {
-                Task::Print(TableForm::Table) => "table",
-                Task::Print(TableForm::Concise) => "concise",
-                Task::Check => "check",
-                Task::Replay => "replay",
-            };
-            return shown_images(rt, alloc, command, paths, None);
-        }
-        Job::Metadata(paths) => return shown_images(rt, alloc, "metadata", paths, None),
+        Job::Metadata(list) => ("metadata", Source::Images { list }, None),
         Job::Print { form, source } => match form {
             TableForm::Table => ("table", source, None),
             TableForm::Concise => ("concise", source, None),
@@ -167,6 +144,7 @@ fn shown(rt: &impl Abort, alloc: Global, job: Job<'_>) -> String {
             };
             (command, source, None)
         }
+        Job::Read { source, .. } => ("read", source, None),
         Job::Name { vg, lv, layer } => {
             let text = match layer {
                 Some(layer) => format!(in alloc; "name {vg} {lv} {layer}"),
@@ -175,7 +153,7 @@ fn shown(rt: &impl Abort, alloc: Global, job: Job<'_>) -> String {
             return text.expect(rt, "a text");
         }
         Job::SplitName(name) => return format!(in alloc; "splitname {name}").expect(rt, "a text"),
-        Job::Explain(text) => return format!(in alloc; "explain {text}").expect(rt, "a text"),
+        Job::Explain(word) => return format!(in alloc; "explain {word}").expect(rt, "a text"),
     };
     shown_source(rt, alloc, command, source, earlier)
 }

@@ -1,8 +1,6 @@
 -- The code of a tree: a list that gives it back, with a mark where a section is left. Only proofs that
 -- tell two trees apart rest on it.
-use Rattle.std.specs.Prelude.{◌≡◌, ◌⊎◌, ℕ, List, [], ◌∷◌, ◌++◌, map, refl}
-use Rattle.std.proofs.Common.{append_assoc, ap, sym, ◌∙◌, inl, inr}
-use Rattle.std.proofs.lemmas.List.{append-nil}
+use Rattle.lvm_text.specs.Base.{◌≡◌, ◌⊎◌, ℕ, List, [], ◌∷◌, ◌++◌, map, refl, append_assoc, ap, sym, ◌∙◌, inl, inr, append-nil}
 use Rattle.std.specs.Coded.{Coded, code_by, coded×, coded⊎, coded_ℕ, coded_list}
 use base.Stored.{coded_unit}
 use Rattle.lvm_text.specs.Tree.{Scalar, Int, Text, Values, Nothing, Section, Single, Several, Tree}

@@ -1,5 +1,5 @@
 -- A section inside another is smaller.
-use Rattle.std.specs.Prelude.{ℕ, ◌≤◌, max, List, [], ◌∷◌}
+use Rattle.lvm_text.specs.Base.{ℕ, ◌≤◌, max, List, [], ◌∷◌}
 use Rattle.std.proofs.Common.{arith}
 use Rattle.lvm_text.specs.Tree.{Values, size_of}
 use Rattle.lvm_text.specs.View.{values_of, put}

@@ -1,28 +1,9 @@
 -- No check of a group finds a fault of memory.
-use Rattle.std.proofs.Common.{◌≡◌, ◌≢◌, ℕ, Bool, true, false, List, [], ◌∷◌, ◌++◌, length, codes, Option, Some, None, if◌then◌else◌, ◌+◌}
-use Rattle.std.specs.Prelude.{is_some}
-use Rattle.std.specs.List.{AllByRecursion, flat_map, range_with_len}
-use Rattle.lvm_text.specs.Tree.{Tree, Shown, node_of, sections_of}
-use Rattle.dm_table.specs.declared.load.load_fault.LoadKind.{LoadKind}
-use Rattle.dm_table.specs.declared.load.load_fault.LoadKind.TheVariants.{Memory, Name, Unknown, Extents}
-use Rattle.dm_table.specs.declared.load.load_fault.LoadKind.TheVariants as loads
-use Rattle.dm_table.specs.declared.load.load_fault.LoadFault.{LoadFault}
+use Rattle.lvm_volume.proofs.Prelude.{◌≡◌, ◌≢◌, ℕ, Bool, true, false, List, [], ◌∷◌, ◌++◌, length, codes, Option, Some, None, if◌then◌else◌, ◌+◌, is_some, AllByRecursion, flat_map, range_with_len, Tree, Shown, node_of, sections_of, LoadKind, Memory, Name, Unknown, Extents, LoadFault, fault, faults_by, first_or, Check, Fields, Limits, Kind, Physical, Role, Segment, Volume, faults_of_fields, field_faults, fields_faults, group_faults, group_fields, is_asked, is_wrong, load_kind, missing, node_faults, number_at, one_group_faults, physical_fields, sections_at, segment_field, segment_fields, segments_of, source_faults, top_fields, volume_faults, volume_fields, Claim, at_line, claims_of, used_after, used_by, hit, is_misplaced, is_too_long, is_unknown, least_line_of, segment_faults, size_faults, snapshot_faults, source_line, unknown_faults, Group, Keyed, is_bad_snapshot, roles_of, fault_of, device_parts, layers_of, unnamed_layer, unnamed_volume}
 use Rattle.dm_table.specs.declared.load.place.Place.{Place}
-use Rattle.dm_table.specs.load.LoadFault.{fault, faults_by, first_or}
-use Rattle.lvm_volume.specs.fields.Checks.{Check}
-use Rattle.lvm_volume.specs.fields.Checks.{Fields, Limits}
-use Rattle.lvm_volume.specs.fields.Kinds.{Kind}
-use Rattle.lvm_volume.specs.declared.group.physical.Physical.{Physical}
-use Rattle.lvm_volume.specs.declared.group.roles.Role.{Role}
-use Rattle.lvm_volume.specs.declared.group.segment.Segment.{Segment}
-use Rattle.lvm_volume.specs.declared.group.volume.Volume.{Volume}
-use Rattle.lvm_volume.specs.fields.Fields.{Field, faults_of_fields, field_faults, fields_faults, group_faults, group_fields, is_asked, is_wrong, load_kind, missing, node_faults, number_at, one_group_faults, physical_fields, sections_at, segment_field, segment_fields, segments_of, source_faults, top_fields, volume_faults, volume_fields}
+use Rattle.dm_table.specs.declared.load.load_fault.LoadKind.TheVariants as loads
+use Rattle.lvm_volume.specs.fields.Fields.{Field}
 use Rattle.lvm_volume.specs.checks.Extents as extents
-use Rattle.lvm_volume.specs.checks.Extents.{Claim, at_line, claims_of, used_after, used_by, hit, is_misplaced, is_too_long, is_unknown, least_line_of, segment_faults, size_faults, snapshot_faults, source_line, unknown_faults}
-use Rattle.lvm_volume.specs.group.Group.{Group, Keyed}
-use Rattle.lvm_volume.specs.group.Roles.{is_bad_snapshot, roles_of}
-use Rattle.lvm_volume.specs.Names.{fault_of}
-use Rattle.lvm_volume.specs.tables.Tables.{device_parts, layers_of, unnamed_layer, unnamed_volume}
 
 abbrev pub NoMemory : List LoadFault → Type 0
 NoMemory = AllByRecursion (λ fault. fault.kind ≢ Memory)

@@ -1,23 +1,7 @@
 -- The maps of all physical volumes, and what is claimed.
-use Rattle.std.proofs.Common.{◌≡◌, ◌⊎◌, ℕ, ◌+◌, ◌<◌, ◌≤◌, ◌==◌, Bool, true, false, List, [], ◌∷◌, ◌++◌, Option, Some, None, length, get_or, set, drop, Result, Ok, Err, refl, sym, ◌∙◌, subst, arith, inl, inr}
-use Rattle.std.specs.Prelude.{IfOk}
-use Rattle.std.specs.List.{list_any}
-use Rattle.std.specs.Ordering.{nat_cmp}
-use Rattle.std.specs.BTreeMap.{BTreeMap, get}
-use Rattle.std.proofs.lemmas.Bool.Decides.{nat_tests}
-use Rattle.std.proofs.Common.{length-set, length-append}
-use Rattle.std.proofs.lemmas.Bool.{eqb-true, eqb-false, cases_lt}
-use Rattle.std.proofs.lemmas.List.{get_or-set_same, get_or-set_other, get_or_append_left}
-use Rattle.std.proofs.Math.Seq.{get_or-append_seam}
-use Rattle.lvm_volume.specs.checks.Extents.{Claim, meets, segment_faults, used_after, volume_faults}
-use Rattle.std.proofs.lemmas.List.{drop_more}
-use Rattle.dm_table.specs.load.LoadFault.{first_or}
-use Rattle.dm_table.specs.declared.load.load_fault.LoadFault.{LoadFault}
-use Rattle.lvm_volume.specs.declared.group.physical.Physical.{Physical}
-use Rattle.lvm_volume.specs.declared.group.segment.Segment.{Segment}
-use Rattle.lvm_volume.specs.declared.group.volume.Volume.{Volume}
+use Rattle.lvm_volume.proofs.Prelude.{◌≡◌, ◌⊎◌, ℕ, ◌+◌, ◌<◌, ◌≤◌, ◌==◌, Bool, true, false, List, [], ◌∷◌, ◌++◌, Option, Some, None, length, get_or, set, drop, Result, Ok, Err, refl, sym, ◌∙◌, subst, arith, inl, inr, IfOk, list_any, nat_cmp, BTreeMap, get, nat_tests, length-set, length-append, eqb-true, eqb-false, cases_lt, get_or-set_same, get_or-set_other, get_or_append_left, get_or-append_seam, drop_more, none-some, Claim, meets, segment_faults, used_after, Physical, Segment, Volume, Holds, HasRanges, ranges_of, reaches, LoadFault, first_or}
+use Rattle.lvm_volume.specs.checks.Extents.{volume_faults}
 use Rattle.lvm_volume.proofs.fields.Faults.{first_after, first_here}
-use Rattle.lvm_volume.specs.checks.Used.{Holds, HasRanges, ranges_of, reaches}
 
 -- a claim meets others where its range reaches theirs on its physical volume
 pub meets_is : (claim : Claim) (used : List Claim) → list_any (meets claim) used ≡ list_any (reaches claim.first claim.end) (ranges_of claim.physical used)
@@ -32,12 +16,10 @@ meets_is claim (c ∷ used) = by_position (claim.physical == c.physical) refl (m
 pub keeps_nothing : (m : BTreeMap ℕ ℕ) → ((q : ℕ) → get nat_cmp m q ≡ None) → HasRanges m []
 keeps_nothing m none = record {
   all = tt;
-  only = λ first end is a b hit. absurd (some_none (get nat_cmp m first) end is (none first));
-  some = λ first end is. absurd (some_none (get nat_cmp m first) end is (none first));
-  apart = λ a b c d is_b is_d before. absurd (some_none (get nat_cmp m a) b is_b (none a));
-} where
-  some_none : (o : Option ℕ) (b : ℕ) → o ≡ Some b → o ≡ None → ⊥
-  some_none o b e f = let g : Some b ≡ None = sym e ∙ f in absurd cc
+  only = λ first end is a b hit. absurd (none-some end (sym (none first) ∙ is));
+  some = λ first end is. absurd (none-some end (sym (none first) ∙ is));
+  apart = λ a b c d is_b is_d before. absurd (none-some b (sym (none a) ∙ is_b));
+}
 
 same_eqb : (n : ℕ) → (n == n) ≡ true
 same_eqb n = grind (arith, nat_tests)

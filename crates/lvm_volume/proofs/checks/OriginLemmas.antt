@@ -1,18 +1,7 @@
 -- Where no check finds a fault, a snapshot's origin has that role.
-use Rattle.std.proofs.Common.{◌≡◌, ℕ, zero, suc, ◌+◌, ◌<◌, ◌==◌, Bool, true, false, cond, not, List, [], ◌∷◌, ◌++◌, length, map, refl, sym, ap, subst, ◌∙◌, arith}
-use Rattle.std.specs.Prelude.{filter, nat_lt, slice_index_or}
-use Rattle.std.specs.List.{AllByRecursion, enumerate_from, list_any}
-use Rattle.std.proofs.lemmas.Bool.{eq-eqb, eqb-true, ltb-true, not-false, or_parts, or_right}
-use Rattle.lvm_volume.specs.declared.group.roles.Record.{Record}
-use Rattle.lvm_volume.specs.declared.group.roles.Role.{Role}
-use Rattle.lvm_volume.specs.declared.group.roles.Role.TheVariants as roles
-use Rattle.lvm_volume.specs.declared.group.segment.Segment.{Segment}
-use Rattle.lvm_volume.specs.declared.group.segment.SegmentType.{SegmentType}
+use Rattle.lvm_volume.proofs.Prelude.{◌≡◌, ℕ, zero, suc, ◌+◌, ◌<◌, ◌==◌, Bool, true, false, cond, not, List, [], ◌∷◌, ◌++◌, length, map, refl, sym, ap, subst, ◌∙◌, arith, filter, nat_lt, slice_index_or, AllByRecursion, enumerate_from, list_any, eq-eqb, eqb-true, ltb-true, not-false, or_parts, or_right, Record, Role, Segment, SegmentType, Volume, is_unknown, stripes_of, volumes_named, is_bad_snapshot, is_bad_target, is_record, is_store, recorded, records_of, role_at, role_by, role_of, roles_of, snapshot_of, unless_recorded, all_append, all_changed}
 use Rattle.lvm_volume.specs.declared.group.segment.SegmentType.TheVariants.{Snapshot}
-use Rattle.lvm_volume.specs.declared.group.volume.Volume.{Volume}
-use Rattle.lvm_volume.specs.checks.Extents.{is_unknown, stripes_of, volumes_named}
-use Rattle.lvm_volume.specs.group.Roles.{is_bad_snapshot, is_bad_target, is_record, is_store, recorded, records_of, role_at, role_by, role_of, roles_of, snapshot_of, unless_recorded}
-use Rattle.dm_table.proofs.Lists.{all_append, all_changed}
+use Rattle.lvm_volume.specs.declared.group.roles.Role.TheVariants as roles
 
 -- Lists
 

@@ -1,33 +1,10 @@
 -- What no check finds fault with fits 64 bits in sectors, and its stripes are on physical volumes that are there.
-use Rattle.std.proofs.Common.{◌≡◌, ℕ, suc, zero, ◌+◌, ◌*◌, ◌/◌, ◌%◌, ◌^◌, ◌<◌, ◌≤◌, ◌==◌, Bool, true, false, not, List, [], ◌∷◌, ◌++◌, length, map, Option, Some, None, refl, sym, ap, ◌∙◌, arith, mul-le-mul_right, if◌then◌else◌}
-use Rattle.std.specs.Prelude.{nat_lt, codes}
-use Rattle.std.specs.List.{AllByRecursion, flat_map, list_any, range_with_len}
-use Rattle.std.proofs.lemmas.Bool.{ltb-false, ltb-true, or_parts, not-false}
-use Rattle.lvm_text.specs.Tree.{Tree, Shown, Content, Whole, Int, Text, node_of, sections_of}
-use Rattle.dm_table.specs.declared.load.load_fault.LoadKind.{LoadKind}
-use Rattle.dm_table.specs.declared.load.load_fault.LoadKind.TheVariants.{Extents, Unknown}
+use Rattle.lvm_volume.proofs.Prelude.{◌≡◌, ℕ, suc, zero, ◌+◌, ◌*◌, ◌/◌, ◌%◌, ◌^◌, ◌<◌, ◌≤◌, ◌==◌, Bool, true, false, not, List, [], ◌∷◌, ◌++◌, length, map, Option, Some, None, refl, sym, ap, ◌∙◌, arith, mul-le-mul_right, if◌then◌else◌, nat_lt, codes, AllByRecursion, flat_map, list_any, range_with_len, ltb-false, ltb-true, or_parts, not-false, Tree, Shown, Content, Whole, Int, Text, node_of, sections_of, LoadKind, Extents, Unknown, LoadFault, first_or, first_fault, Fields, Limits, Kind, Always, Physical, Stripe, Segment, Volume, faults_of_fields, field, field_faults, fields_faults, group_faults, group_fields, is_far, most, number_at, number_in, held, one_group_faults, physical_fields, sections_at, segment_field, segment_fields, segments_of, top_fields, volume_faults, volume_fields, Claim, at_line, claims_of, used_after, used_by, extents_at, have_clash, hit, is_misplaced, is_unknown, least_line, least_line_of, lesser, meets, parts_of, segment_faults, size_faults, snapshot_faults, stripes_of, unknown_faults, claims_by, Keyed, device_of, first_section, group_in, physical_of, positions_in, segment_of, volume_of, is_bad_snapshot, roles_of, IsSegmentIn, IsSoundGroup, IsStripeIn, checks_of_parts, extent_faults, physical_at, first_or-none, append-nil_both}
 use Rattle.dm_table.specs.declared.load.load_fault.LoadKind.TheVariants as loads
-use Rattle.dm_table.specs.declared.load.load_fault.LoadFault.{LoadFault}
-use Rattle.dm_table.specs.load.LoadFault.{first_or, first_fault}
-use Rattle.lvm_volume.specs.fields.Checks.{Fields, Limits}
-use Rattle.lvm_volume.specs.fields.Kinds.{Kind}
-use Rattle.lvm_volume.specs.fields.Kinds as kinds
-use Rattle.lvm_volume.specs.fields.Kinds.{Always}
-use Rattle.lvm_volume.specs.declared.group.physical.Physical.{Physical}
 use Rattle.lvm_volume.specs.declared.group.positions.GroupPositions.{GroupPositions}
-use Rattle.lvm_volume.specs.declared.group.segment.Stripe.{Stripe}
-use Rattle.lvm_volume.specs.declared.group.segment.Segment.{Segment}
-use Rattle.lvm_volume.specs.declared.group.volume.Volume.{Volume}
-use Rattle.lvm_volume.specs.fields.Fields.{faults_of_fields, field, field_faults, fields_faults, group_faults, group_fields, is_far, most, number_at, number_in, held, one_group_faults, physical_fields, sections_at, segment_field, segment_fields, segments_of, top_fields, volume_faults, volume_fields}
+use Rattle.lvm_volume.specs.fields.Kinds as kinds
 use Rattle.lvm_volume.specs.checks.Extents as extents
-use Rattle.lvm_volume.specs.checks.Extents.{Claim, at_line, claims_of, used_after, used_by, extents_at, have_clash, hit, is_misplaced, is_unknown, least_line, least_line_of, lesser, meets, parts_of, segment_faults, size_faults, snapshot_faults, stripes_of, unknown_faults}
-use Rattle.lvm_volume.specs.checks.Used.{claims_by}
-use Rattle.lvm_volume.specs.group.Group.{Keyed, device_of, first_section, group_in, physical_of, positions_in, segment_of, volume_of}
-use Rattle.lvm_volume.specs.group.Roles.{is_bad_snapshot, roles_of}
-use Rattle.lvm_volume.specs.tables.Tables.{IsSegmentIn, IsSoundGroup, IsStripeIn, checks_of_parts, extent_faults, physical_at}
 use Rattle.lvm_volume.proofs.checks.OriginLemmas.{all_origins}
-use Rattle.dm_table.proofs.FaultLemmas.{first_or-none}
-use Rattle.dm_table.proofs.Lists.{append-nil_both}
 
 -- Lists of faults that are empty
 

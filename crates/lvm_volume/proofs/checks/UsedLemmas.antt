@@ -1,12 +1,5 @@
 -- Ranges that are used: what a look-up of the last one before an end tells, and one range more.
-use Rattle.std.proofs.Common.{◌≡◌, ◌⊎◌, ℕ, ◌<◌, ◌≤◌, Bool, true, false, ◌||◌, List, [], ◌∷◌, Option, Some, None, refl, sym, ap, ◌∙◌, arith, rules, inl, inr}
-use Rattle.std.proofs.lemmas.Grind.{common_steps}
-use Rattle.std.specs.Prelude.{IsSome, nat_lt}
-use Rattle.std.specs.List.{list_any, AllByRecursion}
-use Rattle.std.specs.Ordering.{nat_cmp}
-use Rattle.std.specs.BTreeMap.{BTreeMap, Updates, get, is_at}
-use Rattle.std.proofs.lemmas.Bool.{and_from, and_right, or_right, lt-ltb, ltb-false, ltb-true, le-ltb, cases_order}
-use Rattle.lvm_volume.specs.checks.Used.{HasRanges, reaches}
+use Rattle.lvm_volume.proofs.Prelude.{◌≡◌, ◌⊎◌, ℕ, ◌<◌, ◌≤◌, Bool, true, false, ◌||◌, List, [], ◌∷◌, Option, Some, None, refl, sym, ap, ◌∙◌, arith, rules, inl, inr, common_steps, IsSome, nat_lt, list_any, AllByRecursion, nat_cmp, BTreeMap, Updates, get, is_at, and_from, and_right, or_right, lt-ltb, ltb-false, ltb-true, le-ltb, cases_order, none-some, HasRanges, reaches}
 
 -- no range of a map reaches, where none that the map finds does
 none_reach : (used : BTreeMap ℕ ℕ) (test : ℕ × ℕ → Bool) → ((a b : ℕ) → get nat_cmp used a ≡ Some b → test (a, b) ≡ false) → (ranges : List (ℕ × ℕ)) → AllByRecursion (λ range. get nat_cmp used range.0 ≡ Some range.1) ranges → list_any test ranges ≡ false
@@ -20,9 +13,7 @@ reaches_not first end a b h = by_test (nat_lt a end) refl where
   by_test false e = and_right (nat_lt first b) _ e
 
 pub none_before : (used : BTreeMap ℕ ℕ) (ranges : List (ℕ × ℕ)) (first end : ℕ) → HasRanges used ranges → ((q : ℕ) → q < end → get nat_cmp used q ≡ None) → list_any (reaches first end) ranges ≡ false
-none_before used ranges first end keeps none = none_reach used (reaches first end) (λ a b is. reaches_not first end a b (λ below. absurd (some_none (get nat_cmp used a) b is (none a below)))) ranges keeps.all where
-  some_none : (o : Option ℕ) (b : ℕ) → o ≡ Some b → o ≡ None → ⊥
-  some_none o b e f = let g : Some b ≡ None = sym e ∙ f in absurd cc
+none_before used ranges first end keeps none = none_reach used (reaches first end) (λ a b is. reaches_not first end a b (λ below. absurd (none-some b (sym (none a below) ∙ is)))) ranges keeps.all
 
 is_some : (o : Option ℕ) (b : ℕ) → o ≡ Some b → IsSome o
 is_some None b e = absurd cc

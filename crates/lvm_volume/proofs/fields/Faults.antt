@@ -1,11 +1,5 @@
 -- What a check finds first.
-use Rattle.std.proofs.Common.{◌≡◌, ℕ, suc, ◌+◌, ◌-◌, ◌<◌, List, [], ◌∷◌, ◌++◌, ◌⊎◌, inl, inr, Option, Some, None, Result, Ok, Err, refl, sym, arith, append_assoc}
-use Rattle.std.specs.List.{flat_map, range_with_len}
-use Rattle.std.specs.Result.{result_err}
-use Rattle.dm_table.specs.declared.load.place.Part.TheVariants.{Source}
-use Rattle.dm_table.specs.declared.load.load_fault.LoadFault.{LoadFault}
-use Rattle.dm_table.specs.load.LoadFault.{IsMemoryFault, first_or, unless}
-use Rattle.lvm_volume.specs.fields.Fields.{IsChecked}
+use Rattle.lvm_volume.proofs.Prelude.{◌≡◌, ℕ, suc, ◌+◌, ◌-◌, ◌<◌, List, [], ◌∷◌, ◌++◌, ◌⊎◌, inl, inr, Option, Some, None, Result, Ok, Err, refl, sym, arith, append_assoc, flat_map, range_with_len, result_err, Source, LoadFault, IsMemoryFault, first_or, unless, IsChecked}
 
 -- what is found first is found first of more, and where nothing is found the others are asked
 pub first_here : (xs ys : List LoadFault) (later : Option LoadFault) (fault : LoadFault) → first_or xs None ≡ Some fault → first_or (xs ++ ys) later ≡ Some fault

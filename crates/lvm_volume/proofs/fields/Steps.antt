@@ -1,20 +1,7 @@
 -- Steps of a reading, one after the other.
-use Rattle.std.proofs.Common.{◌≡◌, ◌⊎◌, inl, append_assoc, arith, ℕ, ◌+◌, ◌-◌, ◌<◌, ◌≤◌, drop, get_or, length, map, List, [], ◌∷◌, ◌++◌, Option, Some, None, Result, refl, sym, ap, ◌∙◌}
-use Rattle.std.specs.Result.{IsErrAnd, result_err}
-use Rattle.std.proofs.lemmas.List.{append-nil, drop_more}
-use Rattle.std.proofs.lemmas.Result.{err_from_is_err_and}
+use Rattle.lvm_volume.proofs.Prelude.{◌≡◌, ◌⊎◌, inl, append_assoc, arith, ℕ, ◌+◌, ◌-◌, ◌<◌, ◌≤◌, drop, get_or, length, map, List, [], ◌∷◌, ◌++◌, Option, Some, None, Result, refl, sym, ap, ◌∙◌, IsErrAnd, result_err, append-nil, drop_more, err_from_is_err_and, flat_map, range_with_len, Source, LoadFault, Field, IsMemoryFault, fault_at, first_or, FieldReader, Check, Fields, Limits, first_of, missing, IsStep, after, or_first, first_or-found}
 use Rattle.std.proofs.Math.ListN.{drop_of_length-le}
-use Rattle.std.specs.List.{flat_map, range_with_len}
-use Rattle.dm_table.specs.declared.load.place.Part.TheVariants.{Source}
-use Rattle.dm_table.specs.declared.load.load_fault.LoadFault.{LoadFault}
-use Rattle.dm_table.specs.declared.load.load_fault.LoadKind.TheVariants.{Field}
-use Rattle.dm_table.specs.load.LoadFault.{IsMemoryFault, fault_at, first_or}
-use Rattle.lvm_volume.specs.declared.fields.reader.FieldReader.{FieldReader}
-use Rattle.lvm_volume.specs.fields.Checks.{Check, Fields, Limits}
-use Rattle.lvm_volume.specs.fields.Fields.{first_of, missing}
-use Rattle.lvm_volume.specs.fields.Steps.{IsStep, after, or_first}
 use Rattle.lvm_volume.proofs.fields.Faults.{first_after, first_here, found_more, range_more}
-use Rattle.dm_table.proofs.FaultLemmas.{first_or-found}
 
 or_first_both : (found : Option LoadFault) (xs ys : List LoadFault) → or_first (or_first found xs) ys ≡ or_first found (xs ++ ys)
 or_first_both None [] ys = refl
@@ -44,7 +31,7 @@ then_goes {f} {g} {old} h k =
       failed_at = λ fault same. found_more (λ found. first_after (f Fields) (g Fields) None none ∙ found) (k.failed_at fault same);
     }
 
--- the same faults in other words
+-- a step over faults that are told in other words
 pub in_words : {f g : Check → List LoadFault} {old new : FieldReader} {failed : Option LoadFault} → ((check : Check) → f check ≡ g check) → IsStep f old new failed → IsStep g old new failed
 in_words {f} {g} {old} same h = record {
   passed = λ is. let a = h.passed is in (sym (same Fields) ∙ a.0, a.1 ∙ ap (after old) (same (Limits old.extent_size)));

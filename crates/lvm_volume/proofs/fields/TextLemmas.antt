@@ -1,8 +1,5 @@
 -- Lists of strings.
-use Rattle.std.proofs.Common.{◌≡◌, List, [], ◌∷◌, true, false, refl}
-use Rattle.std.specs.List.{list_all, list_any}
-use Rattle.lvm_text.specs.Tree.{Scalar, Int, Text}
-use Rattle.lvm_volume.specs.fields.Fields.{is_far_scalar, is_text}
+use Rattle.lvm_volume.proofs.Prelude.{◌≡◌, List, [], ◌∷◌, true, false, refl, list_all, list_any, Scalar, Int, Text, is_far_scalar, is_text}
 
 -- no string is above a limit
 pub none_far : (items : List Scalar) → list_all is_text items ≡ true → list_any is_far_scalar items ≡ false

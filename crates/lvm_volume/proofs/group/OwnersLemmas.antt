@@ -1,20 +1,7 @@
 -- Ids as they are compared, and groups with other names of disks.
-use Rattle.std.proofs.Common.{◌≡◌, ◌⊎◌, inl, inr, ℕ, zero, suc, ◌+◌, ◌*◌, ◌^◌, ◌<◌, ◌≤◌, ◌==◌, List, [], ◌∷◌, length, get_or, drop, refl, sym, ap, subst, ◌∙◌, arith}
-use Rattle.std.specs.Prelude.{bytes_eq}
-use Rattle.std.specs.List.{AllByRecursion, zip}
-use Rattle.std.proofs.lemmas.Bool.{ne_eqb}
-use Rattle.std.proofs.lemmas.List.{drop_more, drop_all}
-use Rattle.lvm_volume.specs.declared.group.physical.Physical.{Physical}
-use Rattle.lvm_volume.specs.declared.group.segment.Segment.{Segment}
-use Rattle.lvm_volume.specs.declared.group.segment.Stripe.{Stripe}
-use Rattle.lvm_volume.specs.declared.group.volume.Volume.{Volume}
-use Rattle.lvm_volume.specs.checks.Extents.{stripes_of}
-use Rattle.lvm_volume.specs.group.Group.{Group}
-use Rattle.lvm_volume.specs.group.Owners.{Owners, all_owned, letters_of, owned_group}
-use Rattle.lvm_volume.specs.group.OwnersCode.{ids_view}
-use Rattle.lvm_volume.specs.tables.Tables.{IsSegmentIn, IsSoundGroup, IsStripeIn, physical_at}
+use Rattle.lvm_volume.proofs.Prelude.{◌≡◌, ◌⊎◌, inl, inr, ℕ, zero, suc, ◌+◌, ◌*◌, ◌^◌, ◌<◌, ◌≤◌, ◌==◌, List, [], ◌∷◌, Option, None, length, get_or, drop, refl, sym, ap, subst, ◌∙◌, arith, bytes_eq, slice_index_or, AllByRecursion, zip, ne_eqb, drop_more, drop_all, DiskFault, Physical, Segment, Stripe, Volume, stripes_of, Group, Keyed, Owners, all_owned, disk_fault, letters_of, owned_group, section_of, untaken, ids_view, IsSegmentIn, IsSoundGroup, IsStripeIn, physical_at, all_changed}
+use Rattle.lvm_volume.specs.group.Owners.{or_later}
 use denote.Ref.{Bor}
-use Rattle.dm_table.proofs.Lists.{all_changed}
 
 -- ---- letters
 
@@ -37,6 +24,17 @@ pub none_left : (ids : List (Bor (List ℕ))) (physicals : List Physical) → (i
 none_left ids physicals (inl none) = rw none refl
 none_left [] physicals (inr none) = refl
 none_left (id ∷ ids) physicals (inr none) = rw none refl
+
+-- ---- disks that are taken
+
+pub untaken_next : (physicals : List Keyed) (names ids : List (List ℕ)) (disk : ℕ) (id : List ℕ) (found : Option DiskFault) → drop disk ids ≡ id ∷ drop (disk + 1) ids → disk_fault (slice_index_or names disk []) (section_of physicals id) ≡ found
+    → untaken physicals names disk (drop disk ids) ≡ or_later disk found (untaken physicals names (disk + 1) (drop (disk + 1) ids))
+unfolding untaken
+untaken_next physicals names ids disk id found here is = rw (here, is) refl
+
+pub untaken_end : (physicals : List Keyed) (names ids : List (List ℕ)) (disk : ℕ) → length ids ≤ disk → untaken physicals names disk (drop disk ids) ≡ None
+unfolding untaken
+untaken_end physicals names ids disk past = rw (drop_all disk ids past) refl
 
 -- ---- soundness doesn't depend on the names of disks
 

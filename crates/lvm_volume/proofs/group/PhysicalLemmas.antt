@@ -1,19 +1,7 @@
 -- Physical volumes as they are read, one after the other.
-use Rattle.std.proofs.Common.{◌≡◌, ℕ, ◌+◌, ◌<◌, Bool, true, false, not, List, [], ◌∷◌, length, if◌then◌else◌, get_or, drop, map, Some, None, Ok, Err, refl, sym}
-use Rattle.std.proofs.lemmas.List.{drop_more}
-use Rattle.dm_table.specs.words.Name.{is_disk_name}
-use Rattle.dm_table.specs.declared.load.load_fault.LoadFault.{LoadFault}
-use Rattle.dm_table.specs.load.LoadFault.{first_or, unless}
-use Rattle.lvm_volume.specs.declared.group.physical.Physical.{Physical}
-use Rattle.lvm_volume.specs.checks.Extents.{name_faults}
-use Rattle.lvm_volume.specs.declared.group.physical.PhysicalFields.{PhysicalFields}
-use Rattle.lvm_volume.specs.group.Group.{Keyed, device_of, physical_of, physicals_in}
+use Rattle.lvm_volume.proofs.Prelude.{◌≡◌, ℕ, ◌+◌, ◌<◌, Bool, true, false, not, List, [], ◌∷◌, length, if◌then◌else◌, get_or, drop, map, Some, None, Ok, Err, refl, sym, drop_more, LoadFault, Name, Source, is_disk_name, first_or, unless, fault_at, Physical, name_faults, PhysicalFields, Keyed, device_of, physical_of, physicals_in, all_named, fields_of, fields_view, devices_in, unless-err, unless-ok}
 use Rattle.lvm_volume.specs.group.PhysicalFields as spec
-use Rattle.lvm_volume.specs.group.PhysicalFields.{Fields, all_named, devices_in, fields_of, fields_view}
-use Rattle.dm_table.specs.declared.load.load_fault.LoadKind.TheVariants.{Name}
-use Rattle.dm_table.specs.load.LoadFault.{fault_at}
-use Rattle.dm_table.specs.declared.load.place.Part.TheVariants.{Source}
-use Rattle.dm_table.proofs.FaultLemmas.{unless-err, unless-ok}
+use Rattle.lvm_volume.specs.group.PhysicalFields.{Fields}
 
 pub named : (p : Physical) → is_disk_name p.disk ≡ true → unless (first_or (name_faults (p ∷ [])) None) p ≡ Ok p
 named p e = rw e
@@ -60,7 +48,7 @@ devices_said : (sections : List Keyed) → devices_in (map fields_of sections) �
 devices_said [] = refl
 devices_said (section ∷ sections) = rw (devices_said sections)
 
-named_said : (devices : List (List ℕ)) (sections : List Keyed) → map (spec.named devices) (map fields_of sections) ≡ map (physical_of devices) sections
+named_said : (devices : List (List ℕ)) (sections : List Keyed) → map (spec.with_disk_name devices) (map fields_of sections) ≡ map (physical_of devices) sections
 unfolding physical_of
 named_said devices [] = refl
 named_said devices (section ∷ sections) = rw (named_said devices sections)

@@ -1,15 +1,6 @@
 -- Positions of keys: a set of keys that all differ has them in their order.
-use Rattle.std.proofs.Common.{◌≡◌, ◌≢◌, ◌≤◌, ℕ, Bool, true, false, cond, List, [], ◌∷◌, ◌++◌, length, Option, Some, None, refl, sym, ap, ◌∙◌, arith}
-use Rattle.std.specs.Prelude.{bytes_eq, nat_lt, position, unwrap_or}
-use Rattle.std.specs.List.{AllByRecursion, AllPairs, IsDistinct, list_any, position_or_len}
-use Rattle.std.proofs.lemmas.Bool.{ltb-false}
-use Rattle.std.proofs.lemmas.List.{map_push}
-use Rattle.std.proofs.lemmas.List.Sums.{prefix_len-le-length}
+use Rattle.lvm_volume.proofs.Prelude.{◌≡◌, ◌≢◌, ◌≤◌, ℕ, Bool, true, false, cond, List, [], ◌∷◌, ◌++◌, length, Option, Some, None, refl, sym, ap, ◌∙◌, arith, bytes_eq, nat_lt, position, unwrap_or, AllByRecursion, AllPairs, IsDistinct, list_any, position_or_len, ltb-false, map_push, prefix_len-le-length, bytes_eq-Decides, Values, Nothing, Section, Single, Several, keys_of, sections_of, keys_in, position_of, texts}
 use Rattle.std.proofs.lemmas.Map.Made.{IsDistinct-from_AllPairs}
-use Rattle.std.proofs.lemmas.Slice.Eq.{bytes_eq-Decides}
-use Rattle.lvm_text.specs.Tree.{Values, Nothing, Section, Single, Several, keys_of, sections_of}
-use Rattle.lvm_volume.specs.group.Group.{keys_in, position_of}
-use Rattle.lvm_volume.specs.group.GroupCode.{texts}
 use denote.Ref.{Bor}
 
 -- A key that is none of those before it

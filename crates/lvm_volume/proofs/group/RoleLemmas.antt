@@ -1,14 +1,5 @@
 -- Roles, as they are found one snapshot after the other.
-use Rattle.std.proofs.Common.{◌≡◌, ◌⊎◌, inl, inr, ℕ, zero, suc, ◌+◌, ◌-◌, ◌<◌, ◌≤◌, ◌==◌, Bool, true, false, cond, List, [], ◌∷◌, length, get_or, set, drop, map, refl, sym, ap, ◌∙◌, arith, if◌then◌else◌}
-use Rattle.std.specs.Prelude.{◌||◌, filter}
-use Rattle.std.specs.List.{enumerate_from, list_any, zip}
-use Rattle.std.proofs.lemmas.Bool.{eq-eqb, ne_eqb}
-use Rattle.std.proofs.lemmas.List.{drop_more}
-use Rattle.lvm_volume.specs.declared.group.roles.Record.{Record}
-use Rattle.lvm_volume.specs.declared.group.roles.Role.{Role}
-use Rattle.lvm_volume.specs.declared.group.volume.Volume.{Volume}
-use Rattle.lvm_volume.specs.group.RoleCode.{changed, with_origin, with_store}
-use Rattle.lvm_volume.specs.group.Roles.{recorded, records_of, role_by, role_of, unless_recorded}
+use Rattle.lvm_volume.proofs.Prelude.{◌≡◌, ◌⊎◌, inl, inr, ℕ, zero, suc, ◌+◌, ◌-◌, ◌<◌, ◌≤◌, ◌==◌, Bool, true, false, cond, List, [], ◌∷◌, length, get_or, set, drop, map, refl, sym, ap, ◌∙◌, arith, if◌then◌else◌, ◌||◌, filter, enumerate_from, list_any, zip, eq-eqb, ne_eqb, drop_more, Record, Role, Volume, changed, with_origin, with_store, recorded, records_of, role_by, role_of, unless_recorded}
 
 -- One snapshot more
 

@@ -1,10 +1,5 @@
 -- The sections at the top of a text: none, one, or several.
-use Rattle.std.proofs.Common.{◌≡◌, ℕ, ◌<◌, ◌≤◌, List, [], ◌∷◌, length, get_or, map, refl, sym, ap, arith}
-use Rattle.lvm_text.specs.Tree.{Tree}
-use Rattle.lvm_text.specs.Iterate.{item_view}
-use Rattle.lvm_volume.specs.fields.Checks.{Check}
-use Rattle.lvm_volume.specs.fields.Fields.{group_faults, missing, one_group_faults}
-use Rattle.lvm_volume.specs.group.Group.{first_section}
+use Rattle.lvm_volume.proofs.Prelude.{◌≡◌, ℕ, ◌<◌, ◌≤◌, List, [], ◌∷◌, length, get_or, map, refl, sym, ap, arith, Tree, item_view, Check, group_faults, missing, one_group_faults, first_section}
 use denote.Ref.{Bor}
 
 abbrev Item : Type 0

@@ -1,23 +1,8 @@
 -- What the devices of a sound group need, volume by volume.
-use Rattle.std.proofs.Common.{◌≡◌, ℕ, zero, suc, ◌+◌, ◌*◌, ◌^◌, ◌<◌, ◌==◌, Bool, true, false, List, [], ◌∷◌, map, Option, Some, None, arith}
-use Rattle.std.specs.Prelude.{IfSome, filter, slice_get, slice_index_or}
-use Rattle.std.specs.List.{AllByRecursion, enumerate_from, flat_map, list_any, zip}
-use Rattle.dm_table.specs.load.LoadFault.{first_or}
-use Rattle.lvm_volume.specs.declared.tables.device_names.Layer.TheVariants.{Real}
-use Rattle.lvm_volume.specs.declared.group.physical.Physical.{Physical}
-use Rattle.lvm_volume.specs.declared.group.roles.Record.{Record}
-use Rattle.lvm_volume.specs.declared.group.roles.Role.{Role}
+use Rattle.lvm_volume.proofs.Prelude.{◌≡◌, ℕ, zero, suc, ◌+◌, ◌*◌, ◌^◌, ◌<◌, ◌==◌, Bool, true, false, List, [], ◌∷◌, map, Option, Some, None, arith, IfSome, filter, slice_get, slice_index_or, AllByRecursion, enumerate_from, flat_map, list_any, zip, first_or, Real, Physical, Record, Role, Segment, Volume, Group, fault_of, end_of, name_at, recorded, records_of, role_at, role_by, role_of, roles_of, segments_at, unless_recorded, IsMadeIn, IsSegmentIn, IsSnapshotIn, IsSoundGroup, members_of, device_parts, length_of, unnamed, unnamed_volume, first_or-none, all_changed, append-nil_both}
 use Rattle.lvm_volume.specs.declared.group.roles.Role.TheVariants as roles
-use Rattle.lvm_volume.specs.declared.group.segment.Segment.{Segment}
-use Rattle.lvm_volume.specs.declared.group.volume.Volume.{Volume}
-use Rattle.lvm_volume.specs.group.Group.{Group}
-use Rattle.lvm_volume.specs.Names.{fault_of}
-use Rattle.lvm_volume.specs.group.Roles.{end_of, name_at, recorded, records_of, role_at, role_by, role_of, roles_of, segments_at, unless_recorded}
-use Rattle.lvm_volume.specs.tables.Tables.{IsMadeIn, IsSegmentIn, IsSnapshotIn, IsSoundGroup, members_of, device_parts, length_of, unnamed, unnamed_volume}
 use Rattle.lvm_volume.proofs.tables.NamedLemmas.{origin_named}
 use Rattle.lvm_volume.proofs.checks.OriginLemmas.{all_filtered}
-use Rattle.dm_table.proofs.FaultLemmas.{first_or-none}
-use Rattle.dm_table.proofs.Lists.{all_changed, append-nil_both}
 
 -- Lengths
 

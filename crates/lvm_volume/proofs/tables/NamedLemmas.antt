@@ -1,19 +1,8 @@
 -- Names of devices that are built, and those that are refused.
-use Rattle.std.proofs.Common.{◌≡◌, ℕ, false, List, [], ◌∷◌, Option, Some, None, refl, subst}
-use Rattle.std.specs.Prelude.{is_some}
-use Rattle.std.specs.List.{AllByRecursion, flat_map}
-use Rattle.dm_table.specs.declared.load.load_fault.LoadKind.TheVariants.{Name}
+use Rattle.lvm_volume.proofs.Prelude.{◌≡◌, ℕ, false, List, [], ◌∷◌, Option, Some, None, refl, subst, is_some, AllByRecursion, flat_map, Name, Real, Cow, NameFault, Record, Role, Volume, fault_of, device_parts, layers_of, unnamed_layer, unnamed_volume, append-nil_both}
 use Rattle.lvm_volume.specs.declared.tables.device_names.Layer.{Layer}
-use Rattle.lvm_volume.specs.declared.tables.device_names.Layer.TheVariants.{Real, Cow}
-use Rattle.lvm_volume.specs.declared.fault.NameFault.{NameFault}
-use Rattle.lvm_volume.specs.declared.group.roles.Record.{Record}
-use Rattle.lvm_volume.specs.declared.group.roles.Role.{Role}
 use Rattle.lvm_volume.specs.declared.group.roles.Role.TheVariants as roles
-use Rattle.lvm_volume.specs.declared.group.volume.Volume.{Volume}
-use Rattle.lvm_volume.specs.Names.{fault_of}
-use Rattle.lvm_volume.specs.tables.Tables.{device_parts, layers_of, unnamed_layer, unnamed_volume}
 use Rattle.lvm_volume.proofs.checks.Sound.{hit-nil}
-use Rattle.dm_table.proofs.Lists.{append-nil_both}
 
 -- Volumes of which no name is refused
 

@@ -1,20 +1,8 @@
 -- The checks of a group beyond its fields: names of disks, segments that name nothing, how extents lie, and snapshots.
-use Rattle.std.specs.Prelude.{ℕ, ◌+◌, ◌*◌, ◌/◌, ◌%◌, Bool, false, not, ◌&&◌, ◌||◌, ◌==◌, List, [], ◌∷◌, ◌++◌, Option, Some, None, nat_lt, length, map, min, slice_index, if◌then◌else◌}
-use Rattle.std.specs.List.{list_any}
-use Rattle.dm_table.specs.declared.load.place.Part.TheVariants.{Source}
+use Rattle.lvm_volume.specs.Base.{ℕ, ◌+◌, ◌*◌, ◌/◌, ◌%◌, Bool, false, not, ◌&&◌, ◌||◌, ◌==◌, List, [], ◌∷◌, ◌++◌, Option, Some, None, nat_lt, length, map, min, slice_index, if◌then◌else◌, list_any, Source, LoadKind, Name, Unknown, Extents, LoadFault, faults_by, is_disk_name, Stripe, SegmentType, Zero, Error, Striped, Snapshot, Segment, Physical}
 use Rattle.dm_table.specs.declared.load.place.Place.{Place}
-use Rattle.dm_table.specs.declared.load.load_fault.LoadKind.{LoadKind}
-use Rattle.dm_table.specs.declared.load.load_fault.LoadKind.TheVariants.{Name, Unknown, Extents}
 use Rattle.dm_table.specs.declared.load.load_fault.LoadKind.TheVariants as loads
-use Rattle.dm_table.specs.declared.load.load_fault.LoadFault.{LoadFault}
-use Rattle.dm_table.specs.load.LoadFault.{faults_by}
-use Rattle.dm_table.specs.words.Name.{is_disk_name}
-use Rattle.lvm_volume.specs.declared.group.segment.Stripe.{Stripe}
-use Rattle.lvm_volume.specs.declared.group.segment.SegmentType.{SegmentType}
-use Rattle.lvm_volume.specs.declared.group.segment.SegmentType.TheVariants.{Zero, Error, Striped, Snapshot}
-use Rattle.lvm_volume.specs.declared.group.segment.Segment.{Segment}
 use Rattle.lvm_volume.specs.declared.group.volume.Volume.{Volume}
-use Rattle.lvm_volume.specs.declared.group.physical.Physical.{Physical}
 use Rattle.lvm_volume.specs.fields.Fields.{source_faults}
 use Rattle.lvm_volume.specs.group.Group.{Group}
 use Rattle.lvm_volume.specs.group.Roles.{is_bad_snapshot, roles_of}
@@ -43,7 +31,7 @@ abbrev pub least_line : (Segment → Bool) → List Segment → Option ℕ → O
 least_line test [] later = later
 least_line test (segment ∷ segments) later = if test segment then Some (lesser segment.line (least_line test segments later)) else least_line test segments later
 
--- the same over volumes, where the test is told whether a segment is the only one of its volume
+-- the least line of a segment of any volume that a test finds; the test knows whether the segment is the only one of its volume
 abbrev pub least_line_of : ((alone : Bool) → Segment → Bool) → List Volume → Option ℕ
 least_line_of test [] = None
 least_line_of test (volume ∷ volumes) = least_line (test (length volume.segments == 1)) volume.segments (least_line_of test volumes)
@@ -84,7 +72,7 @@ unknown_faults group = at_line Unknown (least_line_of (λ alone. is_unknown (len
 abbrev pub snapshot_faults_in : List Volume → List LoadFault
 snapshot_faults_in volumes = at_line loads.Snapshot (least_line_of (is_bad_snapshot volumes (roles_of volumes)) volumes)
 
--- the same of a group
+-- the least line of a snapshot's segment that a group can't have
 abbrev pub snapshot_faults : Group → List LoadFault
 snapshot_faults group = snapshot_faults_in group.volumes
 

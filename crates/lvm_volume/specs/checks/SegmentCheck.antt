@@ -1,6 +1,5 @@
 -- What a check of segments finds.
-use Rattle.std.specs.Prelude.{Bool}
-use Rattle.lvm_volume.specs.declared.group.segment.Segment.{Segment}
+use Rattle.lvm_volume.specs.Base.{Bool, Segment}
 use Rattle.lvm_volume.specs.declared.checks.segment_check.SegmentCheck.{SegmentCheck}
 use Rattle.lvm_volume.specs.declared.checks.segment_check.SegmentCheck.TheVariants.{Unknown, Snapshot}
 use Rattle.lvm_volume.specs.checks.Extents.{is_unknown}

@@ -1,11 +1,5 @@
 -- Ranges of extents that are used, as a map from the first of each to the end before which it lies.
-use Rattle.std.specs.Prelude.{◌≡◌, ℕ, ◌+◌, ◌<◌, ◌≤◌, ◌==◌, Bool, true, false, ◌&&◌, nat_lt, List, [], ◌∷◌, Some, length, map, if◌then◌else◌}
-use Rattle.std.proofs.Common.{get_or}
-use Rattle.std.specs.List.{list_any, AllByRecursion}
-use Rattle.std.specs.Ordering.{nat_cmp}
-use Rattle.std.specs.BTreeMap.{BTreeMap, get}
-use Rattle.lvm_volume.specs.declared.group.segment.Stripe.{Stripe}
-use Rattle.lvm_volume.specs.declared.group.physical.Physical.{Physical}
+use Rattle.lvm_volume.specs.Base.{◌≡◌, ℕ, ◌+◌, ◌<◌, ◌≤◌, ◌==◌, Bool, true, false, ◌&&◌, nat_lt, List, [], ◌∷◌, Some, length, map, if◌then◌else◌, get_or, list_any, AllByRecursion, nat_cmp, BTreeMap, get, Stripe, Physical}
 use Rattle.lvm_volume.specs.checks.Extents.{Claim, claim_on, have_clash, used_by}
 
 -- a range has something in common with that from the first to before the end

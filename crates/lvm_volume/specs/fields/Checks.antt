@@ -1,5 +1,5 @@
 -- The two checks that look at fields.
-use Rattle.std.specs.Prelude.{ℕ}
+use Rattle.lvm_volume.specs.Base.{ℕ}
 
 -- which check looks at a field
 pub data Check : Type 0 where

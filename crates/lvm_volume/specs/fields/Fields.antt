@@ -1,17 +1,10 @@
 -- The fields of a group's metadata that are read, and what each may hold (vgcfgbackup(8), lvm.conf(5)).
-use Rattle.std.specs.Prelude.{◌≡◌, ◌⊎◌, ℕ, ◌*◌, Bool, true, false, not, ◌&&◌, ◌||◌, ◌==◌, List, [], ◌∷◌, ◌++◌, Option, Some, None, Result, Ok, Err, nat_lt, is_some, bytes_eq, codes, decimal, length, if◌then◌else◌}
-use Rattle.std.specs.List.{flat_map, list_any, list_all, range_with_len}
-use Rattle.lvm_text.specs.Tree.{Tree, Content, Inner, Whole, Items, Scalar, Int, Text, Shown, node_of, sections_of}
-use Rattle.dm_table.specs.declared.load.place.Part.TheVariants.{Source}
-use Rattle.dm_table.specs.declared.load.load_fault.LoadKind.{LoadKind}
+use Rattle.lvm_volume.specs.Base.{◌≡◌, ◌⊎◌, ℕ, ◌*◌, Bool, true, false, not, ◌&&◌, ◌||◌, ◌==◌, List, [], ◌∷◌, ◌++◌, Option, Some, None, Result, Ok, Err, nat_lt, is_some, bytes_eq, codes, decimal, length, if◌then◌else◌, flat_map, list_any, list_all, range_with_len, Tree, Content, Inner, Whole, Items, Scalar, Int, Text, Shown, node_of, sections_of, scalar_views, Source, LoadKind, LoadFault, IsMemoryFault, fault_at, first_or}
 use Rattle.dm_table.specs.declared.load.load_fault.LoadKind.TheVariants as loads
-use Rattle.dm_table.specs.declared.load.load_fault.LoadFault.{LoadFault}
-use Rattle.dm_table.specs.load.LoadFault.{IsMemoryFault, fault_at, first_or}
 use Rattle.lvm_volume.specs.fields.Kinds as kinds
 use Rattle.lvm_volume.specs.fields.Kinds.{Kind, Condition, Always, Given, Striped, Several, Snapshot}
 use Rattle.lvm_volume.specs.fields.Checks.{Check, Fields, Limits}
 use Rattle.lvm_text.specs.declared.tree.Scalar.{Scalar as code_scalar}
-use Rattle.lvm_text.specs.View.{scalar_views}
 use denote.Ref.{Bor}
 
 -- The tables
@@ -261,7 +254,7 @@ field_faults check tree f = if is_asked f.when f.key tree then node_faults check
 
 -- The order of the fields
 
--- the same at fields, in their order
+-- what a check finds at fields of a section, in their order
 abbrev pub fields_faults : Check → Tree → List Field → List LoadFault
 fields_faults check tree fields = flat_map (field_faults check tree) fields
 
@@ -272,11 +265,11 @@ volume_faults check volume =
     ++ (flat_map (λ i. field_faults check volume (segment_field i)) (range_with_len 1 (number_at (codes "segment_count") volume))
     ++ flat_map (λ segment. fields_faults check segment segment_fields) (segments_of volume))
 
--- the same at the fields of all physical volumes
+-- what a check finds at the fields of all physical volumes
 abbrev pub physicals_faults : Check → List (List ℕ × Tree) → List LoadFault
 physicals_faults check physicals = flat_map (λ physical. fields_faults check physical.1 physical_fields) physicals
 
--- the same at the fields of all volumes and their segments
+-- what a check finds at the fields of all volumes and their segments
 abbrev pub volumes_faults : Check → List (List ℕ × Tree) → List LoadFault
 volumes_faults check volumes = flat_map (λ volume. volume_faults check volume.1) volumes
 

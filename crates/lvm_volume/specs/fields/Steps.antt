@@ -1,10 +1,5 @@
 -- One pass for both checks of fields: what a step of it comes to.
-use Rattle.std.specs.Prelude.{◌≡◌, ◌⊎◌, ℕ, List, [], ◌∷◌, Option, Some, None, codes}
-use Rattle.std.specs.List.{flat_map, range_with_len}
-use Rattle.lvm_text.specs.Tree.{Tree, node_of}
-use Rattle.dm_table.specs.declared.load.place.Part.TheVariants.{Source}
-use Rattle.dm_table.specs.declared.load.load_fault.LoadFault.{LoadFault}
-use Rattle.dm_table.specs.load.LoadFault.{IsMemoryFault}
+use Rattle.lvm_volume.specs.Base.{◌≡◌, ◌⊎◌, ℕ, List, [], ◌∷◌, Option, Some, None, codes, flat_map, range_with_len, Tree, node_of, Source, LoadFault, IsMemoryFault}
 use Rattle.lvm_volume.specs.declared.fields.reader.FieldReader.{FieldReader}
 use Rattle.lvm_volume.specs.declared.fields.reader.NumberKind.{NumberKind}
 use Rattle.lvm_volume.specs.declared.fields.reader.NumberKind.TheVariants as numbers
@@ -28,7 +23,7 @@ pub record IsStep (faults : Check → List LoadFault) (old new : FieldReader) (f
   pub passed : failed ≡ None → (faults Fields ≡ []) × (new ≡ after old (faults (Limits old.extent_size)))
   pub failed_at : (fault : LoadFault) → failed ≡ Some fault → (first_of (faults Fields) ≡ Some fault) ⊎ IsMemoryFault Source fault
 
--- the same of a step that reads no number
+-- a step that reads no number finds this, whatever the reader has found
 abbrev pub IsPlainStep : (faults : Check → List LoadFault) → (failed : Option LoadFault) → Type 0
 IsPlainStep faults failed = (reader : FieldReader) → IsStep faults reader reader failed
 

@@ -1,16 +1,7 @@
 -- What a group's metadata says: the group, its physical volumes, and its volumes with their segments.
-use Rattle.std.specs.Prelude.{ℕ, Bool, false, not, ◌&&◌, ◌||◌, ◌==◌, List, [], ◌∷◌, nat_lt, bytes_eq, codes, count_by, map, if◌then◌else◌}
-use Rattle.std.specs.List.{list_any, position_or_len}
-use Rattle.dm_table.specs.words.Bytes.{code}
-use Rattle.lvm_text.specs.Tree.{Tree, Scalar, Int, Text, Nothing, sections_of}
-use Rattle.dm_table.specs.words.Name.{is_disk_name}
+use Rattle.lvm_volume.specs.Base.{ℕ, Bool, false, not, ◌&&◌, ◌||◌, ◌==◌, List, [], ◌∷◌, nat_lt, bytes_eq, codes, count_by, map, if◌then◌else◌, list_any, position_or_len, code, is_disk_name, Tree, Scalar, Int, Text, Nothing, sections_of, Stripe, SegmentType, Zero, Error, Striped, Snapshot, Segment, Physical}
 use Rattle.lvm_volume.specs.declared.group.positions.GroupPositions.{GroupPositions}
-use Rattle.lvm_volume.specs.declared.group.segment.Stripe.{Stripe}
-use Rattle.lvm_volume.specs.declared.group.segment.SegmentType.{SegmentType}
-use Rattle.lvm_volume.specs.declared.group.segment.SegmentType.TheVariants.{Zero, Error, Striped, Snapshot}
-use Rattle.lvm_volume.specs.declared.group.segment.Segment.{Segment}
 use Rattle.lvm_volume.specs.declared.group.volume.Volume.{Volume}
-use Rattle.lvm_volume.specs.declared.group.physical.Physical.{Physical}
 use Rattle.lvm_volume.specs.fields.Fields.{number_at, text_at, items_at, sections_at, segments_of, is_snapshot, is_striped}
 
 -- a group: its name, the sectors of an extent, its physical volumes, and its volumes

@@ -1,8 +1,5 @@
 -- How the code's values are seen while a group is made.
-use Rattle.std.specs.Prelude.{◌≡◌, ℕ, List, map, unwrap_or, count_by, bytes_eq}
-use Rattle.std.specs.Ordering.{nat_cmp}
-use Rattle.std.specs.Cmp.Lexicographic.{slice_cmp}
-use Rattle.std.specs.BTreeMap.{BTreeMap, get_by}
+use Rattle.lvm_volume.specs.Base.{◌≡◌, ℕ, List, map, unwrap_or, count_by, bytes_eq, nat_cmp, slice_cmp, BTreeMap, get_by}
 use denote.Ref.{Bor}
 
 -- what slices point to

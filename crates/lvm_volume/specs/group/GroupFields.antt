@@ -1,5 +1,5 @@
 -- What the text of a group says, as the code has it before disks have names.
-use Rattle.std.specs.Prelude.{◌≡◌, List, codes, map}
+use Rattle.lvm_volume.specs.Base.{◌≡◌, List, codes, map}
 use Rattle.lvm_volume.specs.declared.group.group_fields.GroupFields as code
 use Rattle.lvm_volume.specs.declared.group.volume.Volume.{Volume}
 use Rattle.lvm_volume.specs.fields.Fields.{number_at, sections_at}

@@ -1,11 +1,8 @@
 -- Physical volumes by the disks whose images have them. The header of a physical volume has its id, and so has its section in the text of its group (lvm2's format_text).
-use Rattle.std.specs.Prelude.{ℕ, ◌==◌, not, List, Option, Some, None, bytes_eq, codes, filter, map, slice_index_or}
-use Rattle.std.specs.List.{list_any, position_from, zip}
-use Rattle.dm_table.specs.words.Bytes.{code}
-use Rattle.lvm_text.specs.Tree.{Tree, sections_of}
-use Rattle.lvm_volume.specs.declared.group.physical.Physical.{Physical}
+use Rattle.lvm_volume.specs.Base.{ℕ, ◌+◌, ◌==◌, ◌&&◌, ◌||◌, Bool, not, List, [], ◌∷◌, Option, Some, None, bytes_eq, codes, filter, find, map, nat_eq, option_map, slice_index_or, if◌then◌else◌, position_from, starts_with, zip, code, Tree, sections_of, DiskFault, Physical}
+use Rattle.lvm_volume.specs.declared.group.owners.DiskFault.TheVariants.{Array, Foreign, Missing}
 use Rattle.lvm_volume.specs.fields.Fields.{sections_at, text_at}
-use Rattle.lvm_volume.specs.group.Group.{Group, Keyed, first_section, group_of}
+use Rattle.lvm_volume.specs.group.Group.{Group, Keyed, first_section, lists}
 
 -- the letters of an id: a text has dashes between them, a header has none
 unfoldable pub letters_of : (text : List ℕ) → List ℕ
@@ -15,18 +12,39 @@ letters_of text = filter (λ letter. not (letter == code "-")) text
 abbrev pub id_in : Keyed → List ℕ
 id_in physical = letters_of (text_at (codes "id") physical.1)
 
--- the ids of the physical volumes of a text, in their order
+-- the physical volumes of a text, in their order, and their ids
+abbrev pub physicals_of : Tree → List Keyed
+physicals_of top = sections_at (codes "physical_volumes") (first_section (sections_of top.values)).1
+
 abbrev pub ids_of : Tree → List (List ℕ)
-ids_of top = map id_in (sections_at (codes "physical_volumes") (first_section (sections_of top.values)).1)
+ids_of top = map id_in (physicals_of top)
 
 -- ids that images have, and the names of their disks
 pub record Owners : Type 0 where
   pub ids : List (List ℕ)
   pub names : List (List ℕ)
 
--- the first of them that no physical volume of a text has
-abbrev pub foreign : (owners : List (List ℕ)) → (ids : List (List ℕ)) → Option ℕ
-foreign owners ids = position_from (λ owner. not (list_any (bytes_eq owner) ids)) 0 owners
+-- the section of the physical volume of an id
+abbrev pub section_of : List Keyed → (id : List ℕ) → Option Tree
+section_of physicals id = option_map (λ physical. physical.1) (find (λ physical. bytes_eq id (id_in physical)) physicals)
+
+-- when the text was written, a physical volume lay on an array (md), and the name of its disk is another
+abbrev pub lay_elsewhere : (name : List ℕ) → Tree → Bool
+lay_elsewhere name physical = starts_with nat_eq (text_at (codes "device") physical) (codes "/dev/md") && not (bytes_eq (text_at (codes "device") physical) name)
+
+-- why the disk of a name isn't taken for the physical volume that has its id; older releases of lvm2 wrote MISSING to its status
+abbrev pub disk_fault : (name : List ℕ) → Option Tree → Option DiskFault
+disk_fault name None = Some Foreign
+disk_fault name (Some physical) = if lists (codes "flags") (codes "MISSING") physical || lists (codes "status") (codes "MISSING") physical then Some Missing else (if lay_elsewhere name physical then Some Array else None)
+
+abbrev pub or_later : (disk : ℕ) → Option DiskFault → (later : Option (ℕ × DiskFault)) → Option (ℕ × DiskFault)
+or_later disk (Some fault) later = Some (disk, fault)
+or_later disk None later = later
+
+-- the first disk that isn't, of those from one on that have these ids
+unfoldable pub untaken : List Keyed → (names : List (List ℕ)) → (disk : ℕ) → (ids : List (List ℕ)) → Option (ℕ × DiskFault)
+untaken physicals names disk [] = None
+untaken physicals names disk (id ∷ later) = or_later disk (disk_fault (slice_index_or names disk []) (section_of physicals id)) (untaken physicals names (disk + 1) later)
 
 -- the first of them that is an id
 abbrev pub owner_of : (owners : List (List ℕ)) → (id : List ℕ) → Option ℕ

@@ -1,5 +1,5 @@
 -- How the code has ids, and the disks whose images have them.
-use Rattle.std.specs.Prelude.{ℕ, List, map}
+use Rattle.lvm_volume.specs.Base.{ℕ, List, map}
 use Rattle.lvm_volume.specs.declared.group.owners.Owners.{Owners as code}
 use Rattle.lvm_volume.specs.group.Owners.{Owners, letters_of}
 use denote.Ref.{Bor}

@@ -1,6 +1,5 @@
 -- What the section of a physical volume says, before its disk has a name.
-use Rattle.std.specs.Prelude.{ℕ, List, codes, map}
-use Rattle.lvm_volume.specs.declared.group.physical.Physical.{Physical}
+use Rattle.lvm_volume.specs.Base.{ℕ, List, codes, map, Physical}
 use Rattle.lvm_volume.specs.declared.group.physical.PhysicalFields as code
 use Rattle.lvm_volume.specs.fields.Fields.{number_at}
 use Rattle.lvm_volume.specs.group.Group.{Keyed, chosen, device_of, is_shared}
@@ -25,13 +24,13 @@ fields_of physical = record {
   line = physical.1.line;
 }
 
--- the same as the code has it
+-- the fields of a physical volume, from those that the code has
 abbrev pub fields_view : code.PhysicalFields → Fields
 fields_view fields = record { key = fields.key.now; device = fields.device.now; size = fields.size; start = fields.start; count = fields.count; line = fields.line }
 
 -- the physical volume, where these are the devices of all
-abbrev pub named : List (List ℕ) → Fields → Physical
-named devices fields = record { disk = chosen (is_shared devices fields.device) fields.key fields.device; size = fields.size; start = fields.start; count = fields.count; line = fields.line }
+abbrev pub with_disk_name : List (List ℕ) → Fields → Physical
+with_disk_name devices fields = record { disk = chosen (is_shared devices fields.device) fields.key fields.device; size = fields.size; start = fields.start; count = fields.count; line = fields.line }
 
 -- their devices, in their order
 abbrev pub devices_in : List Fields → List (List ℕ)
@@ -39,4 +38,4 @@ devices_in = map (λ fields. fields.device)
 
 -- the physical volumes of a group
 abbrev pub all_named : List Fields → List Physical
-all_named all = map (named (devices_in all)) all
+all_named all = map (with_disk_name (devices_in all)) all

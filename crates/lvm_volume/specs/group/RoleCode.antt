@@ -1,7 +1,5 @@
 -- Roles as the code finds them, one snapshot after the other.
-use Rattle.std.specs.Prelude.{ℕ, ◌+◌, ◌==◌, List, [], ◌∷◌, Option, Some, None, if◌then◌else◌}
-use Rattle.lvm_volume.specs.declared.group.roles.Record.{Record}
-use Rattle.lvm_volume.specs.declared.group.roles.Role.{Role}
+use Rattle.lvm_volume.specs.Base.{ℕ, ◌+◌, ◌==◌, List, [], ◌∷◌, Option, Some, None, if◌then◌else◌, Record, Role}
 use Rattle.lvm_volume.specs.declared.group.roles.Role.TheVariants as roles
 
 -- the record, if there is one

@@ -1,12 +1,6 @@
 -- What the volumes of a group are to its snapshots: records, origins and stores (lvm(8), lvcreate(8) "--snapshot").
-use Rattle.std.specs.Prelude.{ℕ, ◌+◌, ◌-◌, Bool, true, false, not, ◌||◌, ◌==◌, List, [], ◌∷◌, Option, Some, None, filter, length, map, slice_get, slice_index_or}
-use Rattle.std.specs.List.{enumerate_from, flat_map, list_any}
-use Rattle.lvm_volume.specs.declared.group.segment.SegmentType.{SegmentType}
-use Rattle.lvm_volume.specs.declared.group.segment.SegmentType.TheVariants.{Zero, Error, Striped, Snapshot}
-use Rattle.lvm_volume.specs.declared.group.segment.Segment.{Segment}
+use Rattle.lvm_volume.specs.Base.{ℕ, ◌+◌, ◌-◌, Bool, true, false, not, ◌||◌, ◌==◌, List, [], ◌∷◌, Option, Some, None, filter, length, map, slice_get, slice_index_or, enumerate_from, flat_map, list_any, SegmentType, Zero, Error, Striped, Snapshot, Segment, Record, Role}
 use Rattle.lvm_volume.specs.declared.group.volume.Volume.{Volume}
-use Rattle.lvm_volume.specs.declared.group.roles.Record.{Record}
-use Rattle.lvm_volume.specs.declared.group.roles.Role.{Role}
 use Rattle.lvm_volume.specs.declared.group.roles.Role.TheVariants as roles
 
 -- Records: volumes whose only segment is a snapshot

@@ -1,31 +1,15 @@
 -- The checks of a group in their order, and the devices and disks that a group is.
-use Rattle.std.specs.Prelude.{◌≡◌, ℕ, ◌+◌, ◌*◌, ◌^◌, ◌<◌, Bool, false, List, [], ◌∷◌, ◌++◌, Option, None, Some, ⊤, codes, is_some, length, map, option_map, slice_index_or}
-use Rattle.std.specs.List.{flat_map, zip, AllByRecursion}
-use Rattle.lvm_text.specs.Tree.{Tree}
-use Rattle.dm_table.specs.declared.load.place.Part.TheVariants.{Source}
-use Rattle.dm_table.specs.declared.load.load_fault.LoadKind.TheVariants.{Deep, Field, Memory, Name, Syntax, Twice}
-use Rattle.dm_table.specs.declared.load.load_fault.LoadFault.{LoadFault}
-use Rattle.dm_table.specs.declared.tables.table.DevRef.TheVariants as refs
+use Rattle.lvm_volume.specs.Base.{◌≡◌, ℕ, ◌+◌, ◌*◌, ◌^◌, ◌<◌, Bool, false, List, [], ◌∷◌, ◌++◌, Option, None, Some, ⊤, codes, is_some, length, map, option_map, slice_index_or, flat_map, zip, AllByRecursion, TextFault, Source, Deep, Field, Memory, Name, Syntax, Twice, LoadFault, DeviceSpec, Disk, Tree, fault_at, Stripe, SegmentType, Zero, Error, Striped, Snapshot, Segment, Physical, Record, Role}
 use Rattle.dm_table.specs.declared.tables.table.Column.{Column}
 use Rattle.dm_table.specs.declared.tables.table.Target.{Target}
-use Rattle.dm_table.specs.declared.tables.table.Target.TheVariants as targets
 use Rattle.dm_table.specs.declared.tables.table.StoreKind.TheVariants.{Persistent}
 use Rattle.dm_table.specs.declared.tables.table.Line.{Line}
-use Rattle.dm_table.specs.declared.tables.table.DeviceSpec.{DeviceSpec}
-use Rattle.dm_table.specs.declared.tables.disk.Disk.{Disk}
-use Rattle.dm_table.specs.load.LoadFault.{fault_at}
-use Rattle.lvm_text.specs.declared.fault.TextFault.{TextFault}
+use Rattle.dm_table.specs.declared.tables.table.DevRef.TheVariants as refs
+use Rattle.dm_table.specs.declared.tables.table.Target.TheVariants as targets
 use Rattle.lvm_text.specs.declared.fault.TextFault.TheVariants as texts
-use Rattle.lvm_volume.specs.declared.group.segment.Stripe.{Stripe}
-use Rattle.lvm_volume.specs.declared.group.segment.SegmentType.{SegmentType}
-use Rattle.lvm_volume.specs.declared.group.segment.SegmentType.TheVariants.{Zero, Error, Striped, Snapshot}
-use Rattle.lvm_volume.specs.declared.group.segment.Segment.{Segment}
 use Rattle.lvm_volume.specs.declared.group.volume.Volume.{Volume}
-use Rattle.lvm_volume.specs.declared.group.physical.Physical.{Physical}
 use Rattle.lvm_volume.specs.declared.tables.device_names.Layer.{Layer}
 use Rattle.lvm_volume.specs.declared.tables.device_names.Layer.TheVariants.{Real, Cow}
-use Rattle.lvm_volume.specs.declared.group.roles.Record.{Record}
-use Rattle.lvm_volume.specs.declared.group.roles.Role.{Role}
 use Rattle.lvm_volume.specs.declared.group.roles.Role.TheVariants as roles
 use Rattle.lvm_volume.specs.fields.Checks.{Fields, Limits}
 use Rattle.lvm_volume.specs.Names.{NameParts, fault_of, joined}
@@ -168,8 +152,8 @@ unfoldable pub devices_in : Group → Role × Volume → List DeviceSpec
 devices_in group member = devices_by group member.1 member.0
 
 -- the disk of a physical volume
-unfoldable pub disk_of : Physical → Disk
-disk_of physical = record { name = physical.disk; len = physical.size; at = source_line physical.line }
+unfoldable pub physical_disk : Physical → Disk
+physical_disk physical = record { name = physical.disk; len = physical.size; at = source_line physical.line }
 
 -- the layers of a volume that are devices, by its role: one that isn't a layer is the volume itself
 abbrev pub layers_of : Role → List (Option Layer)
@@ -197,7 +181,7 @@ unnamed group = flat_map (unnamed_volume group.name) (members_of group)
 
 -- the devices and the disks of a group
 abbrev pub tables_of : Group → List DeviceSpec × List Disk
-tables_of group = (flat_map (devices_in group) (members_of group), map disk_of group.physicals)
+tables_of group = (flat_map (devices_in group) (members_of group), map physical_disk group.physicals)
 
 -- What checks leave: numbers that fit 64 bits in sectors, stripes of physical volumes that are there, and snapshots of
 -- volumes that are origins

@@ -3,15 +3,9 @@
 //!
 //! What stripes use is listed by physical volume (`used`), over all volumes in the order of the text.
 
-ghost use Rattle.std.specs.Prelude.{◌≡◌, ◌==◌, ◌+◌, ◌*◌, ◌/◌, ◌%◌, ◌^◌, ◌<◌, ◌∷◌, ◌||◌, [], List, None, Some};
-ghost use Rattle.std.specs.Prelude.{true, false, not, nat_lt, length, IfOk, OnOk};
-ghost use Rattle.std.specs.Result.{result_err};
-ghost use Rattle.std.specs.List.{list_any};
-ghost use Rattle.lvm_volume.specs.fields.Fields.{IsChecked, first_of};
+ghost use Rattle.lvm_volume.specs.Prelude.{◌≡◌, ◌==◌, ◌+◌, ◌*◌, ◌/◌, ◌%◌, ◌^◌, ◌<◌, ◌∷◌, ◌||◌, [], List, None, Some, true, false, not, nat_lt, length, IfOk, OnOk, result_err, list_any, IsChecked, first_of, Claim, claim_on, extents_at, is_misplaced, is_too_long, meets, segment_faults, size_faults, used_after, used_by, Claimed, Holds, claims_by};
 ghost use Rattle.lvm_volume.specs.checks.Extents as spec;
-ghost use Rattle.lvm_volume.specs.checks.Extents.{Claim, claim_on, extents_at, is_misplaced, is_too_long, meets};
-ghost use Rattle.lvm_volume.specs.checks.Extents.{segment_faults, size_faults, used_after, used_by, volume_faults};
-ghost use Rattle.lvm_volume.specs.checks.Used.{Claimed, Holds, claims_by};
+ghost use Rattle.lvm_volume.specs.checks.Extents.{volume_faults};
 
 use crate::checks::used::take;
 use crate::fields::source_line::{memory_fault, source_fault};
@@ -167,7 +161,7 @@ fn claim_all(
         if passes_physical_end(physicals, stripe, share) {
             return Ok(true);
         }
-        if !claim(maps, stripe.physical, stripe.extent, stripe.extent + share)? {
+        if !claim_extents(maps, stripe.physical, stripe.extent, stripe.extent + share)? {
             return Ok(true);
         }
     }
@@ -190,7 +184,7 @@ fn passes_physical_end(physicals: &[Physical], stripe: &Stripe, share: u64) -> b
 }
 
 /// Claims extents of a physical volume, unless one of them is used.
-fn claim(
+fn claim_extents(
     maps: &mut [BTreeMap<u64, u64>],
     physical: usize,
     first: u64,

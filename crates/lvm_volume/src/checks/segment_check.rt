@@ -4,15 +4,8 @@
 //! The fault is the first in the text, where segments may stand in any order, so it is the one at the least
 //! line.
 
-ghost use Rattle.std.specs.Prelude.{◌≡◌, ◌==◌, None, length, not, nat_lt};
-ghost use Rattle.std.specs.Result.{result_err};
-ghost use Rattle.dm_table.specs.declared.load.load_fault.LoadKind.TheVariants.{Unknown};
-ghost use Rattle.std.specs.List.{list_any};
-ghost use Rattle.lvm_volume.specs.fields.Fields.{IsChecked, first_of};
+ghost use Rattle.lvm_volume.specs.Prelude.{◌≡◌, ◌==◌, None, length, not, nat_lt, result_err, list_any, Unknown, IsChecked, first_of, at_line, is_unknown, least_line, least_line_of, snapshot_faults_in, test_of, is_bad_snapshot, is_bad_target};
 ghost use Rattle.lvm_volume.specs.checks.Extents as spec;
-ghost use Rattle.lvm_volume.specs.checks.Extents.{at_line, is_unknown, least_line, least_line_of, snapshot_faults_in};
-ghost use Rattle.lvm_volume.specs.checks.SegmentCheck.{test_of};
-ghost use Rattle.lvm_volume.specs.group.Roles.{is_bad_snapshot, is_bad_target};
 
 use crate::fields::source_line::{memory_fault, source_fault};
 use crate::group::physical::Physical;
@@ -88,7 +81,7 @@ fn least_line_of(check: &SegmentCheck<'_>, volumes: &[Volume]) -> Option<u64>
     least
 }
 
-/// The same of the segments of a volume, or of others that were looked at before.
+/// The least line of a segment of this volume that a check finds, or of others that were looked at before.
 fn least_line(check: &SegmentCheck<'_>, segments: &[Segment], others: Option<u64>) -> Option<u64>
     ensures { result ≡ least_line (test_of check.now (length segments.now == 1)) segments.now others }
 {

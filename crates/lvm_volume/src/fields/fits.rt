@@ -2,10 +2,7 @@
 //!
 //! A limit that changes here changes in `specs/fields/Fields.antt` alike.
 
-ghost use Rattle.std.specs.Prelude.{◌≡◌, ◌==◌, ◌*◌, nat_lt};
-ghost use Rattle.std.specs.List.{list_all, list_any};
-ghost use Rattle.lvm_text.specs.View.{scalar_view, scalar_views};
-ghost use Rattle.lvm_volume.specs.fields.Fields.{are_pairs, is_far_scalar, is_text, most};
+ghost use Rattle.lvm_volume.specs.Prelude.{◌≡◌, ◌==◌, ◌*◌, nat_lt, list_all, list_any, scalar_view, scalar_views, are_pairs, is_far_scalar, is_text, most};
 
 use lvm_text::Scalar;
 

@@ -4,20 +4,11 @@
 //! fit, and whether their integers are in the limits. One pass makes both: it stops at the first field that does
 //! not fit, and keeps the first integer above its limit until the end (`IsStep` in `specs/fields/Steps.antt`).
 
-ghost use Rattle.std.specs.Prelude.{◌≡◌, ◌∷◌, [], ℕ, Bool, List, false, None, Some, if◌then◌else◌, IfErr, IfOk, MatchResult, codes};
-ghost use Rattle.std.specs.Result.{result_err};
+ghost use Rattle.lvm_volume.specs.Prelude.{◌≡◌, ◌∷◌, [], ℕ, Bool, List, false, None, Some, if◌then◌else◌, IfErr, IfOk, MatchResult, codes, result_err, Tree, node_of, content_view, node_view, scalar_views, Source, fault_at, field, field_faults, inner_sections, is_far, number_at, text_at, items_at, section_at, sections_at, source_faults, FieldReader, IsPlainStep, IsStep, after, at_key, number_kind};
 ghost use Rattle.lvm_text.specs.Tree as tree;
-ghost use Rattle.lvm_text.specs.Tree.{Tree, node_of};
-ghost use Rattle.lvm_text.specs.View.{content_view, node_view, scalar_views};
 ghost use Rattle.dm_table.specs.declared.load.load_fault.LoadKind.TheVariants as loads;
-ghost use Rattle.dm_table.specs.declared.load.place.Part.TheVariants.{Source};
-ghost use Rattle.dm_table.specs.load.LoadFault.{fault_at};
 ghost use Rattle.lvm_volume.specs.fields.Kinds as kinds;
 ghost use Rattle.lvm_volume.specs.fields.Fields as spec;
-ghost use Rattle.lvm_volume.specs.fields.Fields.{field, field_faults, inner_sections, is_far, number_at, text_at, items_at};
-ghost use Rattle.lvm_volume.specs.fields.Fields.{section_at, sections_at, source_faults};
-ghost use Rattle.lvm_volume.specs.declared.fields.reader.FieldReader.{FieldReader};
-ghost use Rattle.lvm_volume.specs.fields.Steps.{IsPlainStep, IsStep, after, at_key, number_kind};
 
 use crate::fields::fits::{MOST, are_texts, is_far_product};
 use crate::fields::source_line::source_fault;

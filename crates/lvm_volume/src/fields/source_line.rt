@@ -3,10 +3,7 @@
 //! The place of each fault, device, line and disk of metadata is made here. Lines count from 1; a fault of
 //! memory has no line.
 
-ghost use Rattle.std.specs.Prelude.{◌≡◌};
-ghost use Rattle.dm_table.specs.load.LoadFault.{IsMemoryFault, fault_at};
-ghost use Rattle.dm_table.specs.declared.load.place.Part.TheVariants.{Source};
-ghost use Rattle.lvm_volume.specs.checks.Extents.{source_line};
+ghost use Rattle.lvm_volume.specs.Prelude.{◌≡◌, Source, IsMemoryFault, fault_at, source_line};
 
 use dm_table::{LoadFault, LoadKind, Part, Place};
 

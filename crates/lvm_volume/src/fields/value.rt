@@ -1,9 +1,7 @@
 //! What a section holds that no check asks for, and the sections inside it.
 
-ghost use Rattle.std.specs.Prelude.{◌≡◌, map, unwrap_or, IfOk};
+ghost use Rattle.lvm_volume.specs.Prelude.{◌≡◌, map, unwrap_or, IfOk, item_view, inner_sections, items_at, items_view, number_at, sections_at, text_at};
 ghost use Rattle.lvm_text.specs.Tree as spec;
-ghost use Rattle.lvm_text.specs.Iterate.{item_view};
-ghost use Rattle.lvm_volume.specs.fields.Fields.{inner_sections, items_at, items_view, number_at, sections_at, text_at};
 
 use lvm_text::{Scalar, Section, Value};
 use std::alloc::{AllocError, Global};

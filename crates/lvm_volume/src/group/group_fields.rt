@@ -1,21 +1,8 @@
 //! The fields of a group: what its text says, once both checks of fields found nothing.
 
-ghost use Rattle.std.specs.Prelude.{◌≡◌, None, Some, MatchResult, map, IfOk, codes};
-ghost use Rattle.std.specs.Result.{result_err};
-ghost use Rattle.lvm_text.specs.Iterate.{item_view};
+ghost use Rattle.lvm_volume.specs.Prelude.{◌≡◌, None, Some, MatchResult, map, IfOk, codes, result_err, item_view, sections_of, first_or, Fields, Limits, IsChecked, faults_of_fields, fields_faults, first_of, group_faults, group_fields, inner_sections, number_at, physicals_faults, sections_at, top_fields, volumes_faults, IsPlainStep, IsStep, at_key, FieldReader, first_section, group_of, IsSaid, volumes_said, fields_of, fields_view};
 ghost use Rattle.lvm_text.specs.Tree as tree;
-ghost use Rattle.lvm_text.specs.Tree.{sections_of};
-ghost use Rattle.dm_table.specs.load.LoadFault.{first_or};
-ghost use Rattle.lvm_volume.specs.fields.Checks.{Fields, Limits};
-ghost use Rattle.lvm_volume.specs.fields.Fields.{IsChecked, faults_of_fields, fields_faults, first_of, group_faults};
-ghost use Rattle.lvm_volume.specs.fields.Fields.{group_fields, inner_sections, number_at, physicals_faults};
-ghost use Rattle.lvm_volume.specs.fields.Fields.{sections_at, top_fields, volumes_faults};
 ghost use Rattle.lvm_volume.specs.fields.Kinds as kinds;
-ghost use Rattle.lvm_volume.specs.fields.Steps.{IsPlainStep, IsStep, at_key};
-ghost use Rattle.lvm_volume.specs.declared.fields.reader.FieldReader.{FieldReader};
-ghost use Rattle.lvm_volume.specs.group.Group.{first_section, group_of};
-ghost use Rattle.lvm_volume.specs.group.GroupFields.{IsSaid, volumes_said};
-ghost use Rattle.lvm_volume.specs.group.PhysicalFields.{fields_of, fields_view};
 
 use crate::fields::reader::{
     FieldReader, integer_of, missing, node_at, section_at, section_if_given, text_of, wrong,

@@ -1,6 +1,6 @@
 //! The key of a section, copied so that it outlives the text. A clause sees it as its bytes.
 
-ghost use Rattle.std.specs.Prelude.{◌≡◌, IfOk};
+ghost use Rattle.lvm_volume.specs.Prelude.{◌≡◌, IfOk};
 
 use std::alloc::{AllocError, Global};
 use std::marker::Model;
@@ -12,8 +12,7 @@ pub(crate) struct Key {
 }
 
 impl Model for Key {
-    ghost use Rattle.std.specs.Prelude.{List, ℕ};
-    ghost use Rattle.std.specs.String.{string_bytes};
+    ghost use Rattle.lvm_volume.specs.Base.{List, ℕ, string_bytes};
 
     ghost Value = { List ℕ };
 

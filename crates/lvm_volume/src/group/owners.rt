@@ -1,17 +1,11 @@
 //! Physical volumes by the disks whose images have them: an image's header has an id, and so has the section of a
 //! physical volume. Where no image has its id, a physical volume keeps the name that it has without images.
 
-ghost use Rattle.std.specs.Prelude.{◌≡◌, ◌∷◌, List, ℕ, IfOk, false, bytes_eq, codes, length, map, option_map, unwrap_or};
-ghost use Rattle.std.specs.List.{list_any};
-ghost use Rattle.lvm_text.specs.Iterate.{item_view};
-ghost use Rattle.lvm_text.specs.Tree.{sections_of};
-ghost use Rattle.lvm_volume.specs.fields.Fields.{inner_sections, sections_at};
-ghost use Rattle.lvm_volume.specs.group.Group.{first_section};
-ghost use Rattle.lvm_volume.specs.group.Owners.{all_owned, foreign, id_in, ids_of, letters_of, name_by, owned_group, owner_of};
-ghost use Rattle.lvm_volume.specs.group.OwnersCode.{ids_view, owners_view};
+ghost use Rattle.lvm_volume.specs.Prelude.{◌≡◌, [], ◌∷◌, List, ℕ, IfOk, false, bytes_eq, codes, length, map, option_map, slice_index_or, unwrap_or, item_view, inner_sections, sections_at, first_section, all_owned, disk_fault, id_in, lay_elsewhere, letters_of, name_by, owned_group, owner_of, physicals_of, section_of, untaken, ids_view, owners_view};
 
 use crate::fields::value::{section_if_there, sections_of, text_or_empty};
 use crate::group::physical::Physical;
+use crate::group::volume::lists;
 use crate::volume_group::VolumeGroup;
 use dm_table::{DiskName, DiskPath};
 use lvm_text::Section;
@@ -24,13 +18,27 @@ pub struct Owners<'a> {
     pub disks: &'a [DiskPath],
 }
 
-/// The ids of the physical volumes of a text, as it has them.
-pub(crate) fn ids_of<'a>(alloc: Global, top: &Section<'a>) -> Result<Vec<&'a str>, AllocError>
-    ensures { IfOk result (λ ids. ids_view ids.items ≡ ids_of top.now) }
+/// Why a disk isn't taken for the physical volume of its id.
+#[derive(Clone, Copy, Debug, PartialEq, Eq, Drop)]
+pub enum DiskFault {
+    /// No physical volume of the text has its id.
+    Foreign,
+    /// It was missing when the text was written, and may be older than the text.
+    Missing,
+    /// It lay on an array then, and has another name than that.
+    Array,
+}
+
+/// The physical volumes of a text, with their keys.
+pub(crate) fn physicals_of<'s, 'a>(
+    alloc: Global,
+    top: &'s Section<'a>,
+) -> Result<Vec<(&'a str, &'s Section<'a>)>, AllocError>
+    ensures { IfOk result (λ physicals. map item_view physicals.items ≡ physicals_of top.now) }
 {
     let groups = sections_of(alloc, top)?;
     match physicals_in(&groups) {
-        Some(physicals) => ids_in(alloc, physicals),
+        Some(physicals) => sections_of(alloc, physicals),
         None => Ok(Vec::new(alloc)),
     }
 }
@@ -46,13 +54,16 @@ fn physicals_in<'s, 'a>(groups: &[(&'a str, &'s Section<'a>)]) -> Option<&'s Sec
     }
 }
 
-/// The ids of the sections inside one.
-fn ids_in<'a>(alloc: Global, physicals: &Section<'a>) -> Result<Vec<&'a str>, AllocError>
-    ensures { IfOk result (λ ids. ids_view ids.items ≡ map id_in (sections_of physicals.now.values)) }
+/// The ids of physical volumes, as their text has them.
+pub(crate) fn ids_of<'a>(
+    alloc: Global,
+    physicals: &[(&'a str, &Section<'a>)],
+) -> Result<Vec<&'a str>, AllocError>
+    ensures { IfOk result (λ ids. ids_view ids.items ≡ map id_in (map item_view physicals.now)) }
 {
     let mut ids = Vec::new(alloc);
-    for item in physicals.sections() {
-        ids.push(text_or_empty(item.1, "id"))?;
+    for physical in physicals {
+        ids.push(text_or_empty(physical.1, "id"))?;
     }
     Ok(ids)
 }
@@ -86,25 +97,69 @@ fn after_letter(id: &[u8], letter: u8) -> Option<&[u8]>
     }
 }
 
-/// Whether one of the texts has the letters of an id.
-fn is_one_of(ids: &[&str], id: &[u8]) -> bool
-    ensures { result ≡ list_any (bytes_eq id.now) (ids_view ids.now) }
+/// The section of the physical volume of an id.
+fn section_of<'s, 'a>(
+    physicals: &[(&'a str, &'s Section<'a>)],
+    id: &[u8],
+) -> Option<&'s Section<'a>>
+    ensures { option_map (λ section. section.now) result ≡ section_of (map item_view physicals.now) id.now }
 {
-    for text in ids {
-        if has_letters(text, id) {
-            return true;
+    for physical in physicals {
+        if has_letters(text_or_empty(physical.1, "id"), id) {
+            return Some(physical.1);
         }
     }
-    false
+    None
 }
 
-/// The first of the images' ids that none of the texts has.
-pub(crate) fn first_foreign(owners: &[[u8; 32]], ids: &[&str]) -> Option<usize>
-    ensures { result ≡ foreign owners.now (ids_view ids.now) }
+/// Whether a physical volume lay on an array when its text was written, and the name of its disk is another.
+fn lay_elsewhere(name: &str, physical: &Section<'_>) -> bool
+    ensures { result ≡ lay_elsewhere name.now physical.now }
 {
-    for disk in 0..owners.len() {
-        if !is_one_of(ids, &owners[disk]) {
-            return Some(disk);
+    let device = text_or_empty(physical, "device");
+    device.as_bytes().starts_with(b"/dev/md") && device != name
+}
+
+/// Why the disk of a name isn't taken for the physical volume that has its id.
+fn disk_fault(name: &str, physical: Option<&Section<'_>>) -> Option<DiskFault>
+    ensures { result ≡ disk_fault name.now (option_map (λ section. section.now) physical.entry) }
+{
+    match physical {
+        Some(physical) => {
+            if lists(physical, "flags", "MISSING") || lists(physical, "status", "MISSING") {
+                Some(DiskFault::Missing)
+            } else if lay_elsewhere(name, physical) {
+                Some(DiskFault::Array)
+            } else {
+                None
+            }
+        }
+        None => Some(DiskFault::Foreign),
+    }
+}
+
+/// The name of the disk of a number, or an empty one.
+fn name_of<'a>(disks: &'a [DiskPath], disk: usize) -> &'a str
+    ensures { result.now ≡ slice_index_or (map (λ path. path.disk) disks.now) disk [] }
+{
+    match disks.get(disk) {
+        Some(path) => path.disk.as_str(),
+        None => "",
+    }
+}
+
+/// The first disk that isn't taken for the physical volume of its id.
+pub(crate) fn first_untaken<'s, 'a>(
+    owners: &Owners<'_>,
+    physicals: &[(&'a str, &'s Section<'a>)],
+) -> Option<(usize, DiskFault)>
+    ensures { result ≡ untaken (map item_view physicals.now) (owners_view owners.now).names 0 owners.now.ids.now }
+{
+    for disk in 0..owners.ids.len() {
+        let name = name_of(owners.disks, disk);
+        match disk_fault(name, section_of(physicals, &owners.ids[disk])) {
+            Some(fault) => return Some((disk, fault)),
+            None => {}
         }
     }
     None

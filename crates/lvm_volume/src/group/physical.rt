@@ -4,23 +4,8 @@
 //! by its device only where that is a path that no other physical volume gives, and else by the key. The rule
 //! is `chosen` in `specs/group/Group.antt`.
 
-ghost use Rattle.std.specs.Prelude.{◌≡◌, Err, List, [], ◌∷◌, ℕ, None, false, true, map, nat_lt, unwrap_or};
-ghost use Rattle.std.specs.Prelude.{IfOk};
-ghost use Rattle.std.specs.Result.{result_err};
-ghost use Rattle.std.specs.Ordering.{nat_cmp};
-ghost use Rattle.std.specs.Cmp.Lexicographic.{slice_cmp};
-ghost use Rattle.std.specs.BTreeMap.{get_by};
-ghost use Rattle.lvm_text.specs.Iterate.{item_view};
-ghost use Rattle.dm_table.specs.load.LoadFault.{Answers, unless};
-ghost use Rattle.dm_table.specs.words.Name.{is_disk_name};
-ghost use Rattle.dm_table.specs.declared.load.place.Part.TheVariants.{Source};
+ghost use Rattle.lvm_volume.specs.Prelude.{◌≡◌, Err, List, [], ◌∷◌, ℕ, None, false, true, map, nat_lt, unwrap_or, IfOk, result_err, nat_cmp, slice_cmp, get_by, item_view, Source, Answers, unless, is_disk_name, fields_faults, first_of, physical_fields, physicals_faults, IsStep, name_faults, chosen, Counts, all_named, fields_of, fields_view, with_disk_name, devices_in};
 ghost use Rattle.dm_table.specs.declared.words.name.CheckFault.TheVariants.{Form};
-ghost use Rattle.lvm_volume.specs.fields.Fields.{fields_faults, first_of, physical_fields, physicals_faults};
-ghost use Rattle.lvm_volume.specs.fields.Steps.{IsStep};
-ghost use Rattle.lvm_volume.specs.checks.Extents.{name_faults};
-ghost use Rattle.lvm_volume.specs.group.Group.{chosen};
-ghost use Rattle.lvm_volume.specs.group.GroupCode.{Counts};
-ghost use Rattle.lvm_volume.specs.group.PhysicalFields.{all_named, devices_in, fields_of, fields_view, named};
 
 use crate::fields::reader::{FieldReader, NumberKind, text_at};
 use crate::fields::source_line::{memory_fault, source_fault};
@@ -116,7 +101,7 @@ pub(crate) fn named_physicals(
         return Err(memory_fault());
     };
     for fields in all {
-        let physical = named(alloc, &counts, fields)?;
+        let physical = with_disk_name(alloc, &counts, fields)?;
         let Ok(()) = physicals.push(physical) else {
             return Err(memory_fault());
         };
@@ -167,13 +152,13 @@ fn disk_name(alloc: Global, shared: bool, key: &str, device: &str) -> Result<Dis
 }
 
 /// The physical volume of these fields, unless its disk gets no name.
-fn named(
+fn with_disk_name(
     alloc: Global,
     counts: &BTreeMap<&str, usize>,
     fields: &PhysicalFields<'_>,
 ) -> Result<Physical, LoadFault>
     ensures { (devices : List (List ℕ)) → Counts counts.now devices
-        → let said = named devices (fields_view fields.now) in
+        → let said = with_disk_name devices (fields_view fields.now) in
         Answers Source (λ p. p) result (unless (first_of (name_faults (said ∷ []))) said) }
 {
     let shared = is_shared(counts, fields.device);

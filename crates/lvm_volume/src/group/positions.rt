@@ -3,11 +3,7 @@
 //!
 //! The keys of a section all differ, so each is new to the set. A clause sees the keys in source order.
 
-ghost use Rattle.std.specs.Prelude.{◌≡◌, ◌++◌, ◌∷◌, [], false, IfOk, OnOk, bytes_eq};
-ghost use Rattle.std.specs.List.{list_any};
-ghost use Rattle.lvm_text.specs.Tree.{sections_of};
-ghost use Rattle.lvm_volume.specs.group.Group.{keys_in, position_of};
-ghost use Rattle.lvm_volume.specs.group.GroupCode.{texts};
+ghost use Rattle.lvm_volume.specs.Prelude.{◌≡◌, ◌++◌, ◌∷◌, [], false, IfOk, OnOk, bytes_eq, list_any, sections_of, keys_in, position_of, texts};
 
 use indexmap::IndexSet;
 use lvm_text::Section;
@@ -28,7 +24,7 @@ pub(crate) struct GroupPositions<'a> {
 }
 
 impl<'a> Model for Positions<'a> {
-    ghost use Rattle.std.specs.Prelude.{List, ℕ};
+    ghost use Rattle.lvm_volume.specs.Base.{List, ℕ};
     ghost use Rattle.lvm_volume.specs.group.GroupCode.{texts};
 
     ghost Value = { List (List ℕ) };

@@ -3,17 +3,10 @@
 //! What they say is not checked here. A new type of segment is a variant of `SegmentType`, a word of the
 //! field `type`, and an arm where segments are checked and where they become lines.
 
-ghost use Rattle.std.specs.Prelude.{◌≡◌, ◌+◌, ◌∷◌, [], ℕ, List, MatchOption, IfOk, codes, map};
-ghost use Rattle.std.specs.Result.{result_err};
+ghost use Rattle.lvm_volume.specs.Prelude.{◌≡◌, ◌+◌, ◌∷◌, [], ℕ, List, MatchOption, IfOk, codes, map, result_err, scalar_view, scalar_views, field, field_faults, fields_faults, items_at, number_at, section_view, segment_fields, text_at, IsPlainStep, IsStep, at_key, later_fields, segments_faults, type_fields, named_type, type_text, segment_of, snapshot_in, striped_in, stripes_in, target_of};
 ghost use Rattle.lvm_text.specs.Tree as tree;
-ghost use Rattle.lvm_text.specs.View.{scalar_view, scalar_views};
 ghost use Rattle.lvm_volume.specs.fields.Kinds as kinds;
-ghost use Rattle.lvm_volume.specs.fields.Fields.{field, field_faults, fields_faults, items_at, number_at};
-ghost use Rattle.lvm_volume.specs.fields.Fields.{section_view, segment_fields, text_at};
-ghost use Rattle.lvm_volume.specs.fields.Steps.{IsPlainStep, IsStep, at_key, later_fields, segments_faults, type_fields};
 ghost use Rattle.lvm_volume.specs.declared.group.segment.TypeName.TheVariants as types;
-ghost use Rattle.lvm_volume.specs.group.TypeName.{named_type, type_text};
-ghost use Rattle.lvm_volume.specs.group.Group.{segment_of, snapshot_in, striped_in, stripes_in, target_of};
 
 use crate::fields::fits::{are_pairs, has_far, is_half};
 use crate::fields::reader::{FieldReader, NumberKind, items_of, node_at, text_at, text_of, wrong};

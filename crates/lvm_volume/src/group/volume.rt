@@ -1,15 +1,6 @@
 //! Volumes, as their sections say them.
 
-ghost use Rattle.std.specs.Prelude.{◌≡◌, ◌++◌, ◌+◌, ◌||◌, codes, decimal, map, IfOk, OnOk};
-ghost use Rattle.std.specs.Result.{result_err};
-ghost use Rattle.std.specs.List.{flat_map, list_any, range_with_len};
-ghost use Rattle.std.specs.String.{string_bytes};
-ghost use Rattle.lvm_text.specs.Iterate.{item_view};
-ghost use Rattle.lvm_text.specs.View.{scalar_view, scalar_views};
-ghost use Rattle.lvm_volume.specs.fields.Fields.{fields_faults, items_at, number_at, section_at, section_view};
-ghost use Rattle.lvm_volume.specs.fields.Fields.{volume_faults, volume_fields, volumes_faults};
-ghost use Rattle.lvm_volume.specs.fields.Steps.{IsPlainStep, IsStep, numbers_faults};
-ghost use Rattle.lvm_volume.specs.group.Group.{is_text_of, is_writable, lists, volume_of};
+ghost use Rattle.lvm_volume.specs.Prelude.{◌≡◌, ◌++◌, ◌+◌, ◌||◌, codes, decimal, map, IfOk, OnOk, result_err, flat_map, list_any, range_with_len, string_bytes, item_view, scalar_view, scalar_views, fields_faults, items_at, number_at, section_at, section_view, volume_faults, volume_fields, volumes_faults, IsPlainStep, IsStep, numbers_faults, is_text_of, is_writable, lists, volume_of};
 
 use crate::fields::reader::{FieldReader, NumberKind, section_at, texts_at};
 use crate::fields::source_line::memory_fault;
@@ -147,7 +138,7 @@ fn is_writable(status: &[Scalar<'_>], volume: &Section<'_>) -> bool
 }
 
 /// Whether the list of a key has a string. A key that is missing, or holds no list, has none.
-fn lists(section: &Section<'_>, key: &str, word: &str) -> bool
+pub(crate) fn lists(section: &Section<'_>, key: &str, word: &str) -> bool
     ensures { result ≡ lists key.now word.now section.now }
 {
     match items_if_given(section, key) {

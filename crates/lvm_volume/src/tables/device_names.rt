@@ -3,13 +3,7 @@
 //! Their parts are all looked at before any device is made, so that the first in the order of the text is refused,
 //! whichever devices name it in their lines.
 
-ghost use Rattle.std.specs.Prelude.{◌≡◌, ◌∷◌, [], None, Some, IfOk};
-ghost use Rattle.std.specs.Result.{result_err};
-ghost use Rattle.std.specs.List.{flat_map, zip};
-ghost use Rattle.lvm_volume.specs.fields.Fields.{first_of};
-ghost use Rattle.lvm_volume.specs.Names.{Returns, built, fault_of};
-ghost use Rattle.lvm_volume.specs.tables.Tables.{IsNamed, device_name, device_parts, layer_text, unnamed_layer};
-ghost use Rattle.lvm_volume.specs.tables.Tables.{unnamed_volume};
+ghost use Rattle.lvm_volume.specs.Prelude.{◌≡◌, ◌∷◌, [], None, Some, IfOk, result_err, flat_map, zip, first_of, Returns, built, fault_of, IsNamed, device_name, device_parts, layer_text, unnamed_layer, unnamed_volume};
 
 use crate::fault::NameFault;
 use crate::fields::source_line::source_fault;
@@ -78,14 +72,14 @@ fn check_layer(group: &str, volume: &Volume, layer: Layer) -> Result<(), LoadFau
 fn check_device(group: &str, volume: &Volume, layer: Option<Layer>) -> Result<(), LoadFault>
     ensures { result_err result ≡ first_of (unnamed_layer group.now volume.now layer) }
 {
-    if device_fault(group, volume.name.as_str(), layer).is_some() {
+    if device_name_fault(group, volume.name.as_str(), layer).is_some() {
         return Err(source_fault(LoadKind::Name, volume.line));
     }
     Ok(())
 }
 
 /// Why a volume gets no name, or a layer of it, if it gets none.
-fn device_fault(group: &str, volume: &str, layer: Option<Layer>) -> Option<NameFault>
+fn device_name_fault(group: &str, volume: &str, layer: Option<Layer>) -> Option<NameFault>
     ensures { result ≡ fault_of (device_parts group.now volume.now layer) }
 {
     match layer {

@@ -4,13 +4,8 @@
 //! their names (lvm(8); what `dmsetup table` prints of a group with snapshots). A new role is an arm in
 //! `add_devices`, and in `devices_by` and `layers_of` of `specs/tables/Tables.antt`.
 
-ghost use Rattle.std.specs.Prelude.{◌≡◌, ◌++◌, ◌*◌, ◌^◌, ◌<◌, None, Some, IfOk, OnOk};
-ghost use Rattle.std.specs.List.{AllByRecursion, flat_map, zip};
-ghost use Rattle.lvm_volume.specs.declared.tables.device_names.Layer.TheVariants.{Real, Cow};
-ghost use Rattle.lvm_volume.specs.tables.GroupRef.{group_view};
-ghost use Rattle.lvm_volume.specs.group.Roles.{extents_of, name_at, segments_at};
-ghost use Rattle.lvm_volume.specs.tables.Tables.{AreSegmentsIn, IsMadeIn, IsNamed, device_name, devices_in};
-ghost use Rattle.lvm_volume.specs.tables.Tables.{length_of, origin_line, over_device, own_device, snapshot_line};
+ghost use Rattle.lvm_volume.specs.Prelude.{◌≡◌, ◌++◌, ◌*◌, ◌^◌, ◌<◌, None, Some, IfOk, OnOk, AllByRecursion, flat_map, zip, Real, Cow, group_view, extents_of, name_at, segments_at, AreSegmentsIn, IsMadeIn, IsNamed, device_name, length_of, origin_line, over_device, own_device, snapshot_line};
+ghost use Rattle.lvm_volume.specs.tables.Tables.{devices_in};
 
 use crate::fields::source_line::source_line;
 use crate::group::physical::Physical;

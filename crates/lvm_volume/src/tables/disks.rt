@@ -1,7 +1,6 @@
 //! The disks of physical volumes.
 
-ghost use Rattle.std.specs.Prelude.{◌≡◌, IfOk, map};
-ghost use Rattle.lvm_volume.specs.tables.Tables.{disk_of};
+ghost use Rattle.lvm_volume.specs.Prelude.{◌≡◌, IfOk, map, physical_disk};
 
 use crate::fields::source_line::source_line;
 use crate::group::physical::Physical;
@@ -10,19 +9,19 @@ use std::alloc::{AllocError, Global};
 
 /// The disks of physical volumes.
 pub(crate) fn disks_of(alloc: Global, physicals: &[Physical]) -> Result<Vec<Disk>, AllocError>
-    ensures { IfOk result (λ v. v.items ≡ map disk_of physicals.now) }
+    ensures { IfOk result (λ v. v.items ≡ map physical_disk physicals.now) }
 {
     let mut disks = Vec::new(alloc);
     for physical in physicals {
-        disks.push(disk_of(alloc, physical)?)?;
+        disks.push(physical_disk(alloc, physical)?)?;
     }
     Ok(disks)
 }
 
 /// The disk of a physical volume.
-#[tactic(auto, unfolding(crate::specs::tables::Tables::disk_of))]
-fn disk_of(alloc: Global, physical: &Physical) -> Result<Disk, AllocError>
-    ensures { IfOk result (λ disk. disk ≡ disk_of physical.now) }
+#[tactic(auto, unfolding(crate::specs::tables::Tables::physical_disk))]
+fn physical_disk(alloc: Global, physical: &Physical) -> Result<Disk, AllocError>
+    ensures { IfOk result (λ disk. disk ≡ physical_disk physical.now) }
 {
     Ok(Disk {
         name: physical.disk.copy(alloc)?,

@@ -3,11 +3,7 @@
 //! The checks of a group have passed, so each product fits 64 bits, and each stripe is on a physical volume
 //! of the group. A new type of segment is an arm in `line_target`, here and in `specs/tables/Tables.antt`.
 
-ghost use Rattle.std.specs.Prelude.{◌≡◌, IfOk, map};
-ghost use Rattle.std.specs.List.{AllByRecursion};
-ghost use Rattle.lvm_volume.specs.checks.Extents.{stripes_of};
-ghost use Rattle.lvm_volume.specs.tables.Tables.{IsSegmentIn, IsStripeIn, column_of, columns_target, line_of};
-ghost use Rattle.lvm_volume.specs.tables.Tables.{line_target};
+ghost use Rattle.lvm_volume.specs.Prelude.{◌≡◌, IfOk, map, AllByRecursion, stripes_of, IsSegmentIn, IsStripeIn, column_of, columns_target, line_of, line_target};
 
 use crate::fields::source_line::source_line;
 use crate::group::physical::Physical;

@@ -1,6 +1,4 @@
-use Rattle.std.proofs.Common.{◌≡◌, ◌+◌, false, true, arith}
-use Rattle.std.specs.Prelude.{nat_lt}
-use Rattle.dm_stack.specs.Description.{device_len}
+use Rattle.dm_map.proofs.Prelude.{◌≡◌, ◌+◌, false, true, arith, nat_lt, device_len}
 use Rattle.dm_map.proofs.walk.Bounds.{request_bound}
 use Rattle.dm_map.proofs.walk.HomeLemmas.{walked_over}
 use Rattle.dm_map.proofs.walk.Rows.{step_past_end, walked_piece}

@@ -3,9 +3,7 @@
 //! This is the one place where a chunk is compared with the first chunk of a run, and each comparison
 //! of a search is counted here.
 
-ghost use Rattle.std.specs.Prelude.{◌≤◌, length};
-ghost use Rattle.dm_stack.specs.lines.LineSearch.{binary_digits};
-ghost use Rattle.dm_map.specs.state.Runs.{AreBegunBy, AreRuns};
+ghost use Rattle.dm_map.specs.Prelude.{◌≤◌, length, binary_digits, AreBegunBy, AreRuns};
 
 use crate::state::run_taken::run::Run;
 

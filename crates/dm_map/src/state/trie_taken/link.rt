@@ -2,8 +2,7 @@
 //!
 //! A table of links is written when a snapshot is loaded, so that they are as short as can be.
 
-ghost use Rattle.std.specs.Prelude.{◌≡◌, ◌<◌, ◌+◌, ◌^◌};
-ghost use Rattle.dm_map.specs.declared.state.trie_taken.link.Node.TheVariants.{Empty, Number, Fork};
+ghost use Rattle.dm_map.specs.Prelude.{◌≡◌, ◌<◌, ◌+◌, ◌^◌, Empty, Number, Fork};
 
 use std::marker::Model;
 
@@ -32,7 +31,7 @@ pub(crate) struct Link {
 }
 
 impl Model for Link {
-    ghost use Rattle.dm_map.specs.declared.state.trie_taken.link.Node.{Node};
+    ghost use Rattle.dm_map.specs.Base.{Node};
 
     ghost Value = { Node };
 

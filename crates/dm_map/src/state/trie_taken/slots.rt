@@ -1,7 +1,6 @@
 //! The slots of a trie's table: at which of its links the way of a chunk begins.
 
-ghost use Rattle.std.specs.Prelude.{◌≡◌, ◌+◌, ◌<◌, ◌≤◌};
-ghost use Rattle.dm_map.specs.state.Trie.{slot_of};
+ghost use Rattle.dm_map.specs.Prelude.{◌≡◌, ◌+◌, ◌<◌, ◌≤◌, slot_of};
 
 /// An odd number without a pattern: 2³² less its golden section.
 const SPREAD: u64 = 0x61C8_8647;

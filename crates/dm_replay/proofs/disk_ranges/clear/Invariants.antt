@@ -1,6 +1,5 @@
 -- some of the ranges that begin there are taken out
-use Rattle.std.proofs.Common.{length}
-use Rattle.dm_replay.specs.Stored.{AreApart, IsCleared}
+use Rattle.dm_replay.proofs.Prelude.{length, AreApart, IsCleared}
 use Rattle.dm_replay.proofs.disk_ranges.clear.Given as goal
 
 abbrev pub invariant-loop-at : goal.invariant-loop-at

@@ -1,5 +1,4 @@
-use Rattle.std.proofs.Common.{arith}
-use Rattle.dm_replay.specs.Stored.{IsLastBefore}
+use Rattle.dm_replay.proofs.Prelude.{arith, IsLastBefore}
 use Rattle.dm_replay.proofs.StoredLemmas.{AreParts, parts_apart, parts_keep, sets}
 use Rattle.dm_replay.proofs.disk_ranges.cut.Goals.{In_ok-insert-2}
 use Rattle.dm_replay.proofs.disk_ranges.cut.Goals as goal

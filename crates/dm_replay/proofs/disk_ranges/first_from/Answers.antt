@@ -1,4 +1,4 @@
-use Rattle.std.proofs.lemmas.Map.Keys.{le_from_not_gt}
+use Rattle.dm_replay.proofs.Prelude.{le_from_not_gt}
 use Rattle.dm_replay.proofs.StoredLemmas.{below_from, is_some, less, not_above, some_none}
 use Rattle.dm_replay.proofs.disk_ranges.first_from.Goals as goal
 

@@ -1,4 +1,4 @@
-use Rattle.std.proofs.lemmas.Map.Keys.{ge_from_not_lt}
+use Rattle.dm_replay.proofs.Prelude.{ge_from_not_lt}
 use Rattle.dm_replay.proofs.StoredLemmas.{below_from, is_some, less, some_none}
 use Rattle.dm_replay.proofs.disk_ranges.last_before.Goals as goal
 

@@ -1,4 +1,4 @@
-use Rattle.std.proofs.Common.{arith}
+use Rattle.dm_replay.proofs.Prelude.{arith}
 use Rattle.dm_replay.proofs.StoredLemmas.{put_apart, put_shows, sets}
 use Rattle.dm_replay.proofs.disk_ranges.store_in.Goals as goal
 
@@ -18,7 +18,7 @@ join_front-requires c =
 
 pub returns-clause-stored : goal.returns-clause-stored
 returns-clause-stored c stored shows =
-    c.in_ok-join.ensures.same _ (c.in_ok-join_front.ensures.same _
+    c.in_ok-join_at.ensures.same _ (c.in_ok-join_front.ensures.same _
     (put_shows c.in_ok-goes_on.ensures.made.cut c.make_room.new.ranges c.insert.new.self c.args.start _ (record {
       are = c.make_room.ensures.apart;
       ordered = c.insert.ensures.ordered;

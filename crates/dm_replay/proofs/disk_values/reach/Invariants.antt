@@ -1,6 +1,5 @@
 -- what is stored is as before
-use Rattle.std.proofs.Common.{◌≡◌, ◌-◌, ◌+◌, ℕ, length}
-use Rattle.dm_replay.specs.Stored.{values_of}
+use Rattle.dm_replay.proofs.Prelude.{◌≡◌, ◌-◌, ◌+◌, ℕ, length, values_of}
 use Rattle.dm_replay.proofs.disk_values.reach.Given as goal
 
 abbrev pub invariant-loop-alloc : goal.invariant-loop-alloc

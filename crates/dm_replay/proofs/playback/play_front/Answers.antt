@@ -1,4 +1,4 @@
-use Rattle.std.proofs.Common.{sym, ◌∙◌}
+use Rattle.dm_replay.proofs.Prelude.{sym, ◌∙◌}
 use Rattle.dm_replay.proofs.HaltedPlays.{front_all, front_halted}
 use Rattle.dm_replay.proofs.Playbacks.{front_played, units_asked}
 use Rattle.dm_replay.proofs.playback.play_front.Goals as goal

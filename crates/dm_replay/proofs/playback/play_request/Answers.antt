@@ -1,6 +1,4 @@
-use Rattle.std.proofs.Common.{length, sym, ◌∙◌}
-use Rattle.dm_replay.specs.Stored.{values_of}
-use Rattle.dm_replay.specs.Values.{played}
+use Rattle.dm_replay.proofs.Prelude.{length, sym, ◌∙◌, values_of, played}
 use Rattle.dm_replay.proofs.OfDiskLemmas.{played_of, runs_played_of, same_of}
 use Rattle.dm_replay.proofs.OneRuns.{one_runs}
 use Rattle.dm_replay.proofs.Playbacks.{playback_answers, playback_values, units_asked}

@@ -1,10 +1,6 @@
-use Rattle.std.proofs.Common.{refl, ap, ◌∙◌}
-use Rattle.std.proofs.lemmas.Option.{slice_get_read}
-use Rattle.dm_map.specs.state.State.{start_state}
-use Rattle.dm_replay.specs.Replay.{IsKept}
+use Rattle.dm_replay.proofs.Prelude.{refl, ap, ◌∙◌, slice_get_read, start_state, IsKept, at_index}
 use Rattle.dm_replay.proofs.RerunLemmas.{rerun_first, rerun_next}
 use Rattle.dm_replay.proofs.rerun.rerun.Goals as goal
-use Rattle.dm_table.proofs.Lists.{at_index}
 
 pub map_again-requires-clause-kept : goal.map_again-requires-clause-kept
 map_again-requires-clause-kept g c =

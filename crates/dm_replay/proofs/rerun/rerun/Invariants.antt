@@ -1,5 +1,5 @@
 -- the mapper is in the state after the writes so far
-use Rattle.std.proofs.Common.{take}
+use Rattle.dm_replay.proofs.Prelude.{take}
 use Rattle.dm_replay.proofs.RerunLemmas.{IsRerun}
 use Rattle.dm_replay.proofs.rerun.rerun.Given as goal
 

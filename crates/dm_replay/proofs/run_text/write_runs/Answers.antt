@@ -1,12 +1,5 @@
-use Rattle.std.proofs.Common.{ℕ, ◌+◌, length, List, ◌++◌, drop, take, refl}
-use Rattle.std.specs.List.{flat_map}
-use Rattle.std.proofs.lemmas.Result.{err_from_is_err_and}
-use Rattle.std.proofs.lemmas.Option.{slice_get_read}
+use Rattle.dm_replay.proofs.Prelude.{ℕ, ◌+◌, length, List, ◌++◌, drop, take, refl, flat_map, err_from_is_err_and, slice_get_read, at_index, ValueRun, run_line, IsRunOf}
 use Rattle.dm_table.proofs.WriteLemmas.{stopped, and_then, flat_map_at, flat_map_next}
-use Rattle.dm_table.proofs.Lists.{at_index}
-use Rattle.dm_replay.specs.declared.value_run.ValueRun.{ValueRun}
-use Rattle.dm_replay.specs.RunText.{run_line}
-use Rattle.dm_replay.specs.OfDisks.{IsRunOf}
 use Rattle.dm_replay.proofs.run_text.write_runs.Goals as goal
 
 pub write_run-requires : goal.write_run-requires

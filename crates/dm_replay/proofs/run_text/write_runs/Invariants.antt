@@ -1,8 +1,6 @@
 -- the lines so far are written, and nothing failed
-use Rattle.std.proofs.Common.{take, Ok}
-use Rattle.dm_table.specs.io.Progress.{Wrote}
+use Rattle.dm_replay.proofs.Prelude.{take, Ok, Wrote, runs_text}
 use Rattle.dm_table.specs.declared.io.device_io.OutFault.{OutFault}
-use Rattle.dm_replay.specs.RunText.{runs_text}
 use Rattle.dm_replay.proofs.run_text.write_runs.Given as goal
 
 abbrev pub invariant-loop-run : goal.invariant-loop-run

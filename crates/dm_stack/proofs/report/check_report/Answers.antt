@@ -1,7 +1,4 @@
-use Rattle.std.proofs.Common.{sym, ◌∙◌}
-use Rattle.std.specs.Prelude.{string_bytes}
-use Rattle.std.proofs.lemmas.Result.{IfOk-weaker}
-use Rattle.dm_stack.specs.Report.{IsReport}
+use Rattle.dm_stack.proofs.Prelude.{sym, ◌∙◌, string_bytes, IfOk-weaker, IsReport}
 use Rattle.dm_stack.proofs.ReportLemmas.{report_lines}
 use Rattle.dm_stack.proofs.claims.TopLemmas.{one_report}
 use Rattle.dm_stack.proofs.report.check_report.Goals as goal

@@ -1,7 +1,4 @@
-use Rattle.std.proofs.Common.{Some, sym, ◌∙◌}
-use Rattle.std.specs.Prelude.{decimal, string_bytes}
-use Rattle.std.proofs.lemmas.Result.{IfOk-weaker}
-use Rattle.dm_stack.specs.Report.{SaysTidiness, lower_text}
+use Rattle.dm_stack.proofs.Prelude.{Some, sym, ◌∙◌, decimal, string_bytes, IfOk-weaker, SaysTidiness, lower_text}
 use Rattle.dm_stack.proofs.ReportLemmas.{clash_line}
 use Rattle.dm_stack.proofs.report.tidiness_text.Goals as goal
 

@@ -1,4 +1,4 @@
-use Rattle.std.proofs.Common.{◌≡◌, ◌≢◌, sym, ◌∙◌}
+use Rattle.dm_store.proofs.Prelude.{◌≡◌, ◌≢◌, sym, ◌∙◌}
 use Rattle.dm_store.proofs.ImageLemmas.{path_here, path_later}
 use Rattle.dm_store.proofs.image_list.path_of.Goals as goal
 

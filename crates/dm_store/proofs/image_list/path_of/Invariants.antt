@@ -1,7 +1,5 @@
 -- what the paths that are left give is what all give
-use Rattle.std.proofs.Common.{◌≡◌, drop}
-use Rattle.std.specs.Prelude.{find}
-use Rattle.dm_stack.specs.Description.{is_same}
+use Rattle.dm_store.proofs.Prelude.{◌≡◌, drop, find, is_same}
 use Rattle.dm_store.proofs.image_list.path_of.Given as goal
 
 abbrev pub invariant-loop-path : goal.invariant-loop-path

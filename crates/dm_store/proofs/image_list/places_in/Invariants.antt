@@ -1,6 +1,5 @@
 -- the disks so far have their places
-use Rattle.std.proofs.Common.{◌≡◌, map, take}
-use Rattle.dm_store.specs.ImageList.{image_in}
+use Rattle.dm_store.proofs.Prelude.{◌≡◌, map, take, image_in}
 use Rattle.dm_store.proofs.image_list.places_in.Given as goal
 
 abbrev pub invariant-loop-disk : goal.invariant-loop-disk

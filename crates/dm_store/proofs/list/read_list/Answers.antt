@@ -1,17 +1,4 @@
-use Rattle.std.proofs.Common.{◌≡◌, ℕ, ◌+◌, ◌/◌, ◌%◌, ◌-◌, ◌<◌, None, List, [], ◌∷◌, is_some, length, length-append, refl, sym, ap, subst, ◌∙◌, arith}
-use Rattle.std.proofs.lemmas.List.{set-get_or}
-use Rattle.dm_stack.specs.Description.{Description}
-use Rattle.dm_map.specs.Mapper.{MapperView}
-use Rattle.dm_map.specs.state.Snapshots.{number_in}
-use Rattle.dm_map.specs.state.State.{State, Taken, none_taken, put, taken_at, with_chunk}
-use Rattle.dm_store.specs.declared.pair.Pair.{Pair}
-use Rattle.dm_store.specs.Images.{disk_contents, sector_in}
-use Rattle.dm_store.specs.Layout.{pair_count, row_sector}
-use Rattle.dm_store.specs.Pairs.{Sectors, pair_in}
-use Rattle.dm_store.specs.Reading.{HasRows, next_fault}
-use Rattle.dm_store.specs.Start.{store_sectors}
-use Rattle.dm_store.specs.Stored.{is_near, is_placed, of_list}
-use Rattle.dm_store.proofs.RowLemmas.{row_of}
+use Rattle.dm_store.proofs.Prelude.{◌≡◌, ℕ, ◌+◌, ◌<◌, None, List, [], ◌∷◌, is_some, length, length-append, refl, sym, ap, subst, ◌∙◌, arith, set-get_or, Description, MapperView, with_looked, number_in, State, Taken, none_taken, put, taken_at, with_chunk, disk_contents, pair_count, HasRows, Walked, next_fault, told_list, store_sectors, Holds, ended, is_near, is_placed, listed, of_list}
 use Rattle.dm_store.proofs.StoreLemmas.{put_more}
 use Rattle.dm_store.proofs.WalkLemmas.{ended_list, full_list, no_fault_before, one_more, unread_list, walked_none}
 use Rattle.dm_store.proofs.list.read_list.Goals as goal
@@ -35,67 +22,61 @@ pub returns-in-Err-clause-list : goal.returns-in-Err-clause-list
 returns-in-Err-clause-list g c = λ held seen.
     let store = c.args.store.now in let disks = disk_contents c.args.places.now held in let loop = c.loop-number in
     let count : c.pair_count-number-end.result ≡ pair_count store.chunk store.len = c.pair_count-number-end.ensures.count ∙ ap (λ (n : ℕ). pair_count n store.len) c.sectors.ensures.is in
-    let unread = ap (λ (s : Description). store_sectors s disks store (row_sector store.chunk (loop.number / 32))) (sym loop.invariant.stack) ∙ c.in-Err.ensures.fault held seen in
-    unread_list (store_sectors c.args.mapper.now.stack disks store) store loop.number loop.fault (taken_at loop.mapper.state c.args.device).chunks c.in-Err.unread (loop.invariant.walked held (c.reach.ensures.still held seen))
-    (subst (λ (n : ℕ). loop.number < n) count c.loop-number-test.true) unread
+    unread_list (store_sectors loop.mapper.stack disks store) store loop.number loop.fault (taken_at loop.mapper.state c.args.device).chunks c.in-Err.unread (loop.invariant.walked held (c.read_pair.ensures.still held seen))
+    (subst (λ (n : ℕ). loop.number < n) count c.loop-number-test.true) (c.in-Err.ensures.read held seen)
+    ∙ ap (λ (s : Description). listed (store_sectors s disks store) store) loop.invariant.stack
 
 pub returns-then-pair-eq0-clause-list : goal.returns-then-pair-eq0-clause-list
 returns-then-pair-eq0-clause-list g c = λ held seen.
-    let store = c.args.store.now in let disks = disk_contents c.args.places.now held in let loop = c.loop-number in let stack = c.args.mapper.now.stack in
-    let row : ℕ = loop.number / 32 in let reached = c.in-Ok.reached in let bytes : List ℕ = sector_in c.reach.new.block (row - reached.first) in
-    let before = c.reach.ensures.still held seen in
+    let store = c.args.store.now in let disks = disk_contents c.args.places.now held in let loop = c.loop-number in
+    let sectors = store_sectors loop.mapper.stack disks store in let chunks : List ℕ = (taken_at loop.mapper.state c.args.device).chunks in
+    let before = c.end_list.ensures.still held seen in
+    let stack : c.read_pair.new.mapper.stack ≡ loop.mapper.stack = ap (λ (m : MapperView). m.stack) c.read_pair.ensures.same in
     let count : c.pair_count-number-end.result ≡ pair_count store.chunk store.len = c.pair_count-number-end.ensures.count ∙ ap (λ (n : ℕ). pair_count n store.len) c.sectors.ensures.is in
-    let had = subst (λ (s : Description). HasRows (store_sectors s disks store) store.chunk loop.rows loop.block) (sym loop.invariant.stack) (loop.invariant.rows held before) in
-    let has = subst (λ (s : Description). HasRows (store_sectors s disks store) store.chunk reached c.reach.new.block) loop.invariant.stack (c.in-Ok.ensures.rows held seen had) in
-    ap (λ (m : MapperView). of_list loop.fault (taken_at m.state c.args.device).chunks) c.reach.ensures.same
-    ∙ ended_list (store_sectors stack disks store) store loop.number loop.fault bytes (taken_at loop.mapper.state c.args.device).chunks (loop.invariant.walked held before)
-    (subst (λ (n : ℕ). loop.number < n) count c.loop-number-test.true)
-    (row_of (store_sectors stack disks store) store.chunk row reached c.reach.new.block has c.in-Ok.ensures.has)
-    (sym (ap (λ (x : Pair). x.new) c.pair_of-pair.ensures) ∙ c.if-pair-eq0.true)
+    let read = c.in-Ok.ensures.read held before (loop.invariant.rows held (c.read_pair.ensures.still held before)) in
+    let taken : taken_at c.end_list.new.mapper.state c.args.device ≡ taken_at loop.mapper.state c.args.device = ap (λ (m : MapperView). taken_at m.state c.args.device) (c.end_list.ensures.same ∙ ap (λ (m : MapperView). with_looked m c.end_list.new.mapper.looked) c.read_pair.ensures.same) in
+    ap (λ (t : Taken). told_list c.end_list.result (Holds t.chunks)) taken
+    ∙ c.end_list.ensures.ended held seen (subst (λ (s : Description). HasRows (store_sectors s disks store) store.chunk c.read_pair.new.rows c.read_pair.new.block) (sym stack) read.0) chunks
+    ∙ ap (λ (s : Description). ended (store_sectors s disks store) store.chunk loop.number (of_list loop.fault chunks)) stack
+    ∙ sym (ended_list sectors store loop.number loop.fault chunks c.in-Ok.pair (loop.invariant.walked held (c.read_pair.ensures.still held before)) (subst (λ (n : ℕ). loop.number < n) count c.loop-number-test.true) read.1 c.if-pair-eq0.true)
+    ∙ ap (λ (s : Description). listed (store_sectors s disks store) store) loop.invariant.stack
 
 pub returns-clause-list : goal.returns-clause-list
 returns-clause-list g c = λ held seen.
     let store = c.args.store.now in let disks = disk_contents c.args.places.now held in let loop = c.loop-number in
+    let chunks : List ℕ = (taken_at loop.mapper.state c.args.device).chunks in
     let count : c.pair_count-number-end.result ≡ pair_count store.chunk store.len = c.pair_count-number-end.ensures.count ∙ ap (λ (n : ℕ). pair_count n store.len) c.sectors.ensures.is in
-    full_list (store_sectors c.args.mapper.now.stack disks store) store loop.number loop.fault (taken_at loop.mapper.state c.args.device).chunks (loop.invariant.walked held seen)
-    (omega (arith, c.loop-number-test.false, loop.auto.number-end, count))
+    c.list_result.ensures.list chunks
+    ∙ full_list (store_sectors loop.mapper.stack disks store) store loop.number loop.fault chunks (loop.invariant.walked held seen) (omega (arith, c.loop-number-test.false, loop.auto.number-end, count))
+    ∙ ap (λ (s : Description). listed (store_sectors s disks store) store) loop.invariant.stack
 
 pub loop-number-preserved : goal.loop-number-preserved
 loop-number-preserved g c =
-    let store = c.args.store.now in let loop = c.loop-number in let stack = c.args.mapper.now.stack in let device = c.args.device in
-    let row : ℕ = loop.number / 32 in let reached = c.in-Ok.reached in let bytes : List ℕ = sector_in c.reach.new.block (row - reached.first) in
-    let here : Pair = pair_in bytes (loop.number % 32) in
+    let store = c.args.store.now in let loop = c.loop-number in let device = c.args.device in let here = c.in-Ok.pair in
     let chunks : List ℕ = (taken_at loop.mapper.state device).chunks in
-    let is : c.pair_of-pair.result ≡ here = c.pair_of-pair.ensures in
-    let next : c.note-fault.result ≡ next_fault (is_placed store loop.number here) (is_near store here) (is_some (number_in here.old chunks)) loop.fault =
-    c.note-fault.ensures.fault
-    ∙ ap (λ (m : MapperView). next_fault (is_placed store loop.number c.pair_of-pair.result) (is_near store c.pair_of-pair.result) (is_some (number_in c.pair_of-pair.result.old (taken_at m.state device).chunks)) loop.fault) c.reach.ensures.same
-    ∙ ap (λ (x : Pair). next_fault (is_placed store loop.number x) (is_near store x) (is_some (number_in x.old chunks)) loop.fault) is in
-    let good : c.note-fault.result ≡ None → loop.fault ≡ None = λ none. no_fault_before (is_placed store loop.number here) (is_near store here) (is_some (number_in here.old chunks)) loop.fault (sym next ∙ none) in
-    let changed : c.note-fault.result ≡ None → c.note-fault.new.mapper.state ≡ put loop.mapper.state device (with_chunk (taken_at loop.mapper.state device) here.old) = λ none.
-    c.note-fault.ensures.taken none
-    ∙ ap (λ (m : MapperView). put m.state device (with_chunk (taken_at m.state device) c.pair_of-pair.result.old)) c.reach.ensures.same
-    ∙ ap (λ (x : Pair). put loop.mapper.state device (with_chunk (taken_at loop.mapper.state device) x.old)) is in
-    let more = λ (none : c.note-fault.result ≡ None). put_more c.args.mapper.now.state loop.mapper.state c.note-fault.new.mapper.state device (with_chunk (taken_at loop.mapper.state device) here.old) c.requires.there (loop.invariant.state (good none)) (changed none) in
+    let new = c.take_listed-fault.new.mapper in
+    let stack : new.stack ≡ loop.mapper.stack = c.take_listed-fault.ensures.stack ∙ ap (λ (m : MapperView). m.stack) c.read_pair.ensures.same in
+    let next : c.take_listed-fault.result ≡ next_fault (is_placed store loop.number here) (is_near store here) (is_some (number_in here.old chunks)) loop.fault =
+    c.take_listed-fault.ensures.fault
+    ∙ ap (λ (m : MapperView). next_fault (is_placed store loop.number here) (is_near store here) (is_some (number_in here.old (taken_at m.state device).chunks)) loop.fault) c.read_pair.ensures.same in
+    let good : c.take_listed-fault.result ≡ None → loop.fault ≡ None = λ none. no_fault_before (is_placed store loop.number here) (is_near store here) (is_some (number_in here.old chunks)) loop.fault (sym next ∙ none) in
+    let changed : c.take_listed-fault.result ≡ None → new.state ≡ put loop.mapper.state device (with_chunk (taken_at loop.mapper.state device) here.old) = λ none.
+    c.take_listed-fault.ensures.taken none ∙ ap (λ (m : MapperView). put m.state device (with_chunk (taken_at m.state device) here.old)) c.read_pair.ensures.same in
+    let more = λ (none : c.take_listed-fault.result ≡ None). put_more c.args.mapper.now.state loop.mapper.state new.state device (with_chunk (taken_at loop.mapper.state device) here.old) c.requires.there (loop.invariant.state (good none)) (changed none) in
     record {
-      len = c.reach.auto.block ∙ loop.invariant.len;
-      stack = c.note-fault.ensures.stack ∙ ap (λ (m : MapperView). m.stack) c.reach.ensures.same ∙ loop.invariant.stack;
-      failed = c.note-fault.ensures.failed ∙ ap (λ (m : MapperView). m.failed) c.reach.ensures.same ∙ loop.invariant.failed;
+      len = c.read_pair.auto.block ∙ loop.invariant.len;
+      stack = stack ∙ loop.invariant.stack;
+      failed = c.take_listed-fault.ensures.failed ∙ ap (λ (m : MapperView). m.failed) c.read_pair.ensures.same ∙ loop.invariant.failed;
       state = λ none. (more none).0;
       valid = λ none. ap (λ (t : Taken). t.valid) (more none).1 ∙ loop.invariant.valid (good none);
       count = λ none. ap (λ (t : Taken). length t.chunks) (more none).1 ∙ length-append chunks (here.old ∷ []) ∙ ap (λ (n : ℕ). n + 1) (loop.invariant.count (good none));
-      still = λ held seen. loop.invariant.still held (c.reach.ensures.still held seen);
+      still = λ held seen. loop.invariant.still held (c.read_pair.ensures.still held seen);
       rows = λ held seen.
-          let disks = disk_contents c.args.places.now held in
-          let had = subst (λ (s : Description). HasRows (store_sectors s disks store) store.chunk loop.rows loop.block) (sym loop.invariant.stack) (loop.invariant.rows held (c.reach.ensures.still held seen)) in
-          subst (λ (s : Description). HasRows (store_sectors s disks store) store.chunk reached c.reach.new.block) loop.invariant.stack (c.in-Ok.ensures.rows held seen had);
+          let read = c.in-Ok.ensures.read held seen (loop.invariant.rows held (c.read_pair.ensures.still held seen)) in
+          subst (λ (s : Description). HasRows (store_sectors s (disk_contents c.args.places.now held) store) store.chunk c.read_pair.new.rows c.read_pair.new.block) (sym stack) read.0;
       walked = λ held seen.
-          let disks = disk_contents c.args.places.now held in let sectors : Sectors = store_sectors stack disks store in
-          let had = subst (λ (s : Description). HasRows (store_sectors s disks store) store.chunk loop.rows loop.block) (sym loop.invariant.stack) (loop.invariant.rows held (c.reach.ensures.still held seen)) in
-          let has = subst (λ (s : Description). HasRows (store_sectors s disks store) store.chunk reached c.reach.new.block) loop.invariant.stack (c.in-Ok.ensures.rows held seen had) in
-          one_more sectors store loop.number loop.fault c.note-fault.result bytes chunks (taken_at c.note-fault.new.mapper.state device).chunks (loop.invariant.walked held (c.reach.ensures.still held seen))
-          (row_of sectors store.chunk row reached c.reach.new.block has c.in-Ok.ensures.has)
-          (λ zero. c.if-pair-eq0.false (ap (λ (x : Pair). x.new) is ∙ zero))
-          next
-          (λ none. ap (λ (t : Taken). t.chunks) (more none).1);
+          let disks = disk_contents c.args.places.now held in let before = c.read_pair.ensures.still held seen in
+          let read = c.in-Ok.ensures.read held seen (loop.invariant.rows held before) in
+          subst (λ (s : Description). Walked (store_sectors s disks store) store (loop.number + 1) c.take_listed-fault.result (taken_at new.state device).chunks) (sym stack)
+          (one_more (store_sectors loop.mapper.stack disks store) store loop.number loop.fault c.take_listed-fault.result here chunks (taken_at new.state device).chunks (loop.invariant.walked held before) read.1 c.if-pair-eq0.false next (λ none. ap (λ (t : Taken). t.chunks) (more none).1));
     }

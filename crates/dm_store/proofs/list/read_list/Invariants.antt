@@ -1,8 +1,4 @@
-use Rattle.std.proofs.Common.{◌≡◌, None, length, true}
-use Rattle.dm_map.specs.state.State.{put, taken_at}
-use Rattle.dm_store.specs.Images.{Contents, disk_contents}
-use Rattle.dm_store.specs.Reading.{HasRows, Walked}
-use Rattle.dm_store.specs.Start.{store_sectors}
+use Rattle.dm_store.proofs.Prelude.{◌≡◌, None, length, true, put, taken_at, Contents, disk_contents, HasRows, Walked, store_sectors}
 use Rattle.dm_store.proofs.list.read_list.Given as goal
 
 abbrev pub invariant-loop-number : goal.invariant-loop-number
@@ -14,6 +10,6 @@ invariant-loop-number g l = record {
   valid : l.fault ≡ None → (taken_at l.mapper.state l.device).valid ≡ true;
   count : l.fault ≡ None → length (taken_at l.mapper.state l.device).chunks ≡ l.number;
   still : (held : Contents) → g.I.Images.IsSeen l.images held → g.I.Images.IsSeen l.fn.images held;
-  rows : (held : Contents) → g.I.Images.IsSeen l.images held → HasRows (store_sectors l.fn.mapper.stack (disk_contents l.places held) l.store) l.store.chunk l.rows l.block;
-  walked : (held : Contents) → g.I.Images.IsSeen l.images held → Walked (store_sectors l.fn.mapper.stack (disk_contents l.places held) l.store) l.store l.number l.fault (taken_at l.mapper.state l.device).chunks;
+  rows : (held : Contents) → g.I.Images.IsSeen l.images held → HasRows (store_sectors l.mapper.stack (disk_contents l.places held) l.store) l.store.chunk l.rows l.block;
+  walked : (held : Contents) → g.I.Images.IsSeen l.images held → Walked (store_sectors l.mapper.stack (disk_contents l.places held) l.store) l.store l.number l.fault (taken_at l.mapper.state l.device).chunks;
 }

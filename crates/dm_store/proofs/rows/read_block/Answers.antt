@@ -1,7 +1,4 @@
-use Rattle.std.proofs.Common.{◌≡◌, ℕ, ◌+◌, ◌%◌, ◌≤◌, ◌<◌, ap, subst, ◌∙◌, arith}
-use Rattle.dm_store.specs.Images.{disk_contents}
-use Rattle.dm_store.specs.Layout.{row_sector}
-use Rattle.dm_store.specs.Start.{store_sectors}
+use Rattle.dm_store.proofs.Prelude.{◌≡◌, ℕ, ◌+◌, ◌%◌, ◌≤◌, ◌<◌, ap, subst, ◌∙◌, arith, disk_contents, row_sector, store_sectors}
 use Rattle.dm_store.proofs.RowLemmas.{block_row, block_rows, one_row, row_fault, rows_within}
 use Rattle.dm_store.proofs.rows.read_block.Goals as goal
 
@@ -11,7 +8,7 @@ first_homes-disk-requires-clause-inside g c =
     let inside : row % store.chunk + c.rows_from-most.result ≤ store.chunk = subst (λ (n : ℕ). row % n + c.rows_from-most.result ≤ n) is c.rows_from-most.ensures.inside in
     let at : c.row_sector.result ≡ row_sector store.chunk row = c.row_sector.ensures ∙ ap (λ (n : ℕ). row_sector n row) is in
     let within = rows_within store.chunk store.len row c.rows_from-most.result (subst (λ (n : ℕ). 0 < n) is c.sectors-chunk.ensures.some) c.requires.row inside in
-    omega (arith, at, within, c.requires.len)
+    omega (arith, at, within, c.requires.store.len)
 
 pub returns-then-len-eq1-clause-rows : goal.returns-then-len-eq1-clause-rows
 returns-then-len-eq1-clause-rows g c = λ held seen.

@@ -1,5 +1,4 @@
-use Rattle.std.proofs.Common.{◌≡◌, ℕ, ◌+◌, sym, ap, ◌∙◌, arith}
-use Rattle.dm_store.specs.Images.{disk_contents}
+use Rattle.dm_store.proofs.Prelude.{◌≡◌, ℕ, ◌+◌, sym, ap, ◌∙◌, arith, disk_contents}
 use Rattle.dm_store.proofs.rows.read_row.Goals as goal
 
 pub returns-in-Ok-clause-sector : goal.returns-in-Ok-clause-sector

@@ -1,6 +1,4 @@
-use Rattle.std.proofs.Common.{◌≡◌, ap, ◌∙◌, arith}
-use Rattle.dm_stack.specs.Description.{Description, lower_len}
-use Rattle.dm_stack.specs.lines.Below.{IsLineOf, IsSnapshotSound}
+use Rattle.dm_store.proofs.Prelude.{◌≡◌, ap, ◌∙◌, arith, Description, lower_len, IsLineOf, IsSnapshotSound}
 use Rattle.dm_stack.proofs.SameLine.{found_of}
 use Rattle.dm_stack.proofs.SoundLines.{device_some}
 use Rattle.dm_map.proofs.TableLemmas.{snapshot_room, store_some}
@@ -27,9 +25,6 @@ returns-clause-of c =
     let some = store_some stack c.args.device 0 line snapshot c.depth.ensures.sound at c.in-Snapshot.is in
     record {
       there = c.requires.there;
-      lower = sound.store;
-      some = omega (arith, some, len);
-      len = len;
-      short = c.lower_len-len.ensures.small;
+      lies = record { lower = sound.store; some = omega (arith, some, len); len = len; short = c.lower_len-len.ensures.small };
       room = λ number. snapshot_room stack c.args.device number c.place_count.result line snapshot at c.in-Snapshot.is (rw len at (c.place_count.ensures.law number));
     }

@@ -1,7 +1,4 @@
-use Rattle.std.proofs.Common.{◌≡◌, ℕ, Ok, sym, ap, ◌∙◌, arith}
-use Rattle.dm_store.specs.Images.{disk_contents}
-use Rattle.dm_store.specs.Start.{store_sectors}
-use Rattle.dm_store.specs.Stored.{by_header}
+use Rattle.dm_store.proofs.Prelude.{◌≡◌, ℕ, Ok, sym, ap, ◌∙◌, arith, disk_contents, store_sectors, by_header}
 use Rattle.dm_store.proofs.RowLemmas.{first_home, first_read}
 use Rattle.dm_store.proofs.stores.header_of.Goals as goal
 

@@ -1,8 +1,4 @@
-use Rattle.std.proofs.Common.{sym, ap, ◌∙◌}
-use Rattle.dm_stack.specs.Description.{Description}
-use Rattle.dm_store.specs.Images.{disk_contents}
-use Rattle.dm_store.specs.Start.{store_sectors, taken_if, taken_in}
-use Rattle.dm_store.specs.Stored.{stored}
+use Rattle.dm_store.proofs.Prelude.{sym, ap, ◌∙◌, Description, disk_contents, store_sectors, taken_if, taken_in, stored}
 use Rattle.dm_store.proofs.stores.read_snapshot.Goals as goal
 
 pub returns-in-Some-clause-stored : goal.returns-in-Some-clause-stored

@@ -1,11 +1,4 @@
-use Rattle.std.proofs.Common.{◌≡◌, ℕ, Result, Ok, get_or, length, refl, sym, ap, ◌∙◌, arith}
-use Rattle.std.proofs.lemmas.List.{get_or_default, get_or_past, get_or_read, length-replicate, length-set, take_all}
-use Rattle.dm_map.specs.state.State.{State, Taken, none_taken, put, taken_at}
-use Rattle.dm_map.proofs.ChunkTaking.{none_at}
-use Rattle.dm_store.specs.declared.fault.StoreFault.{StoreFault}
-use Rattle.dm_store.specs.declared.fault.StoreRefusal.{StoreRefusal}
-use Rattle.dm_store.specs.Images.{disk_contents}
-use Rattle.dm_store.specs.Start.{start_of}
+use Rattle.dm_store.proofs.Prelude.{◌≡◌, ℕ, Result, Ok, get_or, length, refl, sym, ap, ◌∙◌, arith, get_or_default, get_or_past, get_or_read, length-replicate, length-set, take_all, State, Taken, none_taken, put, taken_at, none_at, StoreFault, StoreRefusal, disk_contents, start_of}
 use Rattle.dm_store.proofs.StartLemmas.{InOrder, all_started, first_refused, in_order, next_later, next_started, none_before, snapshot_there}
 use Rattle.dm_store.proofs.stores.read_stores.Goals as goal
 

@@ -1,7 +1,4 @@
-use Rattle.std.proofs.Common.{◌≡◌, ℕ, ◌<◌, ◌≤◌, Ok, get_or, length}
-use Rattle.dm_map.specs.state.State.{none_taken, taken_at}
-use Rattle.dm_store.specs.Images.{Contents, disk_contents}
-use Rattle.dm_store.specs.Start.{start_of}
+use Rattle.dm_store.proofs.Prelude.{◌≡◌, ℕ, ◌<◌, ◌≤◌, Ok, get_or, length, none_taken, taken_at, Contents, disk_contents, start_of}
 use Rattle.dm_store.proofs.stores.read_stores.Given as goal
 
 abbrev pub invariant-loop-next : goal.invariant-loop-next

@@ -1,4 +1,4 @@
-use Rattle.std.proofs.Common.{None, Some, refl}
+use Rattle.dmremap.proofs.Prelude.{None, Some, refl}
 use Rattle.dmremap.proofs.MessageWords.{cut}
 use Rattle.dmremap.proofs.explanation.after.Goals as goal
 

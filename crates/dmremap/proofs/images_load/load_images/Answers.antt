@@ -1,12 +1,45 @@
-use Rattle.std.proofs.Common.{Ok, ◌∙◌}
-use Rattle.dmremap.specs.ImagesLoad.{ImagesOpen}
-use Rattle.dmremap.proofs.ImagesLemmas.{head_refused, heads_opened, stopped_opens}
+use Rattle.dmremap.proofs.Prelude.{ℕ, List, Option, None, Some, ap, slice_get, subst, sym, ◌∙◌, DiskPath, ImagesOpen, disk_message, listed_disks, short_of, Stops}
+use Rattle.lvm_head.specs.declared.fault.HeadFault.TheVariants.{Ends}
+use Rattle.dmremap.proofs.ImagesLemmas.{head_refused, heads_loaded, heads_unopened, seen_disks, stopped_opens}
 use Rattle.dmremap.proofs.images_load.load_images.Goals as goal
 
-pub returns-in-Ok-clause-opened : goal.returns-in-Ok-clause-opened
-returns-in-Ok-clause-opened g c = λ p held is seen.
-    heads_opened p held c.args.disks.now.paths.items c.deref.result.now (Ok c.in-Ok.heads) c.load_owned.result is (c.in-Ok.ensures.given held seen) (c.deref.ensures.value ∙ c.listed_heads.ensures.paths) c.load_owned.ensures
+-- ---- a head is refused
 
 pub returns-in-Err-clause-opened : goal.returns-in-Err-clause-opened
 returns-in-Err-clause-opened g c = λ p held is seen.
-    stopped_opens (ImagesOpen p held) _ c.in-Err.refusal.fault c.stopped.result c.stopped.ensures (λ other. head_refused p held c.args.disks.now.paths.items c.deref-in-Err.result.now c.in-Err.refusal is (c.in-Err.ensures.refused held seen other) (c.deref-in-Err.ensures.value ∙ c.listed_heads.ensures.paths))
+    let listed : List DiskPath = c.args.disks.now.paths.items in
+    stopped_opens (ImagesOpen p held) _ c.in-Err.refusal.fault c.stopped.result c.stopped.ensures
+    (λ other. head_refused p held listed c.deref.result.now c.in-Err.refusal is (c.in-Err.ensures.refused (listed_disks listed held) (seen_disks _ _ _ held seen c.listed_heads.ensures.paths) other) (c.deref.ensures.value ∙ c.listed_heads.ensures.paths))
+
+-- ---- the text is, or what it describes
+
+pub returns-in-Err-load_owned-clause-opened : goal.returns-in-Err-load_owned-clause-opened
+returns-in-Err-load_owned-clause-opened g c = λ p held is seen.
+    let listed : List DiskPath = c.args.disks.now.paths.items in
+    heads_unopened p held listed c.deref-2.result.now c.in-Ok.heads c.in-Err-load_owned.refusal is (c.in-Ok.ensures.given (listed_disks listed held) (seen_disks _ _ _ held seen c.listed_heads.ensures.paths))
+    (c.deref-2.ensures.value ∙ c.listed_heads.ensures.paths) c.in-Err-load_owned.ensures
+
+-- ---- a disk ends before
+
+pub returns-in-Some-clause-opened : goal.returns-in-Some-clause-opened
+returns-in-Some-clause-opened g c = λ p held is seen.
+    let listed : List DiskPath = c.args.disks.now.paths.items in
+    let disks = listed_disks listed held in
+    let whole = seen_disks _ _ _ held seen (c.first_short.ensures.paths ∙ c.listed_heads.ensures.paths) in
+    let found = c.in-Some.ensures.is disks whole ∙ ap (λ (xs : List DiskPath). short_of c.in-Ok-load_owned.stack disks 0 xs) c.listed_heads.ensures.paths in
+    let opens = heads_loaded p held listed c.deref-2.result.now c.in-Ok.heads c.in-Ok-load_owned.stack (Some c.in-Some.disk) is (c.in-Ok.ensures.given disks (c.first_short.ensures.still disks whole))
+    (c.deref-2.ensures.value ∙ c.listed_heads.ensures.paths) c.in-Ok-load_owned.ensures found in
+    let same = c.deref-in-Some.ensures.value ∙ c.first_short.ensures.paths ∙ c.listed_heads.ensures.paths in
+    stopped_opens (ImagesOpen p held) _ Ends c.stopped-in-Some.result c.stopped-in-Some.ensures
+    (λ other. subst (λ (xs : List DiskPath). ImagesOpen p held (Stops (disk_message (slice_get xs c.in-Some.disk) Ends))) (sym same) opens)
+
+-- ---- none does
+
+pub returns-clause-opened : goal.returns-clause-opened
+returns-clause-opened g c = λ p held is seen.
+    let listed : List DiskPath = c.args.disks.now.paths.items in
+    let disks = listed_disks listed held in
+    let whole = seen_disks _ _ _ held seen (c.first_short.ensures.paths ∙ c.listed_heads.ensures.paths) in
+    let found = c.in-None.ensures.is disks whole ∙ ap (λ (xs : List DiskPath). short_of c.in-Ok-load_owned.stack disks 0 xs) c.listed_heads.ensures.paths in
+    heads_loaded p held listed c.deref-2.result.now c.in-Ok.heads c.in-Ok-load_owned.stack None is (c.in-Ok.ensures.given disks (c.first_short.ensures.still disks whole))
+    (c.deref-2.ensures.value ∙ c.listed_heads.ensures.paths) c.in-Ok-load_owned.ensures found

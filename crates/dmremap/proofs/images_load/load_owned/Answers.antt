@@ -1,7 +1,4 @@
-use Rattle.std.proofs.Common.{◌∙◌, Ok, ap}
-use Rattle.lvm_head.specs.Heads.{AllSaid}
-use Rattle.dmremap.specs.Load.{RefusedBy, SoundAs}
-use Rattle.dmremap.specs.Whole.{Loaded}
+use Rattle.dmremap.proofs.Prelude.{◌∙◌, Ok, ap, AllSaid, RefusedBy, SoundAs, Loaded}
 use Rattle.dmremap.proofs.ImagesLemmas.{owners_same, stack_loaded, text_opens, unowned_opens}
 use Rattle.dmremap.proofs.images_load.load_owned.Goals as goal
 

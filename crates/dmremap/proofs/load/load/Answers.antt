@@ -1,10 +1,4 @@
-use Rattle.std.proofs.Common.{inl, sym, ◌∙◌, ap}
-use Rattle.std.proofs.lemmas.Result.{err_from_is_err_and}
-use Rattle.dm_table.specs.io.DeviceIo.{delivery}
-use Rattle.dm_table.specs.load.PartInput.{TextOf}
-use Rattle.dm_table.specs.tables.DiskList.{disk_checks}
-use Rattle.dmremap.specs.Inputs.{delivery_if}
-use Rattle.dmremap.specs.Load.{RefusedBy, device_checks}
+use Rattle.dmremap.proofs.Prelude.{inl, sym, ◌∙◌, ap, err_from_is_err_and, delivery, TextOf, disk_checks, delivery_if, RefusedBy, device_checks}
 use Rattle.dmremap.proofs.LoadLemmas.{by_metadata, by_texts, first_after, first_before}
 use Rattle.dmremap.proofs.load.load.Goals as goal
 

@@ -1,47 +1,51 @@
-use Rattle.std.proofs.Common.{inl, inr, refl}
-use Rattle.dm_table.specs.io.DeviceIo.{delivery}
-use Rattle.dmremap.specs.Inputs.{delivered_if, delivery_if}
-use Rattle.dmremap.specs.StoredStart.{stored_start}
+use Rattle.dmremap.proofs.Prelude.{inl, refl, sym, ◌∙◌, delivered_if}
+use Rattle.dmremap.proofs.AnswerLemmas.{refusal_left, refused_out, unasked_none}
 use Rattle.dmremap.proofs.BegunLemmas.{if_out}
-use Rattle.dmremap.proofs.MapLemmas.{earlier_read, runs_from, unloaded_runs, unloaded_streams}
-use Rattle.dmremap.proofs.OneWhole.{one_from}
+use Rattle.dmremap.proofs.MapLemmas.{earlier_read, loaded_maps, unopened_maps}
+use Rattle.dmremap.proofs.OneWhole.{one_by}
 use Rattle.dmremap.proofs.map_stored.map_stored.Goals as goal
 
--- ---- the load was refused
+-- ---- nothing was opened
 
-pub returns-in-Err-clause-run : goal.returns-in-Err-clause-run
-returns-in-Err-clause-run g c = λ held seen. unloaded_runs _ c.args.format _ (delivery (g.S.Input.past c.args.source.now) (g.S.Input.past c.load.new.source)) (delivery_if g.D.Input.past c.args.disks.now c.load.new.disks) _ _ _ _ _ _ c.in-Err.fault c.unloaded.result c.in-Err.ensures.gives.refused c.unloaded.ensures c.tell.ensures
+pub returns-in-Err-clause-answers : goal.returns-in-Err-clause-answers
+returns-in-Err-clause-answers g c = λ held seen. (
+  unopened_maps (g.O.Opens.opens c.args.source.now c.open.new.self held) (g.O.Opens.starts c.args.source.now c.open.new.self held) _ (delivered_if g.B.Input.past c.args.earlier.now c.args.earlier.now) c.in-Err.refusal (c.in-Err.ensures.opened held seen) c.tell.ensures,
+  inl refl,
+)
 
-pub returns-in-Err-clause-streams : goal.returns-in-Err-clause-streams
-returns-in-Err-clause-streams g c = unloaded_streams _ _ _ _ _ c.in-Err.fault (rw (c.unloaded.ensures) at c.tell.ensures)
+pub returns-in-Err-clause-left : goal.returns-in-Err-clause-left
+returns-in-Err-clause-left g c = refusal_left c.in-Err.refusal c.tell.ensures
 
-pub returns-in-Err-clause-earlier : goal.returns-in-Err-clause-earlier
-returns-in-Err-clause-earlier g c = λ held seen. inl refl
+pub returns-in-Err-clause-memory : goal.returns-in-Err-clause-memory
+returns-in-Err-clause-memory g c = λ six.
+    let out = refused_out c.in-Err.refusal c.tell.ensures six in
+    (c.in-Err.ensures.left (sym c.tell.ensures.is ∙ six), unasked_none g.B.Input.past c.args.earlier.now, out)
 
 -- ---- the requests were run
 
-pub returns-in-Ok-clause-run : goal.returns-in-Ok-clause-run
-returns-in-Ok-clause-run g c = λ held seen.
-    runs_from _ c.args.format _ (delivery (g.S.Input.past c.args.source.now) (g.S.Input.past c.load.new.source)) (delivery_if g.D.Input.past c.args.disks.now c.load.new.disks) _ _ _ _ _ _ _ c.in-Ok.stack c.in-Ok.ensures.gives.sound
-    (c.map_from-status.ensures.run _ _ (c.begin_after-begun.ensures.begun held seen))
+pub returns-in-Ok-clause-answers : goal.returns-in-Ok-clause-answers
+returns-in-Ok-clause-answers g c = λ held seen.
+    let opens = g.O.Opens.opens c.args.source.now c.begin-begun.new.self held in
+    let starts = g.O.Opens.starts c.args.source.now c.begin-begun.new.self held in
+    let opened = c.begin-begun.ensures.opened c.args.source.now c.in-Ok.ensures.open held seen in
+    let begun = c.begin-begun.ensures.begun c.args.source.now c.in-Ok.ensures.open held seen in (
+      loaded_maps opens starts _ _ c.in-Ok.stack opened (c.map_from-status.ensures.answers _ _ (c.after_earlier-begun.ensures.begun _ begun)),
+      earlier_read g.B.Input.past opens starts c.in-Ok.stack c.args.earlier.now c.after_earlier-begun.new.earlier opened (c.after_earlier-begun.ensures.asked _ begun),
+    )
 
 pub returns-in-Ok-clause-memory : goal.returns-in-Ok-clause-memory
-returns-in-Ok-clause-memory g c = λ six. if_out c.begin_after-begun.result c.begin_after-begun.ensures.memory (c.map_from-status.ensures.memory six)
+returns-in-Ok-clause-memory g c = λ six.
+    let out = c.map_from-status.ensures.memory six in
+    let unread = if_out c.after_earlier-begun.result c.after_earlier-begun.ensures.memory out.0 in
+    (if_out c.begin-begun.result c.begin-begun.ensures.left unread.0 c.args.source.now c.in-Ok.ensures.open, unread.1, out.1)
 
-pub returns-in-Ok-clause-paths : goal.returns-in-Ok-clause-paths
-returns-in-Ok-clause-paths g c = inr (c.in-Ok.stack, c.in-Ok.ensures.gives.sound)
-
-pub returns-in-Ok-clause-images_read : goal.returns-in-Ok-clause-images_read
-returns-in-Ok-clause-images_read g c = inr (c.in-Ok.stack, c.in-Ok.ensures.gives.sound, c.begin_after-begun.ensures.images_asked)
-
-pub returns-in-Ok-clause-earlier : goal.returns-in-Ok-clause-earlier
-returns-in-Ok-clause-earlier g c = λ held seen. earlier_read g.B.Input.past (stored_start (delivered_if g.P.Input.past c.args.paths.now c.begin_after-begun.new.paths) held) c.args.format
-    (delivery (g.S.Input.past c.args.source.now) (g.S.Input.past c.load.new.source)) (delivery_if g.D.Input.past c.args.disks.now c.load.new.disks) c.in-Ok.stack c.args.earlier.now c.begin_after-begun.new.earlier c.in-Ok.ensures.gives.sound (c.begin_after-begun.ensures.earlier_asked held seen)
+pub returns-in-Ok-clause-read : goal.returns-in-Ok-clause-read
+returns-in-Ok-clause-read g c = c.begin-begun.ensures.read c.args.source.now c.in-Ok.ensures.open
 
 -- ---- a law of the definitions
 
 pub returns-in-Err-clause-one : goal.returns-in-Err-clause-one
-returns-in-Err-clause-one g c = one_from
+returns-in-Err-clause-one g c = λ old new held. one_by (g.O.Opens.opens old new held) (c.open.ensures.one old new held)
 
 pub returns-in-Ok-clause-one : goal.returns-in-Ok-clause-one
-returns-in-Ok-clause-one g c = one_from
+returns-in-Ok-clause-one g c = λ old new held. one_by (g.O.Opens.opens old new held) (c.open.ensures.one old new held)

@@ -1,30 +1,42 @@
-use Rattle.std.proofs.Common.{◌≡◌, ap, sym}
-use Rattle.dmremap.specs.Job.{format_of, source_words}
-use Rattle.dmremap.specs.Printing.{Prints}
-use Rattle.dmremap.proofs.PrintLemmas.{check_printed, says_done, stack_printed}
+use Rattle.dmremap.proofs.Prelude.{◌≡◌, rules, true, delivery, written_since, job_words, Opened, JobAnswers, JobMakes, is_loading}
+use Rattle.dmremap.proofs.AnswerLemmas.{does_more, opened_does, refused_does, unopened_tells}
+use Rattle.dmremap.proofs.OneOther.{job_loads}
 use Rattle.dmremap.proofs.other_whole.answer.Goals as goal
 
-pub returns-in-Ok-clause-did : goal.returns-in-Ok-clause-did
-returns-in-Ok-clause-did g c =
-    record {
-      did = rw c.in-Print.is (stack_printed c.in-Print.form (format_of (source_words c.in-Print.from)) _ _ _ c.in-Ok.stack _ c.print_stack.result c.format.ensures c.in-Ok.ensures.gives.sound c.print_stack.ensures.did);
-      writes = c.print_stack.ensures.writes;
-    }
-
-pub returns-in-Ok-load_if-clause-did : goal.returns-in-Ok-load_if-clause-did
-returns-in-Ok-load_if-clause-did g c =
-    record {
-      did = rw c.in-Check.is (check_printed (format_of (source_words c.in-Check.from)) _ _ _ c.in-Ok-load_if.stack _ c.print_report-exit.result c.format-in-Check.ensures c.in-Ok-load_if.ensures.gives.sound c.print_report-exit.ensures.did);
-      writes = c.print_report-exit.ensures.writes;
-    }
+-- ---- nothing is loaded
 
 pub returns-in-Name-clause-did : goal.returns-in-Name-clause-did
-returns-in-Name-clause-did g c = record { did = rw c.in-Name.is c.print_name.ensures.did; writes = c.print_name.ensures.writes }
+returns-in-Name-clause-did g c = λ held seen. rw c.in-Name.is c.print_name.ensures.did
 
 pub returns-in-SplitName-clause-did : goal.returns-in-SplitName-clause-did
-returns-in-SplitName-clause-did g c = record { did = rw c.in-SplitName.is c.print_parts.ensures.did; writes = c.print_parts.ensures.writes }
+returns-in-SplitName-clause-did g c = λ held seen. rw c.in-SplitName.is c.print_parts.ensures.did
 
 pub returns-in-Explain-clause-did : goal.returns-in-Explain-clause-did
-returns-in-Explain-clause-did g c =
-    let text = c.in-Explain.text.now in let same : Prints text ≡ Prints c.as_bytes.result.now = ap Prints (sym c.as_bytes.ensures.value) in
-    rw c.in-Explain.is (says_done (λ said. Prints text ≡ said) c.as_bytes.result.now c.print_text.result same c.print_text.ensures)
+returns-in-Explain-clause-did g c = λ held seen. rw c.in-Explain.is c.print_explanation.ensures.did
+
+-- ---- a source is
+
+pub returns-in-Ok-clause-did : goal.returns-in-Ok-clause-did
+returns-in-Ok-clause-did g c = λ held seen.
+    let job = job_words c.args.job in
+    let loading : is_loading (job_words c.args.job) ≡ true = search rules in
+    let opens = g.O.Opens.opens c.args.source.now c.answer_over.new.source held in
+    let starts = g.O.Opens.starts c.args.source.now c.answer_over.new.source held in
+    let reads = g.O.Opens.reads c.args.source.now c.answer_over.new.source held in
+    let asked = delivery (g.Q.Exchange.past c.args.requests.now) (g.Q.Exchange.past c.answer_over.new.requests) in
+    let text = written_since (g.W.Output.past c.args.output.now) (g.W.Output.past c.answer_over.new.output) in
+    let opened = c.answer_over.ensures.opened c.args.source.now c.in-Ok.ensures.open c.in-Ok.ensures.opened held seen in
+    let did = c.answer_over.ensures.did c.args.source.now c.in-Ok.ensures.open held seen in
+    does_more {Is = Opened opens (JobMakes job starts reads asked)} {More = JobAnswers job opens starts reads asked} (job_loads job loading opens starts reads asked) text c.answer_over.result
+    (opened_does opens (JobMakes job starts reads asked) c.in-Ok.stack text c.answer_over.result opened did)
+
+pub returns-in-Err-clause-did : goal.returns-in-Err-clause-did
+returns-in-Err-clause-did g c = λ held seen.
+    let job = job_words c.args.job in
+    let loading : is_loading (job_words c.args.job) ≡ true = search rules in
+    let opens = g.O.Opens.opens c.args.source.now c.open.new.self held in
+    let starts = g.O.Opens.starts c.args.source.now c.open.new.self held in
+    let reads = g.O.Opens.reads c.args.source.now c.open.new.self held in
+    let asked = delivery (g.Q.Exchange.past c.args.requests.now) (g.Q.Exchange.past c.args.requests.now) in
+    refused_does (JobAnswers job opens starts reads asked) (g.W.Output.past c.args.output.now) c.in-Err.refusal
+    (λ other. job_loads job loading opens starts reads asked _ (unopened_tells opens (JobMakes job starts reads asked) c.in-Err.refusal (c.in-Err.ensures.opened held seen) other))

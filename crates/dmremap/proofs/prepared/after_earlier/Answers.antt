@@ -1,6 +1,5 @@
-use Rattle.std.proofs.Common.{inl, inr, refl}
+use Rattle.dmremap.proofs.Prelude.{inl, inr, refl, delivered_if}
 use Rattle.dm_stream.specs.declared.runs.ending.Ending.TheVariants as endings
-use Rattle.dmremap.specs.Inputs.{delivered_if}
 use Rattle.dmremap.proofs.BegunLemmas.{begun_before, begun_ending, begun_played, begun_state}
 use Rattle.dmremap.proofs.prepared.after_earlier.Goals as goal
 

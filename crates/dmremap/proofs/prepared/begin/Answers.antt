@@ -1,13 +1,11 @@
-use Rattle.std.proofs.Common.{ap, refl}
-use Rattle.dm_table.specs.declared.load.load_fault.LoadFault.{LoadFault}
-use Rattle.dm_map.specs.state.State.{start_state}
+use Rattle.dmremap.proofs.Prelude.{ap, refl, LoadFault, start_state, load_status}
 use Rattle.dmremap.proofs.prepared.begin.Goals as goal
 
 pub returns-in-Ok-clause-begun : goal.returns-in-Ok-clause-begun
 returns-in-Ok-clause-begun c = (start_state c.args.stack.now, refl, refl, c.in-Ok.ensures.state)
 
 pub returns-in-Err-clause-begun : goal.returns-in-Err-clause-begun
-returns-in-Err-clause-begun c = λ other. absurd (other (ap (λ (fault : LoadFault). fault.kind) c.memory.ensures))
+returns-in-Err-clause-begun c = λ other. absurd (other (ap (λ (fault : LoadFault). load_status fault.kind) c.memory.ensures))
 
 pub returns-in-Err-clause-memory : goal.returns-in-Err-clause-memory
-returns-in-Err-clause-memory c = ap (λ (fault : LoadFault). fault.kind) c.memory.ensures
+returns-in-Err-clause-memory c = ap (λ (fault : LoadFault). load_status fault.kind) c.memory.ensures

@@ -1,7 +1,4 @@
-use Rattle.std.proofs.Common.{None, List, Option, Result, ap, inr, subst, sym}
-use Rattle.dm_table.specs.declared.load.load_fault.LoadFault.{LoadFault}
-use Rattle.dm_store.specs.Places.{Place}
-use Rattle.dmremap.specs.StoredStart.{IsBegunAt, start_over}
+use Rattle.dmremap.proofs.Prelude.{None, List, Option, Result, ap, inr, subst, sym, LoadFault, Place, load_status, IsBegunAt, start_over}
 use Rattle.dmremap.proofs.prepared.begin_by.Goals as goal
 
 pub returns-in-Ok-clause-begun : goal.returns-in-Ok-clause-begun
@@ -12,7 +9,7 @@ pub returns-in-Ok-clause-asked : goal.returns-in-Ok-clause-asked
 returns-in-Ok-clause-asked g c = rw (c.in-Some.is) (inr (_, c.in-Ok.ensures.given))
 
 pub returns-in-Err-clause-begun : goal.returns-in-Err-clause-begun
-returns-in-Err-clause-begun g c = λ held seen other. rw (c.in-Some.is) (ap (start_over held c.args.stack.now) (c.in-Err.ensures.refused other))
+returns-in-Err-clause-begun g c = λ held seen other. rw (c.in-Some.is) (ap (start_over held c.args.stack.now) (c.in-Err.ensures.refused (λ memory. other (ap load_status memory))))
 
 pub returns-in-None-clause-begun : goal.returns-in-None-clause-begun
 returns-in-None-clause-begun g c = λ held seen. rw (c.in-None.is) c.begin.ensures.begun

@@ -1,8 +1,4 @@
-use Rattle.std.proofs.Common.{◌≡◌, None, ap, refl, sym, ◌∙◌}
-use Rattle.std.specs.Prelude.{IfErr}
-use Rattle.dm_store.specs.Images.{disk_contents}
-use Rattle.dm_store.specs.Start.{stored_state}
-use Rattle.dmremap.specs.StoredStart.{IsBegunAt, IsOutOfMemory, start_at}
+use Rattle.dmremap.proofs.Prelude.{◌≡◌, None, ap, refl, sym, ◌∙◌, IfErr, disk_contents, stored_state, IsOutOfMemory, IsBegunAt, start_at}
 use Rattle.dmremap.specs.Whole.{Refuses}
 use Rattle.dmremap.proofs.BegunLemmas.{handed_on, out_begun}
 use Rattle.dmremap.proofs.prepared.begin_stored.Goals as goal
@@ -19,4 +15,4 @@ pub returns-in-Ok-clause-begun : goal.returns-in-Ok-clause-begun
 returns-in-Ok-clause-begun g c = λ held seen. (c.read_stores.new.mapper.state, ap (start_at c.args.stack.now) (sym (c.in-Ok.ensures.stored held seen)), refl, refl)
 
 pub returns-clause-begun : goal.returns-clause-begun
-returns-clause-begun g c = λ held seen. ap (start_at c.args.stack.now) (sym (c.in-Err.ensures.stored held seen)) ∙ ap Refuses (sym c.message.ensures)
+returns-clause-begun g c = λ held seen other. ap (start_at c.args.stack.now) (sym (c.in-Err.ensures.stored held seen)) ∙ ap Refuses (sym c.message.ensures)

@@ -1,4 +1,4 @@
-use Rattle.std.proofs.Common.{Ok, ap, option_map, rules, ◌≡◌, ◌∙◌}
+use Rattle.dmremap.proofs.Prelude.{Ok, ap, option_map, rules, ◌≡◌, ◌∙◌}
 use Rattle.dmremap.proofs.PrintLemmas.{name_done}
 use Rattle.dmremap.proofs.printing.print_name.Goals as goal
 

@@ -1,7 +1,4 @@
-use Rattle.std.proofs.Common.{refl, sym, ◌∙◌, subst}
-use Rattle.dm_stack.specs.Report.{IsReport}
-use Rattle.dmremap.specs.Load.{SoundAs}
-use Rattle.dmremap.specs.Printing.{ReportSays}
+use Rattle.dmremap.proofs.Prelude.{refl, sym, ◌∙◌, subst, IsReport, ReportSays}
 use Rattle.dmremap.proofs.PrintLemmas.{says_done}
 use Rattle.dmremap.proofs.printing.print_report.Goals as goal
 
@@ -9,4 +6,4 @@ pub returns-in-Ok : goal.returns-in-Ok
 returns-in-Ok g c =
     let text = c.as_bytes.result.now in
     let is : IsReport c.args.stack.now text = subst (IsReport c.args.stack.now) (sym (c.as_bytes.ensures.value ∙ c.as_str.ensures.value)) c.in-Ok.ensures.text in
-    says_done (ReportSays (SoundAs c.args.stack.now)) text c.print_text.result (text, is, refl) c.print_text.ensures
+    says_done (ReportSays c.args.stack.now) text c.print_text.result (text, is, refl) c.print_text.ensures

@@ -1,4 +1,4 @@
-use Rattle.std.proofs.Common.{rules, ◌≡◌}
+use Rattle.dmremap.proofs.Prelude.{rules, ◌≡◌}
 use Rattle.dmremap.proofs.PrintLemmas.{text_done}
 use Rattle.dmremap.proofs.printing.print_stack.Goals as goal
 

@@ -1,9 +1,5 @@
-use Rattle.std.proofs.Common.{rules, subst}
-use Rattle.dm_table.specs.io.DeviceIo.{delivery, written_since}
-use Rattle.dm_stream.specs.requests.Requests.{requests_of}
+use Rattle.dmremap.proofs.Prelude.{rules, subst, delivery, written_since, requests_of, IsPlayed, HasDone}
 use Rattle.dmremap.specs.declared.exit.Exit.TheVariants as exits
-use Rattle.dmremap.specs.ReplayOutcome.{IsPlayed}
-use Rattle.dmremap.specs.Done.{HasDone}
 use Rattle.dmremap.proofs.ReplayLemmas.{all_played, part_played, stopped_met}
 use Rattle.dmremap.proofs.replay_run.play_requests.Goals as goal
 

@@ -1,12 +1,6 @@
-use Rattle.std.proofs.Common.{ℕ, ◌+◌, ◌-◌, ◌<◌, ◌≡◌, ◌∙◌, List, ◌∷◌, [], true, false, cond, not, codes, length, get_or, take, drop, add-one, arith, refl, ap, sym}
-use Rattle.std.proofs.lemmas.List.Sums.{take_while-cons}
-use Rattle.std.proofs.Math.Seq.{drop-cons, take-length}
-use Rattle.std.specs.Borrow.{Bor}
-use Rattle.std.specs.List.{before_first, list_any}
-use Rattle.std.specs.Str.{bytes_eq}
+use Rattle.dmremap.proofs.Prelude.{ℕ, ◌+◌, ◌-◌, ◌<◌, ◌≡◌, ◌∙◌, List, ◌∷◌, [], true, false, cond, not, codes, length, get_or, take, drop, add-one, arith, refl, ap, sym, take_while-cons, drop-cons, take-length, Bor, before_first, list_any, bytes_eq, lone_hyphen_in}
 use Rattle.clap.specs.Walk.{texts}
 use Rattle.clap.specs.Words.{Text}
-use Rattle.dmremap.specs.Words.{lone_hyphen_in}
 use Rattle.dmremap.proofs.words.has_lone_hyphen.Goals as goal
 
 -- the first word decides, where it is `--` or a hyphen alone

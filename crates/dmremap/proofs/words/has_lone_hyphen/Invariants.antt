@@ -1,6 +1,5 @@
-use Rattle.std.proofs.Common.{◌≡◌, drop}
+use Rattle.dmremap.proofs.Prelude.{◌≡◌, drop, lone_hyphen_in}
 use Rattle.clap.specs.Walk.{texts}
-use Rattle.dmremap.specs.Words.{lone_hyphen_in}
 use Rattle.dmremap.proofs.words.has_lone_hyphen.Given as goal
 
 abbrev pub invariant-loop-word : goal.invariant-loop-word

@@ -1,5 +1,4 @@
-use Rattle.std.proofs.Common.{rules}
-use Rattle.std.proofs.lemmas.Result.{err_from_is_err_and}
+use Rattle.dmremap.proofs.Prelude.{rules, err_from_is_err_and}
 use Rattle.clap.specs.Walk.{texts}
 use Rattle.clap.specs.Words.{app_of}
 use Rattle.dmremap.proofs.CommandLine.{refused, taken}

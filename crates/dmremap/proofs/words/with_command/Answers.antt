@@ -1,4 +1,4 @@
-use Rattle.std.proofs.Common.{rules}
+use Rattle.dmremap.proofs.Prelude.{rules}
 use Rattle.dmremap.proofs.CommandLine.{command_added}
 use Rattle.dmremap.proofs.words.with_command.Goals as goal
 

@@ -1,4 +1,4 @@
-use Rattle.std.proofs.Common.{sym}
+use Rattle.dmremap.proofs.Prelude.{sym}
 use Rattle.dmremap.proofs.CommandLine.{retold}
 use Rattle.dmremap.proofs.words.with_words_listed.Goals as goal
 

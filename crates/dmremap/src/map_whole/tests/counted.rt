@@ -3,7 +3,7 @@
 //! A script says what each call of a fake returns, and the fake counts its calls. A row is a script
 //! and what must come of it.
 
-ghost use Rattle.std.specs.Prelude.{◌≤◌, IfOk};
+ghost use Rattle.dmremap.specs.Prelude.{◌≤◌, IfOk};
 
 use dm_table::{Counted, Input, Output, write_all};
 use std::cell::Cell;

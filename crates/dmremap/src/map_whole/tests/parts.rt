@@ -4,8 +4,7 @@
 //! would meet every clause: these rows refuse it. Read-only devices are tested here, since table
 //! text has none.
 
-ghost use Rattle.std.specs.Prelude.{◌≡◌, ◌<◌, length};
-ghost use Rattle.dm_stack.specs.Description.{disk_len};
+ghost use Rattle.dmremap.specs.Prelude.{◌≡◌, ◌<◌, length, disk_len};
 
 use super::*;
 use dm_map::{Mapper, Piece, PlainTaken, Sink};

@@ -1,5 +1,4 @@
-use Rattle.std.proofs.Common.{◌≡◌, take, fold}
-use Rattle.lvm_head.specs.Sums.{sum_byte}
+use Rattle.lvm_head.proofs.Prelude.{◌≡◌, take, fold, sum_byte}
 use Rattle.lvm_head.proofs.sums.sum_of.Given as goal
 
 abbrev pub invariant-loop-byte : goal.invariant-loop-byte

@@ -1,4 +1,4 @@
-use Rattle.std.proofs.Common.{sym, ◌∙◌, drop, ◌+◌}
+use Rattle.lvm_text.proofs.Prelude.{sym, ◌∙◌, drop, ◌+◌}
 use Rattle.lvm_text.proofs.Building.{item_none}
 use Rattle.lvm_text.proofs.build.item_at.Goals as goal
 

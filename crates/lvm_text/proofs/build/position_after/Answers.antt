@@ -1,5 +1,4 @@
-use Rattle.std.proofs.Common.{sym}
-use Rattle.std.proofs.lemmas.List.{drop-drop}
+use Rattle.lvm_text.proofs.Prelude.{sym, drop-drop}
 use Rattle.lvm_text.proofs.build.position_after.Goals as goal
 
 pub returns-then-at-tokens-clause-rest : goal.returns-then-at-tokens-clause-rest

@@ -1,6 +1,4 @@
-use Rattle.std.proofs.Common.{◌≡◌, ◌≤◌, drop}
-use Rattle.lvm_text.specs.TokenView.{views}
-use Rattle.lvm_text.specs.Checks.{head_line, deep_lines}
+use Rattle.lvm_text.proofs.Prelude.{◌≡◌, ◌≤◌, drop, views, head_line, deep_lines}
 use Rattle.lvm_text.proofs.check.deep_line.Given as goal
 
 abbrev pub invariant-loop-at_line : goal.invariant-loop-at_line

@@ -1,7 +1,5 @@
-use Rattle.std.proofs.Common.{◌≡◌, drop}
+use Rattle.lvm_text.proofs.Prelude.{◌≡◌, drop, token_view, views, head_line, number_lines}
 use Rattle.lvm_text.specs.Token as spec
-use Rattle.lvm_text.specs.TokenView.{token_view, views}
-use Rattle.lvm_text.specs.Checks.{head_line, number_lines}
 use Rattle.lvm_text.proofs.check.number_line.Given as goal
 
 abbrev pub invariant-loop-at_line : goal.invariant-loop-at_line

@@ -1,6 +1,4 @@
-use Rattle.std.proofs.Common.{ap, ◌∙◌, ◌<◌, length, drop, arith, add-one}
-use Rattle.std.proofs.lemmas.List.{drop-drop}
-use Rattle.std.proofs.lemmas.Bool.Decides.{nat_tests}
+use Rattle.lvm_text.proofs.Prelude.{ap, ◌∙◌, ◌<◌, length, drop, arith, add-one, drop-drop, nat_tests}
 use Rattle.lvm_text.proofs.Boundaries.{after_byte, first_of_drop}
 use Rattle.lvm_text.proofs.element.around.Goals as goal
 

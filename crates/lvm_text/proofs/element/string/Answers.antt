@@ -1,6 +1,4 @@
-use Rattle.std.proofs.Common.{sym, ap, ◌∙◌, arith}
-use Rattle.std.proofs.lemmas.Bool.Decides.{nat_tests}
-use Rattle.lvm_text.specs.Scan.{raw_length}
+use Rattle.lvm_text.proofs.Prelude.{sym, ap, ◌∙◌, arith, nat_tests, raw_length}
 use Rattle.lvm_text.proofs.Boundaries.{raw_at}
 use Rattle.lvm_text.proofs.element.string.Goals as goal
 

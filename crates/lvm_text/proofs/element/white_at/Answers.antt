@@ -1,4 +1,4 @@
-use Rattle.std.proofs.Common.{sym, ◌∙◌}
+use Rattle.lvm_text.proofs.Prelude.{sym, ◌∙◌}
 use Rattle.lvm_text.proofs.Elements.{element_white}
 use Rattle.lvm_text.proofs.element.white_at.Goals as goal
 

@@ -1,5 +1,4 @@
-use Rattle.std.proofs.Common.{◌≡◌, drop}
-use Rattle.lvm_text.specs.Positions.{position_of}
+use Rattle.lvm_text.proofs.Prelude.{◌≡◌, drop, position_of}
 use Rattle.lvm_text.proofs.index.position_among.Given as goal
 
 abbrev pub invariant-loop-at : goal.invariant-loop-at

@@ -1,4 +1,4 @@
-use Rattle.std.proofs.Common.{◌∙◌, sym}
+use Rattle.lvm_text.proofs.Prelude.{◌∙◌, sym}
 use Rattle.lvm_text.proofs.KeyPositions.{position_many}
 use Rattle.lvm_text.proofs.index.position_of.Goals as goal
 

@@ -1,5 +1,4 @@
-use Rattle.std.proofs.Common.{sym}
-use Rattle.lvm_text.specs.TokenView.{token_view}
+use Rattle.lvm_text.proofs.Prelude.{sym, token_view}
 use Rattle.lvm_text.proofs.Elements.{comment_newlines, token_newlines}
 use Rattle.lvm_text.proofs.lexer.newlines.Goals as goal
 

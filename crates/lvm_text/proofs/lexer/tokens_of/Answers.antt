@@ -1,7 +1,4 @@
-use Rattle.std.proofs.Common.{rules, sym, ◌∙◌, ap, refl, arith}
-use Rattle.std.proofs.lemmas.List.{append-nil}
-use Rattle.lvm_text.specs.Spelling.{is_end}
-use Rattle.lvm_text.specs.TokenView.{views, element_view}
+use Rattle.lvm_text.proofs.Prelude.{rules, sym, ◌∙◌, ap, refl, arith, append-nil, is_end, views, element_view}
 use Rattle.lvm_text.proofs.Cuts.{bad_here}
 use Rattle.lvm_text.proofs.Elements.{begins, reached_more}
 use Rattle.lvm_text.proofs.lexer.tokens_of.Goals as goal

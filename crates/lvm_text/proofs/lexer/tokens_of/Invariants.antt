@@ -1,7 +1,6 @@
 use denote.Text.{Utf8}
 use denote.Shadow.{shadow}
-use Rattle.std.proofs.Common.{◌≤◌, length}
-use Rattle.lvm_text.specs.TokenView.{views}
+use Rattle.lvm_text.proofs.Prelude.{◌≤◌, length, views}
 use Rattle.lvm_text.proofs.Elements.{Reached}
 use Rattle.lvm_text.proofs.lexer.tokens_of.Given as goal
 

@@ -1,4 +1,4 @@
-use Rattle.std.proofs.Common.{arith, ◌+◌}
+use Rattle.lvm_text.proofs.Prelude.{arith, ◌+◌}
 use Rattle.lvm_text.proofs.Digits.{value_more, value_fits}
 use Rattle.lvm_text.proofs.number.value_of.Goals as goal
 

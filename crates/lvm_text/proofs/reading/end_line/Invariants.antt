@@ -1,5 +1,4 @@
-use Rattle.std.proofs.Common.{◌≡◌, ◌≤◌, ◌+◌, drop}
-use Rattle.lvm_text.specs.Spelling.{newlines}
+use Rattle.lvm_text.proofs.Prelude.{◌≡◌, ◌≤◌, ◌+◌, drop, newlines}
 use Rattle.lvm_text.proofs.reading.end_line.Given as goal
 
 abbrev pub invariant-loop-byte : goal.invariant-loop-byte

@@ -1,5 +1,4 @@
-use Rattle.std.proofs.Common.{sym, ◌∙◌}
-use Rattle.lvm_text.specs.TokenView.{views}
+use Rattle.lvm_text.proofs.Prelude.{sym, ◌∙◌, views}
 use Rattle.lvm_text.proofs.Trees.{tree_accepted, tree_fault}
 use Rattle.lvm_text.proofs.reading.read.Goals as goal
 

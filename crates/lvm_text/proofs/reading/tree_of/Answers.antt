@@ -1,6 +1,4 @@
-use Rattle.std.proofs.Common.{drop}
-use Rattle.std.proofs.lemmas.Result.{err_from_is_err_and}
-use Rattle.lvm_text.specs.TokenView.{views}
+use Rattle.lvm_text.proofs.Prelude.{drop, err_from_is_err_and, views}
 use Rattle.lvm_text.proofs.Trees.{tree_twice, tree_read}
 use Rattle.lvm_text.proofs.reading.tree_of.Goals as goal
 

@@ -1,4 +1,4 @@
-use Rattle.std.proofs.Common.{sym, ◌∙◌, ◌+◌, arith}
+use Rattle.lvm_text.proofs.Prelude.{sym, ◌∙◌, ◌+◌, arith}
 use Rattle.lvm_text.proofs.Searches.{plus_zero, stop_at, quote_at, stopped_at, escape_at, ended_at}
 use Rattle.lvm_text.proofs.scan.raw_length.Goals as goal
 

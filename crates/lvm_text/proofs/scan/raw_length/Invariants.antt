@@ -1,5 +1,4 @@
-use Rattle.std.proofs.Common.{◌≡◌, ◌-◌, ◌≤◌, drop, length}
-use Rattle.lvm_text.specs.Scan.{raw_length}
+use Rattle.lvm_text.proofs.Prelude.{◌≡◌, ◌-◌, ◌≤◌, drop, length, raw_length}
 use Rattle.lvm_text.proofs.Searches.{plus}
 use Rattle.lvm_text.proofs.scan.raw_length.Given as goal
 

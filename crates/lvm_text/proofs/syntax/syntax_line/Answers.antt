@@ -1,4 +1,4 @@
-use Rattle.std.proofs.Common.{sym, arith}
+use Rattle.lvm_text.proofs.Prelude.{sym, arith}
 use Rattle.lvm_text.proofs.Steps.{refused, stepped, unended}
 use Rattle.lvm_text.proofs.syntax.syntax_line.Goals as goal
 

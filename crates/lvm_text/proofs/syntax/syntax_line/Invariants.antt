@@ -1,7 +1,4 @@
-use Rattle.std.proofs.Common.{◌≡◌, ◌≤◌, take, Some}
-use Rattle.lvm_text.specs.Machine.{run}
-use Rattle.lvm_text.specs.TokenView.{views}
-use Rattle.lvm_text.specs.declared.syntax.Stage.TheVariants.{Key}
+use Rattle.lvm_text.proofs.Prelude.{◌≡◌, ◌≤◌, take, Some, run, views, Key}
 use Rattle.lvm_text.proofs.syntax.syntax_line.Given as goal
 
 abbrev pub invariant-loop-at_line : goal.invariant-loop-at_line

@@ -1,5 +1,4 @@
-use Rattle.std.proofs.Common.{◌∙◌}
-use Rattle.std.specs.Prelude.{option_map}
+use Rattle.lvm_volume.proofs.Prelude.{◌∙◌, option_map}
 use Rattle.lvm_volume.proofs.Splits.{fault_built, layer_letters, form_is_long}
 use Rattle.lvm_volume.proofs.names.build_name.Goals as goal
 

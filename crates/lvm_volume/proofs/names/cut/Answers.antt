@@ -1,7 +1,5 @@
-use Rattle.std.proofs.Common.{◌≡◌, ◌≤◌, ◌∙◌, ap, ℕ, List, drop, length, get_or, arith}
+use Rattle.lvm_volume.proofs.Prelude.{◌≡◌, ◌≤◌, ◌∙◌, ap, ℕ, List, drop, length, get_or, arith, code, slice_length, after_hyphen}
 use Rattle.std.proofs.lemmas.Str.Pattern.{strip_prefix_char}
-use Rattle.dm_table.specs.words.Bytes.{code}
-use Rattle.lvm_volume.specs.Cuts.{slice_length, after_hyphen}
 use Rattle.lvm_volume.proofs.Splits.{length_within, hyphen_at, after_is}
 use Rattle.lvm_volume.proofs.names.cut.Goals as goal
 

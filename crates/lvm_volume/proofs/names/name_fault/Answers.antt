@@ -1,5 +1,4 @@
-use Rattle.std.proofs.Common.{arith}
-use Rattle.lvm_volume.specs.Names.{name_parts}
+use Rattle.lvm_volume.proofs.Prelude.{arith, name_parts}
 use Rattle.lvm_volume.proofs.NameLengths.{length_joined}
 use Rattle.lvm_volume.proofs.Splits.{fault_first, too_long}
 use Rattle.lvm_volume.proofs.names.name_fault.Goals as goal

@@ -1,7 +1,4 @@
-use Rattle.std.proofs.Common.{◌∙◌, ap, arith}
-use Rattle.std.specs.List.{list_all}
-use Rattle.std.specs.String.{string_bytes}
-use Rattle.lvm_volume.specs.Names.{is_letter}
+use Rattle.lvm_volume.proofs.Prelude.{◌∙◌, ap, arith, list_all, string_bytes, is_letter}
 use Rattle.lvm_volume.proofs.Splits.{push_hyphen, push_plain, letter_at}
 use Rattle.lvm_volume.proofs.names.push_doubled.Goals as goal
 use Rattle.lvm_volume.proofs.names.push_doubled.Goals.{then-byte-eq45+in_ok-push-2, else-byte-eq45}

@@ -1,6 +1,4 @@
-use Rattle.std.proofs.Common.{◌≡◌, ◌++◌, take}
-use Rattle.std.specs.String.{string_bytes}
-use Rattle.lvm_volume.specs.Names.{doubled}
+use Rattle.lvm_volume.proofs.Prelude.{◌≡◌, ◌++◌, take, string_bytes, doubled}
 use Rattle.lvm_volume.proofs.names.push_doubled.Given as goal
 
 abbrev pub invariant-loop-byte : goal.invariant-loop-byte

@@ -1,4 +1,4 @@
-use Rattle.std.proofs.Common.{arith}
+use Rattle.lvm_volume.proofs.Prelude.{arith}
 use Rattle.lvm_volume.proofs.Splits.{length_plain}
 use Rattle.lvm_volume.proofs.names.slice_length.Goals as goal
 

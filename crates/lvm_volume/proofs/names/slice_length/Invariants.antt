@@ -1,5 +1,4 @@
-use Rattle.std.proofs.Common.{◌≡◌, ◌+◌, ◌-◌, ◌≤◌, length, drop}
-use Rattle.lvm_volume.specs.Cuts.{slice_length}
+use Rattle.lvm_volume.proofs.Prelude.{◌≡◌, ◌+◌, ◌-◌, ◌≤◌, length, drop, slice_length}
 use Rattle.lvm_volume.proofs.names.slice_length.Given as goal
 
 abbrev pub invariant-loop-at : goal.invariant-loop-at

@@ -1,5 +1,4 @@
-use Rattle.std.proofs.Common.{ap, ◌∙◌}
-use Rattle.lvm_volume.specs.Names.{spaced, undoubled_parts}
+use Rattle.lvm_volume.proofs.Prelude.{ap, ◌∙◌, spaced, undoubled_parts}
 use Rattle.lvm_volume.proofs.Splits.{parts_back}
 use Rattle.lvm_volume.proofs.names.spaced_parts.Goals as goal
 

@@ -1,6 +1,4 @@
-use Rattle.std.proofs.Common.{◌≡◌, ◌∙◌, arith, Bool, true, false, Option, Some, None, refl}
-use Rattle.std.specs.Prelude.{not, is_some, is_none}
-use Rattle.lvm_volume.specs.Names.{parts_view}
+use Rattle.lvm_volume.proofs.Prelude.{◌≡◌, ◌∙◌, arith, Bool, true, false, Option, Some, None, refl, not, is_some, is_none, parts_view}
 use Rattle.lvm_volume.proofs.Splits.{one_split, none_sliced, none_faulty, none_long, some_split}
 use Rattle.lvm_volume.proofs.names.split_name.Goals as goal
 use Rattle.lvm_volume.proofs.names.split_name.Goals.{else-name-le127-via-then-name-le127+else-is_none, else-name-le127-via-else-name-le127}

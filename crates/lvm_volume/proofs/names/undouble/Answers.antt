@@ -1,6 +1,4 @@
-use Rattle.std.proofs.Common.{rules, ◌∙◌, ap, arith}
-use Rattle.std.specs.String.{string_bytes}
-use Rattle.lvm_volume.specs.Names.{undoubled}
+use Rattle.lvm_volume.proofs.Prelude.{rules, ◌∙◌, ap, arith, string_bytes, undoubled}
 use Rattle.lvm_volume.proofs.Splits.{undoubled_none, undoubled_step, undoubled_joined, undoubled-doubled}
 use Rattle.lvm_volume.proofs.names.undouble.Goals as goal
 

@@ -1,6 +1,4 @@
-use Rattle.std.proofs.Common.{◌≡◌, ◌++◌, length}
-use Rattle.std.specs.String.{string_bytes}
-use Rattle.lvm_volume.specs.Names.{undoubled}
+use Rattle.lvm_volume.proofs.Prelude.{◌≡◌, ◌++◌, length, string_bytes, undoubled}
 use Rattle.lvm_volume.proofs.names.undouble.Given as goal
 use denote.Shadow.{shadow}
 use denote.Text.{Utf8}

@@ -1,7 +1,4 @@
-use Rattle.std.proofs.Common.{◌≡◌, Result}
-use Rattle.lvm_volume.specs.group.OwnersCode.{owners_view}
-use Rattle.lvm_volume.specs.declared.owned_metadata.OwnedFault.{OwnedFault}
-use Rattle.lvm_volume.specs.OwnedMetadata.{Gives, OfTree, Tables, owned_tables}
+use Rattle.lvm_volume.proofs.Prelude.{◌≡◌, Result, owners_view, OwnedFault, Gives, OfTree, Tables, owned_tables}
 use Rattle.lvm_volume.proofs.OwnedLemmas.{answers_by, gives_one_thing, said_text}
 use Rattle.lvm_volume.proofs.owned_metadata.parse_owned.Goals as goal
 

@@ -1,12 +1,7 @@
-use Rattle.std.proofs.Common.{◌≡◌, ◌∙◌, List, [], None, ap, sym}
-use Rattle.dm_table.specs.load.LoadFault.{first_or}
-use Rattle.lvm_volume.specs.declared.group.volume.Volume.{Volume}
-use Rattle.lvm_volume.specs.checks.Extents.{size_faults, snapshot_faults_in, unknown_faults, volume_faults}
-use Rattle.lvm_volume.specs.group.Group.{Group}
-use Rattle.lvm_volume.specs.tables.Tables.{extent_faults}
+use Rattle.lvm_volume.proofs.Prelude.{◌≡◌, ◌∙◌, List, [], None, ap, sym, first_or, Volume, size_faults, snapshot_faults_in, unknown_faults, Group, extent_faults, first_or-passed}
+use Rattle.lvm_volume.specs.checks.Extents.{volume_faults}
 use Rattle.lvm_volume.proofs.fields.Faults.{first_after}
 use Rattle.lvm_volume.proofs.volume_group.check_parts.Goals as goal
-use Rattle.dm_table.proofs.FaultLemmas.{first_or-passed}
 
 pub returns : goal.returns
 returns c = λ name.

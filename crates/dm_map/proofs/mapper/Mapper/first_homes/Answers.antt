@@ -1,6 +1,4 @@
-use Rattle.std.proofs.Common.{arith}
-use Rattle.dm_stack.specs.declared.id.Lower.TheVariants.{Disk}
-use Rattle.dm_stack.proofs.InStack.{lower_small}
+use Rattle.dm_map.proofs.Prelude.{arith, Disk, lower_small}
 use Rattle.dm_map.proofs.mapper.Mapper.first_homes.Goals as goal
 
 pub returns-clause-near : goal.returns-clause-near

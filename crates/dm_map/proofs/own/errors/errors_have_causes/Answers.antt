@@ -1,5 +1,4 @@
-use Rattle.dm_stack.specs.declared.id.Lower.TheVariants.{Device}
-use Rattle.dm_map.specs.own.Ways.{node}
+use Rattle.dm_map.proofs.Prelude.{Device, node}
 use Rattle.dm_map.proofs.own.ErrorReads.{error_met, meets_error}
 use Rattle.dm_map.proofs.own.KeptRequests.{past_fits}
 use Rattle.dm_map.proofs.own.LostSnapshots.{request_gone, request_loses, request_lost, request_whole, write_loses}

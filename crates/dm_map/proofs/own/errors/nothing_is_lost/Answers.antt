@@ -1,4 +1,4 @@
-use Rattle.dm_stack.specs.declared.id.Lower.TheVariants.{Device}
+use Rattle.dm_map.proofs.Prelude.{Device}
 use Rattle.dm_map.proofs.own.NeverLost.{halted_exact, never_fails, past_intact, request_exact, start_exact, start_intact}
 use Rattle.dm_map.proofs.own.errors.nothing_is_lost.Goals as goal
 

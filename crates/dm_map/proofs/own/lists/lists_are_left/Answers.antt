@@ -1,4 +1,4 @@
-use Rattle.dm_stack.specs.declared.id.Lower.TheVariants.{Device}
+use Rattle.dm_map.proofs.Prelude.{Device}
 use Rattle.dm_map.proofs.own.CutLemmas.{list_spare, spare_unread}
 use Rattle.dm_map.proofs.own.ListLemmas.{halted_off, request_off}
 use Rattle.dm_map.proofs.own.UniqueSteps.{top_root}

@@ -1,4 +1,4 @@
-use Rattle.std.proofs.Common.{sym, arith}
+use Rattle.dm_map.proofs.Prelude.{sym, arith}
 use Rattle.dm_map.proofs.state.Numbers.{number_here, number_later}
 use Rattle.dm_map.proofs.state.plain_taken.number_of.Goals as goal
 

@@ -1,5 +1,4 @@
-use Rattle.std.proofs.Common.{length, ◌-◌, ◌≡◌, ◌≤◌, None, take}
-use Rattle.dm_map.specs.state.Snapshots.{number_in}
+use Rattle.dm_map.proofs.Prelude.{length, ◌-◌, ◌≡◌, ◌≤◌, None, take, number_in}
 use Rattle.dm_map.proofs.state.plain_taken.number_of.Given as goal
 
 abbrev pub invariant-loop-number : goal.invariant-loop-number

@@ -1,8 +1,4 @@
-use Rattle.std.proofs.Common.{◌≡◌, ◌+◌, ◌-◌, ◌<◌, ap, length, arith, rules}
-use Rattle.std.proofs.lemmas.List.{get_or_read, length-set}
-use Rattle.std.proofs.lemmas.List.Edits.{length-insert}
-use Rattle.dm_map.specs.declared.state.run_taken.run.Run.{Run}
-use Rattle.dm_map.specs.state.Runs.{AreBegunBy, no_run, run_at}
+use Rattle.dm_map.proofs.Prelude.{◌≡◌, ◌+◌, ◌-◌, ◌<◌, ap, length, arith, rules, get_or_read, length-set, length-insert, Run, AreBegunBy, no_run, run_at}
 use Rattle.dm_map.proofs.state.GrowLemmas.{takes_new, takes_next}
 use Rattle.dm_map.proofs.state.run_taken.take_next.Goals.{After-index_mut}
 use Rattle.dm_map.proofs.state.run_taken.take_next.Goals as goal

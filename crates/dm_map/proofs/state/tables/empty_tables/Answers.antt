@@ -1,9 +1,4 @@
-use Rattle.std.proofs.Common.{◌≡◌, ℕ, ◌<◌, List, get_or, length, refl, ◌∙◌, arith}
-use Rattle.std.proofs.lemmas.List.{length-set}
-use Rattle.dm_stack.specs.Description.{Description}
-use Rattle.dm_stack.specs.checks.Snapshots.{snapshots}
-use Rattle.std.specs.Prelude.{nat_lt}
-use Rattle.dm_map.specs.state.Tables.{has_room}
+use Rattle.dm_map.proofs.Prelude.{◌≡◌, ℕ, ◌<◌, List, get_or, length, refl, ◌∙◌, arith, length-set, nat_lt, Description, snapshots, has_room}
 use Rattle.dm_map.proofs.state.TableLemmas.{first_rooms, next_rooms, snapshot_there, state_new}
 use Rattle.dm_map.proofs.state.tables.empty_tables.Goals as goal
 

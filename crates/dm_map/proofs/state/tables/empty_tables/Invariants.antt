@@ -1,9 +1,4 @@
-use Rattle.std.proofs.Common.{◌≡◌, ℕ, ◌+◌, ◌≤◌, Some, false, drop, length, nat_eq}
-use Rattle.std.specs.List.{list_any}
-use Rattle.std.specs.Prelude.{nat_lt, slice_get}
-use Rattle.dm_stack.specs.checks.Snapshots.{snapshots}
-use Rattle.dm_map.specs.state.State.{start_state}
-use Rattle.dm_map.specs.state.Tables.{has_room, state_of}
+use Rattle.dm_map.proofs.Prelude.{◌≡◌, ℕ, ◌+◌, ◌≤◌, Some, false, drop, length, nat_eq, list_any, nat_lt, slice_get, snapshots, start_state, has_room, state_of}
 use Rattle.dm_map.proofs.state.tables.empty_tables.Given as goal
 
 abbrev pub invariant-loop-next : goal.invariant-loop-next

@@ -1,8 +1,4 @@
-use Rattle.std.proofs.Common.{◌≡◌, sym, ◌∙◌, arith}
-use Rattle.std.proofs.lemmas.Bool.{le-ltb}
-use Rattle.dm_stack.specs.Description.{device_len, lower_len}
-use Rattle.dm_stack.proofs.SameLine.{found_of}
-use Rattle.dm_stack.proofs.SoundLines.{device_some}
+use Rattle.dm_map.proofs.Prelude.{◌≡◌, sym, ◌∙◌, arith, le-ltb, device_len, lower_len, found_of, device_some}
 use Rattle.dm_map.proofs.state.TableLemmas.{other_room, snapshot_room, store_some}
 use Rattle.dm_map.proofs.state.tables.room_of.Goals as goal
 

@@ -1,7 +1,4 @@
-use Rattle.std.proofs.Common.{◌≡◌, ◌∷◌, [], ◌∙◌, length-append}
-use Rattle.std.proofs.lemmas.List.{replicate-append-replicate}
-use Rattle.std.proofs.lemmas.List.Elements.{All-push}
-use Rattle.dm_map.specs.state.State.{none_taken}
+use Rattle.dm_map.proofs.Prelude.{◌≡◌, ◌∷◌, [], ◌∙◌, length-append, replicate-append-replicate, All-push, none_taken}
 use Rattle.dm_map.proofs.state.TableLemmas.{state_push}
 use Rattle.dm_map.proofs.state.tables.tables_without_places.Goals as goal
 

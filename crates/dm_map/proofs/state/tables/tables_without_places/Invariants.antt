@@ -1,7 +1,4 @@
-use Rattle.std.proofs.Common.{◌≡◌, length, replicate}
-use Rattle.std.specs.List.{All}
-use Rattle.dm_map.specs.state.State.{none_taken}
-use Rattle.dm_map.specs.state.Tables.{state_of}
+use Rattle.dm_map.proofs.Prelude.{◌≡◌, length, replicate, All, none_taken, state_of}
 use Rattle.dm_map.proofs.state.tables.tables_without_places.Given as goal
 
 abbrev pub invariant-loop-device : goal.invariant-loop-device

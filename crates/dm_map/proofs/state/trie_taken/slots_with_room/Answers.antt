@@ -1,6 +1,4 @@
-use Rattle.std.proofs.Common.{ap, length, arith}
-use Rattle.std.proofs.lemmas.List.{length-replicate}
-use Rattle.dm_map.specs.declared.state.trie_taken.link.Node.TheVariants.{Empty}
+use Rattle.dm_map.proofs.Prelude.{ap, length, arith, length-replicate, Empty}
 use Rattle.dm_map.proofs.state.trie_taken.slots_with_room.Goals as goal
 
 pub push_reserved-requires : goal.push_reserved-requires

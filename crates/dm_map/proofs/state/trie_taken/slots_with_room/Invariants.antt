@@ -1,5 +1,4 @@
-use Rattle.std.proofs.Common.{◌≡◌, ◌≤◌, replicate, vec_capacity}
-use Rattle.dm_map.specs.declared.state.trie_taken.link.Node.TheVariants.{Empty}
+use Rattle.dm_map.proofs.Prelude.{◌≡◌, ◌≤◌, replicate, vec_capacity, Empty}
 use Rattle.dm_map.proofs.state.trie_taken.slots_with_room.Given as goal
 
 abbrev pub invariant-loop-slot : goal.invariant-loop-slot

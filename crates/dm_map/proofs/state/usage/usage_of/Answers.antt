@@ -1,14 +1,5 @@
-use Rattle.std.proofs.Common.{◌≡◌, ℕ, ◌+◌, ◌*◌, ◌<◌, ◌≤◌, true, Some, sym, refl, subst, arith}
-use Rattle.dm_stack.specs.lines.Below.{IsSnapshotSound}
-use Rattle.dm_stack.specs.Description.{lower_len}
-use Rattle.dm_stack.specs.lines.StoreLayout.{place}
-use Rattle.dm_stack.proofs.SameLine.{found_of}
-use Rattle.dm_stack.proofs.SoundLines.{device_some}
-use Rattle.dm_stack.proofs.StoreLayoutLemmas.{allocated_small}
-use Rattle.dm_map.specs.state.Tables.{has_room, snapshot_at}
-use Rattle.dm_map.specs.state.Walker.{StackState}
+use Rattle.dm_map.proofs.Prelude.{◌≡◌, ℕ, ◌+◌, ◌*◌, ◌<◌, ◌≤◌, true, Some, sym, refl, subst, arith, IsSnapshotSound, lower_len, place, found_of, device_some, allocated_small, has_room, snapshot_at, StackState, lower_small}
 use Rattle.dm_map.proofs.state.TableLemmas.{room_place, store_some}
-use Rattle.dm_stack.proofs.InStack.{lower_small}
 use Rattle.dm_map.proofs.state.usage.usage_of.Goals as goal
 
 pub look-line-requires-clause-sector : goal.look-line-requires-clause-sector

@@ -1,7 +1,6 @@
-use Rattle.std.proofs.Common.{sym, ◌∙◌, arith}
+use Rattle.dm_map.proofs.Prelude.{sym, ◌∙◌, arith, lower_small}
 use Rattle.dm_map.proofs.walk.Chunks.{read_store, read_origin}
 use Rattle.dm_map.proofs.state.TableLemmas.{room_place}
-use Rattle.dm_stack.proofs.InStack.{lower_small}
 use Rattle.dm_map.proofs.walk.chunk.source_of.Goals as goal
 
 pub store_sector-requires : goal.store_sector-requires

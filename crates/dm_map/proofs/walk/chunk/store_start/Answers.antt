@@ -1,6 +1,4 @@
-use Rattle.std.proofs.Common.{◌≡◌, ◌+◌, ◌*◌, arith}
-use Rattle.dm_stack.specs.lines.StoreLayout.{place}
-use Rattle.dm_stack.proofs.StoreLayoutLemmas.{place_within}
+use Rattle.dm_map.proofs.Prelude.{◌≡◌, ◌+◌, ◌*◌, arith, place, place_within}
 use Rattle.dm_map.proofs.walk.chunk.store_start.Goals as goal
 
 pub place-requires : goal.place-requires

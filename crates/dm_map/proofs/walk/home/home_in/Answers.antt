@@ -1,9 +1,5 @@
-use Rattle.std.proofs.Common.{◌-◌, ℕ, ap, subst, ◌∙◌, arith}
-use Rattle.dm_stack.specs.declared.id.Lower.{Lower}
-use Rattle.dm_stack.specs.declared.id.Lower.TheVariants.{Disk}
-use Rattle.dm_stack.specs.declared.lines.leg.Beneath.{Beneath}
+use Rattle.dm_map.proofs.Prelude.{◌-◌, ℕ, ap, subst, ◌∙◌, arith, Lower, Disk, Beneath, IsLegOf}
 use Rattle.dm_stack.specs.declared.lines.leg.Beneath.TheVariants.{Lies}
-use Rattle.dm_map.specs.walk.Range.{IsLegOf}
 use Rattle.dm_map.proofs.walk.LineRanges.{leg_of, line_sectors}
 use Rattle.dm_map.proofs.walk.home.home_in.Goals as goal
 

@@ -1,7 +1,4 @@
-use Rattle.std.proofs.Common.{ap, ◌∙◌, subst, arith}
-use Rattle.dm_map.specs.walk.Homes.{home}
-use Rattle.dm_map.specs.walk.Stretch.{ground_unit, IsGroundInStack}
-use Rattle.dm_map.specs.pieces.Units.{units_in}
+use Rattle.dm_map.proofs.Prelude.{ap, ◌∙◌, subst, arith, home, ground_unit, IsGroundInStack, units_in}
 use Rattle.dm_map.proofs.walk.Stores.{not_on_disk, store_row}
 use Rattle.dm_map.proofs.walk.UnitRows.{first_reads, homes_go_on}
 use Rattle.dm_map.proofs.walk.homes.first_homes.Goals as goal

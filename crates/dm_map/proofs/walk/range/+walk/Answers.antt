@@ -1,27 +1,4 @@
-use Rattle.std.specs.Prelude.{Result}
-use Rattle.std.proofs.Common.{rules, ◌≡◌, ℕ, ◌+◌, ◌-◌, ◌≤◌, Some, refl, sym, ap, subst, ◌∙◌, arith}
-use Rattle.dm_table.specs.declared.requests.request.Op.{Op}
-use Rattle.dm_table.specs.declared.requests.request.Op.TheVariants.{Read}
-use Rattle.dm_stack.specs.declared.lines.resolved_line.ResolvedLine.{ResolvedLine}
-use Rattle.dm_stack.specs.declared.lines.resolved_line.ResolvedSnapshot.{ResolvedSnapshot}
-use Rattle.dm_stack.specs.declared.lines.resolved_line.ResolvedTarget.{ResolvedTarget}
-use Rattle.dm_stack.specs.declared.lines.resolved_line.ResolvedTarget.TheVariants.{Snapshot, Origin}
-use Rattle.dm_stack.specs.declared.lines.leg.Beneath.{Beneath}
-use Rattle.dm_stack.specs.lines.Leg.{AreInside, LegsView}
-use Rattle.dm_stack.specs.declared.id.Lower.TheVariants.{Device}
-use Rattle.dm_stack.specs.lines.Below.{IsLineOf, IsOriginSound, IsSnapshotSound, IsTargetSound, found_at}
-use Rattle.dm_stack.specs.Description.{Description, lower_len}
-use Rattle.dm_map.specs.walk.Bound.{IsMapped, origin_mapping, range_mapping, target_mapping}
-use Rattle.dm_map.specs.state.Snapshots.{read_over}
-use Rattle.dm_map.specs.state.State.{taken_at}
-use Rattle.dm_map.specs.declared.walk.chunk.ReadAt.{ReadAt}
-use Rattle.dm_map.specs.pieces.Sink.{SinkPast}
-use Rattle.dm_map.specs.state.Tables.{snapshot_at}
-use Rattle.dm_map.specs.state.Walker.{StackState, WalkerView, stack_state}
-use Rattle.dm_map.specs.walk.Chunk.{AreReadAt}
-use Rattle.dm_map.specs.walk.Range.{line_step, origin_step, range_step, AreAsked, AreAskedOfOrigin, AreAskedOfSnapshot, HasRoomFor, IsAtLine, IsLegOf}
-use Rattle.dm_stack.proofs.InStack.{device_there, lower_small}
-use Rattle.dm_stack.proofs.StripeLemmas.{other_chunk}
+use Rattle.dm_map.proofs.Prelude.{Result, rules, ◌≡◌, ℕ, ◌+◌, ◌-◌, ◌≤◌, Some, refl, sym, ap, subst, ◌∙◌, arith, Op, Read, ResolvedLine, ResolvedSnapshot, ResolvedTarget, Snapshot, Origin, Beneath, Device, AreInside, LegsView, IsLineOf, IsOriginSound, IsSnapshotSound, IsTargetSound, found_at, Description, lower_len, IsMapped, origin_mapping, range_mapping, target_mapping, read_over, taken_at, ReadAt, SinkPast, snapshot_at, StackState, WalkerView, stack_state, AreReadAt, line_step, origin_step, range_step, AreAsked, AreAskedOfOrigin, AreAskedOfSnapshot, HasRoomFor, IsAtLine, IsLegOf, device_there, lower_small, other_chunk}
 use Rattle.dm_map.proofs.state.ResolvedLines.{first_line}
 use Rattle.dm_map.proofs.walk.Bounds.{lines_apart, mapped_below, mapped_line, mapped_target, parts_apart}
 use Rattle.dm_map.proofs.walk.Chunks.{chunk_read, in_snapshot, lost_read, read_on, write_line_step}

@@ -1,11 +1,4 @@
-use Rattle.std.proofs.Common.{◌≡◌, ◌+◌, ◌-◌, ◌*◌, ◌/◌, ◌<◌, ◌≤◌, false}
-use Rattle.std.specs.Prelude.{◌==◌}
-use Rattle.dm_table.specs.declared.requests.request.Op.TheVariants.{Read, Write}
-use Rattle.dm_stack.specs.declared.lines.resolved_line.ResolvedTarget.TheVariants.{Snapshot}
-use Rattle.dm_stack.specs.declared.id.Lower.TheVariants.{Device}
-use Rattle.dm_stack.specs.lines.Below.{IsLineOf}
-use Rattle.dm_map.specs.walk.Bound.{origin_mapping, range_mapping, target_mapping}
-use Rattle.dm_map.specs.walk.Chunk.{AreReadAt}
+use Rattle.dm_map.proofs.Prelude.{◌≡◌, ◌+◌, ◌-◌, ◌*◌, ◌/◌, ◌<◌, ◌≤◌, false, ◌==◌, Read, Write, Snapshot, Device, IsLineOf, origin_mapping, range_mapping, target_mapping, AreReadAt}
 use Rattle.dm_map.proofs.walk.WalkedOn.{IsMappedTo}
 use Rattle.dm_map.proofs.walk.range.+walk.Given as goal
 

@@ -1,14 +1,5 @@
-use Rattle.std.proofs.Common.{◌≡◌, ◌-◌, false, refl, sym, ap, subst, ◌∙◌, arith}
-use Rattle.dm_stack.specs.declared.lines.resolved_line.ResolvedTarget.{ResolvedTarget}
-use Rattle.dm_stack.specs.declared.lines.resolved_line.ResolvedTarget.TheVariants.{Snapshot}
+use Rattle.dm_map.proofs.Prelude.{◌≡◌, ◌-◌, false, refl, sym, ap, subst, ◌∙◌, arith, ResolvedTarget, Snapshot, Device, Description, IsLineOf, IsSnapshotSound, IsTargetSound, device_there, StackState, range_mapping, AreAsked, HasRoomFor, IsAtLine, refuses}
 use Rattle.dm_stack.specs.declared.checks.graph.TheConstants.{MOST_DEPTH}
-use Rattle.dm_stack.specs.declared.id.Lower.TheVariants.{Device}
-use Rattle.dm_stack.specs.Description.{Description}
-use Rattle.dm_stack.specs.lines.Below.{IsLineOf, IsSnapshotSound, IsTargetSound}
-use Rattle.dm_stack.proofs.InStack.{device_there}
-use Rattle.dm_map.specs.state.Walker.{StackState}
-use Rattle.dm_map.specs.walk.Bound.{range_mapping}
-use Rattle.dm_map.specs.walk.Range.{AreAsked, HasRoomFor, IsAtLine, refuses}
 use Rattle.dm_map.proofs.walk.Bounds.{mapped_line, mapped_target}
 use Rattle.dm_map.proofs.walk.HomeLemmas.{home_mapped, mapped_over}
 use Rattle.dm_map.proofs.walk.Ranges.{range_refused}

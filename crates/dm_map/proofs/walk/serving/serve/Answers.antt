@@ -1,9 +1,4 @@
-use Rattle.std.proofs.Common.{◌≡◌, ◌+◌, List, take, sym, ap, subst, ◌∙◌, arith}
-use Rattle.std.proofs.lemmas.List.{take_all}
-use Rattle.std.proofs.lemmas.List.Elements.{recursion_from_All}
-use Rattle.dm_stack.specs.declared.lines.resolved_line.ResolvedOver.{ResolvedOver}
-use Rattle.dm_map.specs.walk.Serving.{AreSettled, IsOver, serve}
-use Rattle.dm_map.specs.state.State.{State}
+use Rattle.dm_map.proofs.Prelude.{◌≡◌, ◌+◌, List, take, sym, ap, subst, ◌∙◌, arith, take_all, recursion_from_All, ResolvedOver, AreSettled, IsOver, serve, State}
 use Rattle.dm_map.proofs.walk.Served.{chunk_there, over_at, over_there, serve_settled, served_cut, served_on}
 use Rattle.dm_map.proofs.walk.WalkedOn.{walked_none}
 use Rattle.dm_map.proofs.walk.serving.serve.Goals as goal

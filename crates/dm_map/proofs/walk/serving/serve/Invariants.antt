@@ -1,7 +1,5 @@
 -- those so far are served
-use Rattle.std.proofs.Common.{take}
-use Rattle.dm_map.specs.walk.Serving.{serve}
-use Rattle.dm_map.specs.walk.Range.{IsWalked}
+use Rattle.dm_map.proofs.Prelude.{take, serve, IsWalked}
 use Rattle.dm_map.proofs.walk.WalkedOn.{going_on}
 use Rattle.dm_map.proofs.walk.serving.serve.Given as goal
 

@@ -1,8 +1,5 @@
-use Rattle.std.proofs.Common.{◌+◌, refl, sym, ◌∙◌, arith}
-use Rattle.std.proofs.lemmas.Bool.{both_ways}
-use Rattle.dm_map.specs.state.State.{taken_at}
+use Rattle.dm_map.proofs.Prelude.{◌+◌, refl, sym, ◌∙◌, arith, both_ways, taken_at, device_there}
 use Rattle.dm_map.proofs.walk.Served.{chunk_more, chunk_settled, over_sound}
-use Rattle.dm_stack.proofs.InStack.{device_there}
 use Rattle.dm_map.proofs.walk.serving.settled_in.Goals as goal
 
 pub loop-part-init : goal.loop-part-init

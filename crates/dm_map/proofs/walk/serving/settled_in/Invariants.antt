@@ -1,7 +1,5 @@
 -- the sectors so far are settled
-use Rattle.std.proofs.Common.{◌≡◌, ℕ, ◌+◌, ◌-◌, ◌/◌, ◌<◌, ◌≤◌, true}
-use Rattle.dm_map.specs.walk.SnapshotWrites.{is_settled}
-use Rattle.dm_map.specs.state.State.{taken_at}
+use Rattle.dm_map.proofs.Prelude.{◌≡◌, ℕ, ◌+◌, ◌-◌, ◌/◌, ◌<◌, ◌≤◌, true, is_settled, taken_at}
 use Rattle.dm_map.proofs.walk.serving.settled_in.Given as goal
 
 abbrev pub invariant-loop-part : goal.invariant-loop-part

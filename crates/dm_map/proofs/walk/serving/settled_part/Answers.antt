@@ -1,8 +1,4 @@
-use Rattle.std.proofs.Common.{◌≡◌, inl, inr, ℕ, ◌+◌, List, [], ◌∷◌, ◌++◌, take, sym, ap, subst, ◌∙◌, arith}
-use Rattle.std.proofs.lemmas.Bool.{cases_lt}
-use Rattle.std.proofs.lemmas.List.{take_all, take_more}
-use Rattle.dm_stack.specs.declared.lines.resolved_line.ResolvedOver.{ResolvedOver}
-use Rattle.dm_map.specs.walk.Serving.{AreSettled, IsLongest}
+use Rattle.dm_map.proofs.Prelude.{◌≡◌, inl, inr, ℕ, ◌+◌, List, [], ◌∷◌, ◌++◌, take, sym, ap, subst, ◌∙◌, arith, cases_lt, take_all, take_more, ResolvedOver, AreSettled, IsLongest}
 use Rattle.dm_map.proofs.walk.Served.{settled_more, settled_parts}
 use Rattle.dm_map.proofs.walk.serving.settled_part.Goals as goal
 

@@ -1,6 +1,5 @@
 -- as far as those so far are settled
-use Rattle.std.proofs.Common.{◌+◌, take}
-use Rattle.dm_map.specs.walk.Serving.{AreSettled, IsLongest}
+use Rattle.dm_map.proofs.Prelude.{◌+◌, take, AreSettled, IsLongest}
 use Rattle.dm_map.proofs.walk.serving.settled_part.Given as goal
 
 abbrev pub invariant-loop-one : goal.invariant-loop-one

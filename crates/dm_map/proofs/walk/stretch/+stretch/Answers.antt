@@ -1,26 +1,9 @@
-use Rattle.std.proofs.Common.{rules, ◌≡◌, ℕ, ◌+◌, ◌-◌, ◌<◌, ◌≤◌, Some, sym, ap, subst, refl, ◌∙◌, arith}
-use Rattle.dm_table.specs.declared.requests.request.Op.TheVariants.{Read}
-use Rattle.dm_stack.specs.declared.lines.resolved_line.ResolvedTarget.{ResolvedTarget}
-use Rattle.dm_stack.specs.declared.id.Lower.{Lower}
-use Rattle.dm_stack.specs.declared.id.Lower.TheVariants.{Device}
-use Rattle.dm_stack.specs.declared.lines.leg.Beneath.{Beneath}
-use Rattle.dm_stack.proofs.LegLemmas.{shorter}
-use Rattle.dm_stack.specs.lines.Below.{IsOriginSound, IsTargetSound, found_at}
-use Rattle.dm_stack.specs.Description.{lower_len}
-use Rattle.dm_stack.specs.lines.Leg.{AreInside}
-use Rattle.dm_map.specs.declared.walk.stretch.Ground.{Ground}
+use Rattle.dm_map.proofs.Prelude.{rules, ◌≡◌, ℕ, ◌+◌, ◌-◌, ◌<◌, ◌≤◌, Some, sym, ap, subst, refl, ◌∙◌, arith, Read, ResolvedTarget, Lower, Device, Beneath, IsOriginSound, IsTargetSound, found_at, lower_len, AreInside, shorter, Ground, Stretch, Step, keep, ground_unit, IsFirst, IsFirstOf, IsGroundInStack, units_in, StackState, WalkerView, stack_state, line_step, range_step, device_there, disk_there}
 use Rattle.dm_map.specs.declared.walk.stretch.Ground.TheVariants as grounds
-use Rattle.dm_map.specs.declared.walk.stretch.Stretch.{Stretch}
-use Rattle.dm_map.specs.walk.Steps.{Step, keep}
-use Rattle.dm_map.specs.walk.Stretch.{ground_unit, IsFirst, IsFirstOf, IsGroundInStack}
-use Rattle.dm_map.specs.pieces.Units.{units_in}
-use Rattle.dm_map.specs.state.Walker.{StackState, WalkerView, stack_state}
-use Rattle.dm_map.specs.walk.Range.{line_step, range_step}
 use Rattle.dm_map.proofs.walk.Ranges.{beneath_as, leg_errors, leg_lies, leg_zeros, line_served, origin_read, range_deepest, range_disk, range_line}
 use Rattle.dm_map.proofs.walk.Chunks.{chunk_read, in_one_chunk, in_snapshot, lost_read}
 use Rattle.dm_map.proofs.walk.LineRanges.{line_sectors}
 use Rattle.dm_map.proofs.walk.Rows.{added_then, none_added}
-use Rattle.dm_stack.proofs.InStack.{device_there, disk_there}
 use Rattle.dm_map.proofs.walk.stretch.+stretch.Goals as goal
 
 -- A first stretch that is known without a look-up, and one that goes on from a stretch below

@@ -1,4 +1,4 @@
-use Rattle.std.proofs.Common.{◌+◌, ◌*◌}
+use Rattle.dm_map.proofs.Prelude.{◌+◌, ◌*◌}
 use Rattle.dm_map.proofs.walk.stretch.+stretch.Given as goal
 
 abbrev pub decreases-first_stretch : goal.decreases-first_stretch

@@ -1,19 +1,8 @@
-use Rattle.std.proofs.Common.{◌≡◌, ℕ, ◌+◌, ◌-◌, ◌*◌, ◌≤◌, true, refl, sym, ap, subst, ◌∙◌, arith}
-use Rattle.std.proofs.lemmas.Bool.{both_ways, leb-true}
+use Rattle.dm_map.proofs.Prelude.{◌≡◌, ℕ, ◌+◌, ◌-◌, ◌*◌, ◌≤◌, true, refl, sym, ap, subst, ◌∙◌, arith, both_ways, leb-true, Lower, place, Stretch, IsFirstHomes, copies, reads_all, keep, IsFirstOf, units_of, StackState, WalkerView, lower_small}
 use Rattle.dm_stack.specs.declared.checks.graph.TheConstants.{MOST_DEPTH}
-use Rattle.dm_stack.specs.declared.id.Lower.{Lower}
-use Rattle.dm_stack.specs.lines.StoreLayout.{place}
 use Rattle.dm_map.specs.declared.walk.stretch.Ground.TheVariants.{Fails}
-use Rattle.dm_map.specs.declared.walk.stretch.Stretch.{Stretch}
-use Rattle.dm_map.specs.walk.Homes.{IsFirstHomes}
-use Rattle.dm_map.specs.walk.SnapshotWrites.{copies, reads_all}
-use Rattle.dm_map.specs.walk.Steps.{keep}
-use Rattle.dm_map.specs.walk.Stretch.{IsFirstOf}
-use Rattle.dm_map.specs.pieces.Units.{units_of}
-use Rattle.dm_map.specs.state.Walker.{StackState, WalkerView}
 use Rattle.dm_map.proofs.walk.ChunkCopies.{copy_next, copy_of, fails_on, first_seen, reads_on}
 use Rattle.dm_map.proofs.walk.Rows.{added_then, walked_cut}
-use Rattle.dm_stack.proofs.InStack.{lower_small}
 use Rattle.dm_map.proofs.walk.UnitRows.{left_row, took_row}
 use Rattle.dm_map.proofs.walk.take_chunk.copy_chunk.Goals as goal
 

@@ -1,9 +1,5 @@
-use Rattle.std.proofs.Common.{◌≡◌, ◌+◌, ◌-◌, ◌≤◌, true}
+use Rattle.dm_map.proofs.Prelude.{◌≡◌, ◌+◌, ◌-◌, ◌≤◌, true, store_sector, IsFirstHomes, copies, reads_all, IsFirstOf}
 use Rattle.dm_stack.specs.declared.checks.graph.TheConstants.{MOST_DEPTH}
-use Rattle.dm_map.specs.state.Snapshots.{store_sector}
-use Rattle.dm_map.specs.walk.Homes.{IsFirstHomes}
-use Rattle.dm_map.specs.walk.SnapshotWrites.{copies, reads_all}
-use Rattle.dm_map.specs.walk.Stretch.{IsFirstOf}
 use Rattle.dm_map.proofs.walk.ChunkCopies.{IsGoingOn}
 use Rattle.dm_map.proofs.walk.take_chunk.copy_chunk.Given as goal
 

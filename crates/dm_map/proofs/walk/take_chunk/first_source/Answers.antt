@@ -1,13 +1,7 @@
-use Rattle.std.proofs.Common.{◌≡◌, ◌+◌, ◌-◌, true, length, refl, sym, ap, ◌∙◌, arith}
-use Rattle.std.proofs.lemmas.Bool.{and_from, and_right, not-false}
-use Rattle.dm_map.specs.state.Snapshots.{has_place}
-use Rattle.dm_map.specs.state.State.{taken_at}
-use Rattle.dm_map.specs.state.Tables.{room_of}
-use Rattle.dm_map.specs.walk.SnapshotWrites.{reads_all}
+use Rattle.dm_map.proofs.Prelude.{◌≡◌, ◌+◌, ◌-◌, true, length, refl, sym, ap, ◌∙◌, arith, and_from, and_right, not-false, has_place, taken_at, room_of, reads_all, lower_small}
 use Rattle.dm_map.proofs.walk.Chunks.{snapshot_device}
 use Rattle.dm_map.proofs.walk.ChunkCopies.{fails_on, first_seen, reads_on}
 use Rattle.dm_map.proofs.walk.Rows.{added_then}
-use Rattle.dm_stack.proofs.InStack.{lower_small}
 use Rattle.dm_map.proofs.walk.take_chunk.first_source.Goals as goal
 
 pub is_full-requires : goal.is_full-requires

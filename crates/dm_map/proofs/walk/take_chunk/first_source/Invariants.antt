@@ -1,9 +1,5 @@
-use Rattle.std.proofs.Common.{◌≡◌, ◌+◌}
+use Rattle.dm_map.proofs.Prelude.{◌≡◌, ◌+◌, AreAdded, reads_all, IsFirstOf, stack_state}
 use Rattle.dm_stack.specs.declared.checks.graph.TheConstants.{MOST_DEPTH}
-use Rattle.dm_map.specs.state.Counts.{AreAdded}
-use Rattle.dm_map.specs.walk.SnapshotWrites.{reads_all}
-use Rattle.dm_map.specs.walk.Stretch.{IsFirstOf}
-use Rattle.dm_map.specs.state.Walker.{stack_state}
 use Rattle.dm_map.proofs.walk.take_chunk.first_source.Given as goal
 
 abbrev pub invariant-sources : goal.invariant-sources

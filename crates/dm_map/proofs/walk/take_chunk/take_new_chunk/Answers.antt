@@ -1,12 +1,4 @@
-use Rattle.std.proofs.Common.{◌≡◌, ℕ, ◌-◌, ◌*◌, ◌<◌, true, Some, length, sym, ap, subst, ◌∙◌, arith}
-use Rattle.std.specs.Prelude.{is_some, min}
-use Rattle.std.proofs.lemmas.Bool.{and_parts}
-use Rattle.dm_stack.specs.Description.{Description}
-use Rattle.dm_map.specs.state.Snapshots.{has_place, store_sector}
-use Rattle.dm_map.specs.state.State.{State, put, taken_at, with_chunk}
-use Rattle.dm_map.specs.state.Walker.{StackState}
-use Rattle.dm_map.specs.walk.Homes.{IsFirstHomes}
-use Rattle.dm_map.specs.walk.SnapshotWrites.{count_of}
+use Rattle.dm_map.proofs.Prelude.{◌≡◌, ℕ, ◌-◌, ◌*◌, ◌<◌, true, Some, length, sym, ap, subst, ◌∙◌, arith, is_some, min, and_parts, Description, has_place, store_sector, State, put, taken_at, with_chunk, StackState, IsFirstHomes, count_of}
 use Rattle.dm_map.proofs.walk.Chunks.{chunk_begins, snapshot_device}
 use Rattle.dm_map.proofs.walk.ChunkTaking.{numbered_next}
 use Rattle.dm_map.proofs.walk.take_chunk.take_new_chunk.Goals as goal

@@ -1,14 +1,7 @@
-use Rattle.std.proofs.Common.{◌≡◌, ◌/◌, List, true, refl, sym, ap, ◌∙◌, arith}
-use Rattle.std.proofs.lemmas.Bool.{or_right}
-use Rattle.std.specs.Prelude.{is_some, not}
-use Rattle.dm_map.specs.walk.SnapshotWrites.{is_settled, store_writes}
-use Rattle.dm_map.specs.state.State.{taken_at}
-use Rattle.dm_map.specs.walk.Steps.{keep}
-use Rattle.dm_map.specs.pieces.Units.{BlockUnit}
+use Rattle.dm_map.proofs.Prelude.{◌≡◌, ◌/◌, List, true, refl, sym, ap, ◌∙◌, arith, or_right, is_some, not, is_settled, store_writes, taken_at, keep, BlockUnit, lower_small}
 use Rattle.dm_map.proofs.walk.Chunks.{place_inside, row_lost, row_numbered, settled_written, snapshot_device}
 use Rattle.dm_map.proofs.walk.Rows.{walked_as, walked_piece, walked_within}
 use Rattle.dm_map.proofs.state.TableLemmas.{room_place}
-use Rattle.dm_stack.proofs.InStack.{lower_small}
 use Rattle.dm_map.proofs.walk.write_chunk.write_chunk.Goals as goal
 
 pub is_valid-requires : goal.is_valid-requires

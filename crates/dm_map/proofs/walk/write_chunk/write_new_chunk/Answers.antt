@@ -1,22 +1,7 @@
-use Rattle.std.proofs.Common.{◌≡◌, ℕ, ◌/◌, ◌<◌, ◌≤◌, Bool, false, true, List, Option, Some, None, length, refl, sym, ap, ◌∙◌, arith}
-use Rattle.std.specs.Prelude.{◌&&◌, not, IfNone, Result, Ok}
-use Rattle.std.proofs.lemmas.Bool.{leb-true}
-use Rattle.dm_stack.specs.declared.lines.resolved_line.ResolvedSnapshot.{ResolvedSnapshot}
-use Rattle.dm_stack.specs.declared.id.Lower.TheVariants.{Disk}
-use Rattle.dm_stack.specs.Description.{Description}
-use Rattle.dm_map.specs.state.Snapshots.{has_place, number_in}
-use Rattle.dm_map.specs.state.State.{State, Taken, taken_at}
-use Rattle.dm_map.specs.state.Walker.{WalkerView}
-use Rattle.dm_map.specs.walk.Chunk.{AreInChunk}
-use Rattle.dm_map.specs.walk.Range.{IsWalked}
-use Rattle.dm_map.specs.walk.SnapshotWrites.{is_keeping, is_refused, take_chunk, row, store_writes, unit_in_store, write_snapshot}
-use Rattle.dm_map.specs.walk.Steps.{keep, steps}
-use Rattle.dm_map.specs.pieces.Sink.{IsLawful, SinkPast}
-use Rattle.dm_map.specs.pieces.Units.{BlockUnit}
+use Rattle.dm_map.proofs.Prelude.{◌≡◌, ℕ, ◌/◌, ◌<◌, ◌≤◌, Bool, false, true, List, Option, Some, None, length, refl, sym, ap, ◌∙◌, arith, ◌&&◌, not, IfNone, Result, Ok, leb-true, ResolvedSnapshot, Disk, Description, has_place, number_in, State, Taken, taken_at, WalkerView, AreInChunk, IsWalked, is_keeping, is_refused, take_chunk, row, store_writes, unit_in_store, write_snapshot, keep, steps, IsLawful, SinkPast, BlockUnit, lower_small}
 use Rattle.dm_map.proofs.walk.Chunks.{chunk_refused, chunk_written, first_there, left_taking, row_lost, row_numbered, row_taken, snapshot_device}
 use Rattle.dm_map.proofs.walk.ChunkTaking.{not_settled, refused_as}
 use Rattle.dm_map.proofs.walk.Rows.{walked_as, walked_cut, walked_piece, walked_then}
-use Rattle.dm_stack.proofs.InStack.{lower_small}
 use Rattle.dm_map.proofs.walk.write_chunk.write_new_chunk.Goals as goal
 
 -- such a chunk is not refused where the store isn't keeping, or has a place for one more

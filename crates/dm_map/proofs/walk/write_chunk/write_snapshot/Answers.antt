@@ -1,12 +1,4 @@
-use Rattle.std.proofs.Common.{ℕ, sym, ◌∙◌, arith}
-use Rattle.std.specs.Prelude.{Result}
-use Rattle.dm_stack.specs.declared.lines.resolved_line.ResolvedTarget.TheVariants.{Snapshot}
-use Rattle.dm_table.specs.declared.requests.request.Op.TheVariants.{Write}
-use Rattle.dm_stack.specs.declared.lines.resolved_line.ResolvedSnapshot.{ResolvedSnapshot}
-use Rattle.dm_map.specs.pieces.Sink.{SinkPast}
-use Rattle.dm_map.specs.state.Walker.{WalkerView}
-use Rattle.dm_map.specs.walk.Bound.{IsMapped, target_mapping}
-use Rattle.dm_map.specs.walk.Range.{IsSnapshotWritten}
+use Rattle.dm_map.proofs.Prelude.{ℕ, sym, ◌∙◌, arith, Result, Snapshot, ResolvedSnapshot, Write, SinkPast, WalkerView, IsMapped, target_mapping, IsSnapshotWritten}
 use Rattle.dm_map.proofs.walk.Chunks.{in_one_chunk, write_line_step}
 use Rattle.dm_map.proofs.walk.Rows.{walked_as}
 use Rattle.dm_map.proofs.walk.WalkedOn.{mapped_cut, mapped_on, mapped_whole}

@@ -1,6 +1,4 @@
-use Rattle.dm_table.specs.declared.requests.request.Op.TheVariants.{Write}
-use Rattle.dm_stack.specs.declared.lines.resolved_line.ResolvedTarget.TheVariants.{Snapshot}
-use Rattle.dm_map.specs.walk.Bound.{target_mapping}
+use Rattle.dm_map.proofs.Prelude.{Write, Snapshot, target_mapping}
 use Rattle.dm_map.proofs.walk.WalkedOn.{IsMappedTo}
 use Rattle.dm_map.proofs.walk.write_chunk.write_snapshot.Given as goal
 

@@ -1,13 +1,6 @@
-use Rattle.std.proofs.Common.{◌≡◌, ℕ, ◌+◌, ◌-◌, ap, ◌∙◌, arith}
-use Rattle.dm_stack.specs.declared.id.Lower.{Lower}
-use Rattle.dm_map.specs.walk.Homes.{home}
-use Rattle.dm_map.specs.walk.SnapshotWrites.{store_writes, write_to}
-use Rattle.dm_map.specs.walk.Steps.{keep}
-use Rattle.dm_map.specs.pieces.Units.{BlockUnit, WriteOf, units_in}
-use Rattle.dm_map.specs.state.Walker.{StackState, WalkerView}
+use Rattle.dm_map.proofs.Prelude.{◌≡◌, ℕ, ◌+◌, ◌-◌, ap, ◌∙◌, arith, Lower, home, store_writes, write_to, keep, BlockUnit, WriteOf, units_in, StackState, WalkerView, lower_small}
 use Rattle.dm_map.proofs.walk.ChunkCopies.{next_writes}
 use Rattle.dm_map.proofs.walk.Rows.{added_then, walked_cut}
-use Rattle.dm_stack.proofs.InStack.{lower_small}
 use Rattle.dm_map.proofs.walk.UnitRows.{left_row, took_row}
 use Rattle.dm_map.proofs.walk.write_chunk.write_store.Goals as goal
 

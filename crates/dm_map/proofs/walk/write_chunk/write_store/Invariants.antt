@@ -1,5 +1,4 @@
-use Rattle.std.proofs.Common.{◌≡◌, ◌+◌, ◌-◌, ◌≤◌}
-use Rattle.dm_map.specs.walk.SnapshotWrites.{store_writes}
+use Rattle.dm_map.proofs.Prelude.{◌≡◌, ◌+◌, ◌-◌, ◌≤◌, store_writes}
 use Rattle.dm_map.proofs.walk.ChunkCopies.{IsGoingOn}
 use Rattle.dm_map.proofs.walk.write_chunk.write_store.Given as goal
 

@@ -1,4 +1,4 @@
-use Rattle.dm_replay.specs.Stored.{spanned, stored_in}
+use Rattle.dm_replay.proofs.Prelude.{spanned, stored_in}
 use Rattle.dm_replay.proofs.StoredLemmas.{view_is, view_shows}
 use Rattle.dm_replay.proofs.disk_ranges.DiskRanges.store.Goals as goal
 

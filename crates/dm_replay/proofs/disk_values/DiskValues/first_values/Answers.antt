@@ -1,4 +1,4 @@
-use Rattle.std.proofs.Common.{arith}
+use Rattle.dm_replay.proofs.Prelude.{arith}
 use Rattle.dm_replay.proofs.StoredLemmas.{none_hold}
 use Rattle.dm_replay.proofs.disk_values.DiskValues.first_values.Goals as goal
 

@@ -1,4 +1,4 @@
-use Rattle.std.proofs.Common.{refl, ap, arith}
+use Rattle.dm_replay.proofs.Prelude.{refl, ap, arith}
 use Rattle.dm_replay.proofs.HaltedPlays.{taken_piece}
 use Rattle.dm_replay.proofs.halting.Halting.play.Goals as goal
 

@@ -1,7 +1,6 @@
-use Rattle.std.proofs.Common.{refl}
+use Rattle.dm_replay.proofs.Prelude.{refl, Gives, Failed}
 use Rattle.dm_replay.specs.declared.value.Value.TheVariants as value
 use Rattle.dm_replay.specs.declared.value_run.ValueRun.TheVariants as runs
-use Rattle.dm_replay.specs.Values.{Gives, Failed}
 use Rattle.dm_replay.proofs.PlayedLemmas.{drop_played, error_played, run_answered, zero_played}
 use Rattle.dm_replay.proofs.player.Player.play.Goals as goal
 

@@ -1,4 +1,4 @@
-use Rattle.std.proofs.Common.{rules, ap}
+use Rattle.dm_replay.proofs.Prelude.{rules, ap}
 use Rattle.dm_replay.proofs.OfDiskLemmas.{piece_of}
 use Rattle.dm_replay.proofs.player.PlayerSink.piece.Goals as goal
 

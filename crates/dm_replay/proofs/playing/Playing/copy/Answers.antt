@@ -1,8 +1,4 @@
-use Rattle.std.proofs.Common.{◌≡◌, ◌+◌, ◌-◌, ℕ, refl, subst, arith}
-use Rattle.dm_map.specs.pieces.Units.{CopyOf, units_in}
-use Rattle.dm_replay.specs.declared.playing.Playing.{Playing}
-use Rattle.dm_replay.specs.Player.{HasPlayed}
-use Rattle.dm_replay.specs.laws.Play.{played_nothing}
+use Rattle.dm_replay.proofs.Prelude.{◌≡◌, ◌+◌, ◌-◌, ℕ, refl, subst, arith, CopyOf, units_in, Playing, HasPlayed, played_nothing}
 use Rattle.dm_replay.proofs.PlayedLemmas.{copy_more, copy_played, none_played}
 use Rattle.dm_replay.proofs.playing.Playing.copy.Goals as goal
 

@@ -1,6 +1,4 @@
-use Rattle.std.proofs.Common.{◌≡◌, ◌+◌, ◌-◌, ◌≤◌}
-use Rattle.dm_map.specs.pieces.Units.{CopyOf, units_in}
-use Rattle.dm_replay.specs.Player.{HasPlayed}
+use Rattle.dm_replay.proofs.Prelude.{◌≡◌, ◌+◌, ◌-◌, ◌≤◌, CopyOf, units_in, HasPlayed}
 use Rattle.dm_replay.proofs.playing.Playing.copy.Given as goal
 
 abbrev pub invariant-loop-left : goal.invariant-loop-left

@@ -1,8 +1,4 @@
-use Rattle.std.proofs.Common.{◌≡◌, ◌+◌, ◌-◌, ℕ, refl, subst, arith}
-use Rattle.dm_map.specs.pieces.Units.{ReadOf, units_in}
-use Rattle.dm_replay.specs.Player.{HasPlayed}
-use Rattle.dm_replay.specs.laws.Play.{played_nothing}
-use Rattle.dm_replay.specs.Values.{Gives}
+use Rattle.dm_replay.proofs.Prelude.{◌≡◌, ◌+◌, ◌-◌, ℕ, refl, subst, arith, ReadOf, units_in, HasPlayed, played_nothing, Gives}
 use Rattle.dm_replay.proofs.PlayedLemmas.{none_played, read_more, read_played, run_answered}
 use Rattle.dm_replay.proofs.playing.Playing.read.Goals as goal
 

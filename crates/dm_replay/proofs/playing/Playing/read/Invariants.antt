@@ -1,6 +1,4 @@
-use Rattle.std.proofs.Common.{◌≡◌, ◌+◌, ◌-◌, ◌≤◌}
-use Rattle.dm_map.specs.pieces.Units.{ReadOf, units_in}
-use Rattle.dm_replay.specs.Player.{HasPlayed}
+use Rattle.dm_replay.proofs.Prelude.{◌≡◌, ◌+◌, ◌-◌, ◌≤◌, ReadOf, units_in, HasPlayed}
 use Rattle.dm_replay.proofs.playing.Playing.read.Given as goal
 
 abbrev pub invariant-loop-left : goal.invariant-loop-left

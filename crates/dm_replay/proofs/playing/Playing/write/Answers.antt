@@ -1,7 +1,6 @@
-use Rattle.std.proofs.Common.{refl}
+use Rattle.dm_replay.proofs.Prelude.{refl, Gives}
 use Rattle.dm_replay.specs.declared.value.Value.TheVariants as value
 use Rattle.dm_replay.specs.declared.value_run.ValueRun.TheVariants as runs
-use Rattle.dm_replay.specs.Values.{Gives}
 use Rattle.dm_replay.proofs.PlayedLemmas.{run_answered, write_played}
 use Rattle.dm_replay.proofs.playing.Playing.write.Goals as goal
 

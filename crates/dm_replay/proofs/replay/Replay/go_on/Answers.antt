@@ -1,4 +1,4 @@
-use Rattle.std.proofs.Common.{sym}
+use Rattle.dm_replay.proofs.Prelude.{sym}
 use Rattle.dm_replay.proofs.WorldLemmas.{going_first}
 use Rattle.dm_replay.proofs.replay.Replay.go_on.Goals as goal
 

@@ -1,10 +1,4 @@
-use Rattle.std.proofs.Common.{◌≡◌, ℕ, false, List, Some, ap, sym, ◌∙◌}
-use Rattle.std.specs.Prelude.{position}
-use Rattle.dm_stack.specs.claims.Claims.{IsTop}
-use Rattle.dm_stack.specs.Description.{is_same}
-use Rattle.dm_map.specs.state.State.{State, start_state}
-use Rattle.dm_replay.specs.Replay.{HasTop, Replaying}
-use Rattle.dm_replay.specs.Reruns.{rerun_from, with_request}
+use Rattle.dm_replay.proofs.Prelude.{◌≡◌, ℕ, false, List, Some, ap, sym, ◌∙◌, position, IsTop, is_same, State, start_state, HasTop, Replaying, rerun_from, with_request}
 use Rattle.dm_replay.proofs.NamedLemmas.{named_id, named_there}
 use Rattle.dm_replay.proofs.WorldLemmas.{are_whole, few_whole, going_halted, is_kept, kept_more, next_start, write_of}
 use Rattle.dm_replay.proofs.replay.Replay.halt.Goals as goal

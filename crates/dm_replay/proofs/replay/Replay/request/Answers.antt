@@ -1,9 +1,4 @@
-use Rattle.std.proofs.Common.{◌≡◌, Some, sym, ◌∙◌, subst}
-use Rattle.std.specs.Prelude.{position}
-use Rattle.std.proofs.lemmas.Result.{on_ok_weaker}
-use Rattle.dm_stack.specs.claims.Claims.{IsTop}
-use Rattle.dm_stack.specs.Description.{is_same}
-use Rattle.dm_replay.specs.Replay.{HasTop, Replaying}
+use Rattle.dm_replay.proofs.Prelude.{◌≡◌, Some, sym, ◌∙◌, subst, position, on_ok_weaker, IsTop, is_same, HasTop, Replaying}
 use Rattle.dm_replay.proofs.NamedLemmas.{named_id, named_top, top_named, unanswered_result}
 use Rattle.dm_replay.proofs.replay.Replay.request.Goals as goal
 

@@ -1,6 +1,4 @@
-use Rattle.std.proofs.Common.{false, refl, sym, ◌∙◌, arith}
-use Rattle.std.proofs.lemmas.List.{get_or_read}
-use Rattle.dm_replay.specs.Replay.{whole_request}
+use Rattle.dm_replay.proofs.Prelude.{false, refl, sym, ◌∙◌, arith, get_or_read, whole_request}
 use Rattle.dm_replay.proofs.NamedLemmas.{noted_top}
 use Rattle.dm_replay.proofs.OneRuns.{one_runs}
 use Rattle.dm_replay.proofs.OwnReads.{exact_answers, own_answers}

@@ -1,5 +1,4 @@
-use Rattle.std.proofs.Common.{◌≡◌}
-use Rattle.dm_map.specs.state.State.{start_state}
+use Rattle.dm_replay.proofs.Prelude.{◌≡◌, start_state}
 use Rattle.dm_replay.proofs.replay.tests.lines_of.Given as goal
 
 abbrev pub invariant-loop-index : goal.invariant-loop-index

@@ -1,5 +1,4 @@
-use Rattle.std.proofs.Common.{sym, ap, ◌∙◌, arith}
-use Rattle.dm_replay.specs.Runs.{flat}
+use Rattle.dm_replay.proofs.Prelude.{sym, ap, ◌∙◌, arith, flat}
 use Rattle.dm_replay.proofs.RunLemmas.{flat_longer, maximal_front, maximal_longer, maximal_push}
 use Rattle.dm_replay.proofs.value_runs.ValueRuns.add.Goals as goal
 

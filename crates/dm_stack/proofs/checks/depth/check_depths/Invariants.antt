@@ -1,7 +1,4 @@
-use Rattle.std.proofs.Common.{◌≡◌, None, drop, get_or, nat_lt}
-use Rattle.dm_table.specs.load.LoadFault.{first_or}
-use Rattle.dm_table.specs.declared.load.load_fault.LoadKind.TheVariants.{Deep}
-use Rattle.dm_stack.specs.checks.Soundness.{faults_by_id}
+use Rattle.dm_stack.proofs.Prelude.{◌≡◌, None, drop, get_or, nat_lt, Deep, first_or, faults_by_id}
 use Rattle.dm_stack.proofs.checks.depth.check_depths.Given as goal
 
 abbrev pub invariant-loop-id : goal.invariant-loop-id

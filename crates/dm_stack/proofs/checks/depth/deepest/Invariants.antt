@@ -1,5 +1,4 @@
-use Rattle.std.proofs.Common.{◌≡◌, drop, max}
-use Rattle.dm_stack.specs.checks.Graph.{greatest}
+use Rattle.dm_stack.proofs.Prelude.{◌≡◌, drop, max, greatest}
 use Rattle.dm_stack.proofs.checks.depth.deepest.Given as goal
 
 abbrev pub invariant-loop-depth : goal.invariant-loop-depth

@@ -1,6 +1,5 @@
 -- What the closure returned of a line and what it says by ids is what its test says of the line.
-use Rattle.std.proofs.Common.{◌≡◌, true, false, ◌∙◌, length}
-use Rattle.dm_stack.specs.lines.Below.{resolved_line}
+use Rattle.dm_stack.proofs.Prelude.{◌≡◌, true, false, ◌∙◌, length, resolved_line}
 use Rattle.dm_stack.proofs.checks.PlacedLemmas.{bad_before, good_here}
 use Rattle.dm_stack.proofs.lines.ByDevice.{made_at, table_is}
 use Rattle.dm_stack.proofs.checks.faults.check_by_ids.Goals as goal

@@ -1,12 +1,5 @@
 -- by each test that the closure computes of lines, the rest has the first fault of all
-use Rattle.std.proofs.Common.{Bor, ◌≡◌, ◌+◌, ◌++◌, ℕ, Bool, None, drop, length}
-use Rattle.std.specs.Fn.{FnReturns}
-use Rattle.std.specs.List.{flat_map}
-use Rattle.dm_table.specs.load.LoadFault.{faults_by, first_or}
-use Rattle.dm_table.specs.declared.tables.table.Line.{Line}
-use Rattle.dm_stack.specs.declared.lines.resolved_line.ResolvedLine.{ResolvedLine}
-use Rattle.dm_stack.specs.checks.Soundness.{device_faults}
-use Rattle.dm_stack.specs.lines.Below.{resolved_line}
+use Rattle.dm_stack.proofs.Prelude.{Bor, ◌≡◌, ◌+◌, ◌++◌, ℕ, Bool, None, drop, length, FnReturns, flat_map, Line, faults_by, first_or, ResolvedLine, device_faults, resolved_line}
 use Rattle.dm_stack.proofs.checks.faults.check_by_ids.Given as goal
 
 abbrev pub invariant-loop-index : goal.invariant-loop-index

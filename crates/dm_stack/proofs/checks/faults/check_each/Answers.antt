@@ -1,5 +1,5 @@
 -- What the closure returned is what its test says of the element.
-use Rattle.std.proofs.Common.{true, false, refl}
+use Rattle.dm_stack.proofs.Prelude.{true, false, refl}
 use Rattle.dm_stack.proofs.checks.PlacedLemmas.{bad_here, good_here}
 use Rattle.dm_stack.proofs.checks.faults.check_each.Goals as goal
 

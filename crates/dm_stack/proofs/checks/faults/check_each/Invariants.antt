@@ -1,7 +1,5 @@
 -- by each test that the closure computes, the rest has the first fault of the list
-use Rattle.std.proofs.Common.{◌≡◌, Bool, None, drop}
-use Rattle.std.specs.Fn.{FnReturnsAt}
-use Rattle.dm_table.specs.load.LoadFault.{faults_by, first_or}
+use Rattle.dm_stack.proofs.Prelude.{◌≡◌, Bool, None, drop, FnReturnsAt, faults_by, first_or}
 use Rattle.dm_stack.proofs.checks.faults.check_each.Given as goal
 
 abbrev pub invariant-loop-item : goal.invariant-loop-item

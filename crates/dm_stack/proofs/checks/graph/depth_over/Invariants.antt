@@ -1,6 +1,5 @@
 -- the greatest so far and that of what is left give the greatest of all, and no depth passes its bound
-use Rattle.std.proofs.Common.{◌≡◌, ◌≤◌, max, map, drop, get_or}
-use Rattle.dm_stack.specs.checks.Graph.{greatest}
+use Rattle.dm_stack.proofs.Prelude.{◌≡◌, ◌≤◌, max, map, drop, get_or, greatest}
 use Rattle.dm_stack.proofs.checks.graph.depth_over.Given as goal
 
 abbrev pub invariant-loop-device : goal.invariant-loop-device

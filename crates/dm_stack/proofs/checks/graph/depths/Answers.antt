@@ -1,9 +1,5 @@
 -- A round is that of one level more, and one that changes nothing is the last.
-use Rattle.std.proofs.Common.{◌∙◌, sym, length, arith}
-use Rattle.std.proofs.lemmas.Bool.Decides.{Decides-eqb}
-use Rattle.std.proofs.lemmas.Slice.Eq.{slice_eq-Decides}
-use Rattle.std.proofs.lemmas.List.{length-map}
-use Rattle.dm_stack.specs.checks.Graph.{links_in}
+use Rattle.dm_stack.proofs.Prelude.{◌∙◌, sym, length, arith, Decides-eqb, slice_eq-Decides, length-map, links_in}
 use Rattle.dm_stack.proofs.checks.RoundLemmas.{round_after, round_last, within_depths, bounded_depths, depths_to-none}
 use Rattle.dm_stack.proofs.checks.graph.depths.Goals as goal
 

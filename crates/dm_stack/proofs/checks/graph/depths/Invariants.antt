@@ -1,6 +1,5 @@
 -- after each round the depths are those of one level more
-use Rattle.std.proofs.Common.{◌≡◌}
-use Rattle.dm_stack.specs.checks.Graph.{depths_to, links_in}
+use Rattle.dm_stack.proofs.Prelude.{◌≡◌, depths_to, links_in}
 use Rattle.dm_stack.proofs.checks.graph.depths.Given as goal
 
 abbrev pub invariant-loop-level : goal.invariant-loop-level

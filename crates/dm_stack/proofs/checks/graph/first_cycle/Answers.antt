@@ -1,5 +1,5 @@
 -- Only what is as deep as it was followed can reach itself, and the search says of each whether it does.
-use Rattle.std.proofs.Common.{arith, below_more}
+use Rattle.dm_stack.proofs.Prelude.{arith, below_more}
 use Rattle.dm_stack.proofs.checks.RoundLemmas.{depths-length, shallow_at}
 use Rattle.dm_stack.proofs.checks.graph.first_cycle.Goals as goal
 use Rattle.dm_stack.proofs.checks.graph.first_cycle.Goals.{else-depth-gt-MOST_DEPTH-via-then-depth-gt-MOST_DEPTH+in_ok-reaches_itself+else-branch, else-depth-gt-MOST_DEPTH-via-else-depth-gt-MOST_DEPTH}

@@ -1,6 +1,5 @@
 -- no device so far reaches itself
-use Rattle.std.proofs.Common.{ℕ, ◌<◌}
-use Rattle.dm_stack.specs.checks.Graph.{links_in, Reaches}
+use Rattle.dm_stack.proofs.Prelude.{ℕ, ◌<◌, links_in, Reaches}
 use Rattle.dm_stack.proofs.checks.graph.first_cycle.Given as goal
 
 abbrev pub invariant-loop-device : goal.invariant-loop-device

@@ -1,6 +1,5 @@
 -- the depths so far and those of the devices that are left are those of all
-use Rattle.std.proofs.Common.{◌≡◌, ◌++◌, map, drop}
-use Rattle.dm_stack.specs.checks.Graph.{depth_over, links_in}
+use Rattle.dm_stack.proofs.Prelude.{◌≡◌, ◌++◌, map, drop, depth_over, links_in}
 use Rattle.dm_stack.proofs.checks.graph.next_depths.Given as goal
 
 abbrev pub invariant-loop-named : goal.invariant-loop-named

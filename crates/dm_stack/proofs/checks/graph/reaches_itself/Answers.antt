@@ -1,7 +1,5 @@
 -- Each visit keeps the search, and at its end what is visited is what is reached.
-use Rattle.std.proofs.Common.{◌<◌, length, sym, ap, ◌∙◌, arith}
-use Rattle.std.proofs.lemmas.List.{length-map, nil_from_length}
-use Rattle.dm_stack.specs.checks.Graph.{links_in}
+use Rattle.dm_stack.proofs.Prelude.{◌<◌, length, sym, ap, ◌∙◌, arith, length-map, nil_from_length, links_in}
 use Rattle.dm_stack.proofs.checks.SearchLemmas.{Searched-begun, Searched-on, Searched-below, Searched-none, named_is, named_inside}
 use Rattle.dm_stack.proofs.checks.graph.reaches_itself.Goals as goal
 

@@ -1,6 +1,5 @@
 -- the search so far; each turn looks at one that waits, and each device waits once
-use Rattle.std.proofs.Common.{◌+◌, length}
-use Rattle.dm_stack.specs.checks.Graph.{links_in, unvisited}
+use Rattle.dm_stack.proofs.Prelude.{◌+◌, length, links_in, unvisited}
 use Rattle.dm_stack.proofs.checks.SearchLemmas.{Searched}
 use Rattle.dm_stack.proofs.checks.graph.reaches_itself.Given as goal
 

@@ -1,6 +1,5 @@
 -- A device that was visited before adds nothing; another one is visited and waits.
-use Rattle.std.proofs.Common.{◌<◌, length, get_or, arith}
-use Rattle.std.proofs.lemmas.List.Elements.{Contains-get_or}
+use Rattle.dm_stack.proofs.Prelude.{◌<◌, length, get_or, arith, Contains-get_or}
 use Rattle.dm_stack.proofs.checks.SearchLemmas.{Visits-skip, Visits-push}
 use Rattle.dm_stack.proofs.checks.graph.visit.Goals as goal
 use Rattle.dm_stack.proofs.checks.graph.visit.Goals.{then-not-visited-device+in_ok-push, else-not-visited-device}

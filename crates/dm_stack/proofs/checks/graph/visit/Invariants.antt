@@ -1,6 +1,5 @@
 -- those named so far are visited
-use Rattle.std.proofs.Common.{take}
-use Rattle.dm_stack.specs.checks.Graph.{Visits}
+use Rattle.dm_stack.proofs.Prelude.{take, Visits}
 use Rattle.dm_stack.proofs.checks.graph.visit.Given as goal
 
 abbrev pub invariant-loop-device : goal.invariant-loop-device

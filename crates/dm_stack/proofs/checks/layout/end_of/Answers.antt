@@ -1,4 +1,4 @@
-use Rattle.std.proofs.Common.{sym}
+use Rattle.dm_stack.proofs.Prelude.{sym}
 use Rattle.dm_stack.proofs.checks.FirstFaults.{end_of_last}
 use Rattle.dm_stack.proofs.checks.layout.end_of.Goals as goal
 

@@ -1,5 +1,4 @@
-use Rattle.std.proofs.Common.{Some, None, sym}
-use Rattle.std.proofs.lemmas.Result.{err_from_is_err_and}
+use Rattle.dm_stack.proofs.Prelude.{Some, None, sym, err_from_is_err_and}
 use Rattle.dm_stack.proofs.checks.FirstFaults.{many_devices, many_disks, many_lines}
 use Rattle.dm_stack.proofs.checks.limits.check_counts.Goals as goal
 

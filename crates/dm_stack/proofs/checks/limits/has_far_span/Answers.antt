@@ -1,5 +1,4 @@
-use Rattle.std.proofs.Common.{ap, ◌∙◌}
-use Rattle.std.specs.List.{list_any}
+use Rattle.dm_stack.proofs.Prelude.{ap, ◌∙◌, list_any}
 use Rattle.dm_stack.proofs.lines.SpanLemmas.{any_map}
 use Rattle.dm_stack.proofs.checks.limits.has_far_span.Goals as goal
 

@@ -1,6 +1,4 @@
-use Rattle.std.proofs.Common.{◌≡◌, ◌<◌, ◌≤◌, Some, sym, ap, refl, ◌∙◌, length}
-use Rattle.std.specs.Prelude.{slice_get}
-use Rattle.std.proofs.lemmas.Option.{slice_get_read}
+use Rattle.dm_stack.proofs.Prelude.{◌≡◌, ◌<◌, ◌≤◌, Some, sym, ap, refl, ◌∙◌, length, slice_get, slice_get_read}
 use Rattle.dm_stack.proofs.checks.FirstFaults.{line_in, line_later}
 use Rattle.dm_stack.proofs.checks.limits.line_at.Goals as goal
 

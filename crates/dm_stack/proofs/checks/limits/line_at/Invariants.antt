@@ -1,6 +1,4 @@
-use Rattle.std.proofs.Common.{◌≡◌, drop}
-use Rattle.std.specs.Prelude.{slice_get}
-use Rattle.dm_stack.specs.checks.Soundness.{all_lines}
+use Rattle.dm_stack.proofs.Prelude.{◌≡◌, drop, slice_get, all_lines}
 use Rattle.dm_stack.proofs.checks.limits.line_at.Given as goal
 
 abbrev pub invariant-loop-device : goal.invariant-loop-device

@@ -1,7 +1,6 @@
 -- what is left to name, after what was named so far, gives all of it
-use Rattle.std.proofs.Common.{◌≡◌, ◌++◌}
-use Rattle.std.specs.List.{flat_map}
-use Rattle.dm_stack.specs.lines.Span.{line_links, lower_link}
+use Rattle.dm_stack.proofs.Prelude.{◌≡◌, ◌++◌, flat_map, lower_link}
+use Rattle.dm_stack.specs.lines.Span.{line_links}
 use Rattle.dm_stack.proofs.lines.SpanLemmas.{spans_left}
 use Rattle.dm_stack.proofs.checks.links.add_line.Given as goal
 

@@ -1,5 +1,4 @@
-use Rattle.std.proofs.Common.{◌≡◌, take}
-use Rattle.std.specs.List.{flat_map}
+use Rattle.dm_stack.proofs.Prelude.{◌≡◌, take, flat_map}
 use Rattle.dm_stack.specs.lines.Span.{line_links}
 use Rattle.dm_stack.proofs.checks.links.lines_links.Given as goal
 

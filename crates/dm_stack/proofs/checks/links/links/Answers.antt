@@ -1,4 +1,4 @@
-use Rattle.std.proofs.lemmas.List.{take_all}
+use Rattle.dm_stack.proofs.Prelude.{take_all}
 use Rattle.dm_stack.proofs.lines.SpanLemmas.{all_links}
 use Rattle.dm_stack.proofs.checks.links.links.Goals as goal
 

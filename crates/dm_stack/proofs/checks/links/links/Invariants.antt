@@ -1,7 +1,4 @@
-use Rattle.std.proofs.Common.{◌≡◌, map, take}
-use Rattle.std.specs.List.{flat_map}
-use Rattle.dm_stack.specs.Stack.{resolved_device}
-use Rattle.dm_stack.specs.checks.Graph.{links_in}
+use Rattle.dm_stack.proofs.Prelude.{◌≡◌, map, take, flat_map, resolved_device, links_in}
 use Rattle.dm_stack.specs.lines.Span.{line_links}
 use Rattle.dm_stack.proofs.checks.links.links.Given as goal
 

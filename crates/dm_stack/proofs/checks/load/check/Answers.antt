@@ -1,11 +1,5 @@
 -- What the checks found is handed on, and what a stack keeps is what was made.
-use Rattle.std.proofs.Common.{◌≡◌, [], ap, ◌∙◌, map, inr, take}
-use Rattle.dm_table.proofs.FaultLemmas.{first_fault-none}
-use Rattle.dm_stack.specs.Description.{Description}
-use Rattle.dm_stack.specs.Stack.{resolved_device}
-use Rattle.dm_stack.specs.checks.Depth.{stack_depth}
-use Rattle.dm_stack.specs.checks.Snapshots.{snapshots}
-use Rattle.dm_stack.specs.checks.Soundness.{checks_before}
+use Rattle.dm_stack.proofs.Prelude.{◌≡◌, [], ap, ◌∙◌, map, inr, take, first_fault-none, Description, resolved_device, stack_depth, snapshots, checks_before}
 use Rattle.dm_stack.proofs.checks.HandedOn.{ends_within}
 use Rattle.dm_stack.proofs.checks.LoadLemmas.{handed, made_ok}
 use Rattle.dm_stack.proofs.checks.load.check.Goals as goal
@@ -17,7 +11,7 @@ returns-in_err-names-clause-fault c = handed _ _ _ c.from_residual.ensures.1 c.i
 pub new-indexed-requires-clause-small : goal.new-indexed-requires-clause-small
 new-indexed-requires-clause-small c =
     let stack : Description = record { devices = c.args.devices.now; disks = c.args.disks.now } in
-    ends_within stack (first_fault-none (take 5 (checks_before stack)) c.in_ok-names.ensures.passed).1.0
+    ends_within stack (first_fault-none (take 3 (checks_before stack)) c.in_ok-names.ensures.passed).1.0
 
 -- the devices by ids
 by_ids : (c : In_ok-found) → c.in_ok-found.found.items ≡ map (resolved_device (record { devices = c.args.devices.now; disks = c.args.disks.now })) c.args.devices.now

@@ -1,4 +1,4 @@
-use Rattle.std.proofs.Common.{get_or}
+use Rattle.dm_stack.proofs.Prelude.{get_or}
 use Rattle.dm_stack.proofs.checks.LoadLemmas.{no_ring, ring_fault}
 use Rattle.dm_stack.proofs.checks.load.check_cycles.Goals as goal
 

@@ -1,13 +1,5 @@
 -- Each check finds its fault where those before it find nothing.
-use Rattle.std.proofs.Common.{◌≡◌, List, None, sym, ap, ◌∙◌, get_or}
-use Rattle.std.specs.Prelude.{nat_lt}
-use Rattle.dm_table.specs.declared.load.load_fault.LoadKind.TheVariants.{Deep}
-use Rattle.dm_table.specs.declared.load.load_fault.LoadFault.{LoadFault}
-use Rattle.dm_table.specs.load.LoadFault.{first_or}
-use Rattle.dm_table.proofs.FaultLemmas.{first_or-none}
-use Rattle.dm_stack.specs.Description.{links}
-use Rattle.dm_stack.specs.checks.Graph.{depths_to}
-use Rattle.dm_stack.specs.checks.Soundness.{OnCycle, deep, faults_by_id, snapshot}
+use Rattle.dm_stack.proofs.Prelude.{◌≡◌, List, None, sym, ap, ◌∙◌, get_or, nat_lt, Deep, LoadFault, first_or, first_or-none, links, depths_to, OnCycle, deep, faults_by_id, snapshot}
 use Rattle.dm_stack.proofs.checks.ChunkLemmas.{good_chunks}
 use Rattle.dm_stack.proofs.checks.DepthTests.{depth_each, told_depths}
 use Rattle.dm_stack.proofs.checks.LoadLemmas.{handed, refused_last, refused_late, sound_last}
@@ -31,25 +23,25 @@ pub check_stores-requires : goal.check_stores-requires
 check_stores-requires c = c.deref-2.ensures.value ∙ c.requires.stores
 
 pub check_places-requires : goal.check_places-requires
-check_places-requires c = good_chunks c.args.stack.now (first_or-none (snapshot c.args.stack.now) None (sym c.in_ok-check_snapshots.ensures)).0
+check_places-requires c = good_chunks c.args.stack.now (first_or-none (snapshot c.args.stack.now) None (sym c.requires.lines.snapshot ∙ sym c.in_ok-refuse-3.ensures)).0
 
 pub returns-in_err-check_depths-clause-fault : goal.returns-in_err-check_depths-clause-fault
 returns-in_err-check_depths-clause-fault c = handed _ _ _ c.from_residual-in_err-check_depths.ensures.1 (refused_late _ 0 _ c.requires.before c.in_ok-check_cycles.ensures.passed tt (sym (told (goal.at.returns-in_err-check_depths-clause-fault c).After-deref) ∙ sym c.in_err-check_depths.ensures))
 
-pub returns-in_err-check_stripes-clause-fault : goal.returns-in_err-check_stripes-clause-fault
-returns-in_err-check_stripes-clause-fault c = handed _ _ _ c.from_residual-in_err-check_stripes.ensures.1 (refused_late _ 1 _ c.requires.before c.in_ok-check_cycles.ensures.passed (sym (told (goal.at.returns-in_err-check_stripes-clause-fault c).After-deref) ∙ sym c.in_ok-check_depths.ensures, tt) (sym c.in_err-check_stripes.ensures))
+pub returns-in_err-refuse-clause-fault : goal.returns-in_err-refuse-clause-fault
+returns-in_err-refuse-clause-fault c = handed _ _ _ c.from_residual-in_err-refuse.ensures.1 (refused_late _ 1 _ c.requires.before c.in_ok-check_cycles.ensures.passed (sym (told (goal.at.returns-in_err-refuse-clause-fault c).After-deref) ∙ sym c.in_ok-check_depths.ensures, tt) (sym c.requires.lines.stripe ∙ sym c.in_err-refuse.ensures))
 
-pub returns-in_err-check_ranges-clause-fault : goal.returns-in_err-check_ranges-clause-fault
-returns-in_err-check_ranges-clause-fault c = handed _ _ _ c.from_residual-in_err-check_ranges.ensures.1 (refused_late _ 2 _ c.requires.before c.in_ok-check_cycles.ensures.passed (sym (told (goal.at.returns-in_err-check_ranges-clause-fault c).After-deref) ∙ sym c.in_ok-check_depths.ensures, (sym c.in_ok-check_stripes.ensures, tt)) (sym c.in_err-check_ranges.ensures))
+pub returns-in_err-refuse-2-clause-fault : goal.returns-in_err-refuse-2-clause-fault
+returns-in_err-refuse-2-clause-fault c = handed _ _ _ c.from_residual-in_err-refuse-2.ensures.1 (refused_late _ 2 _ c.requires.before c.in_ok-check_cycles.ensures.passed (sym (told (goal.at.returns-in_err-refuse-2-clause-fault c).After-deref) ∙ sym c.in_ok-check_depths.ensures, (sym c.requires.lines.stripe ∙ sym c.in_ok-refuse.ensures, tt)) (sym c.requires.lines.range ∙ sym c.in_err-refuse-2.ensures))
 
-pub returns-in_err-check_snapshots-clause-fault : goal.returns-in_err-check_snapshots-clause-fault
-returns-in_err-check_snapshots-clause-fault c = handed _ _ _ c.from_residual-in_err-check_snapshots.ensures.1 (refused_late _ 3 _ c.requires.before c.in_ok-check_cycles.ensures.passed (sym (told (goal.at.returns-in_err-check_snapshots-clause-fault c).After-deref) ∙ sym c.in_ok-check_depths.ensures, (sym c.in_ok-check_stripes.ensures, (sym c.in_ok-check_ranges.ensures, tt))) (sym c.in_err-check_snapshots.ensures))
+pub returns-in_err-refuse-3-clause-fault : goal.returns-in_err-refuse-3-clause-fault
+returns-in_err-refuse-3-clause-fault c = handed _ _ _ c.from_residual-in_err-refuse-3.ensures.1 (refused_late _ 3 _ c.requires.before c.in_ok-check_cycles.ensures.passed (sym (told (goal.at.returns-in_err-refuse-3-clause-fault c).After-deref) ∙ sym c.in_ok-check_depths.ensures, (sym c.requires.lines.stripe ∙ sym c.in_ok-refuse.ensures, (sym c.requires.lines.range ∙ sym c.in_ok-refuse-2.ensures, tt))) (sym c.requires.lines.snapshot ∙ sym c.in_err-refuse-3.ensures))
 
 pub returns-in_err-check_stores-clause-fault : goal.returns-in_err-check_stores-clause-fault
-returns-in_err-check_stores-clause-fault c = handed _ _ _ c.from_residual-in_err-check_stores.ensures.1 (refused_late _ 4 _ c.requires.before c.in_ok-check_cycles.ensures.passed (sym (told (goal.at.returns-in_err-check_stores-clause-fault c).After-deref) ∙ sym c.in_ok-check_depths.ensures, (sym c.in_ok-check_stripes.ensures, (sym c.in_ok-check_ranges.ensures, (sym c.in_ok-check_snapshots.ensures, tt)))) (sym c.in_err-check_stores.ensures))
+returns-in_err-check_stores-clause-fault c = handed _ _ _ c.from_residual-in_err-check_stores.ensures.1 (refused_late _ 4 _ c.requires.before c.in_ok-check_cycles.ensures.passed (sym (told (goal.at.returns-in_err-check_stores-clause-fault c).After-deref) ∙ sym c.in_ok-check_depths.ensures, (sym c.requires.lines.stripe ∙ sym c.in_ok-refuse.ensures, (sym c.requires.lines.range ∙ sym c.in_ok-refuse-2.ensures, (sym c.requires.lines.snapshot ∙ sym c.in_ok-refuse-3.ensures, tt)))) (sym c.in_err-check_stores.ensures))
 
 pub returns-clause-sound : goal.returns-clause-sound
-returns-clause-sound c = sound_last c.args.stack.now c.check_places.result c.requires.before c.in_ok-check_cycles.ensures.passed (sym (told (goal.at.returns-clause-sound c).After-deref) ∙ sym c.in_ok-check_depths.ensures, (sym c.in_ok-check_stripes.ensures, (sym c.in_ok-check_ranges.ensures, (sym c.in_ok-check_snapshots.ensures, (sym c.in_ok-check_stores.ensures, tt))))) c.check_places.ensures
+returns-clause-sound c = sound_last c.args.stack.now c.check_places.result c.requires.before c.in_ok-check_cycles.ensures.passed (sym (told (goal.at.returns-clause-sound c).After-deref) ∙ sym c.in_ok-check_depths.ensures, (sym c.requires.lines.stripe ∙ sym c.in_ok-refuse.ensures, (sym c.requires.lines.range ∙ sym c.in_ok-refuse-2.ensures, (sym c.requires.lines.snapshot ∙ sym c.in_ok-refuse-3.ensures, (sym c.in_ok-check_stores.ensures, tt))))) c.check_places.ensures
 
 pub returns-clause-fault : goal.returns-clause-fault
-returns-clause-fault c = refused_last c.args.stack.now c.check_places.result c.requires.before c.in_ok-check_cycles.ensures.passed (sym (told (goal.at.returns-clause-fault c).After-deref) ∙ sym c.in_ok-check_depths.ensures, (sym c.in_ok-check_stripes.ensures, (sym c.in_ok-check_ranges.ensures, (sym c.in_ok-check_snapshots.ensures, (sym c.in_ok-check_stores.ensures, tt))))) c.check_places.ensures
+returns-clause-fault c = refused_last c.args.stack.now c.check_places.result c.requires.before c.in_ok-check_cycles.ensures.passed (sym (told (goal.at.returns-clause-fault c).After-deref) ∙ sym c.in_ok-check_depths.ensures, (sym c.requires.lines.stripe ∙ sym c.in_ok-refuse.ensures, (sym c.requires.lines.range ∙ sym c.in_ok-refuse-2.ensures, (sym c.requires.lines.snapshot ∙ sym c.in_ok-refuse-3.ensures, (sym c.in_ok-check_stores.ensures, tt))))) c.check_places.ensures

@@ -1,5 +1,4 @@
-use Rattle.std.proofs.Common.{ap, ◌∙◌}
-use Rattle.dm_stack.specs.checks.Graph.{links_in}
+use Rattle.dm_stack.proofs.Prelude.{ap, ◌∙◌, links_in}
 use Rattle.dm_stack.proofs.checks.LoadLemmas.{first_ring}
 use Rattle.dm_stack.proofs.checks.load.follow.Goals as goal
 

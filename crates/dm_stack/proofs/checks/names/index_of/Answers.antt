@@ -1,10 +1,5 @@
 -- A name that is in the index stands before, and one that is new does not.
-use Rattle.std.proofs.Common.{◌≡◌, [], ◌∷◌, ◌++◌, None, true, false, sym, ◌∙◌}
-use Rattle.std.proofs.lemmas.Bool.{not-true, not-false}
-use Rattle.std.proofs.lemmas.List.{take_all}
-use Rattle.dm_table.specs.load.LoadFault.{first_or}
-use Rattle.dm_table.specs.declared.load.place.Part.TheVariants.{Source}
-use Rattle.dm_stack.specs.checks.Soundness.{twice_in}
+use Rattle.dm_stack.proofs.Prelude.{◌≡◌, [], ◌∷◌, ◌++◌, None, true, false, sym, ◌∙◌, not-true, not-false, take_all, Source, first_or, twice_in}
 use Rattle.dm_stack.proofs.names.NameLemmas.{names_more, refused_twice, seen_in, stands_nowhere, stands_once, stands_twice}
 use Rattle.dm_stack.proofs.checks.names.index_of.Goals as goal
 

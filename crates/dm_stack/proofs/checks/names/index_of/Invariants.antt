@@ -1,7 +1,5 @@
 -- the rest has the first fault of the list, and the names so far are indexed
-use Rattle.std.proofs.Common.{◌≡◌, None, map, take}
-use Rattle.dm_table.specs.load.LoadFault.{first_or}
-use Rattle.dm_stack.specs.checks.Soundness.{twice_in}
+use Rattle.dm_stack.proofs.Prelude.{◌≡◌, None, map, take, first_or, twice_in}
 use Rattle.dm_stack.proofs.names.NameLemmas.{twice_from}
 use Rattle.dm_stack.proofs.checks.names.index_of.Given as goal
 

@@ -1,9 +1,5 @@
-use Rattle.dm_table.specs.load.LoadFault.{faults_by}
-use Rattle.dm_table.specs.declared.load.load_fault.LoadKind.TheVariants.{Unknown}
+use Rattle.dm_stack.proofs.Prelude.{Unknown, faults_by, is_unknown_path, twice_in, unless-ok}
 use Rattle.dm_table.specs.declared.tables.disk_path.DiskPath.{DiskPath}
-use Rattle.dm_stack.specs.checks.Paths.{is_unknown_path}
-use Rattle.dm_stack.specs.checks.Soundness.{twice_in}
-use Rattle.dm_table.proofs.FaultLemmas.{unless-ok}
 use Rattle.dm_stack.proofs.checks.PathFaults.{known_found, known_memory, known_passed}
 use Rattle.dm_stack.proofs.checks.paths.check_paths.Goals as goal
 

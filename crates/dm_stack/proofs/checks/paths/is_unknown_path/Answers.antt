@@ -1,7 +1,5 @@
-use Rattle.std.proofs.Common.{ℕ, List, ap, ◌∙◌}
-use Rattle.std.specs.Prelude.{position}
+use Rattle.dm_stack.proofs.Prelude.{ℕ, List, ap, ◌∙◌, position, is_same}
 use Rattle.dm_table.specs.declared.tables.disk.Disk.{Disk}
-use Rattle.dm_stack.specs.Description.{is_same}
 use Rattle.dm_stack.proofs.checks.PathFaults.{unknown_told}
 use Rattle.dm_stack.proofs.checks.paths.is_unknown_path.Goals as goal
 

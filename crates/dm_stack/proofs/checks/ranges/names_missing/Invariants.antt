@@ -1,7 +1,5 @@
 -- a span that is left names what isn't there exactly where one of the line does
-use Rattle.std.proofs.Common.{◌≡◌}
-use Rattle.std.specs.List.{list_any}
-use Rattle.dm_stack.specs.lines.Span.{is_missing, names_missing}
+use Rattle.dm_stack.proofs.Prelude.{◌≡◌, list_any, is_missing, names_missing}
 use Rattle.dm_stack.proofs.lines.SpanLemmas.{spans_left}
 use Rattle.dm_stack.proofs.checks.ranges.names_missing.Given as goal
 

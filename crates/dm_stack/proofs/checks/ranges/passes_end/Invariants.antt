@@ -1,7 +1,6 @@
 -- a span that is left passes an end exactly where one of the line does
-use Rattle.std.proofs.Common.{◌≡◌}
-use Rattle.std.specs.List.{list_any}
-use Rattle.dm_stack.specs.lines.Span.{is_past, passes_end}
+use Rattle.dm_stack.proofs.Prelude.{◌≡◌, list_any, is_past}
+use Rattle.dm_stack.specs.lines.Span.{passes_end}
 use Rattle.dm_stack.proofs.lines.SpanLemmas.{spans_left}
 use Rattle.dm_stack.proofs.checks.ranges.passes_end.Given as goal
 

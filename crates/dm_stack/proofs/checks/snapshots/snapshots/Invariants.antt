@@ -1,7 +1,5 @@
 -- the ids so far are those of the devices so far
-use Rattle.std.proofs.Common.{◌≡◌}
-use Rattle.std.specs.Prelude.{filter}
-use Rattle.std.specs.List.{range_with_len}
+use Rattle.dm_stack.proofs.Prelude.{◌≡◌, filter, range_with_len}
 use Rattle.dm_stack.proofs.checks.SnapshotIds.{is_over}
 use Rattle.dm_stack.proofs.checks.snapshots.snapshots.Given as goal
 

@@ -1,8 +1,4 @@
-use Rattle.std.proofs.Common.{◌+◌, ◌≡◌, ◌∙◌, ap, arith, drop, rules, tests}
-use Rattle.dm_stack.specs.declared.lines.resolved_line.ResolvedLine.{ResolvedLine}
-use Rattle.dm_stack.specs.checks.Soundness.{HasGoodChunk, all_lines}
-use Rattle.dm_stack.specs.checks.StoreLimit.{places_of}
-use Rattle.dm_stack.specs.lines.Below.{resolved_line}
+use Rattle.dm_stack.proofs.Prelude.{◌+◌, ◌≡◌, ◌∙◌, ap, arith, drop, rules, tests, ResolvedLine, HasGoodChunk, all_lines, places_of, resolved_line}
 use Rattle.dm_stack.proofs.checks.CrowdLemmas.{crowded_passes, line_places, places_are}
 use Rattle.dm_stack.proofs.lines.ByDevice.{made_at, table_is}
 use Rattle.dm_stack.proofs.checks.store_limit.check_places.Goals as goal

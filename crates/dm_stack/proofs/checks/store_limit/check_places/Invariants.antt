@@ -1,7 +1,5 @@
 -- the stores so far have not too many places, and the rest has the first fault of all lines
-use Rattle.std.proofs.Common.{◌≡◌, ◌+◌, ◌≤◌, ◌++◌, None, drop}
-use Rattle.dm_table.specs.load.LoadFault.{first_or}
-use Rattle.dm_stack.specs.checks.Soundness.{all_lines, crowded}
+use Rattle.dm_stack.proofs.Prelude.{◌≡◌, ◌+◌, ◌≤◌, ◌++◌, None, drop, first_or, all_lines, crowded}
 use Rattle.dm_stack.proofs.checks.CrowdLemmas.{crowded_from}
 use Rattle.dm_stack.proofs.checks.store_limit.check_places.Given as goal
 

@@ -1,8 +1,4 @@
-use Rattle.std.proofs.Common.{◌≡◌, ◌∙◌, rules, tests}
-use Rattle.dm_table.specs.declared.load.load_fault.LoadKind.TheVariants.{Store}
-use Rattle.dm_stack.specs.checks.Soundness.{has_bad_store}
-use Rattle.dm_stack.specs.checks.Store.{has_deep_store}
-use Rattle.dm_stack.specs.lines.Below.{resolved_target}
+use Rattle.dm_stack.proofs.Prelude.{◌≡◌, ◌∙◌, rules, tests, Store, has_bad_store, has_deep_store, resolved_target}
 use Rattle.dm_stack.proofs.checks.PlacedLemmas.{first_devices}
 use Rattle.dm_stack.proofs.checks.StoreLemmas.{deep_same}
 use Rattle.dm_stack.proofs.checks.stores.check_stores.Goals as goal

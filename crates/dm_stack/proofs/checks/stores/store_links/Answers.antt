@@ -1,5 +1,4 @@
-use Rattle.std.proofs.Common.{◌≡◌, ◌<◌, ap, ◌∙◌, arith, get_or, length}
-use Rattle.dm_stack.specs.checks.Graph.{links_in}
+use Rattle.dm_stack.proofs.Prelude.{◌≡◌, ◌<◌, ap, ◌∙◌, arith, get_or, length, links_in}
 use Rattle.dm_stack.proofs.checks.StoreLemmas.{links_length, store_links_next}
 use Rattle.dm_stack.proofs.checks.stores.store_links.Goals as goal
 

@@ -1,7 +1,6 @@
 -- what is left to claim, after what was claimed so far, gives all claims of the line
-use Rattle.std.proofs.Common.{◌≡◌, ◌++◌, false, map}
-use Rattle.std.specs.List.{list_any}
-use Rattle.dm_stack.specs.lines.Span.{is_past, line_claims, span_claim}
+use Rattle.dm_stack.proofs.Prelude.{◌≡◌, ◌++◌, false, map, list_any, is_past, line_claims}
+use Rattle.dm_stack.specs.lines.Span.{span_claim}
 use Rattle.dm_stack.proofs.lines.SpanLemmas.{spans_left}
 use Rattle.dm_stack.proofs.claims.claim.add_line.Given as goal
 

@@ -1,7 +1,5 @@
 -- the claims so far are those of the lines so far
-use Rattle.std.proofs.Common.{◌≡◌, ◌++◌, take}
-use Rattle.std.specs.List.{flat_map}
-use Rattle.dm_stack.specs.lines.Span.{line_claims}
+use Rattle.dm_stack.proofs.Prelude.{◌≡◌, ◌++◌, take, flat_map, line_claims}
 use Rattle.dm_stack.proofs.claims.claim.add_lines.Given as goal
 
 abbrev pub invariant-loop-line : goal.invariant-loop-line

@@ -1,8 +1,5 @@
-use Rattle.std.proofs.Common.{◌≡◌, ap, arith, length}
-use Rattle.std.proofs.lemmas.List.{length-map}
-use Rattle.dm_stack.specs.Stack.{resolved_device}
+use Rattle.dm_stack.proofs.Prelude.{◌≡◌, ap, arith, length, length-map, resolved_device, lines_at}
 use Rattle.dm_stack.specs.claims.Claims.{line_claims}
-use Rattle.dm_stack.specs.Description.{lines_at}
 use Rattle.dm_stack.specs.lines.Span as by_id
 use Rattle.dm_stack.proofs.lines.ByDevice.{lines_next, table_at}
 use Rattle.dm_stack.proofs.lines.SpanLemmas.{claims_are, flat_lines}

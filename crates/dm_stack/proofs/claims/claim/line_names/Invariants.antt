@@ -1,7 +1,5 @@
 -- a span that is left names the device exactly where one of the line does
-use Rattle.std.proofs.Common.{◌≡◌}
-use Rattle.std.specs.List.{list_any}
-use Rattle.dm_stack.specs.claims.Naming.{is_device, line_names}
+use Rattle.dm_stack.proofs.Prelude.{◌≡◌, list_any, is_device, line_names}
 use Rattle.dm_stack.proofs.lines.SpanLemmas.{spans_left}
 use Rattle.dm_stack.proofs.claims.claim.line_names.Given as goal
 

@@ -1,7 +1,5 @@
 -- the devices that none of the claims so far is on
-use Rattle.std.proofs.Common.{◌≡◌, ◌<◌, ℕ, false, length, not, slice_index_or, take}
-use Rattle.std.specs.List.{list_any}
-use Rattle.dm_stack.specs.claims.Naming.{is_device}
+use Rattle.dm_stack.proofs.Prelude.{◌≡◌, ◌<◌, ℕ, false, length, not, slice_index_or, take, list_any, is_device}
 use Rattle.dm_stack.proofs.claims.claim.unclaimed.Given as goal
 
 abbrev pub invariant-loop-claim : goal.invariant-loop-claim

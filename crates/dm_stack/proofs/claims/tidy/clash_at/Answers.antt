@@ -1,10 +1,6 @@
-use Rattle.std.proofs.Common.{length, refl, sym, ap, ◌∙◌}
-use Rattle.std.specs.Prelude.{take}
-use Rattle.std.proofs.lemmas.Option.{slice_get_read}
-use Rattle.dm_stack.specs.claims.Sweep.{clash_with}
+use Rattle.dm_stack.proofs.Prelude.{length, refl, sym, ap, ◌∙◌, take, slice_get_read, same_Some, clash_with}
 use Rattle.dm_stack.proofs.claims.TidyLemmas.{clash_here, clash_none}
 use Rattle.dm_stack.proofs.claims.tidy.clash_at.Goals as goal
-use Rattle.std.proofs.lemmas.Option.{same_Some}
 
 pub returns-then-meets : goal.returns-then-meets
 returns-then-meets c later there =

@@ -1,6 +1,5 @@
 -- none of the claims so far meets the later one
-use Rattle.std.proofs.Common.{◌≡◌, drop}
-use Rattle.dm_stack.specs.claims.Sweep.{clash_with}
+use Rattle.dm_stack.proofs.Prelude.{◌≡◌, drop, clash_with}
 use Rattle.dm_stack.proofs.claims.tidy.clash_at.Given as goal
 
 abbrev pub invariant-loop-earlier : goal.invariant-loop-earlier

@@ -1,9 +1,4 @@
-use Rattle.std.proofs.Common.{◌≡◌, ◌<◌, ◌+◌, true, length, sym, ap, subst, ◌∙◌, arith}
-use Rattle.std.specs.List.{AllPairs}
-use Rattle.std.proofs.lemmas.List.{take_all}
-use Rattle.std.proofs.lemmas.Option.{get_or_from_slice_get}
-use Rattle.dm_stack.specs.claims.Claims.{NeverMeet, IsFirstClash}
-use Rattle.dm_stack.specs.claims.Sweep.{is_tidy_to}
+use Rattle.dm_stack.proofs.Prelude.{◌≡◌, ◌<◌, ◌+◌, true, length, sym, ap, subst, ◌∙◌, arith, AllPairs, take_all, get_or_from_slice_get, NeverMeet, IsFirstClash, is_tidy_to}
 use Rattle.dm_stack.proofs.claims.TidyLemmas.{first_is, order_length, counted_kept, tidy_below}
 use Rattle.dm_stack.proofs.SoundLines.{there}
 use Rattle.dm_stack.proofs.claims.tidy.first_clash.Goals as goal

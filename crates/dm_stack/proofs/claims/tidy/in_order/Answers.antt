@@ -1,5 +1,4 @@
-use Rattle.std.proofs.Common.{rules}
-use Rattle.std.proofs.lemmas.List.Sorted.{IsNonDecreasingBy-from_sort_by_key}
+use Rattle.dm_stack.proofs.Prelude.{rules, IsNonDecreasingBy-from_sort_by_key}
 use Rattle.dm_stack.proofs.claims.TidyLemmas.{numbered_next}
 use Rattle.dm_stack.proofs.claims.tidy.in_order.Goals as goal
 

@@ -1,6 +1,5 @@
 -- the claims so far, with their numbers
-use Rattle.std.proofs.Common.{◌≡◌, take}
-use Rattle.dm_stack.specs.claims.Sweep.{numbered}
+use Rattle.dm_stack.proofs.Prelude.{◌≡◌, take, numbered}
 use Rattle.dm_stack.proofs.claims.tidy.in_order.Given as goal
 
 abbrev pub invariant-loop-number : goal.invariant-loop-number

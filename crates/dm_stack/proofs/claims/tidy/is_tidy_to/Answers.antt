@@ -1,6 +1,4 @@
-use Rattle.std.proofs.Common.{◌≡◌, false, true, not, sym, ap, take}
-use Rattle.std.specs.List.{list_any}
-use Rattle.dm_stack.specs.claims.Sweep.{reach_of, rivals}
+use Rattle.dm_stack.proofs.Prelude.{◌≡◌, false, true, not, sym, ap, take, list_any, reach_of, rivals}
 use Rattle.dm_stack.proofs.claims.SweepLemmas.{counted, met, not_met, reach_more, search_ends, search_more, uncounted}
 use Rattle.dm_stack.proofs.claims.tidy.is_tidy_to.Goals as goal
 use Rattle.dm_stack.proofs.claims.tidy.is_tidy_to.Goals.{then-next-count+else-meets, else-next-count}

@@ -1,7 +1,5 @@
 -- the claims so far do not meet, and what is kept of them is how far they reach
-use Rattle.std.proofs.Common.{◌≡◌, [], drop, length, take}
-use Rattle.dm_stack.specs.declared.id.Lower.{Lower}
-use Rattle.dm_stack.specs.claims.Sweep.{has_pair, reach_at, reach_of, rivals}
+use Rattle.dm_stack.proofs.Prelude.{◌≡◌, [], drop, length, take, Lower, has_pair, reach_at, reach_of, rivals}
 use Rattle.dm_stack.proofs.claims.tidy.is_tidy_to.Given as goal
 
 abbrev pub invariant-loop-next : goal.invariant-loop-next

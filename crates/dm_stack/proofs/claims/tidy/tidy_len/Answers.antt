@@ -1,4 +1,4 @@
-use Rattle.std.proofs.Common.{arith}
+use Rattle.dm_stack.proofs.Prelude.{arith}
 use Rattle.dm_stack.proofs.claims.TidyLemmas.{some_order, tidy_to_none}
 use Rattle.dm_stack.proofs.claims.tidy.tidy_len.Goals as goal
 

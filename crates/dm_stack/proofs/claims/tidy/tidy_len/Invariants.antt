@@ -1,6 +1,5 @@
 -- none of the claims below the one index meet, and some below the other do
-use Rattle.std.proofs.Common.{◌≡◌, ◌<◌, ◌≤◌, ◌-◌, false, length, true}
-use Rattle.dm_stack.specs.claims.Sweep.{is_tidy_to}
+use Rattle.dm_stack.proofs.Prelude.{◌≡◌, ◌<◌, ◌≤◌, ◌-◌, false, length, true, is_tidy_to}
 use Rattle.dm_stack.proofs.claims.tidy.tidy_len.Given as goal
 
 abbrev pub invariant-loop-tidy : goal.invariant-loop-tidy

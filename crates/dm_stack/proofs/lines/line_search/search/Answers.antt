@@ -1,6 +1,4 @@
-use Rattle.std.proofs.Common.{ℕ, ◌≡◌, ◌+◌, ◌-◌, ◌*◌, ◌/◌, ◌^◌, ◌<◌, ◌≤◌, ◌∙◌, arith, length, subst, sym}
-use Rattle.std.proofs.lemmas.Bool.{leb-false, leb-true}
-use Rattle.dm_stack.specs.lines.LineSearch.{StartsAfter}
+use Rattle.dm_stack.proofs.Prelude.{ℕ, ◌≡◌, ◌+◌, ◌-◌, ◌*◌, ◌/◌, ◌^◌, ◌<◌, ◌≤◌, ◌∙◌, arith, length, subst, sym, leb-false, leb-true, StartsAfter}
 use Rattle.dm_stack.proofs.lines.LineSearchLemmas.{few_digits, more-few, more-halved, starts_after, starts_by}
 use Rattle.dm_stack.proofs.lines.line_search.search.Goals as goal
 

@@ -1,6 +1,5 @@
 -- the sought line is one of count lines from index on; each comparison halves how many come after the first of them
-use Rattle.std.proofs.Common.{◌+◌, ◌-◌, ◌*◌, ◌^◌, ◌<◌, ◌≤◌, length}
-use Rattle.dm_stack.specs.lines.LineSearch.{StartsAfter, StartsBy}
+use Rattle.dm_stack.proofs.Prelude.{◌+◌, ◌-◌, ◌*◌, ◌^◌, ◌<◌, ◌≤◌, length, StartsAfter, StartsBy}
 use Rattle.dm_stack.proofs.lines.line_search.search.Given as goal
 
 abbrev pub invariant-loop-count : goal.invariant-loop-count

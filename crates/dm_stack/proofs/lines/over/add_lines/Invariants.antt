@@ -1,7 +1,5 @@
 -- the snapshots so far are those of the lines so far
-use Rattle.std.proofs.Common.{◌≡◌, ◌++◌, take}
-use Rattle.std.specs.List.{flat_map}
-use Rattle.dm_stack.specs.lines.Over.{over_of}
+use Rattle.dm_stack.proofs.Prelude.{◌≡◌, ◌++◌, take, flat_map, over_of}
 use Rattle.dm_stack.proofs.lines.over.add_lines.Given as goal
 
 abbrev pub invariant-loop-line : goal.invariant-loop-line

@@ -1,6 +1,4 @@
-use Rattle.std.proofs.Common.{◌≡◌, ◌<◌, ap, arith, get_or, length}
-use Rattle.dm_table.specs.declared.tables.table.Line.{Line}
-use Rattle.dm_stack.specs.lines.Over.{over_of}
+use Rattle.dm_stack.proofs.Prelude.{◌≡◌, ◌<◌, ap, arith, get_or, length, Line, over_of}
 use Rattle.dm_stack.proofs.lines.ByDevice.{device_next}
 use Rattle.dm_stack.proofs.lines.OverLemmas.{all_is}
 use Rattle.dm_stack.proofs.lines.over.all_over.Goals as goal

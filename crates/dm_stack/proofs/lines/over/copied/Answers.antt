@@ -1,8 +1,4 @@
-use Rattle.std.proofs.Common.{ap, arith, refl, sym, ◌∙◌}
-use Rattle.std.specs.List.{list_any}
-use Rattle.std.proofs.lemmas.Bool.{eqb-true}
-use Rattle.std.proofs.lemmas.List.{nil_from_length}
-use Rattle.dm_stack.specs.lines.Over.{has_crowd}
+use Rattle.dm_stack.proofs.Prelude.{ap, arith, refl, sym, ◌∙◌, list_any, eqb-true, nil_from_length, has_crowd}
 use Rattle.dm_stack.proofs.lines.OverLemmas.{copied_is, none_copied}
 use Rattle.dm_stack.proofs.lines.over.copied.Goals as goal
 use Rattle.dm_stack.proofs.lines.over.copied.Goals.{else-not-is_empty-via-then-not-is_empty+else-has_crowds, else-not-is_empty-via-else-not-is_empty}

@@ -1,7 +1,5 @@
 -- what is kept so far is what passes of those so far
-use Rattle.std.proofs.Common.{◌≡◌, take}
-use Rattle.std.specs.Prelude.{filter}
-use Rattle.dm_stack.specs.Description.{is_same_lower}
+use Rattle.dm_stack.proofs.Prelude.{◌≡◌, take, filter, is_same_lower}
 use Rattle.dm_stack.proofs.lines.over.snapshots_over.Given as goal
 
 abbrev pub invariant-loop-one : goal.invariant-loop-one

@@ -1,5 +1,4 @@
-use Rattle.std.proofs.Common.{◌≡◌, take}
-use Rattle.dm_stack.specs.lines.Below.{resolved_columns}
+use Rattle.dm_stack.proofs.Prelude.{◌≡◌, take, resolved_columns}
 use Rattle.dm_stack.proofs.lines.resolve.columns_by_ids.Given as goal
 
 abbrev pub invariant-loop-column : goal.invariant-loop-column

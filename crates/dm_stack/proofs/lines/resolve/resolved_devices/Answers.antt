@@ -1,5 +1,4 @@
-use Rattle.std.proofs.Common.{◌≡◌, ◌<◌, ◌∙◌, ap, arith, get_or, length, refl}
-use Rattle.std.proofs.lemmas.Option.{IfSome_then, slice_get_read}
+use Rattle.dm_stack.proofs.Prelude.{◌≡◌, ◌<◌, ◌∙◌, ap, arith, get_or, length, refl, IfSome_then, slice_get_read}
 use Rattle.dm_stack.proofs.lines.OwnSnapshot.{own_is}
 use Rattle.dm_stack.proofs.lines.resolve.resolved_devices.Goals as goal
 
@@ -13,4 +12,4 @@ table-requires-clause-own c =
     let is : device ≡ get_or stack.devices id device = cc in
     let at = slice_get_read stack.devices (length stack.devices) id device refl within is in
     let over = c.deref.ensures.value ∙ c.in_ok-over.ensures in
-    IfSome_then c.next_over-own.result c.next_over-own.ensures (λ found named. own_is stack _ id device _ found.now over at c.as_slice-lines.ensures (rw c.new.ensures at named))
+    IfSome_then c.snapshot_of_next-own.result c.snapshot_of_next-own.ensures (λ found named. own_is stack _ id device _ found.now over at c.as_slice-lines.ensures (rw c.new.ensures at named))

@@ -1,5 +1,4 @@
-use Rattle.std.proofs.Common.{◌≡◌, map, take}
-use Rattle.dm_stack.specs.Stack.{resolved_device}
+use Rattle.dm_stack.proofs.Prelude.{◌≡◌, map, take, resolved_device}
 use Rattle.dm_stack.proofs.lines.resolve.resolved_devices.Given as goal
 
 abbrev pub invariant-loop-id : goal.invariant-loop-id

@@ -1,5 +1,4 @@
-use Rattle.std.proofs.Common.{◌≡◌, map, take}
-use Rattle.dm_stack.specs.lines.Below.{resolved_line}
+use Rattle.dm_stack.proofs.Prelude.{◌≡◌, map, take, resolved_line}
 use Rattle.dm_stack.proofs.lines.resolve.table.Given as goal
 
 abbrev pub invariant-loop-line : goal.invariant-loop-line

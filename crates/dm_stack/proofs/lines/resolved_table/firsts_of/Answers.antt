@@ -1,7 +1,5 @@
-use Rattle.std.proofs.Common.{◌≡◌, ℕ, ◌+◌, ◌*◌, ◌/◌, ◌%◌, ◌^◌, ◌<◌, ◌≤◌, List, [], ◌∷◌, length, length-append, ap, subst, sym, ◌∙◌, arith}
-use Rattle.std.proofs.Math.Nat.{div-mul-le_self, mod-eq_of_lt, mul-le-mul_right}
-use Rattle.std.proofs.Math.Pow.{pow_mono}
-use Rattle.dm_stack.specs.lines.LineSearch.{AreFirsts, IsLineOf, StartsAfter, StartsBy}
+use Rattle.dm_stack.proofs.Prelude.{◌≡◌, ℕ, ◌+◌, ◌*◌, ◌/◌, ◌%◌, ◌^◌, ◌<◌, ◌≤◌, List, [], ◌∷◌, length, length-append, ap, subst, sym, ◌∙◌, arith, div-mul-le_self, mod-eq_of_lt, mul-le-mul_right, pow_mono, AreFirsts, StartsAfter, StartsBy}
+use Rattle.dm_stack.specs.lines.LineSearch.{IsLineOf}
 use Rattle.dm_stack.proofs.lines.BucketLemmas.{earlier_pushed, firsts_pushed, next_bucket, starts_after_start, starts_by_later, starts_by_start, within_start}
 use Rattle.dm_stack.proofs.lines.resolved_table.firsts_of.Goals.{After-len-in-loop-firsts}
 use Rattle.dm_stack.proofs.lines.resolved_table.firsts_of.Goals as goal

@@ -1,6 +1,5 @@
 -- the line of an index starts at the first sector of the next bucket or before it, and no bucket so far begins in a later one
-use Rattle.std.proofs.Common.{◌+◌, ◌-◌, ◌*◌, ◌^◌, ◌<◌, ◌≤◌, ℕ, get_or, length}
-use Rattle.dm_stack.specs.lines.LineSearch.{AreFirsts, IsStartOf, StartsBy}
+use Rattle.dm_stack.proofs.Prelude.{◌+◌, ◌-◌, ◌*◌, ◌^◌, ◌<◌, ◌≤◌, ℕ, get_or, length, AreFirsts, IsStartOf, StartsBy}
 use Rattle.dm_stack.proofs.lines.resolved_table.firsts_of.Given as goal
 
 abbrev pub invariant-loop-next : goal.invariant-loop-next

@@ -1,5 +1,4 @@
-use Rattle.std.proofs.Common.{◌≡◌, ◌+◌, ◌-◌, ◌*◌, ◌/◌, inl, inr, arith}
-use Rattle.dm_stack.specs.lines.StoreLayout.{place_count, places_in}
+use Rattle.dm_stack.proofs.Prelude.{◌≡◌, ◌+◌, ◌-◌, ◌*◌, ◌/◌, inl, inr, arith, place_count, places_in}
 use Rattle.dm_stack.proofs.lines.StoreLayoutLemmas.{has_place}
 use Rattle.dm_stack.proofs.lines.store_layout.place_count.Goals as goal
 

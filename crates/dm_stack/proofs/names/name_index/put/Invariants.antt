@@ -1,4 +1,4 @@
-use Rattle.std.proofs.Common.{◌≡◌, ◌≤◌, ◌-◌, length}
+use Rattle.dm_stack.proofs.Prelude.{◌≡◌, ◌≤◌, ◌-◌, length}
 use Rattle.dm_stack.proofs.names.name_index.put.Given as goal
 
 abbrev pub invariant-tries : goal.invariant-tries

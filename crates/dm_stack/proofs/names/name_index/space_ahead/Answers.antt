@@ -1,6 +1,4 @@
-use Rattle.std.proofs.Common.{◌≡◌, ◌+◌, ◌-◌, length, arith}
-use Rattle.std.proofs.lemmas.List.{get_or-take}
-use Rattle.std.proofs.lemmas.Simd.{get_or-chunk}
+use Rattle.dm_stack.proofs.Prelude.{◌≡◌, ◌+◌, ◌-◌, length, arith, get_or-take, get_or-chunk}
 use Rattle.dm_stack.proofs.names.name_index.space_ahead.Goals as goal
 
 pub returns-in-Some-clause-space : goal.returns-in-Some-clause-space

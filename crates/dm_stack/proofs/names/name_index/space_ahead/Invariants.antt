@@ -1,4 +1,4 @@
-use Rattle.std.proofs.Common.{◌-◌}
+use Rattle.dm_stack.proofs.Prelude.{◌-◌}
 use Rattle.dm_stack.proofs.names.name_index.space_ahead.Given as goal
 
 abbrev pub invariant-steps : goal.invariant-steps

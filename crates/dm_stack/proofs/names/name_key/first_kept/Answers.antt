@@ -1,10 +1,4 @@
-use Rattle.std.proofs.Common.{◌≡◌, ℕ, ◌-◌, ◌<◌, ◌++◌, Bool, true, get_or, replicate, refl, subst, ◌∙◌, arith}
-use Rattle.std.specs.Prelude.{slice_range}
-use Rattle.std.specs.List.{list_all, range_with_len}
-use Rattle.std.specs.Str.{bytes_eq}
-use Rattle.std.proofs.lemmas.List.FromFn.{get_or-range_with_len}
-use Rattle.std.proofs.lemmas.List.Sums.{AllPass-from_list_all}
-use Rattle.std.proofs.lemmas.Slice.Eq.{bytes_eq-Decides}
+use Rattle.dm_stack.proofs.Prelude.{◌≡◌, ℕ, ◌-◌, ◌<◌, ◌++◌, Bool, true, get_or, replicate, refl, subst, ◌∙◌, arith, slice_range, list_all, range_with_len, bytes_eq, get_or-range_with_len, AllPass-from_list_all, bytes_eq-Decides}
 use Rattle.dm_stack.specs.declared.names.name_key.TheConstants.{KEPT}
 use Rattle.dm_stack.proofs.names.KeyLemmas.{and_kept}
 use Rattle.dm_stack.proofs.names.name_key.first_kept.Goals as goal

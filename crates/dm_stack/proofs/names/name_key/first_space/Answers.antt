@@ -1,10 +1,4 @@
-use Rattle.std.proofs.Common.{◌≡◌, ℕ, ◌%◌, ◌^◌, ◌<◌, cond, not, List, get_or, length, map, replicate, refl, ap, ◌∙◌, arith, w8, pos_of_ne-zero}
-use Rattle.std.specs.Prelude.{nat_eq}
-use Rattle.std.specs.List.{prefix_len}
-use Rattle.std.proofs.lemmas.Bool.{eqb-true}
-use Rattle.std.proofs.lemmas.List.{length-map}
-use Rattle.std.proofs.lemmas.List.Sums.{passes_at_first}
-use Rattle.std.proofs.lemmas.Simd.{mask_l-mod, tops_compared, trailing_mask_l, zip2_splat}
+use Rattle.dm_stack.proofs.Prelude.{◌≡◌, ℕ, ◌%◌, ◌^◌, ◌<◌, cond, not, List, get_or, length, map, replicate, refl, ap, ◌∙◌, arith, w8, pos_of_ne-zero, nat_eq, prefix_len, eqb-true, length-map, passes_at_first, mask_l-mod, tops_compared, trailing_mask_l, zip2_splat}
 use lib.Count.{count_trailing_zeros}
 use lib.Lanes.{mask_l, top, zip2}
 use Rattle.dm_table.proofs.MarkLemmas.{mark_within}

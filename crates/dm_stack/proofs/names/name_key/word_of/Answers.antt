@@ -1,6 +1,4 @@
-use Rattle.std.proofs.Common.{ap, ◌∙◌}
-use Rattle.std.specs.Int.{from_le_bytes, w64}
-use Rattle.std.proofs.lemmas.Nat.{le_bytes_8}
+use Rattle.dm_stack.proofs.Prelude.{ap, ◌∙◌, from_le_bytes, w64, le_bytes_8}
 use Rattle.dm_stack.proofs.names.name_key.word_of.Goals as goal
 
 pub returns : goal.returns

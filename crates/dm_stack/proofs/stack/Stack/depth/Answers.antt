@@ -1,5 +1,4 @@
-use Rattle.std.proofs.Common.{subst}
-use Rattle.dm_stack.specs.checks.Soundness.{IsSound}
+use Rattle.dm_stack.proofs.Prelude.{subst, IsSound}
 use Rattle.dm_stack.proofs.DepthRule.{deeper_by_one}
 use Rattle.dm_stack.proofs.stack.Stack.depth.Goals as goal
 

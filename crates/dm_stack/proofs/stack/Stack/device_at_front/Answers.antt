@@ -1,10 +1,4 @@
-use Rattle.std.proofs.Common.{◌≡◌, Some, [], ap, arith, get_or, length, sym, take, true, ◌∙◌}
-use Rattle.std.specs.Prelude.{position}
-use Rattle.std.proofs.lemmas.List.{length-map}
-use Rattle.std.proofs.lemmas.List.Quantifiers.{position-Some}
-use Rattle.std.proofs.lemmas.Slice.Eq.{bytes_eq-Decides}
-use Rattle.dm_table.specs.words.Name.{is_device_name}
-use Rattle.dm_stack.specs.Description.{is_same}
+use Rattle.dm_stack.proofs.Prelude.{◌≡◌, Some, [], ap, arith, get_or, length, sym, take, true, ◌∙◌, position, length-map, position-Some, bytes_eq-Decides, is_device_name, is_same}
 use Rattle.dm_stack.proofs.SoundLines.{position-map}
 use Rattle.dm_stack.proofs.stack.Stack.device_at_front.Goals as goal
 use Rattle.dm_stack.proofs.stack.Stack.device_at_front.Goals.{In_ok-index}

@@ -1,5 +1,4 @@
-use Rattle.std.proofs.Common.{sym}
-use Rattle.dm_stack.specs.Description.{is_same}
+use Rattle.dm_stack.proofs.Prelude.{sym, is_same}
 use Rattle.dm_stack.proofs.SoundLines.{position-map}
 use Rattle.dm_stack.proofs.stack.Stack.disk.Goals as goal
 

@@ -1,6 +1,4 @@
-use Rattle.std.proofs.Common.{◌≡◌, ◌<◌, length, Some, refl}
-use Rattle.std.specs.Prelude.{slice_get}
-use Rattle.std.proofs.lemmas.Option.{slice_get_read}
+use Rattle.dm_stack.proofs.Prelude.{◌≡◌, ◌<◌, length, Some, refl, slice_get, slice_get_read}
 use Rattle.dm_stack.proofs.SoundLines.{disk_some, disk_small}
 use Rattle.dm_stack.proofs.stack.Stack.disk_len.Goals as goal
 

@@ -1,7 +1,4 @@
-use Rattle.std.proofs.Common.{◌≡◌, Some, refl, ◌∙◌, add-one}
-use Rattle.std.proofs.lemmas.List.{length-map}
-use Rattle.std.proofs.lemmas.Option.{slice_get_read}
-use Rattle.dm_stack.specs.lines.Below.{found_at}
+use Rattle.dm_stack.proofs.Prelude.{◌≡◌, Some, refl, ◌∙◌, add-one, length-map, slice_get_read, found_at}
 use Rattle.dm_stack.proofs.lines.LineSearchLemmas.{few_halvings, first_starts, last_kept, line_there, next_after, small_there}
 use Rattle.dm_stack.proofs.lines.SameLine.{resolved_line_of}
 use Rattle.dm_stack.proofs.SoundLines.{sector_found}

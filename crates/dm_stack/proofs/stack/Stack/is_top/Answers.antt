@@ -1,6 +1,4 @@
-use Rattle.std.proofs.Common.{ap, ◌∙◌}
-use Rattle.dm_stack.specs.Description.{Description}
-use Rattle.dm_stack.specs.claims.Naming.{is_named}
+use Rattle.dm_stack.proofs.Prelude.{ap, ◌∙◌, Description, is_named}
 use Rattle.dm_stack.proofs.claims.TopLemmas.{top_is}
 use Rattle.dm_stack.proofs.stack.Stack.is_top.Goals as goal
 

@@ -1,6 +1,4 @@
-use Rattle.std.proofs.Common.{List, ℕ, subst}
-use Rattle.dm_stack.specs.checks.Snapshots.{AreSnapshots}
-use Rattle.dm_stack.specs.checks.Soundness.{IsSound}
+use Rattle.dm_stack.proofs.Prelude.{List, ℕ, subst, AreSnapshots, IsSound}
 use Rattle.dm_stack.proofs.checks.CrowdLemmas.{few_places}
 use Rattle.dm_stack.proofs.SnapshotRule.{are_snapshots}
 use Rattle.dm_stack.proofs.stack.Stack.snapshots.Goals as goal

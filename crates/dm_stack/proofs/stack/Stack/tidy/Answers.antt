@@ -1,6 +1,4 @@
-use Rattle.std.proofs.Common.{subst, sym}
-use Rattle.std.proofs.lemmas.Result.{IfOk-weaker}
-use Rattle.dm_stack.specs.checks.Soundness.{IsSound}
+use Rattle.dm_stack.proofs.Prelude.{subst, sym, IfOk-weaker, IsSound}
 use Rattle.dm_stack.proofs.claims.TopLemmas.{are_claims, claims_within, found_there, none_passes, one_clash, untied}
 use Rattle.dm_stack.proofs.stack.Stack.tidy.Goals as goal
 

@@ -1,6 +1,5 @@
-use Rattle.std.proofs.Common.{Bool, Vec, subst, sym}
+use Rattle.dm_stack.proofs.Prelude.{Bool, Vec, subst, sym, IsSound}
 use Rattle.std.specs.Global.{Global}
-use Rattle.dm_stack.specs.checks.Soundness.{IsSound}
 use Rattle.dm_stack.proofs.claims.TopLemmas.{are_claims, none_passes, noted_tops}
 use Rattle.dm_stack.proofs.stack.Stack.tops.Goals as goal
 

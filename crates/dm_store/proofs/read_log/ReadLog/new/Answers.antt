@@ -1,5 +1,4 @@
-use Rattle.std.proofs.Common.{refl}
-use Rattle.dm_store.specs.ReadLog.{Agrees, given_total, path_total}
+use Rattle.dm_store.proofs.Prelude.{refl, Agrees, given_total, path_total}
 use Rattle.dm_store.proofs.read_log.ReadLog.new.Goals as goal
 
 pub invariant_of-result : goal.invariant_of-result

@@ -1,6 +1,4 @@
-use Rattle.std.proofs.Common.{◌≡◌, ℕ, ◌+◌, List, ◌++◌, length, length-append, refl, sym, ap, ◌∙◌}
-use Rattle.dm_store.specs.declared.asked.Asked.{Asked}
-use Rattle.dm_store.specs.ReadLog.{given_total, path_total}
+use Rattle.dm_store.proofs.Prelude.{◌≡◌, ℕ, ◌+◌, List, ◌++◌, length, length-append, refl, sym, ap, ◌∙◌, Asked, given_total, path_total}
 use Rattle.dm_store.proofs.LogLemmas.{agrees_more, given_more, path_more}
 use Rattle.dm_store.proofs.read_log.ReadLog.note.Goals as goal
 

@@ -1,5 +1,4 @@
-use Rattle.std.proofs.Common.{◌≡◌, map, take}
-use Rattle.dm_stream.specs.pieces.DiskText.{disk_text}
+use Rattle.dm_stream.proofs.Prelude.{◌≡◌, map, take, disk_text}
 use Rattle.dm_stream.proofs.pieces.disk_texts.texts_of.Given as goal
 
 abbrev pub invariant-loop-disk : goal.invariant-loop-disk

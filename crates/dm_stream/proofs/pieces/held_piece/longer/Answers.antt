@@ -1,9 +1,5 @@
-use Rattle.std.proofs.Common.{◌+◌, ℕ, sym, subst, ◌∙◌, ap, arith}
-use Rattle.dm_stack.specs.Description.{Description}
-use Rattle.dm_map.specs.pieces.Units.{BlockUnit, IsOnDisks, first_unit, piece_len}
-use Rattle.dm_map.specs.declared.pieces.piece.Piece.{Piece}
+use Rattle.dm_stream.proofs.Prelude.{◌+◌, ℕ, sym, subst, ◌∙◌, ap, arith, Description, BlockUnit, IsOnDisks, first_unit, piece_len, Piece, Fits}
 use Rattle.dm_map.specs.declared.pieces.piece.Piece.TheVariants as coded
-use Rattle.dm_stream.specs.pieces.Pending.{Fits}
 use Rattle.dm_stream.proofs.pieces.FitsLemmas.{fits_few}
 use Rattle.dm_stream.proofs.pieces.held_piece.longer.Goals as goal
 

@@ -1,7 +1,4 @@
-use Rattle.std.proofs.Common.{rules, ◌≡◌, ℕ, ◌≤◌, ◌++◌, List, [], ◌∷◌, get_or, set, length, take, decimal, ap, ◌∙◌, arith, get_or-set_same, length-set, length-take-le}
-use Rattle.std.proofs.lemmas.Fmt.{length-decimal-le}
-use Rattle.std.proofs.lemmas.List.{take-take, take-set-le}
-use Rattle.dm_stream.specs.pieces.LineEnds.{IsLineEnd, line_end}
+use Rattle.dm_stream.proofs.Prelude.{rules, ◌≡◌, ℕ, ◌≤◌, ◌++◌, List, [], ◌∷◌, get_or, set, length, take, decimal, ap, ◌∙◌, arith, get_or-set_same, length-set, length-take-le, length-decimal-le, take-take, take-set-le, IsLineEnd, line_end}
 use Rattle.dm_stream.proofs.pieces.line_ends.line_end.Goals as goal
 
 -- the front of a text with the count of its bytes as the last of eight

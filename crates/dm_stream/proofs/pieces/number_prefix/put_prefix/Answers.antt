@@ -1,5 +1,4 @@
-use Rattle.std.proofs.Common.{arith}
-use Rattle.std.proofs.lemmas.Fmt.{decimal_nonempty}
+use Rattle.dm_stream.proofs.Prelude.{arith, decimal_nonempty}
 use Rattle.dm_stream.proofs.pieces.number_prefix.put_prefix.Goals as goal
 
 pub returns-clause-some : goal.returns-clause-some

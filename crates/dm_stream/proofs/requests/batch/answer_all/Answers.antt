@@ -1,6 +1,4 @@
-use Rattle.std.proofs.Common.{[], ◌∷◌, ◌++◌, suc, drop, take}
-use Rattle.dm_stream.specs.requests.Batch.{front_requests}
-use Rattle.dm_stream.specs.requests.Requests.{numbered}
+use Rattle.dm_stream.proofs.Prelude.{[], ◌∷◌, ◌++◌, suc, drop, take, front_requests, numbered}
 use Rattle.dm_stream.proofs.requests.Batches.{up_to}
 use Rattle.dm_stream.proofs.requests.batch.answer_all.Goals as goal
 

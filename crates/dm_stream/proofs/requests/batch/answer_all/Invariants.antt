@@ -1,5 +1,4 @@
-use Rattle.std.proofs.Common.{take}
-use Rattle.dm_stream.specs.requests.Batch.{front_requests}
+use Rattle.dm_stream.proofs.Prelude.{take, front_requests}
 use Rattle.dm_stream.proofs.requests.batch.answer_all.Given as goal
 
 abbrev pub invariant-fronts : goal.invariant-fronts

@@ -1,5 +1,4 @@
-use Rattle.std.proofs.Common.{◌+◌, [], length, drop, ap}
-use Rattle.dm_stream.specs.requests.Batch.{front_requests}
+use Rattle.dm_stream.proofs.Prelude.{◌+◌, [], length, drop, ap, front_requests}
 use Rattle.dm_stream.proofs.requests.Batches.{among_those}
 use Rattle.dm_stream.proofs.requests.batch.answer_batch.Goals as goal
 

@@ -1,8 +1,4 @@
-use Rattle.std.proofs.Common.{◌≡◌, Some, ap, length, length-drop, arith}
-use Rattle.std.proofs.lemmas.List.{take_rest}
-use Rattle.std.proofs.lemmas.List.Elements.{All-push, All-same}
-use Rattle.dm_stream.specs.runs.Outcome.{device_of}
-use Rattle.dm_stream.specs.declared.requests.front.Front.{Front}
+use Rattle.dm_stream.proofs.Prelude.{◌≡◌, Some, ap, length, length-drop, arith, take_rest, All-push, All-same, device_of, Front}
 use Rattle.dm_stream.proofs.requests.Batches.{one_more}
 use Rattle.dm_stream.proofs.requests.batch.read_fronts.Goals as goal
 

@@ -1,8 +1,5 @@
-use Rattle.std.proofs.Common.{◌≡◌, ◌+◌, ◌-◌, ◌≤◌, Some, length, drop}
-use Rattle.std.specs.List.{All}
+use Rattle.dm_stream.proofs.Prelude.{◌≡◌, ◌+◌, ◌-◌, ◌≤◌, Some, length, drop, All, AreFirst, front_requests, device_of}
 use Rattle.arrayvec.specs.ArrayVec.{array_vec_len}
-use Rattle.dm_stream.specs.requests.Batch.{AreFirst, front_requests}
-use Rattle.dm_stream.specs.runs.Outcome.{device_of}
 use Rattle.dm_stream.specs.declared.requests.batch.TheConstants.{MOST_FRONTS}
 use Rattle.dm_stream.specs.declared.requests.handling.TheConstants.{MOST_REQUESTS}
 use Rattle.dm_stream.proofs.requests.batch.read_fronts.Given as goal

@@ -1,5 +1,4 @@
-use Rattle.std.proofs.Common.{take, arith}
-use Rattle.dm_table.specs.requests.RequestLine.{values_of}
+use Rattle.dm_stream.proofs.Prelude.{take, arith, values_of}
 use Rattle.dm_stream.proofs.requests.Fronts.{said_first}
 use Rattle.dm_stream.proofs.requests.front.front_of.Goals as goal
 

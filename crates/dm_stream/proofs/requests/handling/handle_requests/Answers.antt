@@ -1,9 +1,4 @@
-use Rattle.dm_table.specs.laws.Progress.{grows-same}
-use Rattle.std.proofs.Common.{rules, ◌+◌, ◌++◌, ◌∙◌, refl, [], ◌∷◌, take}
-use Rattle.dm_table.specs.io.DeviceIo.{stand_of}
-use Rattle.dm_table.specs.laws.Progress.{grows_more}
-use Rattle.dm_stream.specs.requests.Lines.{ALine, AnEnd, AnUnended, ALong, AFault}
-use Rattle.dm_stream.specs.requests.Requests.{numbered}
+use Rattle.dm_stream.proofs.Prelude.{grows-same, rules, ◌+◌, ◌++◌, ◌∙◌, refl, [], ◌∷◌, take, stand_of, grows_more, ALine, AnEnd, AnUnended, ALong, AFault, numbered}
 use Rattle.dm_stream.specs.declared.runs.ending.Ending as ending
 use Rattle.dm_stream.specs.declared.runs.ending.RequestWord as word
 use Rattle.dm_stream.proofs.requests.Batches.{after_batch, among_batch}

@@ -1,4 +1,4 @@
-use Rattle.std.proofs.Common.{◌+◌, ◌-◌, ◌≤◌}
+use Rattle.dm_stream.proofs.Prelude.{◌+◌, ◌-◌, ◌≤◌}
 use Rattle.dm_stream.specs.declared.requests.handling.TheConstants.{MOST_REQUESTS}
 use Rattle.dm_stream.proofs.requests.HandledRequests.{HasHandled}
 use Rattle.dm_stream.proofs.requests.handling.handle_requests.Given as goal

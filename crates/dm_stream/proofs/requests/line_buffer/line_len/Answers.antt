@@ -1,7 +1,5 @@
-use Rattle.std.proofs.Common.{◌≡◌, ℕ, ◌+◌, ◌<◌, None, Some, Option, MatchOption, List, [], ◌∷◌, length, take, drop, ◌-◌, arith, add-one, length-drop}
-use Rattle.std.proofs.lemmas.List.{take_rest}
+use Rattle.dm_stream.proofs.Prelude.{◌≡◌, ℕ, ◌+◌, ◌<◌, None, Some, Option, MatchOption, List, [], ◌∷◌, length, take, drop, ◌-◌, arith, add-one, length-drop, take_rest, line_parts}
 use Rattle.memchr.specs.Find.{IsFirstByte, is_byte}
-use Rattle.dm_stream.specs.requests.Lines.{line_parts}
 use Rattle.dm_stream.proofs.requests.LineParts.{parts_without, parts_first, still_one, first_after}
 use Rattle.dm_stream.proofs.requests.line_buffer.line_len.Goals as goal
 
@@ -10,7 +8,7 @@ by_first xs None h = parts_without xs (λ k l. h k (omega arith) l)
 by_first xs (Some n) h =
     (h.0.high, rw add-one (parts_first xs n h.0.high (λ k l. h.0.before k (omega arith) l) h.1))
 
--- the same after the bytes that were searched
+-- the first newline after bytes that were searched
 after : (xs : List ℕ) (n : ℕ) (r : Option ℕ) → IsFirstByte (is_byte 10) (take (length xs - n) (drop n xs)) r
     → MatchOption r (line_parts (drop n xs) ≡ drop n xs ∷ []) (λ k. (k < length (drop n xs)) × (line_parts (drop n xs) ≡ take k (drop n xs) ∷ line_parts (drop (k + 1) (drop n xs))))
 after xs n r h = by_first (drop n xs) r (rw (← take_rest xs n) h)

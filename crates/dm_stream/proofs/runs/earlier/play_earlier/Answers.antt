@@ -1,5 +1,4 @@
-use Rattle.std.proofs.Common.{Some, ap, ◌∙◌}
-use Rattle.dm_table.specs.io.DeviceIo.{delivery}
+use Rattle.dm_stream.proofs.Prelude.{Some, ap, ◌∙◌, delivery}
 use Rattle.dm_stream.proofs.runs.EarlierPlayed.{all_played}
 use Rattle.dm_stream.proofs.runs.earlier.play_earlier.Goals as goal
 

@@ -1,7 +1,4 @@
-use Rattle.std.proofs.Common.{rules}
-use Rattle.std.proofs.Math.Path.{subst₂}
-use Rattle.dm_table.specs.io.DeviceIo.{delivery}
-use Rattle.dm_stream.specs.runs.Run.{HasMappedAll}
+use Rattle.dm_stream.proofs.Prelude.{rules, subst₂, delivery, HasMappedAll}
 use Rattle.dm_stream.proofs.runs.Runs.{all_mapped, part_mapped, stopped_met}
 use Rattle.dm_stream.proofs.runs.map_run.map_requests.Goals as goal
 

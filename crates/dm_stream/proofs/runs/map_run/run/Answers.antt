@@ -1,4 +1,4 @@
-use Rattle.dm_table.specs.declared.io.device_io.OutFault.{OutFault}
+use Rattle.dm_stream.proofs.Prelude.{OutFault}
 use Rattle.dm_stream.proofs.pieces.FewestLemmas.{fewest_is}
 use Rattle.dm_stream.proofs.runs.Runs.{closed_after, ran_failed, ran_whole}
 use Rattle.dm_stream.proofs.runs.map_run.run.Goals as goal
@@ -15,8 +15,10 @@ returns-in-Ok-clause-ran g c =
 pub returns-in-Err-clause-ran : goal.returns-in-Err-clause-ran
 returns-in-Err-clause-ran g c =
     let requests = c.map_requests-ending in
-    ran_failed OutFault _ _ (record {}) _ c.write_rest-written.new.mapper.state
-    (c.in-Err.ensures.closed _ _ (c.write_rest-written.ensures.wrote _ _ requests.ensures.writes requests.ensures.mapped))
+    let wrote = c.write_rest-written.ensures in
+    let done = wrote.wrote _ _ requests.ensures.writes requests.ensures.mapped in
+    ran_failed g.W.Output.past _ c.write_rest-written.new.output c.close_and_tell.new.output c.write_rest-written.result (record {}) _ c.args.stack.now c.args.status _ _ requests.new.mapper.state c.write_rest-written.new.mapper.state requests.result
+    wrote.no_fault c.in-Err.ensures.untouched done requests.ensures.mapped (c.in-Err.ensures.closed _ _ done)
 
 pub returns-in-Ok-clause-fewest : goal.returns-in-Ok-clause-fewest
 returns-in-Ok-clause-fewest g c = fewest_is

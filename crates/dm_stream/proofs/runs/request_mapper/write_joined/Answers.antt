@@ -1,14 +1,4 @@
-use Rattle.std.proofs.Common.{◌≡◌, ◌∙◌, sym, ap, None, Some, Ok, Err}
-use Rattle.std.proofs.Math.Path.{subst₂}
-use Rattle.dm_map.specs.pieces.Units.{units_of}
-use Rattle.dm_stream.specs.pieces.Pending.{piece_of}
-use Rattle.dm_stream.specs.runs.Outcome.{step_of}
-use Rattle.dm_stream.specs.requests.Requests.{numbered}
-use Rattle.dm_stream.specs.pieces.Pieces.{fewest}
-use Rattle.dm_stream.specs.pieces.PieceText.{pieces_text}
-use Rattle.dm_table.specs.io.Progress.{Wrote}
-use Rattle.dm_table.specs.declared.io.device_io.OutFault.{OutFault}
-use Rattle.dm_table.proofs.Lists.{on_ok}
+use Rattle.dm_stream.proofs.Prelude.{◌≡◌, ◌∙◌, sym, ap, None, Some, Ok, Err, subst₂, units_of, piece_of, step_of, numbered, fewest, pieces_text, Wrote, OutFault, on_ok}
 use Rattle.dm_stream.proofs.runs.RequestMapped.{at_home, cut_short, home_wrote, on_sink, state_at, taken_wrote, took_all}
 use Rattle.dm_stream.proofs.runs.request_mapper.write_joined.Goals as goal
 

@@ -1,8 +1,4 @@
-use Rattle.std.proofs.Common.{refl}
-use Rattle.std.proofs.lemmas.Result.{err_from_is_err_and}
-use Rattle.dm_table.proofs.WriteLemmas.{stopped, and_then}
-use Rattle.dm_stack.specs.Description.{device_len, name_at}
-use Rattle.dm_stream.specs.runs.StatusLines.{after_name}
+use Rattle.dm_stream.proofs.Prelude.{refl, err_from_is_err_and, stopped, and_then, device_len, name_at, after_name}
 use Rattle.dm_stream.proofs.runs.status_lines.write_line.Goals as goal
 
 pub returns-in_err-write_all : goal.returns-in_err-write_all

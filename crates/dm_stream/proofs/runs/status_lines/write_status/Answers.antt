@@ -1,16 +1,5 @@
-use Rattle.std.proofs.Common.{◌≡◌, ◌+◌, ◌++◌, ◌∙◌, ℕ, List, Some, ap, sym, drop, take, rules}
-use Rattle.std.specs.Prelude.{IfSome}
-use Rattle.std.specs.List.{flat_map}
-use Rattle.std.proofs.lemmas.Result.{err_from_is_err_and}
-use Rattle.dm_table.proofs.WriteLemmas.{stopped, and_then, flat_map_at}
-use Rattle.dm_stack.specs.Description.{Description, device_len, name_at}
-use Rattle.dm_stack.specs.checks.Snapshots.{IsSnapshot}
+use Rattle.dm_stream.proofs.Prelude.{◌≡◌, ◌+◌, ◌++◌, ◌∙◌, ℕ, List, Some, ap, sym, drop, take, rules, IfSome, flat_map, err_from_is_err_and, stopped, and_then, flat_map_at, Description, device_len, name_at, IsSnapshot, MapperView, with_looked, taken_at, snapshot_at, usage_of, after_name, status_line}
 use Rattle.dm_map.specs.declared.state.usage.Usage.{Usage}
-use Rattle.dm_map.specs.Mapper.{MapperView, with_looked}
-use Rattle.dm_map.specs.state.State.{taken_at}
-use Rattle.dm_map.specs.state.Tables.{snapshot_at}
-use Rattle.dm_map.specs.state.Usage.{usage_of}
-use Rattle.dm_stream.specs.runs.StatusLines.{after_name, status_line}
 use Rattle.dm_stream.proofs.runs.status_lines.write_status.Goals as goal
 
 -- what is written of a snapshot is its line

@@ -1,4 +1,4 @@
-use Rattle.std.proofs.Common.{refl, ◌≡◌, ◌+◌, ◌-◌, drop, take, length, rules, arith}
+use Rattle.dm_table.proofs.Prelude.{refl, ◌≡◌, ◌+◌, ◌-◌, drop, take, length, rules, arith}
 use Rattle.dm_table.proofs.io.BlockLemmas.{next_part, array_text}
 use Rattle.dm_table.proofs.io.block.put_array.Goals as goal
 

@@ -1,4 +1,4 @@
-use Rattle.std.proofs.Common.{◌≡◌, ◌+◌, ◌-◌, ◌≤◌, ◌++◌, take}
+use Rattle.dm_table.proofs.Prelude.{◌≡◌, ◌+◌, ◌-◌, ◌≤◌, ◌++◌, take}
 use Rattle.dm_table.proofs.io.block.put_array.Given as goal
 
 -- what was put so far is the front of the room

@@ -1,5 +1,4 @@
-use Rattle.std.proofs.Common.{rules, ◌≤◌, length, decimal, arith}
-use Rattle.std.proofs.lemmas.Fmt.{length-decimal-le}
+use Rattle.dm_table.proofs.Prelude.{rules, ◌≤◌, length, decimal, arith, length-decimal-le}
 use Rattle.dm_table.proofs.io.BlockLemmas.{digits_front}
 use Rattle.dm_table.proofs.io.block.put_digits.Goals as goal
 

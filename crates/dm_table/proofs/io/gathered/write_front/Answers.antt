@@ -1,6 +1,4 @@
-use Rattle.std.proofs.Common.{ℕ, ◌≤◌, ◌+◌, ◌-◌, drop, length-take, add-zero, sym, ap, ◌∙◌, arith}
-use Rattle.std.proofs.lemmas.Bool.{le-ltb, lt-ltb}
-use Rattle.dm_table.specs.io.DeviceIo.{OutputPast}
+use Rattle.dm_table.proofs.Prelude.{ℕ, ◌≤◌, ◌+◌, ◌-◌, drop, length-take, add-zero, sym, ap, ◌∙◌, arith, le-ltb, lt-ltb, OutputPast}
 use Rattle.dm_table.proofs.io.BlockLemmas.{sent_more}
 use Rattle.dm_table.proofs.io.gathered.write_front.Goals as goal
 

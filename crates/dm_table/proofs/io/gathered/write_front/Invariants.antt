@@ -1,4 +1,4 @@
-use Rattle.std.proofs.Common.{◌≡◌, ◌≤◌, ◌-◌, ◌++◌, take}
+use Rattle.dm_table.proofs.Prelude.{◌≡◌, ◌≤◌, ◌-◌, ◌++◌, take}
 use Rattle.dm_table.proofs.io.gathered.write_front.Given as goal
 
 -- the bytes up to this one were written, and no write failed

@@ -1,7 +1,4 @@
-use Rattle.std.proofs.Common.{◌≡◌, ◌<◌, ◌∙◌, ap, length, rules}
-use Rattle.dm_table.specs.io.DeviceIo.{OutputPast}
-use Rattle.std.proofs.lemmas.List.{append-nil}
-use Rattle.std.proofs.lemmas.Result.{err_from_is_err_and}
+use Rattle.dm_table.proofs.Prelude.{◌≡◌, ◌<◌, ◌∙◌, ap, length, rules, append-nil, err_from_is_err_and, OutputPast}
 use Rattle.dm_table.proofs.io.Growth.{before, sent_cut, sent_further, sent_whole, front_beginning}
 use Rattle.dm_table.proofs.io.writing.write_all.Goals as goal
 use Rattle.dm_table.proofs.Lists.{on_err}

@@ -1,4 +1,4 @@
-use Rattle.std.proofs.Common.{◌≡◌, ◌-◌, ◌+◌, ◌++◌, vec_len}
+use Rattle.dm_table.proofs.Prelude.{◌≡◌, ◌-◌, ◌+◌, ◌++◌, vec_len}
 use Rattle.dm_table.specs.declared.load.part_input.TheConstants.{MOST_PART_BYTES}
 use Rattle.dm_table.proofs.load.part_input.read_part.Given as goal
 

@@ -1,8 +1,5 @@
 -- the values and the faults so far, and the rows that are left, give those of all rows
-use Rattle.std.proofs.Common.{◌≡◌, ◌+◌, ◌≤◌, [], None, length, map}
-use Rattle.dm_table.specs.words.Fields.{lines_of, rest_of}
-use Rattle.dm_table.specs.load.Reading.{with_rows}
-use Rattle.dm_table.specs.load.RowFaults.{first_noted, no_faults, noted_rows, row_fault}
+use Rattle.dm_table.proofs.Prelude.{◌≡◌, ◌+◌, ◌≤◌, [], None, length, map, lines_of, rest_of, with_rows, first_noted, no_faults, noted_rows, row_fault}
 use Rattle.dm_table.proofs.load.reading.read_each.Given as goal
 
 abbrev pub invariant-loop-end : goal.invariant-loop-end

@@ -1,9 +1,5 @@
 -- What is read of the rows is what their checks and their values give.
-use Rattle.std.proofs.Common.{◌≡◌, ◌+◌, [], length, map}
-use Rattle.std.proofs.lemmas.List.{length-map}
-use Rattle.dm_table.specs.words.Fields.{lines_of, rest_of}
-use Rattle.dm_table.specs.load.Reading.{with_rows}
-use Rattle.dm_table.specs.load.RowFaults.{no_faults, noted_rest, noted_rows, row_fault}
+use Rattle.dm_table.proofs.Prelude.{◌≡◌, ◌+◌, [], length, map, length-map, lines_of, rest_of, with_rows, no_faults, noted_rest, noted_rows, row_fault}
 use Rattle.dm_table.proofs.load.RowFaultLemmas.{rows_answer}
 use Rattle.dm_table.proofs.load.reading.read_rows.Goals as goal
 

@@ -1,4 +1,4 @@
-use Rattle.std.proofs.Common.{nat_le, eqb, ◌&&◌, ◌||◌, sym, ◌∙◌}
+use Rattle.dm_table.proofs.Prelude.{nat_le, eqb, ◌&&◌, ◌||◌, sym, ◌∙◌}
 use Rattle.dm_table.proofs.words.ByteLemmas.{parts_pass}
 use Rattle.dm_table.proofs.load.FaultLemmas.{faults_from-good}
 use Rattle.dm_table.proofs.load.text_checks.check_text.Goals as goal

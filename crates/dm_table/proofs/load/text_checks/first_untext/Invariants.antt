@@ -1,8 +1,5 @@
 -- what the pieces that are left give is what all give
-use Rattle.std.proofs.Common.{◌≡◌, ◌+◌, not, drop}
-use Rattle.dm_table.specs.declared.load.load_fault.LoadKind.TheVariants.{NotText}
-use Rattle.dm_table.specs.words.Fields.{texts}
-use Rattle.dm_table.specs.load.LoadFault.{faults_from, untexts}
+use Rattle.dm_table.proofs.Prelude.{◌≡◌, ◌+◌, not, drop, NotText, texts, faults_from, untexts}
 use Rattle.dm_table.proofs.load.text_checks.first_untext.Given as goal
 
 abbrev pub invariant-loop-index : goal.invariant-loop-index

@@ -1,6 +1,5 @@
 -- what was asked, and the bytes that are left, give what the whole gives
-use Rattle.std.proofs.Common.{◌≡◌, ◌&&◌, drop}
-use Rattle.dm_table.specs.load.LoadFault.{is_printable}
+use Rattle.dm_table.proofs.Prelude.{◌≡◌, ◌&&◌, drop, is_printable}
 use Rattle.dm_table.proofs.load.text_checks.is_printable.Given as goal
 
 abbrev pub invariant-loop-byte : goal.invariant-loop-byte

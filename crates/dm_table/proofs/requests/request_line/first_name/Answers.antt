@@ -1,6 +1,5 @@
 -- A name that a space ends is the first field, and no other first field is one.
-use Rattle.std.proofs.Common.{take, ap, ◌∙◌}
-use Rattle.dm_table.specs.words.Fields.{fields}
+use Rattle.dm_table.proofs.Prelude.{take, ap, ◌∙◌, fields}
 use Rattle.dm_table.proofs.words.ByteLemmas.{plain-device_name}
 use Rattle.dm_table.proofs.words.FieldLemmas.{parts_at-first}
 use Rattle.dm_table.proofs.requests.RequestLemmas.{name_stands}

@@ -1,5 +1,5 @@
 -- A number that a space ends is the first field, and no other first field is one.
-use Rattle.std.proofs.Common.{take}
+use Rattle.dm_table.proofs.Prelude.{take}
 use Rattle.dm_table.proofs.requests.RequestLemmas.{number_stands, number_first}
 use Rattle.dm_table.proofs.requests.request_line.first_number.Goals as goal
 

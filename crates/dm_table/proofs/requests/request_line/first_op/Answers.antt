@@ -1,5 +1,5 @@
 -- A line of that form begins with an operation and its space.
-use Rattle.std.proofs.Common.{drop, length, ap, arith}
+use Rattle.dm_table.proofs.Prelude.{drop, length, ap, arith}
 use Rattle.dm_table.proofs.requests.RequestLemmas.{no_op, op_first}
 use Rattle.dm_table.proofs.requests.request_line.first_op.Goals as goal
 

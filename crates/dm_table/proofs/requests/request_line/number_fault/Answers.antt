@@ -1,7 +1,5 @@
 -- The spaces of a text cut its fields.
-use Rattle.std.proofs.Common.{◌≡◌, ◌≤◌, ◌<◌, ◌+◌, length, take, drop, sym, ap, ◌∙◌, arith}
-use Rattle.std.proofs.lemmas.Bool.{eqb-true, eqb-false}
-use Rattle.std.proofs.lemmas.List.{take_rest, length-take-le}
+use Rattle.dm_table.proofs.Prelude.{◌≡◌, ◌≤◌, ◌<◌, ◌+◌, length, take, drop, sym, ap, ◌∙◌, arith, eqb-true, eqb-false, take_rest, length-take-le}
 use Rattle.dm_table.proofs.words.FieldLemmas.{parts_at-found, parts_at-nowhere}
 use Rattle.dm_table.proofs.requests.RequestLemmas.{two, two_first, two_last, two_more}
 use Rattle.dm_table.proofs.requests.request_line.number_fault.Goals as goal

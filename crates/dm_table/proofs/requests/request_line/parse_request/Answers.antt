@@ -1,8 +1,5 @@
 -- A line with a fault says no request, and one without says that of its fields.
-use Rattle.std.proofs.Common.{◌≡◌, false, rules, arith, inl, inr}
-use Rattle.dm_table.specs.declared.requests.request.RequestFault.TheVariants.{Form, Length}
-use Rattle.dm_table.specs.words.Fields.{fields}
-use Rattle.dm_table.specs.requests.RequestLine.{is_length}
+use Rattle.dm_table.proofs.Prelude.{◌≡◌, false, rules, arith, inl, inr, Form, Length, fields, is_length}
 use Rattle.dm_table.proofs.requests.RequestLemmas.{described, unique, refused, read-said, fault-numbers, fault-length, no_length}
 use Rattle.dm_table.proofs.requests.request_line.parse_request.Goals as goal
 

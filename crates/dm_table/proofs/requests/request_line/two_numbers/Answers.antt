@@ -1,9 +1,5 @@
 -- The first field and what follows its space are the two.
-use Rattle.std.proofs.Common.{◌≡◌, sym, ap, ◌∙◌, []}
-use Rattle.std.proofs.Common.{Some, ◌∷◌}
-use Rattle.std.specs.List.{join_with_byte}
-use Rattle.dm_table.specs.words.Fields.{fields}
-use Rattle.dm_table.specs.words.Number.{number_of}
+use Rattle.dm_table.proofs.Prelude.{◌≡◌, sym, ap, ◌∙◌, [], Some, ◌∷◌, join_with_byte, fields, number_of}
 use Rattle.dm_table.proofs.words.FieldLemmas.{join-parts_at}
 use Rattle.dm_table.proofs.requests.RequestLemmas.{number_whole}
 use Rattle.dm_table.proofs.requests.request_line.two_numbers.Goals as goal

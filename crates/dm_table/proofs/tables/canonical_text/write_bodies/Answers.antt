@@ -1,4 +1,4 @@
-use Rattle.dm_table.specs.tables.LineBody.{body_text}
+use Rattle.dm_table.proofs.Prelude.{body_text}
 use Rattle.dm_table.proofs.io.WriteLemmas.{joined_stopped, joined_then}
 use Rattle.dm_table.proofs.tables.canonical_text.write_bodies.Goals as goal
 

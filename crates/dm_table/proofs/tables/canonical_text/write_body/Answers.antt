@@ -1,8 +1,4 @@
-use Rattle.std.proofs.Common.{◌++◌}
-use Rattle.std.specs.List.{flat_map}
-use Rattle.dm_table.specs.tables.LineBody.{column_text}
-use Rattle.dm_table.specs.tables.LineHead.{body_head, columns_of}
-use Rattle.std.proofs.lemmas.Result.{err_from_is_err_and}
+use Rattle.dm_table.proofs.Prelude.{◌++◌, flat_map, err_from_is_err_and, column_text, body_head, columns_of}
 use Rattle.dm_table.proofs.io.WriteLemmas.{stopped, and_then, line_split}
 use Rattle.dm_table.proofs.tables.canonical_text.write_body.Goals as goal
 

@@ -1,4 +1,4 @@
-use Rattle.dm_table.specs.tables.LineBody.{column_text}
+use Rattle.dm_table.proofs.Prelude.{column_text}
 use Rattle.dm_table.proofs.io.WriteLemmas.{each_stopped, each_further}
 use Rattle.dm_table.proofs.tables.canonical_text.write_columns.Goals as goal
 

@@ -1,8 +1,4 @@
-use Rattle.std.proofs.Common.{◌++◌, refl, append_assoc, map}
-use Rattle.std.specs.List.{join_with_byte}
-use Rattle.dm_table.specs.tables.LineBody.{body_text}
-use Rattle.dm_table.specs.tables.CanonicalText.{flag_text}
-use Rattle.std.proofs.lemmas.Result.{err_from_is_err_and}
+use Rattle.dm_table.proofs.Prelude.{◌++◌, refl, append_assoc, map, join_with_byte, err_from_is_err_and, body_text, flag_text}
 use Rattle.dm_table.proofs.io.WriteLemmas.{stopped, and_then}
 use Rattle.dm_table.proofs.tables.canonical_text.write_device.Goals as goal
 

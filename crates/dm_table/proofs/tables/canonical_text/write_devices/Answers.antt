@@ -1,4 +1,4 @@
-use Rattle.dm_table.specs.tables.CanonicalText.{concise_device}
+use Rattle.dm_table.proofs.Prelude.{concise_device}
 use Rattle.dm_table.proofs.io.WriteLemmas.{joined_stopped, joined_then}
 use Rattle.dm_table.proofs.tables.canonical_text.write_devices.Goals as goal
 

@@ -1,7 +1,4 @@
-use Rattle.std.proofs.Common.{[], ◌∷◌, map, refl}
-use Rattle.std.specs.List.{join_with_byte}
-use Rattle.std.proofs.lemmas.Result.{err_from_is_err_and}
-use Rattle.dm_table.specs.tables.CanonicalText.{concise_device}
+use Rattle.dm_table.proofs.Prelude.{[], ◌∷◌, map, refl, join_with_byte, err_from_is_err_and, concise_device}
 use Rattle.dm_table.proofs.io.WriteLemmas.{stopped}
 use Rattle.dm_table.proofs.tables.canonical_text.write_ended.Goals as goal
 

@@ -1,5 +1,4 @@
-use Rattle.dm_table.specs.declared.tables.table.DeviceSpec.{DeviceSpec}
-use Rattle.dm_table.specs.tables.CanonicalText.{lines_text}
+use Rattle.dm_table.proofs.Prelude.{DeviceSpec, lines_text}
 use Rattle.dm_table.proofs.io.WriteLemmas.{each_stopped}
 use Rattle.dm_table.proofs.tables.canonical_text.write_every_line.Goals as goal
 

@@ -1,8 +1,5 @@
 -- the text of the items so far is written, and nothing failed
-use Rattle.std.proofs.Common.{take, Ok}
-use Rattle.dm_table.specs.tables.CanonicalText.{table_text}
-use Rattle.dm_table.specs.io.Progress.{Wrote}
-use Rattle.dm_table.specs.declared.io.device_io.OutFault.{OutFault}
+use Rattle.dm_table.proofs.Prelude.{take, Ok, table_text, Wrote, OutFault}
 use Rattle.dm_table.proofs.tables.canonical_text.write_every_line.Given as goal
 
 abbrev pub invariant-loop-device : goal.invariant-loop-device

@@ -1,7 +1,4 @@
-use Rattle.std.proofs.Common.{List, ℕ, [], ◌∷◌, ◌++◌, append_assoc}
-use Rattle.dm_table.specs.declared.tables.table.Line.{Line}
-use Rattle.dm_table.specs.tables.LineBody.{body_text}
-use Rattle.dm_table.specs.tables.TableText.{line_text}
+use Rattle.dm_table.proofs.Prelude.{List, ℕ, [], ◌∷◌, ◌++◌, append_assoc, Line, body_text, line_text}
 use Rattle.dm_table.proofs.io.WriteLemmas.{stopped, and_then, each_stopped, each_further}
 use Rattle.dm_table.proofs.tables.canonical_text.write_lines.Goals as goal
 

@@ -1,6 +1,4 @@
-use Rattle.std.proofs.Common.{◌∷◌}
-use Rattle.dm_table.specs.tables.LineBody.{body_text}
-use Rattle.dm_table.specs.declared.tables.table.Line.{Line}
+use Rattle.dm_table.proofs.Prelude.{◌∷◌, body_text, Line}
 use Rattle.dm_table.proofs.io.WriteLemmas.{each_stopped, each_further}
 use Rattle.dm_table.proofs.tables.canonical_text.write_more_bodies.Goals as goal
 

@@ -1,6 +1,4 @@
-use Rattle.std.proofs.Common.{◌∷◌}
-use Rattle.dm_table.specs.tables.CanonicalText.{concise_device}
-use Rattle.dm_table.specs.declared.tables.table.DeviceSpec.{DeviceSpec}
+use Rattle.dm_table.proofs.Prelude.{◌∷◌, concise_device, DeviceSpec}
 use Rattle.dm_table.proofs.io.WriteLemmas.{each_stopped, each_further}
 use Rattle.dm_table.proofs.tables.canonical_text.write_more_devices.Goals as goal
 

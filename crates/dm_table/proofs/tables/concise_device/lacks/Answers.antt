@@ -1,4 +1,4 @@
-use Rattle.std.proofs.Common.{sym}
+use Rattle.dm_table.proofs.Prelude.{sym}
 use Rattle.dm_table.proofs.words.FieldLemmas.{lacks-searched}
 use Rattle.dm_table.proofs.tables.concise_device.lacks.Goals as goal
 

@@ -1,7 +1,5 @@
 -- the fault so far and those of the bodies that are left are that of all; where there is none, so are the lines
-use Rattle.std.proofs.Common.{◌≡◌, ◌++◌, drop, None}
-use Rattle.dm_table.specs.words.Fields.{texts}
-use Rattle.dm_table.specs.tables.ConciseReading.{earlier_of, fault_of_bodies, lines_in}
+use Rattle.dm_table.proofs.Prelude.{◌≡◌, ◌++◌, drop, None, texts, earlier_of, fault_of_bodies, lines_in}
 use Rattle.dm_table.proofs.tables.concise_device.read_bodies.Given as goal
 
 abbrev pub invariant-loop-body : goal.invariant-loop-body

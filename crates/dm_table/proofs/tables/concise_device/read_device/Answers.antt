@@ -1,4 +1,4 @@
-use Rattle.dm_table.specs.words.Fields.{texts}
+use Rattle.dm_table.proofs.Prelude.{texts}
 use Rattle.dm_table.proofs.tables.ConciseFaults.{device_read}
 use Rattle.dm_table.proofs.tables.concise_device.read_device.Goals as goal
 

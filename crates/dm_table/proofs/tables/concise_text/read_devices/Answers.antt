@@ -1,10 +1,5 @@
-use Rattle.std.proofs.Common.{◌≡◌, ◌+◌, ℕ, suc, List, [], drop, get_or, ap, refl, arith}
-use Rattle.std.proofs.lemmas.List.{drop_more}
+use Rattle.dm_table.proofs.Prelude.{◌≡◌, ◌+◌, ℕ, suc, List, [], drop, get_or, ap, refl, arith, drop_more, Source, texts, no_faults, noted_rows, fault_of_device}
 use denote.Ref.{Bor}
-use Rattle.dm_table.specs.declared.load.place.Part.TheVariants.{Source}
-use Rattle.dm_table.specs.words.Fields.{texts}
-use Rattle.dm_table.specs.load.RowFaults.{no_faults, noted_rows}
-use Rattle.dm_table.specs.tables.ConciseReading.{fault_of_device}
 use Rattle.dm_table.proofs.tables.ConciseFaults.{devices_further}
 use Rattle.dm_table.proofs.load.ReadRows.{faults_left}
 use Rattle.dm_table.proofs.tables.concise_text.read_devices.Goals as goal

@@ -1,9 +1,5 @@
 -- the devices and the faults so far, and the parts that are left, give those of all parts
-use Rattle.std.proofs.Common.{◌≡◌, ◌+◌, ◌++◌, None, drop}
-use Rattle.dm_table.specs.declared.load.place.Part.TheVariants.{Source}
-use Rattle.dm_table.specs.words.Fields.{texts}
-use Rattle.dm_table.specs.load.RowFaults.{first_noted, no_faults, noted_rows}
-use Rattle.dm_table.specs.tables.ConciseReading.{fault_of_device, devices_from}
+use Rattle.dm_table.proofs.Prelude.{◌≡◌, ◌+◌, ◌++◌, None, drop, Source, texts, first_noted, no_faults, noted_rows, fault_of_device, devices_from}
 use Rattle.dm_table.proofs.tables.concise_text.read_devices.Given as goal
 
 abbrev pub invariant-loop-index : goal.invariant-loop-index

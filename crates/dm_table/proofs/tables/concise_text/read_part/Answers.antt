@@ -1,6 +1,4 @@
-use Rattle.std.proofs.lemmas.Result.{err_from_is_err_and}
-use Rattle.dm_table.specs.tables.ConciseReading.{device_in, fault_of_device}
-use Rattle.dm_table.specs.tables.ConciseText.{entries}
+use Rattle.dm_table.proofs.Prelude.{err_from_is_err_and, device_in, fault_of_device, entries}
 use Rattle.dm_table.proofs.load.RowFaultLemmas.{said_read}
 use Rattle.dm_table.proofs.tables.ConciseFaults.{device_refused}
 use Rattle.dm_table.proofs.tables.concise_text.read_part.Goals as goal

@@ -1,8 +1,4 @@
-use Rattle.dm_table.specs.declared.load.place.Part.TheVariants.{Source}
-use Rattle.std.proofs.Common.{[]}
-use Rattle.dm_table.specs.words.Fields.{texts}
-use Rattle.dm_table.specs.tables.ConciseText.{is_device, has_values, has_names}
-use Rattle.dm_table.specs.tables.ConciseReading.{devices_from}
+use Rattle.dm_table.proofs.Prelude.{Source, texts, is_device, has_values, has_names, devices_from, []}
 use Rattle.dm_table.proofs.load.RowFaultLemmas.{rows_answer}
 use Rattle.dm_table.proofs.tables.concise_text.read_parts.Goals as goal
 

@@ -1,4 +1,4 @@
-use Rattle.std.proofs.lemmas.Bool.{eq-eqb, ne_eqb}
+use Rattle.dm_table.proofs.Prelude.{eq-eqb, ne_eqb}
 use Rattle.dm_table.proofs.tables.ConciseDescribed.{newline_cut, newline_missing}
 use Rattle.dm_table.proofs.tables.concise_text.without_newline.Goals as goal
 

@@ -1,5 +1,4 @@
-use Rattle.std.proofs.Common.{refl, arith}
-use Rattle.std.proofs.lemmas.Bool.Decides.{nat_tests}
+use Rattle.dm_table.proofs.Prelude.{refl, arith, nat_tests}
 use Rattle.dm_table.proofs.tables.PairRows.{not_pair}
 use Rattle.dm_table.proofs.tables.disk_list.read_disk.Goals as goal
 

@@ -1,4 +1,4 @@
-use Rattle.std.proofs.Common.{ap, not, ◌∙◌}
+use Rattle.dm_table.proofs.Prelude.{ap, not, ◌∙◌}
 use Rattle.dm_table.proofs.tables.TargetRows.{columns_end, columns_known}
 use Rattle.dm_table.proofs.tables.line_body.are_columns.Goals as goal
 

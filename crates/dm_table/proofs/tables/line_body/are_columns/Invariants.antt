@@ -1,7 +1,4 @@
-use Rattle.std.proofs.Common.{◌≡◌, length}
-use Rattle.std.specs.Prelude.{is_some}
-use Rattle.dm_table.specs.words.Fields.{texts}
-use Rattle.dm_table.specs.tables.LineBody.{columns_in}
+use Rattle.dm_table.proofs.Prelude.{◌≡◌, length, is_some, texts, columns_in}
 use Rattle.dm_table.proofs.tables.line_body.are_columns.Given as goal
 
 abbrev pub invariant-loop-rest : goal.invariant-loop-rest

@@ -1,6 +1,4 @@
-use Rattle.std.proofs.Common.{◌≡◌, nat_lt, length, drop}
-use Rattle.std.specs.List.{list_all}
-use Rattle.dm_table.specs.words.Fields.{texts}
+use Rattle.dm_table.proofs.Prelude.{◌≡◌, nat_lt, length, drop, list_all, texts}
 use Rattle.dm_table.proofs.tables.line_body.are_filled.Given as goal
 
 abbrev pub invariant-loop-field : goal.invariant-loop-field

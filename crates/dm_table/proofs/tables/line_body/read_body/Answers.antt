@@ -1,5 +1,4 @@
-use Rattle.std.proofs.Common.{ap, sym}
-use Rattle.dm_table.specs.tables.LineReading.{with_line}
+use Rattle.dm_table.proofs.Prelude.{ap, sym, with_line}
 use Rattle.dm_table.proofs.tables.TargetRows.{body_none, body_made}
 use Rattle.dm_table.proofs.tables.line_body.read_body.Goals as goal
 

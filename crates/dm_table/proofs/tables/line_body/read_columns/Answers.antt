@@ -1,7 +1,5 @@
-use Rattle.std.proofs.Common.{◌≢◌, sym, ◌∙◌}
+use Rattle.dm_table.proofs.Prelude.{◌≢◌, sym, ◌∙◌, texts, columns_reading}
 use Rattle.dm_table.specs.declared.load.row_faults.RowFault.TheVariants.{Memory}
-use Rattle.dm_table.specs.words.Fields.{texts}
-use Rattle.dm_table.specs.tables.LineReading.{columns_reading}
 use Rattle.dm_table.proofs.tables.TargetRows.{columns_first, column_further, column_unnamed, column_unknown, memory_before, columns_last, columns_odd, columns_fault}
 use Rattle.dm_table.proofs.tables.line_body.read_columns.Goals as goal
 

@@ -1,7 +1,5 @@
 -- what is read of the fields that are left, after the columns so far, is what is read of all
-use Rattle.std.proofs.Common.{◌≡◌, length}
-use Rattle.dm_table.specs.words.Fields.{texts}
-use Rattle.dm_table.specs.tables.LineReading.{columns_reading}
+use Rattle.dm_table.proofs.Prelude.{◌≡◌, length, texts, columns_reading}
 use Rattle.dm_table.proofs.tables.TargetRows.{after_columns}
 use Rattle.dm_table.proofs.tables.line_body.read_columns.Given as goal
 

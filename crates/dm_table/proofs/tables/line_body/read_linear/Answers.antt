@@ -1,7 +1,4 @@
-use Rattle.std.proofs.Common.{ap, ◌≡◌, sym, length, arith}
-use Rattle.std.proofs.lemmas.Bool.Decides.{nat_tests}
-use Rattle.std.proofs.lemmas.Result.{err_from_is_err_and}
-use Rattle.dm_table.specs.tables.LineReading.{with_target}
+use Rattle.dm_table.proofs.Prelude.{ap, ◌≡◌, sym, length, arith, nat_tests, err_from_is_err_and, with_target}
 use Rattle.dm_table.proofs.tables.TargetRows.{linear_none, linear_made}
 use Rattle.dm_table.proofs.tables.line_body.read_linear.Goals as goal
 

@@ -1,10 +1,4 @@
-use Rattle.std.proofs.Common.{ℕ, List, length, take, drop, ◌-◌, refl, sym, ◌∙◌, rules}
-use Rattle.dm_table.specs.declared.tables.table.Column.{Column}
-use Rattle.dm_table.specs.declared.tables.table.Target.TheVariants.{Striped}
-use Rattle.dm_table.specs.tables.LineBody.{then_in, columns_in, has_target_names}
-use Rattle.dm_table.specs.tables.LineReading.{has_column_names}
-use Rattle.dm_table.specs.words.Number.{number_of}
-use Rattle.dm_table.specs.words.Fields.{texts}
+use Rattle.dm_table.proofs.Prelude.{ℕ, List, length, take, drop, ◌-◌, refl, sym, ◌∙◌, rules, Column, Striped, then_in, columns_in, has_target_names, has_column_names, number_of, texts}
 use Rattle.dm_table.proofs.tables.TargetRows.{striped_said, made_reading}
 use Rattle.dm_table.proofs.tables.line_body.read_striped.Goals as goal
 

@@ -1,4 +1,4 @@
-use Rattle.std.proofs.Common.{◌≤◌, length, take, ap, ◌∙◌, append_assoc, arith}
+use Rattle.dm_table.proofs.Prelude.{◌≤◌, length, take, ap, ◌∙◌, append_assoc, arith}
 use Rattle.dm_table.proofs.words.ByteLemmas.{device_name_len}
 use Rattle.dm_table.proofs.tables.line_head.put_name.Goals as goal
 

@@ -1,5 +1,4 @@
-use Rattle.std.proofs.Common.{◌+◌, ◌∙◌}
-use Rattle.std.proofs.lemmas.List.{take_rest}
+use Rattle.dm_table.proofs.Prelude.{◌+◌, ◌∙◌, take_rest}
 use Rattle.dm_table.proofs.tables.PathPlaces.{last_found, last_nowhere}
 use Rattle.dm_table.proofs.tables.path_list.after_equals.Goals as goal
 

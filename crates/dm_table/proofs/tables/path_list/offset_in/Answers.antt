@@ -1,7 +1,5 @@
-use Rattle.std.proofs.Common.{sym, ◌∙◌, arith, length, take, ◌≤◌}
-use Rattle.std.proofs.lemmas.Str.Parse.{digits_value_short}
+use Rattle.dm_table.proofs.Prelude.{sym, ◌∙◌, arith, length, take, ◌≤◌, digits_value_short, length-take-le}
 use Rattle.dm_table.proofs.words.NumberLemmas.{next_below, numerals, read_more}
-use Rattle.std.proofs.lemmas.List.{length-take-le}
 use Rattle.dm_table.proofs.tables.path_list.offset_in.Goals as goal
 
 pub overflow_mul-value : goal.overflow_mul-value

@@ -1,6 +1,5 @@
 -- what was read of the digits is their value so far
-use Rattle.std.proofs.Common.{◌-◌, length}
-use Rattle.dm_table.specs.words.Number.{IsReadTo}
+use Rattle.dm_table.proofs.Prelude.{◌-◌, length, IsReadTo}
 use Rattle.dm_table.proofs.tables.path_list.offset_in.Given as goal
 
 abbrev pub invariant-loop-len : goal.invariant-loop-len

@@ -1,4 +1,4 @@
-use Rattle.std.proofs.Common.{arith}
+use Rattle.dm_table.proofs.Prelude.{arith}
 use Rattle.dm_table.proofs.tables.PathPlaces.{place_inside, place_taken, place_untext}
 use Rattle.dm_table.proofs.tables.path_list.place_in.Goals as goal
 

@@ -1,5 +1,4 @@
-use Rattle.std.proofs.lemmas.Result.{err_from_is_err_and}
-use Rattle.dm_table.specs.words.Fields.{texts}
+use Rattle.dm_table.proofs.Prelude.{err_from_is_err_and, texts}
 use Rattle.dm_table.proofs.tables.TableLines.{device_fault}
 use Rattle.dm_table.proofs.tables.table_text.read_device.Goals as goal
 

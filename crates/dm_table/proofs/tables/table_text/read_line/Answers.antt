@@ -1,7 +1,4 @@
-use Rattle.std.proofs.Common.{◌≡◌, ◌-◌, true, false, nat_eq, refl, sym, ◌∙◌, arith}
-use Rattle.std.specs.Cmp.Lexicographic.{pointwise}
-use Rattle.std.specs.Vec.{vec_len}
-use Rattle.dm_table.specs.words.Fields.{texts}
+use Rattle.dm_table.proofs.Prelude.{◌≡◌, ◌-◌, true, false, nat_eq, refl, sym, ◌∙◌, arith, pointwise, vec_len, texts}
 use Rattle.dm_table.proofs.tables.TableLines.{add_same, add_other, add_first}
 use Rattle.dm_table.proofs.tables.table_text.read_line.Goals.{in-Some+else-eq, in_default}
 use Rattle.dm_table.proofs.tables.table_text.read_line.Goals as goal

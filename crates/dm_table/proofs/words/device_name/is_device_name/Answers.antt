@@ -1,5 +1,5 @@
 -- A text is a name where all of it is read as one.
-use Rattle.std.proofs.Common.{sym}
+use Rattle.dm_table.proofs.Prelude.{sym}
 use Rattle.dm_table.proofs.words.ByteLemmas.{device_name_whole, device_name_first}
 use Rattle.dm_table.proofs.words.device_name.is_device_name.Goals as goal
 

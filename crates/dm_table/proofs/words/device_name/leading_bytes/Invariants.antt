@@ -1,7 +1,5 @@
 -- what is left has the rest of the bytes
-use Rattle.std.proofs.Common.{◌≡◌, ◌≤◌, ◌+◌, ◌-◌, length, drop}
-use Rattle.std.specs.List.{prefix_len}
-use Rattle.dm_table.specs.words.Name.{is_device_byte}
+use Rattle.dm_table.proofs.Prelude.{◌≡◌, ◌≤◌, ◌+◌, ◌-◌, length, drop, prefix_len, is_device_byte}
 use Rattle.dm_table.proofs.words.device_name.leading_bytes.Given as goal
 
 abbrev pub invariant-loop-len : goal.invariant-loop-len

@@ -1,8 +1,5 @@
 -- 1 to 127 bytes that a device name has are one.
-use Rattle.std.proofs.Common.{take, inl, inr, arith}
-use Rattle.std.specs.List.{prefix_len}
-use Rattle.std.proofs.lemmas.List.Folds.{length-prefix_len}
-use Rattle.dm_table.specs.words.Name.{is_device_byte}
+use Rattle.dm_table.proofs.Prelude.{take, inl, inr, arith, prefix_len, length-prefix_len, is_device_byte}
 use Rattle.dm_table.proofs.words.ByteLemmas.{device_name_front, device_name_length}
 use Rattle.dm_table.proofs.words.device_name.leading_name.Goals as goal
 

@@ -1,10 +1,5 @@
-use Rattle.std.proofs.Common.{◌≡◌, ◌+◌, ◌-◌, ◌^◌, ◌++◌, length, take, drop, ap, sym, ◌∙◌, arith}
-use Rattle.std.specs.Prelude.{◌/◌}
+use Rattle.dm_table.proofs.Prelude.{◌≡◌, ◌+◌, ◌-◌, ◌^◌, ◌++◌, length, take, drop, ap, sym, ◌∙◌, arith, ◌/◌, take_rest, drop-drop, common_steps, texts, parts_at, marks_of}
 use lib.Count.{count_trailing_zeros}
-use Rattle.std.proofs.lemmas.List.{take_rest, drop-drop}
-use Rattle.std.proofs.lemmas.Grind.{common_steps}
-use Rattle.dm_table.specs.words.Fields.{texts, parts_at}
-use Rattle.dm_table.specs.words.Marks.{marks_of}
 use Rattle.dm_table.proofs.words.FieldLemmas.{cut_more, cut_last}
 use Rattle.dm_table.proofs.words.MarkLemmas.{marked_first, marked_none, marks_after}
 use Rattle.dm_table.proofs.words.fields.cut_marked.Goals as goal

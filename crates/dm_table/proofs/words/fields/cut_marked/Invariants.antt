@@ -1,7 +1,5 @@
 -- the parts so far, and those of the rest, are the parts of the text; the marks left are those of the rest
-use Rattle.std.proofs.Common.{◌≡◌, ◌++◌, ◌≤◌, length}
-use Rattle.dm_table.specs.words.Fields.{texts, parts_at}
-use Rattle.dm_table.specs.words.Marks.{marks_of}
+use Rattle.dm_table.proofs.Prelude.{◌≡◌, ◌++◌, ◌≤◌, length, texts, parts_at, marks_of}
 use Rattle.dm_table.proofs.words.fields.cut_marked.Given as goal
 
 abbrev pub invariant-loop-left : goal.invariant-loop-left

@@ -1,8 +1,5 @@
 -- The last field goes where it is empty: then it was there.
-use Rattle.std.proofs.Common.{◌≡◌, [], None, sym, ap, ◌∙◌, refl, arith}
-use Rattle.std.proofs.lemmas.List.{nil_from_length}
-use Rattle.std.proofs.lemmas.Option.{MatchOption-at_none}
-use Rattle.dm_table.specs.words.Fields.{texts, fields, without_last_space, ends_empty}
+use Rattle.dm_table.proofs.Prelude.{◌≡◌, [], None, sym, ap, ◌∙◌, refl, arith, nil_from_length, MatchOption-at_none, texts, fields, without_last_space, ends_empty}
 use Rattle.dm_table.proofs.words.FieldLemmas.{all_but_last-popped}
 use Rattle.dm_table.proofs.tables.TableFields.{spaced, not_spaced}
 use Rattle.dm_table.proofs.words.fields.cut_row.Goals as goal

@@ -1,5 +1,4 @@
-use Rattle.std.proofs.Common.{◌++◌}
-use Rattle.dm_table.specs.words.Fields.{texts, parts_at}
+use Rattle.dm_table.proofs.Prelude.{◌++◌, texts, parts_at}
 use Rattle.dm_table.proofs.words.FieldLemmas.{cut_more, cut_last}
 use Rattle.dm_table.proofs.words.fields.cut_searched.Goals as goal
 

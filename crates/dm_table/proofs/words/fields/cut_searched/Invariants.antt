@@ -1,6 +1,5 @@
 -- the parts so far, and those of the rest, are the parts of the text
-use Rattle.std.proofs.Common.{◌≡◌, ◌++◌, length}
-use Rattle.dm_table.specs.words.Fields.{texts, parts_at}
+use Rattle.dm_table.proofs.Prelude.{◌≡◌, ◌++◌, length, texts, parts_at}
 use Rattle.dm_table.proofs.words.fields.cut_searched.Given as goal
 
 abbrev pub invariant-loop-end : goal.invariant-loop-end

@@ -1,4 +1,4 @@
-use Rattle.std.proofs.Common.{◌∙◌}
+use Rattle.dm_table.proofs.Prelude.{◌∙◌}
 use Rattle.dm_table.proofs.tables.TableFields.{ends_empty_by_place}
 use Rattle.dm_table.proofs.words.fields.ends_empty.Goals as goal
 

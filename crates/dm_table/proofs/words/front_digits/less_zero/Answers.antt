@@ -1,4 +1,4 @@
-use Rattle.std.proofs.lemmas.Simd.{zip2_splat}
+use Rattle.dm_table.proofs.Prelude.{zip2_splat}
 use Rattle.dm_table.proofs.words.front_digits.less_zero.Goals as goal
 
 pub returns : goal.returns

@@ -1,9 +1,4 @@
-use Rattle.std.proofs.Common.{◌≡◌, ℕ, true, eqb, ◌+◌, ◌-◌, ◌*◌, ◌^◌, ◌<◌, ◌++◌, List, get_or, length, take, drop, refl, sym, arith, length-drop, length-take-le}
-use Rattle.std.specs.Int.Digits.{number_from_digits}
-use Rattle.std.proofs.Math.Seq.{take-add}
-use Rattle.std.proofs.lemmas.Bool.{agree_below_at, eqb-true}
-use Rattle.std.proofs.lemmas.Int.Digits.{number_after_append}
-use Rattle.std.proofs.lemmas.List.{take-take}
+use Rattle.dm_table.proofs.Prelude.{◌≡◌, ℕ, true, eqb, ◌+◌, ◌-◌, ◌*◌, ◌^◌, ◌<◌, ◌++◌, List, get_or, length, take, drop, refl, sym, arith, length-drop, length-take-le, number_from_digits, take-add, agree_below_at, eqb-true, number_after_append, take-take}
 use Rattle.dm_table.specs.declared.words.front_digits.TheConstants.{POWERS}
 use Rattle.dm_table.proofs.words.LaneDigits.{each_part, number_after}
 use Rattle.dm_table.proofs.words.front_digits.number_ahead.Goals as goal

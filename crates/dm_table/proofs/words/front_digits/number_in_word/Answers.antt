@@ -1,6 +1,4 @@
-use Rattle.std.proofs.Common.{◌≡◌, ◌^◌, ◌<◌, length, take, arith, length-take-le}
-use Rattle.std.specs.Int.Digits.{number_from_digits}
-use Rattle.std.proofs.lemmas.Int.Digits.{number_lt}
+use Rattle.dm_table.proofs.Prelude.{◌≡◌, ◌^◌, ◌<◌, length, take, arith, length-take-le, number_from_digits, number_lt}
 use Rattle.dm_table.proofs.words.LaneDigits.{each_below}
 use Rattle.dm_table.proofs.words.WordLemmas.{front_value}
 use Rattle.dm_table.proofs.words.front_digits.number_in_word.Goals as goal

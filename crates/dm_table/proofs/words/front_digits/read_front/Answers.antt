@@ -1,10 +1,5 @@
-use Rattle.std.proofs.Common.{Some, ◌≡◌, ◌≢◌, ℕ, zero, suc, ◌+◌, ◌%◌, ◌<◌, ◌≤◌, inl, inr, List, [], ◌∷◌, get_or, length, map, take, sym, ap, ◌∙◌, arith, length-take-le}
-use Rattle.std.specs.Int.Digits.{number_from_digits}
-use Rattle.std.proofs.lemmas.Grind.{elements}
-use Rattle.std.proofs.lemmas.Int.Digits.{digits_value_is}
-use Rattle.std.proofs.lemmas.List.{take-take, take-map}
+use Rattle.dm_table.proofs.Prelude.{Some, ◌≡◌, ◌≢◌, ℕ, zero, suc, ◌+◌, ◌%◌, ◌<◌, ◌≤◌, inl, inr, List, [], ◌∷◌, get_or, length, map, take, sym, ap, ◌∙◌, arith, length-take-le, number_from_digits, elements, digits_value_is, take-take, take-map, number_of}
 use lib.Lanes.{Each1}
-use Rattle.dm_table.specs.words.Number.{number_of}
 use Rattle.dm_table.proofs.words.LaneDigits.{digits_from_lanes, values_from_lanes}
 use Rattle.dm_table.proofs.words.NumberLemmas.{number_of-digits}
 use Rattle.dm_table.proofs.words.front_digits.read_front.Goals as goal

@@ -1,6 +1,4 @@
-use Rattle.std.proofs.Common.{map, ◌∙◌}
-use Rattle.std.specs.Prelude.{◌==◌}
-use Rattle.std.proofs.lemmas.List.{length-map}
+use Rattle.dm_table.proofs.Prelude.{map, ◌∙◌, ◌==◌, length-map}
 use Rattle.dm_table.proofs.words.MarkLemmas.{front_marks, back_marks}
 use Rattle.dm_table.proofs.words.marks.marks.Goals as goal
 

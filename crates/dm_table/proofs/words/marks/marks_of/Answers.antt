@@ -1,6 +1,4 @@
-use Rattle.std.proofs.Common.{◌≡◌, eqb, length, ap, ◌∙◌, w8}
-use Rattle.std.proofs.lemmas.Simd.{bitmask_splat}
-use Rattle.dm_table.specs.words.Marks.{marks_of}
+use Rattle.dm_table.proofs.Prelude.{◌≡◌, eqb, length, ap, ◌∙◌, w8, bitmask_splat, marks_of}
 use Rattle.dm_table.proofs.words.marks.marks_of.Goals as goal
 
 pub returns : goal.returns

@@ -1,8 +1,5 @@
 -- some digits are read, and what is left has the rest of them
-use Rattle.std.proofs.Common.{◌≡◌, ◌+◌, ◌-◌, drop, length}
-use Rattle.std.specs.Char.{is_ascii_digit}
-use Rattle.std.specs.List.{prefix_len}
-use Rattle.dm_table.specs.words.Number.{IsReadTo}
+use Rattle.dm_table.proofs.Prelude.{◌≡◌, ◌+◌, ◌-◌, drop, length, is_ascii_digit, prefix_len, IsReadTo}
 use Rattle.dm_table.proofs.words.number.leading.Given as goal
 
 abbrev pub invariant-loop-len : goal.invariant-loop-len

@@ -1,5 +1,5 @@
 -- A text is a number where all of it is read as one.
-use Rattle.std.proofs.Common.{sym, ◌∙◌}
+use Rattle.dm_table.proofs.Prelude.{sym, ◌∙◌}
 use Rattle.dm_table.proofs.words.NumberLemmas.{number_of-cut, number_of-first}
 use Rattle.dm_table.proofs.words.number.number.Goals as goal
 

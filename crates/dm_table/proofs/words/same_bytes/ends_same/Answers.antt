@@ -1,7 +1,5 @@
 -- Texts with the same first bytes and the same last bytes, of which there are enough for all.
-use Rattle.std.proofs.Common.{◌≡◌, ◌-◌, ◌≤◌, ℕ, Bool, true, false, ◌&&◌, List, length, take, drop, sym, ap, ◌∙◌, arith}
-use Rattle.std.specs.Bool.{OnTrue}
-use Rattle.std.proofs.lemmas.List.{take-take, take-append-drop, take_rest}
+use Rattle.dm_table.proofs.Prelude.{◌≡◌, ◌-◌, ◌≤◌, ℕ, Bool, true, false, ◌&&◌, List, length, take, drop, sym, ap, ◌∙◌, arith, take-take, take-append-drop, take_rest, OnTrue}
 use Rattle.dm_table.proofs.words.same_bytes.ends_same.Goals as goal
 
 -- the last bytes begin where the first ones end, or before

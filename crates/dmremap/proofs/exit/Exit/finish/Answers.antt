@@ -1,4 +1,4 @@
-use Rattle.std.proofs.Common.{refl, sym, ◌∙◌}
+use Rattle.dmremap.proofs.Prelude.{refl, sym, ◌∙◌}
 use Rattle.dm_stream.specs.declared.runs.ending.Ending.TheVariants as endings
 use Rattle.dmremap.specs.declared.exit.Exit.TheVariants as exits
 use Rattle.dmremap.proofs.ExitLemmas.{closed_failed, closed_well}
@@ -6,8 +6,8 @@ use Rattle.dmremap.proofs.exit.Exit.finish.Goals as goal
 
 pub returns-in-Ok : goal.returns-in-Ok
 returns-in-Ok g c = (
-  c.args.self,
-  closed_well _ c.args.self _ _ c.written.result (sym c.is_refused.ensures ∙ c.if-is_refused.false)
+  c.args.self.now,
+  closed_well _ c.args.self.now _ _ c.written.result (sym c.is_refused.ensures ∙ c.if-is_refused.false)
       c.written.ensures.ok c.in-Ok.ensures.untouched c.in-Ok.ensures.bytes c.in-Ok.ensures.closed,
   record {
     is = c.status.ensures;
@@ -18,7 +18,7 @@ returns-in-Ok g c = (
 pub returns-in-Err : goal.returns-in-Err
 returns-in-Err g c = (
   exits.Ended endings.WriteFault,
-  closed_failed g.W.Output.past c.args.self c.args.output.now c.close_and_tell.new.output _ c.written.result (sym c.is_refused.ensures ∙ c.if-is_refused.false)
+  closed_failed g.W.Output.past c.args.self.now c.args.output.now c.close_and_tell.new.output _ c.written.result (sym c.is_refused.ensures ∙ c.if-is_refused.false)
       c.written.ensures.ok c.written.ensures.err c.in-Err.ensures.untouched c.in-Err.ensures.flushed c.in-Err.ensures.bytes c.in-Err.ensures.closed,
   record { is = refl; told = c.in-Err.ensures.told },
 )

@@ -1,13 +1,5 @@
-use Rattle.std.proofs.Common.{◌≡◌, ◌∙◌, refl, ap, rules, Err}
-use Rattle.dm_stack.specs.claims.Claims.{IsTop}
-use Rattle.dm_table.specs.laws.Progress.{written_to_none}
-use Rattle.dm_stream.specs.requests.Requests.{numbered}
-use Rattle.dm_table.specs.io.DeviceIo.{written_since}
+use Rattle.dmremap.proofs.Prelude.{◌≡◌, ◌∙◌, refl, ap, rules, Err, IsTop, written_to_none, numbered, written_since, IsUnanswered, runs_text, none_named, IsOfNone, IsOfTop}
 use Rattle.dm_replay.specs.declared.replay_fault.ReplayFault.TheVariants as faults
-use Rattle.dm_replay.specs.Replay.{IsUnanswered}
-use Rattle.dm_replay.specs.RunText.{runs_text}
-use Rattle.dm_replay.proofs.NamedLemmas.{none_named}
-use Rattle.dmremap.specs.ReplayOutcome.{IsOfNone, IsOfTop}
 use Rattle.dmremap.proofs.ReplayLemmas.{cut_by_name, not_top_by_name, one_stopped, played_by_name, stopped_by, top_by_name}
 use Rattle.dmremap.proofs.replay_run.RequestPlayerHandler.handle.Goals as goal
 

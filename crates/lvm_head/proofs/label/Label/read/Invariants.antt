@@ -1,7 +1,4 @@
-use Rattle.std.proofs.Common.{◌≡◌, None}
-use Rattle.lvm_head.specs.Disks.{Contents}
-use Rattle.lvm_head.specs.FirstFound.{first_found}
-use Rattle.lvm_head.specs.Labels.{label_in}
+use Rattle.lvm_head.proofs.Prelude.{◌≡◌, None, Contents, first_found, label_in}
 use Rattle.lvm_head.proofs.label.Label.read.Given as goal
 
 abbrev pub invariant-loop-place : goal.invariant-loop-place

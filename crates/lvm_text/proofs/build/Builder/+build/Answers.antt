@@ -1,9 +1,4 @@
-use Rattle.std.proofs.Common.{◌≡◌, sym, ◌∙◌, ap, ◌+◌, [], ◌∷◌, ◌++◌, drop, arith}
-use Rattle.std.specs.Prelude.{is_some}
-use Rattle.std.proofs.lemmas.Result.{err_from_is_err_and}
-use Rattle.lvm_text.specs.TokenView.{view, views}
-use Rattle.lvm_text.specs.View.{lines_agree}
-use Rattle.lvm_text.specs.declared.tree.Entry.{Entry}
+use Rattle.lvm_text.proofs.Prelude.{◌≡◌, sym, ◌∙◌, ap, ◌+◌, [], ◌∷◌, ◌++◌, drop, arith, is_some, err_from_is_err_and, view, views, lines_agree, Entry}
 use Rattle.lvm_text.specs.declared.tree.Value.TheVariants as values
 use Rattle.lvm_text.proofs.Building.{values_more, values_end, value_nothing, value_section, value_leaf, views_after, lines_agree-push}
 use Rattle.lvm_text.proofs.Twice.{differ_push, key_twice, twice_inside, twice_opened}
@@ -16,11 +11,11 @@ section_at-loop-key-preserved t c =
     let entry : Entry = record { key = c.in-Some.key; node = record { value = c.in_ok-value.value; line = c.in-Some.key_line } } in
     let more = values_more start c.loop-key.entries.items (views (drop c.loop-key.at c.args.self.now.tokens.now)) (views (drop (c.loop-key.at + 1) c.args.self.now.tokens.now)) after entry
     c.loop-key.invariant.so_far c.in-Some.ensures.0 c.in_ok-value.ensures.read in
-    let added : c.put_entry.new.entries.items ≡ c.loop-key.entries.items ++ entry ∷ [] = c.in_ok-put_entry.ensures.added in
+    let added : c.add_entry.new.entries.items ≡ c.loop-key.entries.items ++ entry ∷ [] = c.in_ok-add_entry.ensures.added in
     record {
       so_far = rw added more;
       agree = ap lines_agree added ∙ lines_agree-push c.loop-key.entries.items entry c.loop-key.invariant.agree c.in_ok-value.ensures.agrees;
-      finds = c.in_ok-put_entry.ensures.finds;
+      finds = c.in_ok-add_entry.ensures.finds;
       differ = rw added (differ_push c.loop-key.entries.items entry c.loop-key.invariant.differ (rw (← c.as_slice.ensures.value) (sym c.if-is_some.false ∙ c.is_some.ensures ∙ ap is_some c.position_of.ensures)) c.in_ok-value.ensures.differ);
       begun = omega (arith, c.in_ok-value.ensures.later, c.loop-key.invariant.begun);
       within = c.in_ok-value.ensures.later.1;

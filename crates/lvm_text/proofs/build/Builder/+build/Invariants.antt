@@ -1,8 +1,4 @@
-use Rattle.std.proofs.Common.{◌≡◌, ◌≤◌, ◌-◌, true, [], length, drop}
-use Rattle.lvm_text.specs.TokenView.{views}
-use Rattle.lvm_text.specs.View.{values_of, lines_agree}
-use Rattle.lvm_text.specs.Checks.{twice_lines}
-use Rattle.lvm_text.specs.Positions.{Finds}
+use Rattle.lvm_text.proofs.Prelude.{◌≡◌, ◌≤◌, ◌-◌, true, [], length, drop, views, values_of, lines_agree, twice_lines, Finds}
 use Rattle.lvm_text.proofs.Building.{ValuesSoFar}
 use Rattle.lvm_text.proofs.build.Builder.+build.Given as goal
 

@@ -1,6 +1,4 @@
-use Rattle.std.proofs.Common.{sym, ap, ◌+◌, drop, refl}
-use Rattle.lvm_text.specs.View.{scalar_views}
-use Rattle.lvm_text.specs.TokenView.{view, views}
+use Rattle.lvm_text.proofs.Prelude.{sym, ap, ◌+◌, drop, refl, scalar_views, view, views}
 use Rattle.lvm_text.specs.declared.tree.Value.TheVariants as values
 use Rattle.lvm_text.proofs.Building.{leaf_list}
 use Rattle.lvm_text.proofs.build.Builder.leaf_at.Goals as goal

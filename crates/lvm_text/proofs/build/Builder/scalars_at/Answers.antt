@@ -1,7 +1,4 @@
-use Rattle.std.proofs.Common.{◌∙◌, ap, ◌≡◌, ◌++◌, ◌∷◌, [], drop, arith}
-use Rattle.std.proofs.lemmas.List.{map_push}
-use Rattle.lvm_text.specs.TokenView.{views}
-use Rattle.lvm_text.specs.View.{scalar_view, scalar_views}
+use Rattle.lvm_text.proofs.Prelude.{◌∙◌, ap, ◌≡◌, ◌++◌, ◌∷◌, [], drop, arith, map_push, views, scalar_view, scalar_views}
 use Rattle.lvm_text.proofs.Building.{list_more, list_ends, views_after}
 use Rattle.lvm_text.proofs.build.Builder.scalars_at.Goals as goal
 

@@ -1,6 +1,4 @@
-use Rattle.std.proofs.Common.{◌≤◌, ◌-◌, length, drop}
-use Rattle.lvm_text.specs.TokenView.{views}
-use Rattle.lvm_text.specs.View.{scalar_views}
+use Rattle.lvm_text.proofs.Prelude.{◌≤◌, ◌-◌, length, drop, views, scalar_views}
 use Rattle.lvm_text.proofs.Building.{ListSoFar}
 use Rattle.lvm_text.proofs.build.Builder.scalars_at.Given as goal
 

@@ -1,5 +1,4 @@
-use Rattle.std.proofs.Common.{◌≡◌, ◌-◌, drop, length}
-use Rattle.lvm_text.specs.View.{sections_in}
+use Rattle.lvm_text.proofs.Prelude.{◌≡◌, ◌-◌, drop, length, sections_in}
 use Rattle.lvm_text.proofs.lookup.SectionsIterator.next.Given as goal
 
 abbrev pub invariant-loop-self : goal.invariant-loop-self

@@ -1,5 +1,4 @@
-use Rattle.std.proofs.Common.{sym, ap, subst, ◌∙◌, arith}
-use Rattle.lvm_text.specs.Positions.{Finds, position_of}
+use Rattle.lvm_text.proofs.Prelude.{sym, ap, subst, ◌∙◌, arith, Finds, position_of}
 use Rattle.lvm_text.proofs.KeyPositions.{stands_at, absent}
 use Rattle.lvm_text.proofs.tree.Section.get.Goals as goal
 

@@ -1,5 +1,4 @@
-use Rattle.std.proofs.Common.{[], sym, ap, ◌∙◌}
-use Rattle.lvm_text.specs.View.{sections_in}
+use Rattle.lvm_text.proofs.Prelude.{[], sym, ap, ◌∙◌, sections_in}
 use Rattle.lvm_text.proofs.Looks.{sections_are}
 use Rattle.lvm_text.proofs.Keys.{keys_differ, sections_found}
 use Rattle.lvm_text.proofs.tree.Section.sections.Goals as goal

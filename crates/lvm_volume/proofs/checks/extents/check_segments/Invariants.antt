@@ -1,8 +1,5 @@
 -- what was used is now used with the segments so far, and those that are left tell the same as all did
-use Rattle.std.proofs.Common.{◌≡◌, List, None, drop, length}
-use Rattle.dm_table.specs.load.LoadFault.{first_or}
-use Rattle.lvm_volume.specs.checks.Extents.{Claim, segment_faults, used_after}
-use Rattle.lvm_volume.specs.checks.Used.{Holds}
+use Rattle.lvm_volume.proofs.Prelude.{◌≡◌, List, None, drop, length, first_or, Claim, segment_faults, used_after, Holds}
 use Rattle.lvm_volume.proofs.checks.extents.check_segments.Given as goal
 
 abbrev pub invariant-loop-segment : goal.invariant-loop-segment

@@ -1,6 +1,4 @@
-use Rattle.std.proofs.Common.{◌≡◌, None, drop}
-use Rattle.dm_table.specs.load.LoadFault.{first_or}
-use Rattle.lvm_volume.specs.checks.Extents.{size_faults}
+use Rattle.lvm_volume.proofs.Prelude.{◌≡◌, None, drop, first_or, size_faults}
 use Rattle.lvm_volume.proofs.checks.extents.check_sizes.Given as goal
 
 abbrev pub invariant-loop-physical : goal.invariant-loop-physical

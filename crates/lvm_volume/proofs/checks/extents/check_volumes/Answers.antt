@@ -1,6 +1,4 @@
-use Rattle.std.proofs.Common.{sym, ◌∙◌}
-use Rattle.std.proofs.lemmas.Result.{err_from_is_err_and}
-use Rattle.lvm_volume.specs.checks.Extents.{used_after}
+use Rattle.lvm_volume.proofs.Prelude.{sym, ◌∙◌, err_from_is_err_and, used_after}
 use Rattle.lvm_volume.proofs.checks.HoldLemmas.{volume_passed, volume_stops}
 use Rattle.lvm_volume.proofs.fields.Faults.{found_more}
 use Rattle.lvm_volume.proofs.checks.extents.check_volumes.Goals as goal

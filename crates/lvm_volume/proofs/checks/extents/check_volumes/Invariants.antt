@@ -1,8 +1,6 @@
 -- what is used is held, and the volumes that are left tell the same as all did
-use Rattle.std.proofs.Common.{◌≡◌, List, [], None, drop, length}
-use Rattle.dm_table.specs.load.LoadFault.{first_or}
-use Rattle.lvm_volume.specs.checks.Extents.{Claim, volume_faults}
-use Rattle.lvm_volume.specs.checks.Used.{Holds}
+use Rattle.lvm_volume.proofs.Prelude.{◌≡◌, List, [], None, drop, length, first_or, Claim, Holds}
+use Rattle.lvm_volume.specs.checks.Extents.{volume_faults}
 use Rattle.lvm_volume.proofs.checks.extents.check_volumes.Given as goal
 
 abbrev pub invariant-loop-volume : goal.invariant-loop-volume

@@ -1,7 +1,5 @@
 -- what was used is now used with the stripes so far, and those that are left tell the same as all did
-use Rattle.std.proofs.Common.{◌≡◌, List, drop, length}
-use Rattle.lvm_volume.specs.checks.Extents.{Claim, have_clash, used_by}
-use Rattle.lvm_volume.specs.checks.Used.{Holds, claims_by}
+use Rattle.lvm_volume.proofs.Prelude.{◌≡◌, List, drop, length, Claim, have_clash, used_by, Holds, claims_by}
 use Rattle.lvm_volume.proofs.checks.extents.claim_all.Given as goal
 
 abbrev pub invariant-loop-stripe : goal.invariant-loop-stripe

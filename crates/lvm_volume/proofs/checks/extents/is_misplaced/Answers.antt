@@ -1,8 +1,4 @@
-use Rattle.std.proofs.Common.{◌≡◌, List, false, ◌/◌, sym, ap, length, ◌∙◌}
-use Rattle.lvm_volume.specs.declared.group.segment.Stripe.{Stripe}
-use Rattle.lvm_volume.specs.declared.group.segment.SegmentType.{SegmentType}
-use Rattle.lvm_volume.specs.checks.Extents.{claims_of, parts_of, stripes_of, used_by}
-use Rattle.lvm_volume.specs.checks.Used.{Claimed, Holds, claims_by}
+use Rattle.lvm_volume.proofs.Prelude.{◌≡◌, List, false, ◌/◌, sym, ap, length, ◌∙◌, Stripe, SegmentType, claims_of, parts_of, stripes_of, used_by, Claimed, Holds, claims_by}
 use Rattle.lvm_volume.proofs.checks.HoldLemmas.{if_ok}
 use Rattle.lvm_volume.proofs.checks.extents.is_misplaced.Goals as goal
 

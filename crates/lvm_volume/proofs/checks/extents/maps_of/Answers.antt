@@ -1,5 +1,4 @@
-use Rattle.std.proofs.Common.{arith}
-use Rattle.std.proofs.lemmas.Grind.{common_steps}
+use Rattle.lvm_volume.proofs.Prelude.{arith, common_steps}
 use Rattle.lvm_volume.proofs.checks.HoldLemmas.{holds_nothing, keeps_nothing}
 use Rattle.lvm_volume.proofs.checks.extents.maps_of.Goals as goal
 

@@ -1,5 +1,4 @@
-use Rattle.std.proofs.Common.{◌≡◌, [], length}
-use Rattle.lvm_volume.specs.checks.Used.{Holds}
+use Rattle.lvm_volume.proofs.Prelude.{◌≡◌, [], length, Holds}
 use Rattle.lvm_volume.proofs.checks.extents.maps_of.Given as goal
 
 abbrev pub invariant-loop-made : goal.invariant-loop-made

@@ -1,7 +1,4 @@
-use Rattle.std.proofs.Common.{List, ap, ◌∙◌}
-use Rattle.lvm_volume.specs.declared.group.roles.Role.{Role}
-use Rattle.lvm_volume.specs.checks.Extents.{least_line_of}
-use Rattle.lvm_volume.specs.group.Roles.{is_bad_snapshot}
+use Rattle.lvm_volume.proofs.Prelude.{List, ap, ◌∙◌, Role, least_line_of, is_bad_snapshot}
 use Rattle.lvm_volume.proofs.fields.Faults.{checked}
 use Rattle.lvm_volume.proofs.checks.segment_check.check_snapshots.Goals as goal
 

@@ -1,6 +1,4 @@
-use Rattle.std.proofs.Common.{◌≡◌, ◌≤◌, drop, length}
-use Rattle.lvm_volume.specs.checks.Extents.{least_line_of}
-use Rattle.lvm_volume.specs.checks.SegmentCheck.{test_of}
+use Rattle.lvm_volume.proofs.Prelude.{◌≡◌, ◌≤◌, drop, length, least_line_of, test_of}
 use Rattle.lvm_volume.proofs.checks.segment_check.least_line_of.Given as goal
 
 abbrev pub invariant-loop-at : goal.invariant-loop-at

@@ -1,9 +1,4 @@
-use Rattle.std.proofs.Common.{◌≡◌, ℕ, ◌<◌, ◌≤◌, Less, sym, arith}
-use Rattle.std.proofs.lemmas.Grind.{common_steps}
-use Rattle.std.proofs.lemmas.Map.Keys.{ge_from_not_lt}
-use Rattle.std.specs.Prelude.{IsSome}
-use Rattle.std.specs.Ordering.{nat_cmp}
-use Rattle.std.specs.BTreeMap.{get}
+use Rattle.lvm_volume.proofs.Prelude.{◌≡◌, ℕ, ◌<◌, ◌≤◌, Less, sym, arith, common_steps, ge_from_not_lt, IsSome, nat_cmp, get}
 use Rattle.lvm_volume.proofs.checks.UsedLemmas.{last_before, none_before}
 use Rattle.lvm_volume.proofs.checks.used.is_used.Goals as goal
 

@@ -1,4 +1,4 @@
-use Rattle.std.proofs.Common.{sym, ◌∙◌}
+use Rattle.lvm_volume.proofs.Prelude.{sym, ◌∙◌}
 use Rattle.lvm_volume.proofs.checks.UsedLemmas.{adds, keeps_more}
 use Rattle.lvm_volume.proofs.checks.used.take.Goals as goal
 

@@ -1,6 +1,4 @@
-use Rattle.std.proofs.Common.{◌≡◌, length}
-use Rattle.lvm_text.specs.View.{scalar_views}
-use Rattle.lvm_volume.specs.fields.Fields.{are_pairs}
+use Rattle.lvm_volume.proofs.Prelude.{◌≡◌, length, scalar_views, are_pairs}
 use Rattle.lvm_volume.proofs.fields.fits.are_pairs.Given as goal
 
 abbrev pub invariant-loop-rest : goal.invariant-loop-rest

@@ -1,7 +1,4 @@
-use Rattle.std.proofs.Common.{◌≡◌, drop}
-use Rattle.std.specs.List.{list_all}
-use Rattle.lvm_text.specs.View.{scalar_views}
-use Rattle.lvm_volume.specs.fields.Fields.{is_text}
+use Rattle.lvm_volume.proofs.Prelude.{◌≡◌, drop, list_all, scalar_views, is_text}
 use Rattle.lvm_volume.proofs.fields.fits.are_texts.Given as goal
 
 abbrev pub invariant-loop-item : goal.invariant-loop-item

@@ -1,7 +1,6 @@
 -- the sections so far and those that are left are all
-use Rattle.std.proofs.Common.{◌≡◌, ◌++◌, map}
+use Rattle.lvm_volume.proofs.Prelude.{◌≡◌, ◌++◌, map, item_view, sections_left}
 use Rattle.lvm_text.specs.Tree as spec
-use Rattle.lvm_text.specs.Iterate.{item_view, sections_left}
 use Rattle.lvm_volume.proofs.fields.value.sections_of.Given as goal
 
 abbrev pub invariant-loop-item : goal.invariant-loop-item

@@ -1,4 +1,4 @@
-use Rattle.lvm_volume.specs.fields.Fields.{field_faults}
+use Rattle.lvm_volume.proofs.Prelude.{field_faults}
 use Rattle.lvm_volume.proofs.fields.Steps.{at_last, exits, then_fails, then_goes}
 use Rattle.lvm_volume.proofs.group.group_fields.check_head.Goals as goal
 

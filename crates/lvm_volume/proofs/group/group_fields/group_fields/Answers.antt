@@ -1,9 +1,4 @@
-use Rattle.std.proofs.Common.{ap, codes, ℕ, inl, List, sym, ◌∙◌}
-use Rattle.std.proofs.lemmas.Result.{err_from_is_err_and}
-use Rattle.dm_table.specs.declared.load.load_fault.LoadFault.{LoadFault}
-use Rattle.lvm_text.specs.Tree.{Tree}
-use Rattle.lvm_volume.specs.fields.Checks.{Check}
-use Rattle.lvm_volume.specs.fields.Fields.{group_faults, number_at, physicals_faults, volumes_faults}
+use Rattle.lvm_volume.proofs.Prelude.{ap, codes, ℕ, inl, List, sym, ◌∙◌, err_from_is_err_and, LoadFault, Tree, Check, group_faults, number_at, physicals_faults, volumes_faults}
 use Rattle.lvm_volume.proofs.fields.Steps.{ends_failed, ends_with, fresh, in_words, of_both, then_fails, then_goes}
 use Rattle.lvm_volume.proofs.group.group_fields.group_fields.Goals as goal
 

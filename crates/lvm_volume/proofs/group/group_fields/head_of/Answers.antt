@@ -1,5 +1,4 @@
-use Rattle.std.proofs.lemmas.Result.{err_from_is_err_and}
-use Rattle.lvm_volume.specs.fields.Fields.{field_faults}
+use Rattle.lvm_volume.proofs.Prelude.{err_from_is_err_and, field_faults}
 use Rattle.lvm_volume.proofs.fields.Steps.{any_new, at_last, then_fails, then_goes}
 use Rattle.lvm_volume.proofs.group.group_fields.head_of.Goals as goal
 

@@ -1,14 +1,4 @@
-use Rattle.std.proofs.Common.{◌≡◌, ◌∙◌, ℕ, List, ap, codes, map, sym}
-use Rattle.std.proofs.lemmas.Result.{err_from_is_err_and}
-use Rattle.dm_table.specs.declared.load.place.Part.TheVariants.{Source}
-use Rattle.dm_table.specs.declared.load.load_fault.LoadKind.TheVariants.{Field}
-use Rattle.dm_table.specs.declared.load.load_fault.LoadFault.{LoadFault}
-use Rattle.dm_table.specs.load.LoadFault.{fault_at}
-use Rattle.lvm_text.specs.Tree.{Tree, sections_of}
-use Rattle.lvm_text.specs.Iterate.{item_view}
-use Rattle.lvm_volume.specs.fields.Checks.{Check}
-use Rattle.lvm_volume.specs.fields.Fields.{faults_of_fields, fields_faults, group_faults, number_at, one_group_faults, top_fields}
-use Rattle.lvm_volume.specs.group.Group.{Keyed, first_section}
+use Rattle.lvm_volume.proofs.Prelude.{◌≡◌, ◌∙◌, ℕ, List, ap, codes, map, sym, err_from_is_err_and, Source, Field, LoadFault, fault_at, Tree, sections_of, item_view, Check, faults_of_fields, fields_faults, group_faults, number_at, one_group_faults, top_fields, Keyed, first_section}
 use Rattle.lvm_volume.proofs.fields.Steps.{ends_failed, finds_nothing, fresh, in_words, is_missing, same_both, then_fails, then_goes}
 use Rattle.lvm_volume.proofs.group.TextLemmas.{first_is, of_none, of_one, of_several}
 use Rattle.lvm_volume.proofs.group.group_fields.read_fields.Goals as goal

@@ -1,9 +1,4 @@
-use Rattle.std.proofs.Common.{◌++◌, List, ℕ, map, sym, ap, ◌∙◌}
-use Rattle.std.proofs.lemmas.List.{append-nil}
-use Rattle.std.proofs.lemmas.Slice.Zip.{either_empty_from_Zip}
-use Rattle.lvm_volume.specs.declared.group.physical.Physical.{Physical}
-use Rattle.lvm_volume.specs.group.Owners.{owned}
-use Rattle.lvm_volume.specs.group.OwnersCode.{owners_view}
+use Rattle.lvm_volume.proofs.Prelude.{◌++◌, List, ℕ, map, sym, ap, ◌∙◌, append-nil, either_empty_from_Zip, Physical, owned, owners_view}
 use Rattle.lvm_volume.proofs.group.OwnersLemmas.{none_left}
 use Rattle.lvm_volume.proofs.group.owners.all_owned.Goals as goal
 

@@ -1,4 +1,4 @@
-use Rattle.std.proofs.Common.{◌∙◌, sym, arith}
+use Rattle.lvm_volume.proofs.Prelude.{◌∙◌, sym, arith}
 use Rattle.lvm_volume.proofs.group.OwnersLemmas.{letter_next, letters_end}
 use Rattle.lvm_volume.proofs.group.owners.has_letters.Goals as goal
 

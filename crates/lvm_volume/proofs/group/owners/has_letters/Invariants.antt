@@ -1,5 +1,4 @@
-use Rattle.std.proofs.Common.{◌≡◌, bytes_eq, drop}
-use Rattle.lvm_volume.specs.group.Owners.{letters_of}
+use Rattle.lvm_volume.proofs.Prelude.{◌≡◌, bytes_eq, drop, letters_of}
 use Rattle.lvm_volume.proofs.group.owners.has_letters.Given as goal
 
 abbrev pub invariant-loop-letter : goal.invariant-loop-letter

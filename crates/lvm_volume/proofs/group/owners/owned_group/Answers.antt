@@ -1,9 +1,4 @@
-use Rattle.std.proofs.Common.{◌≡◌, List, length, sym, ap, subst, ◌∙◌}
-use Rattle.lvm_volume.specs.declared.group.physical.Physical.{Physical}
-use Rattle.lvm_volume.specs.group.Group.{Group, group_with}
-use Rattle.lvm_volume.specs.group.Owners.{all_owned}
-use Rattle.lvm_volume.specs.group.OwnersCode.{ids_view, owners_view}
-use Rattle.lvm_volume.specs.tables.Tables.{IsSoundGroup}
+use Rattle.lvm_volume.proofs.Prelude.{◌≡◌, List, length, sym, ap, subst, ◌∙◌, Physical, Group, group_with, all_owned, ids_view, owners_view, IsSoundGroup}
 use Rattle.lvm_volume.proofs.group.OwnersLemmas.{ids_length, sound_owned}
 use Rattle.lvm_volume.proofs.group.owners.owned_group.Goals as goal
 

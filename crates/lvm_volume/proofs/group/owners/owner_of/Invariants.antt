@@ -1,6 +1,4 @@
-use Rattle.std.proofs.Common.{◌≡◌, bytes_eq, drop}
-use Rattle.std.specs.List.{position_from}
-use Rattle.lvm_volume.specs.group.Owners.{letters_of, owner_of}
+use Rattle.lvm_volume.proofs.Prelude.{◌≡◌, bytes_eq, drop, position_from, letters_of, owner_of}
 use Rattle.lvm_volume.proofs.group.owners.owner_of.Given as goal
 
 abbrev pub invariant-loop-disk : goal.invariant-loop-disk

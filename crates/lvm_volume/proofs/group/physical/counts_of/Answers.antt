@@ -1,5 +1,4 @@
-use Rattle.std.proofs.Common.{arith}
-use Rattle.std.proofs.lemmas.Grind.{text_counts}
+use Rattle.lvm_volume.proofs.Prelude.{arith, text_counts}
 use Rattle.lvm_volume.proofs.group.physical.counts_of.Goals as goal
 
 pub overflow_add-counts : goal.overflow_add-counts

@@ -1,8 +1,4 @@
-use Rattle.std.proofs.Common.{◌≡◌, ℕ, List, take, unwrap_or, count_by}
-use Rattle.std.specs.Prelude.{bytes_eq}
-use Rattle.std.specs.Ordering.{nat_cmp}
-use Rattle.std.specs.Cmp.Lexicographic.{slice_cmp}
-use Rattle.std.specs.BTreeMap.{get_by}
+use Rattle.lvm_volume.proofs.Prelude.{◌≡◌, ℕ, List, take, unwrap_or, count_by, bytes_eq, nat_cmp, slice_cmp, get_by}
 use Rattle.lvm_volume.proofs.group.physical.counts_of.Given as goal
 
 abbrev pub invariant-loop-fields : goal.invariant-loop-fields

@@ -1,11 +1,4 @@
-use Rattle.std.proofs.Common.{◌∙◌, List, map}
-use Rattle.std.proofs.lemmas.List.{map_push}
-use Rattle.lvm_text.specs.Iterate.{item_view}
-use Rattle.dm_table.specs.declared.load.load_fault.LoadFault.{LoadFault}
-use Rattle.lvm_volume.specs.fields.Checks.{Check}
-use Rattle.lvm_volume.specs.fields.Fields.{fields_faults, physical_fields}
-use Rattle.lvm_volume.specs.group.Group.{Keyed}
-use Rattle.lvm_volume.specs.group.PhysicalFields.{fields_of, fields_view}
+use Rattle.lvm_volume.proofs.Prelude.{◌∙◌, List, map, map_push, item_view, LoadFault, Check, fields_faults, physical_fields, Keyed, fields_of, fields_view}
 use Rattle.lvm_volume.proofs.fields.Steps.{exits, goes_on, made_next, none_left, stops_here}
 use Rattle.lvm_volume.proofs.group.physical.fields_in.Goals as goal
 

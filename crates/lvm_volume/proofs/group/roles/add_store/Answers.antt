@@ -1,5 +1,4 @@
-use Rattle.std.proofs.Common.{sym, ap, arith}
-use Rattle.lvm_volume.specs.group.RoleCode.{with_store}
+use Rattle.lvm_volume.proofs.Prelude.{sym, ap, arith, with_store}
 use Rattle.lvm_volume.proofs.group.RoleLemmas.{changed_one, not_after}
 use Rattle.lvm_volume.proofs.group.roles.add_store.Goals as goal
 

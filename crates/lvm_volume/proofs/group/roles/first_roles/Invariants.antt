@@ -1,6 +1,4 @@
-use Rattle.std.proofs.Common.{◌≡◌, ◌++◌, [], drop, map}
-use Rattle.std.specs.List.{enumerate_from}
-use Rattle.lvm_volume.specs.group.Roles.{role_of, roles_among}
+use Rattle.lvm_volume.proofs.Prelude.{◌≡◌, ◌++◌, [], drop, map, enumerate_from, role_of, roles_among}
 use Rattle.lvm_volume.proofs.group.roles.first_roles.Given as goal
 
 abbrev pub invariant-loop-volume : goal.invariant-loop-volume

@@ -1,7 +1,4 @@
-use Rattle.std.proofs.Common.{◌∙◌, drop, sym, ap, arith}
-use Rattle.lvm_volume.specs.declared.group.volume.Volume.{Volume}
-use Rattle.lvm_volume.specs.group.RoleCode.{changed, record_list, with_origin, with_store}
-use Rattle.lvm_volume.specs.group.Roles.{recorded, records_of}
+use Rattle.lvm_volume.proofs.Prelude.{◌∙◌, drop, sym, ap, arith, Volume, changed, record_list, with_origin, with_store, recorded, records_of}
 use Rattle.lvm_volume.proofs.group.RoleLemmas.{all_changed, one_more}
 use Rattle.lvm_volume.proofs.group.roles.roles_of.Goals as goal
 

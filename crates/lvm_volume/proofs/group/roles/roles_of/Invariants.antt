@@ -1,6 +1,5 @@
 -- the roles by the snapshots of the volumes that were passed, from the last on
-use Rattle.std.proofs.Common.{◌≡◌, ◌≤◌, drop, length}
-use Rattle.lvm_volume.specs.group.Roles.{records_of, roles_among}
+use Rattle.lvm_volume.proofs.Prelude.{◌≡◌, ◌≤◌, drop, length, records_of, roles_among}
 use Rattle.lvm_volume.proofs.group.roles.roles_of.Given as goal
 
 abbrev pub invariant-loop-at : goal.invariant-loop-at

@@ -1,5 +1,4 @@
-use Rattle.lvm_volume.specs.fields.Fields.{field_faults}
-use Rattle.lvm_volume.specs.group.Group.{segment_of}
+use Rattle.lvm_volume.proofs.Prelude.{field_faults, segment_of}
 use Rattle.lvm_volume.proofs.fields.Steps.{exits, then_fails, then_goes}
 use Rattle.lvm_volume.proofs.group.segment.segment_of.Goals as goal
 

@@ -1,9 +1,4 @@
-use Rattle.std.proofs.Common.{◌∙◌, List}
-use Rattle.lvm_text.specs.Tree.{Tree}
-use Rattle.dm_table.specs.declared.load.load_fault.LoadFault.{LoadFault}
-use Rattle.lvm_volume.specs.fields.Checks.{Check}
-use Rattle.lvm_volume.specs.fields.Fields.{fields_faults, section_view, segment_fields}
-use Rattle.lvm_volume.specs.group.Group.{segment_of}
+use Rattle.lvm_volume.proofs.Prelude.{◌∙◌, List, Tree, LoadFault, Check, fields_faults, section_view, segment_fields, segment_of}
 use Rattle.lvm_volume.proofs.fields.Steps.{exits, goes_on, made_next, stops_here}
 use Rattle.lvm_volume.proofs.group.segment.segments_in.Goals as goal
 

@@ -1,5 +1,4 @@
-use Rattle.std.proofs.Common.{sym, ◌∙◌}
-use Rattle.std.proofs.lemmas.List.{append-nil}
+use Rattle.lvm_volume.proofs.Prelude.{sym, ◌∙◌, append-nil}
 use Rattle.lvm_volume.proofs.group.StripeLemmas.{too_short}
 use Rattle.lvm_volume.proofs.group.segment.stripes_of.Goals as goal
 

@@ -1,6 +1,4 @@
-use Rattle.std.proofs.Common.{◌≡◌, ◌++◌, length}
-use Rattle.lvm_text.specs.View.{scalar_views}
-use Rattle.lvm_volume.specs.group.Group.{stripes_in}
+use Rattle.lvm_volume.proofs.Prelude.{◌≡◌, ◌++◌, length, scalar_views, stripes_in}
 use Rattle.lvm_volume.proofs.group.segment.stripes_of.Given as goal
 
 abbrev pub invariant-loop-rest : goal.invariant-loop-rest

@@ -1,8 +1,6 @@
-use Rattle.std.proofs.Common.{ap, sym, ◌∙◌}
-use Rattle.lvm_volume.specs.fields.Fields.{field_faults}
+use Rattle.lvm_volume.proofs.Prelude.{ap, sym, ◌∙◌, field_faults, type_text}
 use Rattle.lvm_volume.proofs.fields.Steps.{exits, in_words, nothing_left, then_fails, then_goes}
 use Rattle.lvm_volume.proofs.group.SegmentLemmas.{of_error, of_zero}
-use Rattle.lvm_volume.specs.group.TypeName.{type_text}
 use Rattle.lvm_volume.proofs.group.segment.target_at.Goals as goal
 
 pub returns-in_err-type_at-clause-step : goal.returns-in_err-type_at-clause-step

@@ -1,7 +1,4 @@
-use Rattle.std.proofs.Common.{◌≡◌, drop}
-use Rattle.std.specs.List.{list_any}
-use Rattle.lvm_text.specs.View.{scalar_views}
-use Rattle.lvm_volume.specs.group.Group.{is_text_of}
+use Rattle.lvm_volume.proofs.Prelude.{◌≡◌, drop, list_any, scalar_views, is_text_of}
 use Rattle.lvm_volume.proofs.group.volume.has_text.Given as goal
 
 abbrev pub invariant-loop-item : goal.invariant-loop-item

@@ -1,10 +1,4 @@
-use Rattle.std.proofs.Common.{◌≡◌, ◌++◌, ◌-◌, ◌∙◌, List, ℕ, ap, arith, codes, decimal, map, sym}
-use Rattle.std.proofs.lemmas.List.{map_push}
-use Rattle.std.proofs.lemmas.Result.{err_from_is_err_and}
-use Rattle.lvm_text.specs.Tree.{Tree}
-use Rattle.dm_table.specs.declared.load.load_fault.LoadFault.{LoadFault}
-use Rattle.lvm_volume.specs.fields.Checks.{Check}
-use Rattle.lvm_volume.specs.fields.Fields.{field_faults, section_at, section_view, segment_field}
+use Rattle.lvm_volume.proofs.Prelude.{◌≡◌, ◌++◌, ◌-◌, ◌∙◌, List, ℕ, ap, arith, codes, decimal, map, sym, map_push, err_from_is_err_and, Tree, LoadFault, Check, field_faults, section_at, section_view, segment_field}
 use Rattle.lvm_volume.proofs.fields.Faults.{made_more}
 use Rattle.lvm_volume.proofs.fields.Steps.{in_words, no_number, number_fails, number_goes}
 use Rattle.lvm_volume.proofs.group.volume.segment_sections.Goals as goal

@@ -1,9 +1,5 @@
 -- the sections so far and those of the numbers that are left are all, and what is found at the numbers that are left is found at all
-use Rattle.std.proofs.Common.{◌≡◌, ◌+◌, ◌-◌, ◌++◌, Option, codes, decimal, map}
-use Rattle.std.specs.List.{flat_map, range_with_len}
-use Rattle.dm_table.specs.declared.load.load_fault.LoadFault.{LoadFault}
-use Rattle.lvm_volume.specs.fields.Fields.{field_faults, section_at, section_view, segment_field}
-use Rattle.lvm_volume.specs.fields.Steps.{IsPlainStep, numbers_faults}
+use Rattle.lvm_volume.proofs.Prelude.{◌≡◌, ◌+◌, ◌-◌, ◌++◌, Option, codes, decimal, map, flat_map, range_with_len, LoadFault, field_faults, section_at, section_view, segment_field, IsPlainStep, numbers_faults}
 use Rattle.lvm_volume.proofs.group.volume.segment_sections.Given as goal
 
 abbrev pub invariant-loop-i : goal.invariant-loop-i

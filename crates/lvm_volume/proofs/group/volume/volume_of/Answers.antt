@@ -1,7 +1,4 @@
-use Rattle.std.proofs.Common.{◌≡◌, ◌∙◌, ℕ, ap, map}
-use Rattle.lvm_volume.specs.fields.Fields.{section_view, segments_of, volume_faults}
-use Rattle.lvm_volume.specs.fields.Steps.{numbers_faults}
-use Rattle.lvm_volume.specs.group.Group.{segment_of, volume_of}
+use Rattle.lvm_volume.proofs.Prelude.{◌≡◌, ◌∙◌, ℕ, ap, map, section_view, segments_of, volume_faults, numbers_faults, segment_of, volume_of}
 use Rattle.lvm_volume.proofs.fields.Steps.{exits, in_words, then_fails, then_goes}
 use Rattle.lvm_volume.proofs.group.volume.volume_of.Goals as goal
 

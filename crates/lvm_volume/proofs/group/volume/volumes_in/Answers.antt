@@ -1,9 +1,4 @@
-use Rattle.std.proofs.Common.{◌∙◌, List}
-use Rattle.lvm_text.specs.Iterate.{item_view}
-use Rattle.dm_table.specs.declared.load.load_fault.LoadFault.{LoadFault}
-use Rattle.lvm_volume.specs.fields.Checks.{Check}
-use Rattle.lvm_volume.specs.fields.Fields.{volume_faults}
-use Rattle.lvm_volume.specs.group.Group.{Keyed, volume_of}
+use Rattle.lvm_volume.proofs.Prelude.{◌∙◌, List, item_view, LoadFault, Check, volume_faults, Keyed, volume_of}
 use Rattle.lvm_volume.proofs.fields.Steps.{exits, goes_on, made_next, none_left, stops_here}
 use Rattle.lvm_volume.proofs.group.volume.volumes_in.Goals as goal
 

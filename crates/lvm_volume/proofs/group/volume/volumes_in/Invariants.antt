@@ -1,11 +1,5 @@
 -- the volumes so far and those of the sections that are left are all, and what is found in the sections that are left is found in all
-use Rattle.std.proofs.Common.{◌≡◌, ◌++◌, Option, drop, map}
-use Rattle.lvm_text.specs.Iterate.{item_view}
-use Rattle.dm_table.specs.declared.load.load_fault.LoadFault.{LoadFault}
-use Rattle.lvm_volume.specs.declared.fields.reader.FieldReader.{FieldReader}
-use Rattle.lvm_volume.specs.fields.Fields.{volumes_faults}
-use Rattle.lvm_volume.specs.fields.Steps.{IsStep}
-use Rattle.lvm_volume.specs.group.Group.{volume_of}
+use Rattle.lvm_volume.proofs.Prelude.{◌≡◌, ◌++◌, Option, drop, map, item_view, LoadFault, FieldReader, volumes_faults, IsStep, volume_of}
 use Rattle.lvm_volume.proofs.group.volume.volumes_in.Given as goal
 
 abbrev pub invariant-loop-section : goal.invariant-loop-section

@@ -1,8 +1,4 @@
-use Rattle.std.proofs.Common.{◌≡◌, ◌++◌, [], None, Some, sym, ◌∙◌}
-use Rattle.std.proofs.lemmas.List.{append-nil}
-use Rattle.std.proofs.lemmas.Result.{err_from_is_err_and}
-use Rattle.dm_table.specs.load.LoadFault.{first_or}
-use Rattle.lvm_volume.specs.tables.Tables.{unnamed_layer}
+use Rattle.lvm_volume.proofs.Prelude.{◌≡◌, ◌++◌, [], None, Some, sym, ◌∙◌, append-nil, err_from_is_err_and, first_or, unnamed_layer}
 use Rattle.lvm_volume.proofs.fields.Faults.{first_after, first_here}
 use Rattle.lvm_volume.proofs.tables.device_names.check_layer.Goals as goal
 

@@ -1,10 +1,4 @@
-use Rattle.std.proofs.Common.{List, None, sym, ap, ◌∙◌}
-use Rattle.std.specs.List.{flat_map}
-use Rattle.std.proofs.lemmas.Slice.Zip.{either_empty_from_Zip}
-use Rattle.dm_table.specs.load.LoadFault.{first_or}
-use Rattle.lvm_volume.specs.declared.group.roles.Role.{Role}
-use Rattle.lvm_volume.specs.declared.group.volume.Volume.{Volume}
-use Rattle.lvm_volume.specs.tables.Tables.{unnamed_volume}
+use Rattle.lvm_volume.proofs.Prelude.{List, None, sym, ap, ◌∙◌, flat_map, either_empty_from_Zip, first_or, Role, Volume, unnamed_volume}
 use Rattle.lvm_volume.proofs.group.RoleLemmas.{none_left}
 use Rattle.lvm_volume.proofs.tables.device_names.check_names.Goals as goal
 

@@ -1,10 +1,4 @@
-use Rattle.std.proofs.Common.{◌++◌, List, sym, ap, ◌∙◌}
-use Rattle.std.specs.List.{flat_map}
-use Rattle.std.proofs.lemmas.List.{append-nil}
-use Rattle.std.proofs.lemmas.Slice.Zip.{either_empty_from_Zip}
-use Rattle.lvm_volume.specs.declared.group.roles.Role.{Role}
-use Rattle.lvm_volume.specs.declared.group.volume.Volume.{Volume}
-use Rattle.lvm_volume.specs.tables.GroupRef.{group_view}
+use Rattle.lvm_volume.proofs.Prelude.{◌++◌, List, sym, ap, ◌∙◌, flat_map, append-nil, either_empty_from_Zip, Role, Volume, group_view}
 use Rattle.lvm_volume.specs.tables.Tables.{devices_in}
 use Rattle.lvm_volume.proofs.group.RoleLemmas.{none_left}
 use Rattle.lvm_volume.proofs.tables.devices.devices_of.Goals as goal

@@ -1,10 +1,6 @@
 -- the devices so far, with those of the volumes that are left, are all
-use Rattle.std.proofs.Common.{◌≡◌, ◌++◌}
-use Rattle.std.specs.Iterator.Adapters.{zip_first, zip_second}
-use Rattle.std.specs.List.{AllByRecursion, flat_map, zip}
-use Rattle.std.specs.Slice.Iter.{iter_rest}
-use Rattle.lvm_volume.specs.tables.GroupRef.{group_view}
-use Rattle.lvm_volume.specs.tables.Tables.{IsMadeIn, devices_in}
+use Rattle.lvm_volume.proofs.Prelude.{◌≡◌, ◌++◌, zip_first, zip_second, AllByRecursion, flat_map, zip, iter_rest, group_view, IsMadeIn}
+use Rattle.lvm_volume.specs.tables.Tables.{devices_in}
 use Rattle.lvm_volume.proofs.tables.devices.devices_of.Given as goal
 
 abbrev pub invariant-loop-role : goal.invariant-loop-role

@@ -1,6 +1,4 @@
-use Rattle.std.proofs.Common.{◌≡◌, ◌++◌, drop, map}
-use Rattle.std.specs.List.{AllByRecursion}
-use Rattle.lvm_volume.specs.tables.Tables.{IsStripeIn, column_of}
+use Rattle.lvm_volume.proofs.Prelude.{◌≡◌, ◌++◌, drop, map, AllByRecursion, IsStripeIn, column_of}
 use Rattle.lvm_volume.proofs.tables.lines.columns_of.Given as goal
 
 abbrev pub invariant-loop-stripe : goal.invariant-loop-stripe

@@ -1,6 +1,4 @@
-use Rattle.std.proofs.Common.{◌≡◌, ◌++◌, drop, map}
-use Rattle.std.specs.List.{AllByRecursion}
-use Rattle.lvm_volume.specs.tables.Tables.{IsSegmentIn, line_of}
+use Rattle.lvm_volume.proofs.Prelude.{◌≡◌, ◌++◌, drop, map, AllByRecursion, IsSegmentIn, line_of}
 use Rattle.lvm_volume.proofs.tables.lines.lines_of.Given as goal
 
 abbrev pub invariant-loop-segment : goal.invariant-loop-segment

@@ -1,24 +1,9 @@
-use Rattle.std.proofs.Common.{◌≡◌, ℕ, List, Option, None, Ok, codes, map, sym, ap, subst, ◌∙◌, refl}
-use Rattle.std.proofs.lemmas.Result.{err_from_is_err_and}
-use Rattle.lvm_text.specs.Tree.{Tree, sections_of}
-use Rattle.dm_table.specs.declared.load.load_fault.LoadFault.{LoadFault}
-use Rattle.dm_table.specs.load.LoadFault.{first_fault, first_or, unless}
+use Rattle.lvm_volume.proofs.Prelude.{◌≡◌, ℕ, List, Option, None, Ok, codes, map, sym, ap, subst, ◌∙◌, refl, err_from_is_err_and, Tree, sections_of, LoadFault, first_fault, first_or, unless, Physical, PhysicalFields, Volume, name_faults, Fields, Limits, faults_of_fields, sections_at, Group, first_section, group_of, group_with, IsSaid, all_named, fields_view, IsSoundGroup, checks_of_parts, unless-ok}
 use Rattle.lvm_volume.specs.declared.group.group_fields.GroupFields.{GroupFields}
-use Rattle.lvm_volume.specs.declared.group.physical.Physical.{Physical}
-use Rattle.lvm_volume.specs.declared.group.physical.PhysicalFields.{PhysicalFields}
-use Rattle.lvm_volume.specs.declared.group.volume.Volume.{Volume}
-use Rattle.lvm_volume.specs.checks.Extents.{name_faults}
-use Rattle.lvm_volume.specs.fields.Checks.{Fields, Limits}
-use Rattle.lvm_volume.specs.fields.Fields.{faults_of_fields, sections_at}
-use Rattle.lvm_volume.specs.group.Group.{Group, first_section, group_of, group_with}
-use Rattle.lvm_volume.specs.group.GroupFields.{IsSaid}
-use Rattle.lvm_volume.specs.group.PhysicalFields.{all_named, fields_view}
-use Rattle.lvm_volume.specs.tables.Tables.{IsSoundGroup, checks_of_parts}
 use Rattle.lvm_volume.proofs.checks.Sound.{one-in_limits, one_section, sound_group}
 use Rattle.lvm_volume.proofs.group.PhysicalLemmas.{all_said}
 use Rattle.lvm_volume.proofs.GroupLemmas.{accepted, at_fields, at_names, at_parts, both_none, of_both, refused_by}
 use Rattle.lvm_volume.proofs.volume_group.VolumeGroup.read.Goals as goal
-use Rattle.dm_table.proofs.FaultLemmas.{unless-ok}
 
 pub returns-in-Err : goal.returns-in-Err
 returns-in-Err c = refused_by (at_fields c.args.top.now c.in-Err.fault) c.in-Err.ensures.checked

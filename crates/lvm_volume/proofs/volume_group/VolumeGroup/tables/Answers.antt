@@ -1,9 +1,4 @@
-use Rattle.std.proofs.Common.{None, sym, ap, ◌∙◌}
-use Rattle.std.proofs.lemmas.Result.{err_from_is_err_and}
-use Rattle.dm_table.specs.load.LoadFault.{first_or}
-use Rattle.lvm_volume.specs.group.Group.{Group}
-use Rattle.lvm_volume.specs.group.Roles.{roles_of}
-use Rattle.lvm_volume.specs.tables.Tables.{tables_of, unnamed}
+use Rattle.lvm_volume.proofs.Prelude.{None, sym, ap, ◌∙◌, err_from_is_err_and, first_or, Group, roles_of, tables_of, unnamed}
 use Rattle.lvm_volume.proofs.GroupLemmas.{at_unnamed}
 use Rattle.lvm_volume.proofs.tables.MadeLemmas.{all_made, made_of, names_of}
 use Rattle.lvm_volume.proofs.volume_group.VolumeGroup.tables.Goals as goal

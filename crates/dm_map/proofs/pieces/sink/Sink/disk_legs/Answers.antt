@@ -1,4 +1,4 @@
-use Rattle.dm_stack.proofs.LegLemmas.{leg_lies_on, leg_on_disk}
+use Rattle.dm_map.proofs.Prelude.{leg_lies_on, leg_on_disk}
 use Rattle.dm_map.proofs.pieces.LegUnits.{failed_at_leg, took_leg}
 use Rattle.dm_map.proofs.pieces.sink.Sink.disk_legs.Goals as goal
 

@@ -1,5 +1,4 @@
-use Rattle.std.proofs.Common.{nat_eq, sym, subst, ◌∙◌}
-use Rattle.std.specs.List.{IsDistinct}
+use Rattle.dm_map.proofs.Prelude.{nat_eq, sym, subst, ◌∙◌, IsDistinct}
 use Rattle.dm_map.proofs.state.plain_taken.PlainTakenTaken.with_places.Goals as goal
 
 pub invariant_of-result-clause-once : goal.invariant_of-result-clause-once

@@ -1,5 +1,4 @@
-use Rattle.std.proofs.Common.{◌-◌, ◌<◌, sym, arith}
-use Rattle.dm_map.specs.state.Runs.{AreBegunBy, run_at}
+use Rattle.dm_map.proofs.Prelude.{◌-◌, ◌<◌, sym, arith, AreBegunBy, run_at}
 use Rattle.dm_map.proofs.state.RunLemmas.{number_in_run, number_missed}
 use Rattle.dm_map.proofs.state.run_taken.RunTaken.find_counted.Goals as goal
 

@@ -1,5 +1,4 @@
-use Rattle.std.proofs.Common.{◌∙◌, None, ap, length, arith}
-use Rattle.std.proofs.lemmas.List.{length_push}
+use Rattle.dm_map.proofs.Prelude.{◌∙◌, None, ap, length, arith, length_push}
 use Rattle.dm_map.proofs.state.Numbers.{distinct_more}
 use Rattle.dm_map.proofs.state.GrowLemmas.{few_runs}
 use Rattle.dm_map.proofs.state.run_taken.RunTakenTaken.take.Goals as goal

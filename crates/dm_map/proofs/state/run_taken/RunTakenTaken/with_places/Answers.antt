@@ -1,5 +1,4 @@
-use Rattle.std.proofs.Common.{◌≡◌, ◌∙◌, [], refl, arith}
-use Rattle.std.specs.List.{IsDistinct}
+use Rattle.dm_map.proofs.Prelude.{◌≡◌, ◌∙◌, [], refl, arith, IsDistinct}
 use Rattle.dm_map.proofs.state.run_taken.RunTakenTaken.with_places.Goals as goal
 
 pub invariant_of-result-clause-reserved : goal.invariant_of-result-clause-reserved

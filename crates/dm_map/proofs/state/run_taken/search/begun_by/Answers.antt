@@ -1,7 +1,5 @@
-use Rattle.std.proofs.Common.{◌≡◌, ℕ, ◌+◌, ◌-◌, ◌*◌, ◌^◌, ◌≤◌, arith}
-use Rattle.std.proofs.Math.Nat.{mul-le-mul_left}
+use Rattle.dm_map.proofs.Prelude.{◌≡◌, ℕ, ◌+◌, ◌-◌, ◌*◌, ◌^◌, ◌≤◌, arith, mul-le-mul_left, binary_digits}
 use Rattle.dm_stack.proofs.LineSearchLemmas.{few_digits, more-halved}
-use Rattle.dm_stack.specs.lines.LineSearch.{binary_digits}
 use Rattle.dm_map.proofs.state.run_taken.search.begun_by.Goals as goal
 
 -- each comparison leaves at most half of the runs to compare, and the next one is one digit more

@@ -1,7 +1,5 @@
 -- the runs before an index begin at the chunk or before it, those from another index on after it; each comparison halves what lies between
-use Rattle.std.proofs.Common.{◌+◌, ◌-◌, ◌*◌, ◌^◌, ◌<◌, ◌≤◌, length}
-use Rattle.dm_stack.specs.lines.LineSearch.{binary_digits}
-use Rattle.dm_map.specs.state.Runs.{run_at}
+use Rattle.dm_map.proofs.Prelude.{◌+◌, ◌-◌, ◌*◌, ◌^◌, ◌<◌, ◌≤◌, length, binary_digits, run_at}
 use Rattle.dm_map.proofs.state.run_taken.search.begun_by.Given as goal
 
 abbrev pub invariant-loop-low : goal.invariant-loop-low

@@ -1,7 +1,4 @@
-use Rattle.std.proofs.Common.{◌≡◌, ◌∙◌, ◌+◌, ◌<◌, false, ap, length, sym, arith, add-one}
-use Rattle.std.proofs.lemmas.Nat.Bits.{bit_at-lt}
-use Rattle.dm_map.specs.declared.state.trie_taken.link.Node.TheVariants.{Fork}
-use Rattle.dm_map.specs.state.Trie.{is_fork, next_at, node_at, slot_of, way}
+use Rattle.dm_map.proofs.Prelude.{◌≡◌, ◌∙◌, ◌+◌, ◌<◌, false, ap, length, sym, arith, add-one, bit_at-lt, Fork, is_fork, next_at, node_at, slot_of, way}
 use Rattle.dm_map.proofs.state.TrieLemmas.{bit_ahead, no_fork, node_read, stays, way-suc, way-zero}
 use Rattle.dm_map.proofs.state.trie_taken.TrieTaken.end_of.Goals.{In-Fork}
 use Rattle.dm_map.proofs.state.trie_taken.TrieTaken.end_of.Goals as goal

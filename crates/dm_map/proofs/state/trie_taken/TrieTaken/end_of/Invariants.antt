@@ -1,6 +1,5 @@
 -- this many steps from the slot
-use Rattle.std.proofs.Common.{◌≡◌, ◌-◌, ◌<◌, ◌≤◌, length}
-use Rattle.dm_map.specs.state.Trie.{slot_of, way}
+use Rattle.dm_map.proofs.Prelude.{◌≡◌, ◌-◌, ◌<◌, ◌≤◌, length, slot_of, way}
 use Rattle.dm_map.proofs.state.trie_taken.TrieTaken.end_of.Given as goal
 
 abbrev pub invariant-loop-bit : goal.invariant-loop-bit

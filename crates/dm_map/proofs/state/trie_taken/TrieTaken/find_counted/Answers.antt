@@ -1,6 +1,4 @@
-use Rattle.std.proofs.Common.{◌≡◌, ◌∙◌, ap, sym, arith}
-use Rattle.dm_map.specs.state.Snapshots.{number_in}
-use Rattle.dm_map.specs.state.Trie.{end_of, node_at}
+use Rattle.dm_map.proofs.Prelude.{◌≡◌, ◌∙◌, ap, sym, arith, number_in, end_of, node_at}
 use Rattle.dm_map.proofs.state.Numbers.{number_distinct}
 use Rattle.dm_map.proofs.state.TrieLemmas.{end_within, its_number, last_node, last_read, not_other, not_taken, number_within, own_number}
 use Rattle.dm_map.proofs.state.trie_taken.TrieTaken.find_counted.Goals.{After-node}

@@ -1,12 +1,5 @@
-use Rattle.std.proofs.Common.{◌≡◌, ◌∙◌, ◌+◌, ◌^◌, ◌<◌, ℕ, List, [], ◌∷◌, ◌++◌, ap, get_or, length, set, sym, arith, w64}
-use Rattle.std.specs.Int.{bit_at, trailing_zeros}
-use Rattle.std.specs.Int.Bits.{bit_xor}
-use Rattle.std.proofs.Math.Logic.{∥∥₁_map}
-use Rattle.std.proofs.lemmas.Grind.{merely}
-use Rattle.std.proofs.lemmas.List.{get_or_read, length_push}
+use Rattle.dm_map.proofs.Prelude.{◌≡◌, ◌∙◌, ◌+◌, ◌^◌, ◌<◌, ℕ, List, [], ◌∷◌, ◌++◌, ap, get_or, length, set, sym, arith, w64, bit_at, trailing_zeros, bit_xor, ∥∥₁_map, merely, get_or_read, length_push, Fork, Number, end_of}
 use Rattle.dm_map.specs.declared.state.trie_taken.link.Node.{Node}
-use Rattle.dm_map.specs.declared.state.trie_taken.link.Node.TheVariants.{Fork, Number}
-use Rattle.dm_map.specs.state.Trie.{end_of}
 use Rattle.dm_map.proofs.state.Numbers.{distinct_more}
 use Rattle.dm_map.proofs.state.TrieLemmas.{end_within, fresh_apart, is_parted, last_node, lowest_apart, number_within, part_trie}
 use Rattle.dm_map.proofs.state.trie_taken.TrieTaken.part.Goals.{After-index-there}

@@ -1,10 +1,4 @@
-use Rattle.std.proofs.Common.{◌≡◌, ◌∙◌, true, [], ◌∷◌, ◌++◌, ap, length, set, arith}
-use Rattle.std.specs.Prelude.{◌&&◌, ◌==◌}
-use Rattle.std.proofs.Math.Logic.{∥∥₁_map}
-use Rattle.std.proofs.lemmas.Bool.{and_parts, eqb-true}
-use Rattle.std.proofs.lemmas.List.{length-set, length_push}
-use Rattle.dm_map.specs.declared.state.trie_taken.link.Node.TheVariants.{Number}
-use Rattle.dm_map.specs.state.Trie.{AreInOwnSlots, IsTrie, end_of}
+use Rattle.dm_map.proofs.Prelude.{◌≡◌, ◌∙◌, true, [], ◌∷◌, ◌++◌, ap, length, set, arith, ◌&&◌, ◌==◌, ∥∥₁_map, and_parts, eqb-true, length-set, length_push, Number, AreInOwnSlots, IsTrie, end_of}
 use Rattle.dm_map.proofs.state.Numbers.{distinct_more}
 use Rattle.dm_map.proofs.state.TrieLemmas.{end_within, put_own, put_trie}
 use Rattle.dm_map.proofs.state.trie_taken.TrieTaken.put.Goals as goal

@@ -1,9 +1,4 @@
-use Rattle.std.proofs.Common.{◌≡◌, ◌∙◌, ◌<◌, [], ap, length, replicate, arith}
-use Rattle.std.specs.List.{IsDistinct}
-use Rattle.std.proofs.lemmas.Grind.{merely}
-use Rattle.std.proofs.lemmas.List.{length-replicate}
-use Rattle.std.proofs.lemmas.Nat.{pow_pos}
-use Rattle.dm_map.specs.declared.state.trie_taken.link.Node.TheVariants.{Empty}
+use Rattle.dm_map.proofs.Prelude.{◌≡◌, ◌∙◌, ◌<◌, [], ap, length, replicate, arith, IsDistinct, merely, length-replicate, pow_pos, Empty}
 use Rattle.dm_map.proofs.state.TrieLemmas.{no_trie, none_own}
 use Rattle.dm_map.proofs.state.trie_taken.TrieTakenTaken.for_chunks.Goals as goal
 

@@ -1,6 +1,4 @@
-use Rattle.std.proofs.Common.{◌≡◌, ◌∙◌, ap, sym, arith}
-use Rattle.std.specs.Prelude.{is_none}
-use Rattle.dm_map.specs.state.Trie.{node_at}
+use Rattle.dm_map.proofs.Prelude.{◌≡◌, ◌∙◌, ap, sym, arith, is_none, node_at}
 use Rattle.dm_map.proofs.state.TrieLemmas.{end_stops, end_within, its_number, last_node, last_read, not_empty, not_other, number_within}
 use Rattle.dm_map.proofs.state.trie_taken.TrieTakenTaken.offer.Goals.{After-node}
 use Rattle.dm_map.proofs.state.trie_taken.TrieTakenTaken.offer.Goals as goal

@@ -1,5 +1,4 @@
-use Rattle.std.proofs.Common.{sym, ◌∙◌, arith}
-use Rattle.std.proofs.lemmas.Bool.{lt-ltb}
+use Rattle.dm_map.proofs.Prelude.{sym, ◌∙◌, arith, lt-ltb}
 use Rattle.dm_map.proofs.state.TableLemmas.{table_got}
 use Rattle.dm_map.proofs.state.walker.Walker.count.Goals as goal
 

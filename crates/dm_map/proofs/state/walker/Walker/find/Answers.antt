@@ -1,4 +1,4 @@
-use Rattle.std.proofs.Common.{sym}
+use Rattle.dm_map.proofs.Prelude.{sym}
 use Rattle.dm_map.proofs.state.TableLemmas.{found_room, table_got}
 use Rattle.dm_map.proofs.state.walker.Walker.find.Goals as goal
 

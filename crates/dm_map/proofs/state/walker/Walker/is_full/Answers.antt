@@ -1,6 +1,4 @@
-use Rattle.std.proofs.Common.{length, not, sym, ap, ◌∙◌}
-use Rattle.dm_map.specs.state.State.{Taken}
-use Rattle.dm_map.specs.state.Tables.{has_room}
+use Rattle.dm_map.proofs.Prelude.{length, not, sym, ap, ◌∙◌, Taken, has_room}
 use Rattle.dm_map.proofs.state.TableLemmas.{full_room, state_at, table_got}
 use Rattle.dm_map.proofs.state.walker.Walker.is_full.Goals as goal
 

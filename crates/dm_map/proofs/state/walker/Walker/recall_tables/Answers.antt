@@ -1,5 +1,4 @@
-use Rattle.std.proofs.Common.{◌∙◌}
-use Rattle.std.proofs.lemmas.List.{length-map}
+use Rattle.dm_map.proofs.Prelude.{◌∙◌, length-map}
 use Rattle.dm_map.proofs.state.walker.Walker.recall_tables.Goals as goal
 
 pub returns : goal.returns

@@ -1,5 +1,4 @@
-use Rattle.std.proofs.Common.{ap, arith}
-use Rattle.dm_stack.specs.declared.lines.resolved_columns.ResolvedColumn.{ResolvedColumn}
+use Rattle.dm_stack.proofs.Prelude.{ap, arith, ResolvedColumn}
 use Rattle.dm_stack.proofs.lines.LegLemmas.{column_small, striped_leg, striped_next}
 use Rattle.dm_stack.proofs.lines.legs.Legs.next_leg.Goals as goal
 
@@ -13,7 +12,7 @@ overflow_add-sector c =
 pub invariant_of-self : goal.invariant_of-self
 invariant_of-self c =
     let l = c.self.inside in
-    striped_next l.chunk_size l.distance l.left c.min-len.result l.columns.now l.position c.next_chunk-self-inside.result (omega (arith, c.min-len.ensures)) c.min-len.ensures c.self.invariant.there (c.next_chunk-self-inside.ensures l.distance (c.self.invariant.at (omega arith)))
+    striped_next l.chunk_size l.distance l.left c.min-len.result l.columns.now l.position c.next_stripe_chunk-self-inside.result (omega (arith, c.min-len.ensures)) c.min-len.ensures c.self.invariant.there (c.next_stripe_chunk-self-inside.ensures l.distance (c.self.invariant.at (omega arith)))
 
 pub returns-clause-leg : goal.returns-clause-leg
 returns-clause-leg c =

@@ -1,4 +1,4 @@
-use Rattle.std.proofs.Common.{◌+◌, arith}
+use Rattle.dm_stack.proofs.Prelude.{◌+◌, arith}
 use Rattle.dm_stack.proofs.lines.LegLemmas.{leg_lies_inside, lies_small, row_leg}
 use Rattle.dm_stack.proofs.lines.resolved_line.ResolvedTarget.leg.Goals as goal
 

@@ -1,4 +1,4 @@
-use Rattle.std.proofs.Common.{arith, ap, length}
+use Rattle.dm_stack.proofs.Prelude.{arith, ap, length}
 use Rattle.dm_stack.specs.lines.Span.{spans}
 use Rattle.dm_stack.proofs.lines.SpanLemmas.{drop_at, drop_past}
 use Rattle.dm_stack.proofs.lines.span.SpansIterator.next.Goals as goal

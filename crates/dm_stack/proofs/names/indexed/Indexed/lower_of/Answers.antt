@@ -1,5 +1,4 @@
-use Rattle.std.proofs.Common.{ap, ◌∙◌}
-use Rattle.dm_stack.specs.declared.id.Lower.TheVariants.{Device, Disk}
+use Rattle.dm_stack.proofs.Prelude.{ap, ◌∙◌, Device, Disk}
 use Rattle.dm_stack.proofs.names.NameLemmas.{place_of_name}
 use Rattle.dm_stack.proofs.names.indexed.Indexed.lower_of.Goals as goal
 

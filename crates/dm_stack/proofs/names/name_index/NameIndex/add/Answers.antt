@@ -1,8 +1,4 @@
-use Rattle.std.proofs.Common.{◌≡◌, ℕ, List, [], ◌∷◌, ◌++◌, not, map, arith, rules, ap, sym, ◌∙◌}
-use Rattle.std.specs.Prelude.{string_bytes}
-use Rattle.std.proofs.lemmas.List.{length-map, map-append}
-use Rattle.dm_stack.specs.Description.{is_same}
-use Rattle.dm_stack.specs.names.NameIndex.{names_in}
+use Rattle.dm_stack.proofs.Prelude.{◌≡◌, ℕ, List, [], ◌∷◌, ◌++◌, not, map, arith, rules, ap, sym, ◌∙◌, string_bytes, length-map, map-append, is_same, names_in}
 use Rattle.dm_stack.proofs.names.NameLemmas.{any_names}
 use Rattle.dm_stack.proofs.names.KeyLemmas.{key_added, last_of, places_more}
 use Rattle.dm_stack.proofs.names.name_index.NameIndex.add.Goals as goal

@@ -1,6 +1,4 @@
-use Rattle.std.proofs.Common.{ap, sym, ◌∙◌}
-use Rattle.std.specs.Prelude.{position}
-use Rattle.dm_stack.specs.Description.{is_same}
+use Rattle.dm_stack.proofs.Prelude.{ap, sym, ◌∙◌, position, is_same}
 use Rattle.dm_stack.proofs.names.NameLemmas.{found_distinct, position_names}
 use Rattle.dm_stack.proofs.names.name_index.NameIndex.find.Goals as goal
 

@@ -1,5 +1,4 @@
-use Rattle.std.proofs.Common.{◌≡◌, ◌<◌, get_or, length, take, arith}
-use Rattle.std.proofs.lemmas.List.{get_or-take, length-take, take-take}
+use Rattle.dm_stack.proofs.Prelude.{◌≡◌, ◌<◌, get_or, length, take, arith, get_or-take, length-take, take-take}
 use Rattle.dm_stack.proofs.names.KeyLemmas.{space_cut}
 use Rattle.dm_stack.proofs.names.name_index.NameIndex.find_in_text.Goals as goal
 

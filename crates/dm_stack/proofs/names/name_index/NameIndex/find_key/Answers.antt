@@ -1,6 +1,4 @@
-use Rattle.std.proofs.Common.{◌≡◌, ◌<◌, Some, get_or, arith, ap, refl, ◌∙◌}
-use Rattle.std.specs.Prelude.{slice_get}
-use Rattle.dm_stack.specs.names.NameIndex.{IsPlaceOf, names_in}
+use Rattle.dm_stack.proofs.Prelude.{◌≡◌, ◌<◌, Some, get_or, arith, ap, refl, ◌∙◌, slice_get, IsPlaceOf, names_in}
 use Rattle.dm_stack.specs.declared.names.name_index.Place.{Place}
 use Rattle.dm_stack.proofs.names.KeyLemmas.{part_of, same_name}
 use Rattle.dm_stack.proofs.names.NameLemmas.{named_distinct}

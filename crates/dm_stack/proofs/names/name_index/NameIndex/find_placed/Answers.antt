@@ -1,4 +1,4 @@
-use Rattle.std.proofs.Common.{sym, ◌∙◌}
+use Rattle.dm_stack.proofs.Prelude.{sym, ◌∙◌}
 use Rattle.dm_stack.proofs.names.NameLemmas.{found_distinct}
 use Rattle.dm_stack.proofs.names.name_index.NameIndex.find_placed.Goals as goal
 

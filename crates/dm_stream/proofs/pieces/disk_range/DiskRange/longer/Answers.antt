@@ -1,4 +1,4 @@
-use Rattle.std.proofs.Common.{arith}
+use Rattle.dm_stream.proofs.Prelude.{arith}
 use Rattle.dm_stream.proofs.pieces.FitsLemmas.{fits_few}
 use Rattle.dm_stream.proofs.pieces.disk_range.DiskRange.longer.Goals as goal
 

@@ -1,5 +1,4 @@
-use Rattle.std.proofs.Common.{◌≡◌, ◌+◌, ◌++◌, ℕ, List, length, take, ap, ◌∙◌, arith}
-use Rattle.std.proofs.lemmas.List.{take-take}
+use Rattle.dm_stream.proofs.Prelude.{◌≡◌, ◌+◌, ◌++◌, ℕ, List, length, take, ap, ◌∙◌, arith, take-take}
 use Rattle.dm_stream.proofs.pieces.disk_text.DiskText.put_into.Goals as goal
 
 -- what is copied begins with the text

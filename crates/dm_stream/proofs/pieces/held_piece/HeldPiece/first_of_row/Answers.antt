@@ -1,8 +1,6 @@
-use Rattle.std.proofs.Common.{refl, subst}
-use Rattle.dm_stream.specs.pieces.Pending.{Pending, HoldsNoRange, IsHeld, holding, piece_of}
+use Rattle.dm_stream.proofs.Prelude.{refl, subst, Pending, HoldsNoRange, IsHeld, holding, piece_of, on_err}
 use Rattle.dm_stream.proofs.pieces.JoinLemmas.{apart_from, held_apart, holds_none, left_apart, took_apart}
 use Rattle.dm_stream.proofs.pieces.held_piece.HeldPiece.first_of_row.Goals as goal
-use Rattle.dm_table.proofs.Lists.{on_err}
 
 pub returns-in_err-write_other-in-None-clause-left : goal.returns-in_err-write_other-in-None-clause-left
 returns-in_err-write_other-in-None-clause-left g c =

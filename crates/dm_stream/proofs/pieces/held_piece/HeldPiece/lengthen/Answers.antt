@@ -1,7 +1,4 @@
-use Rattle.std.proofs.Common.{◌≡◌, ◌∙◌, ◌+◌, ℕ, Option, Some, sym, ap, subst}
-use Rattle.dm_map.specs.pieces.Units.{piece_len}
-use Rattle.dm_stream.specs.pieces.Pending.{Pending, IsHeld, held_of, held_units, piece_of}
-use Rattle.dm_stream.specs.declared.pieces.disk_range.DiskRange.{DiskRange}
+use Rattle.dm_stream.proofs.Prelude.{◌≡◌, ◌∙◌, ◌+◌, ℕ, Option, Some, sym, ap, subst, piece_len, Pending, IsHeld, held_of, held_units, piece_of, DiskRange}
 use Rattle.dm_stream.proofs.pieces.JoinLemmas.{held_apart, held_joined, piece_len-range}
 use Rattle.dm_stream.proofs.pieces.held_piece.HeldPiece.lengthen.Goals as goal
 

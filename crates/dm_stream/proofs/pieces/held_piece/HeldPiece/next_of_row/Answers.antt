@@ -1,9 +1,4 @@
-use Rattle.std.proofs.Common.{◌∙◌, ℕ, List, Option, Some, refl, ap, subst}
-use Rattle.dm_map.specs.declared.pieces.piece.Piece.{Piece}
-use Rattle.dm_table.specs.io.DeviceIo.{since}
-use Rattle.dm_table.specs.io.WriteAll.{IsCutShort}
-use Rattle.dm_table.proofs.Lists.{on_err}
-use Rattle.dm_stream.specs.pieces.Pending.{holding, piece_of}
+use Rattle.dm_stream.proofs.Prelude.{◌∙◌, ℕ, List, Option, Some, refl, ap, subst, Piece, since, IsCutShort, on_err, holding, piece_of}
 use Rattle.dm_stream.proofs.pieces.JoinLemmas.{goes_on-range, held_apart, held_joined, left_apart, line_beside, piece_len-range, took_apart, took_joined}
 use Rattle.dm_stream.proofs.pieces.held_piece.HeldPiece.next_of_row.Goals as goal
 

@@ -1,6 +1,4 @@
-use Rattle.std.proofs.Common.{Option, ap}
-use Rattle.dm_stream.specs.pieces.Pending.{held_of}
-use Rattle.dm_stream.specs.declared.pieces.disk_range.DiskRange.{DiskRange}
+use Rattle.dm_stream.proofs.Prelude.{Option, ap, held_of, DiskRange}
 use Rattle.dm_stream.proofs.pieces.JoinLemmas.{held_line}
 use Rattle.dm_stream.proofs.pieces.held_piece.HeldPiece.replace.Goals as goal
 use Rattle.dm_stream.proofs.pieces.held_piece.HeldPiece.replace.Goals.{in-Some+in_default-put_range, in_default+in_ok-write_other}

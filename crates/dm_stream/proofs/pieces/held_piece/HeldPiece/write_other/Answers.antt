@@ -1,7 +1,4 @@
-use Rattle.std.proofs.Common.{◌∙◌, List, ℕ, Option, ap, sym, subst}
-use Rattle.dm_stream.specs.pieces.Pending.{Pending, HoldsNoRange, held_of}
-use Rattle.dm_stream.specs.declared.pieces.disk_range.DiskRange.{DiskRange}
-use Rattle.dm_table.specs.io.Progress.{Wrote}
+use Rattle.dm_stream.proofs.Prelude.{◌∙◌, List, ℕ, Option, ap, sym, subst, Pending, HoldsNoRange, held_of, DiskRange, Wrote}
 use Rattle.dm_stream.proofs.pieces.JoinLemmas.{held_line, no_range}
 use Rattle.dm_stream.proofs.pieces.held_piece.HeldPiece.write_other.Goals as goal
 

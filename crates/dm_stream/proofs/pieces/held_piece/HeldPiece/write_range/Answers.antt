@@ -1,5 +1,4 @@
-use Rattle.std.proofs.Common.{List, ℕ, subst}
-use Rattle.dm_table.specs.io.Progress.{Wrote}
+use Rattle.dm_stream.proofs.Prelude.{List, ℕ, subst, Wrote}
 use Rattle.dm_stream.proofs.pieces.JoinLemmas.{line_beside}
 use Rattle.dm_stream.proofs.pieces.held_piece.HeldPiece.write_range.Goals as goal
 

@@ -1,12 +1,4 @@
-use Rattle.std.proofs.Common.{rules, ◌∙◌, Some, refl, sym, ap, subst}
-use Rattle.dm_table.specs.declared.io.device_io.OutFault.{OutFault}
-use Rattle.dm_stack.specs.Description.{Description}
-use Rattle.dm_stack.proofs.LegLemmas.{leg_on_disk}
-use Rattle.dm_map.proofs.LegUnits.{failed_at_leg, took_leg, took_no_leg}
-use Rattle.dm_map.specs.pieces.Units.{units_of}
-use Rattle.dm_stream.specs.laws.Join.{join_lawful}
-use Rattle.dm_stream.specs.pieces.Join.{HasTaken}
-use Rattle.dm_stream.specs.pieces.Pending.{Pending, IsHeld, holding, piece_of}
+use Rattle.dm_stream.proofs.Prelude.{rules, ◌∙◌, Some, refl, sym, ap, subst, OutFault, Description, leg_on_disk, failed_at_leg, took_leg, took_no_leg, units_of, join_lawful, HasTaken, Pending, IsHeld, holding, piece_of}
 use Rattle.dm_stream.proofs.pieces.RowLemmas.{at_hand, failed_at_range, range_of_leg, took_range}
 use Rattle.dm_stream.proofs.pieces.join.JoinSink.disk_legs.Goals as goal
 

@@ -1,7 +1,4 @@
-use Rattle.std.proofs.Common.{◌≡◌, None, Some}
-use Rattle.dm_map.proofs.LegUnits.{HasTakenTo}
-use Rattle.dm_stream.specs.pieces.Join.{join_past}
-use Rattle.dm_stream.specs.pieces.Pending.{IsHeld, piece_of}
+use Rattle.dm_stream.proofs.Prelude.{◌≡◌, None, Some, HasTakenTo, join_past, IsHeld, piece_of}
 use Rattle.dm_stream.proofs.pieces.RowLemmas.{at_hand}
 use Rattle.dm_stream.proofs.pieces.join.JoinSink.disk_legs.Given as goal
 

@@ -1,8 +1,4 @@
-use Rattle.std.proofs.Common.{◌≡◌, ℕ, ◌+◌, List, rules}
-use Rattle.std.specs.Prelude.{Result, Ok, Err}
-use Rattle.std.specs.Result.{IsErr}
-use Rattle.dm_map.specs.pieces.Sink.{IsHanded, SinkPast}
-use Rattle.dm_map.specs.pieces.Units.{BlockUnit}
+use Rattle.dm_stream.proofs.Prelude.{◌≡◌, ℕ, ◌+◌, List, rules, Result, Ok, Err, IsErr, IsHanded, SinkPast, BlockUnit}
 use Rattle.dm_stream.proofs.pieces.JoinLemmas.{left_apart}
 use Rattle.dm_stream.proofs.pieces.join.JoinSink.piece.Goals as goal
 

@@ -1,5 +1,4 @@
-use Rattle.std.proofs.Common.{◌≡◌, ◌-◌, ◌≤◌, length}
-use Rattle.dm_stream.specs.pieces.LineEnds.{AreMade}
+use Rattle.dm_stream.proofs.Prelude.{◌≡◌, ◌-◌, ◌≤◌, length, AreMade}
 use Rattle.dm_stream.proofs.pieces.line_ends.LineEnds.new.Given as goal
 
 -- those so far have their text

@@ -1,7 +1,4 @@
-use Rattle.std.proofs.Common.{◌≡◌, ℕ, ◌+◌, ◌-◌, ◌≤◌, ◌++◌, List, [], ◌∷◌, length, take, decimal, sym, append_assoc, arith, length-append, length-take-le}
-use Rattle.std.proofs.Math.Seq.{take-append-add, take-append_seam}
-use Rattle.std.proofs.lemmas.List.{take-take}
-use Rattle.dm_table.specs.io.Block.{IsPut}
+use Rattle.dm_stream.proofs.Prelude.{◌≡◌, ℕ, ◌+◌, ◌-◌, ◌≤◌, ◌++◌, List, [], ◌∷◌, length, take, decimal, sym, append_assoc, arith, length-append, length-take-le, take-append-add, take-append_seam, take-take, IsPut}
 use Rattle.dm_stream.proofs.pieces.line_ends.LineEnds.put_inside.Goals as goal
 
 -- what was put but for its last byte

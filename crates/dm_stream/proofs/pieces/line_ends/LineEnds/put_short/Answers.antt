@@ -1,8 +1,4 @@
-use Rattle.std.proofs.Common.{◌≡◌, ℕ, ◌+◌, ◌≤◌, ◌++◌, List, [], get_or, length, take, sym, ap, subst, ◌∙◌, arith, length-take-le}
-use Rattle.std.proofs.Math.Seq.{take-append-add}
-use Rattle.std.proofs.lemmas.List.{take-take}
-use Rattle.dm_table.specs.io.Block.{IsPut}
-use Rattle.dm_stream.specs.pieces.LineEnds.{IsLineEnd, line_end}
+use Rattle.dm_stream.proofs.Prelude.{◌≡◌, ℕ, ◌+◌, ◌≤◌, ◌++◌, List, [], get_or, length, take, sym, ap, subst, ◌∙◌, arith, length-take-le, take-append-add, take-take, IsPut, IsLineEnd, line_end}
 use Rattle.dm_stream.proofs.pieces.line_ends.LineEnds.put_short.Goals as goal
 
 -- an array that was put whole begins with its text

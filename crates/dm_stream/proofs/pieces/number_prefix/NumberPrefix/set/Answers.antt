@@ -1,5 +1,4 @@
-use Rattle.std.proofs.Common.{◌≡◌, ◌+◌, ◌-◌, ◌%◌, ◌/◌, ◌≤◌, ◌<◌, ◌^◌, ℕ, take, set, subst, sym, ap, ◌∙◌, arith}
-use Rattle.dm_stream.specs.pieces.NumberPrefix.{number_prefix}
+use Rattle.dm_stream.proofs.Prelude.{◌≡◌, ◌+◌, ◌-◌, ◌%◌, ◌/◌, ◌≤◌, ◌<◌, ◌^◌, ℕ, take, set, subst, sym, ap, ◌∙◌, arith, number_prefix}
 use Rattle.dm_stream.specs.declared.pieces.number_prefix.NumberPrefix.TheInside.{Inside}
 use Rattle.dm_stream.proofs.pieces.LastDigit.{last_digit_set}
 use Rattle.dm_stream.proofs.pieces.number_prefix.NumberPrefix.set.Goals as goal

@@ -1,6 +1,4 @@
-use Rattle.std.proofs.Common.{◌≡◌, ◌-◌, ◌≤◌, ◌++◌, [], ◌∷◌, length, take}
-use Rattle.dm_table.specs.io.DeviceIo.{since}
-use Rattle.dm_stream.specs.requests.Lines.{line_parts}
+use Rattle.dm_stream.proofs.Prelude.{◌≡◌, ◌-◌, ◌≤◌, ◌++◌, [], ◌∷◌, length, take, since, line_parts}
 use Rattle.dm_stream.specs.declared.requests.lines.TheConstants.{BUFFER_BYTES}
 use Rattle.dm_stream.proofs.requests.lines.Lines.advance.Given as goal
 

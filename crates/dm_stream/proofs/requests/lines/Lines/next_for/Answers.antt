@@ -1,5 +1,4 @@
-use Rattle.std.proofs.Common.{◌∙◌, ap, drop, refl}
-use Rattle.dm_table.specs.io.DeviceIo.{delivery}
+use Rattle.dm_stream.proofs.Prelude.{◌∙◌, ap, drop, refl, delivery}
 use Rattle.dm_stream.proofs.requests.Held.{line_at, after_bytes}
 use Rattle.dm_stream.proofs.requests.lines.Lines.next_for.Goals as goal
 

@@ -1,4 +1,4 @@
-use Rattle.std.proofs.Common.{◌-◌, length, length-take, drop, ap, arith}
+use Rattle.dm_stream.proofs.Prelude.{◌-◌, length, length-take, drop, ap, arith}
 use Rattle.dm_stream.proofs.requests.Held.{without_front}
 use Rattle.dm_stream.proofs.requests.lines.Lines.skip.Goals as goal
 

@@ -1,4 +1,4 @@
-use Rattle.dm_stream.specs.requests.Requests.{numbered}
+use Rattle.dm_stream.proofs.Prelude.{numbered}
 use Rattle.dm_stream.proofs.runs.RequestMapped.{request_cut}
 use Rattle.dm_stream.proofs.runs.request_mapper.RequestMapperHandler.handle.Goals as goal
 

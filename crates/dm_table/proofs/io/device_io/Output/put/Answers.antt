@@ -1,5 +1,4 @@
-use Rattle.std.proofs.Common.{◌≡◌, ◌<◌, length, rules}
-use Rattle.std.proofs.lemmas.Result.{err_from_is_err_and}
+use Rattle.dm_table.proofs.Prelude.{◌≡◌, ◌<◌, length, rules, err_from_is_err_and}
 use Rattle.dm_table.proofs.io.Growth.{sent_cut, sent_further, sent_whole}
 use Rattle.dm_table.proofs.io.device_io.Output.put.Goals as goal
 

@@ -1,4 +1,4 @@
-use Rattle.std.proofs.Common.{length}
+use Rattle.dm_table.proofs.Prelude.{length}
 use Rattle.dm_table.proofs.io.Growth.{IsSent}
 use Rattle.dm_table.proofs.io.device_io.Output.put.Given as goal
 

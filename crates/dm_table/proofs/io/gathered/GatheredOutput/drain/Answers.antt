@@ -1,5 +1,5 @@
 use Rattle.dm_table.proofs.io.BlockLemmas.{passed_on}
-use Rattle.dm_table.specs.laws.Progress.{same_output}
+use Rattle.dm_table.proofs.Prelude.{same_output}
 use Rattle.dm_table.proofs.io.gathered.GatheredOutput.drain.Goals as goal
 
 pub returns-clause-past : goal.returns-clause-past

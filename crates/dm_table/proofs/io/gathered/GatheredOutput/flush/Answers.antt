@@ -1,6 +1,4 @@
-use Rattle.std.proofs.Common.{◌≡◌, ◌+◌, ◌<◌, ◌≤◌, ◌||◌, ℕ, Bool, true, false, nat_lt, refl, sym, ◌∙◌, arith}
-use Rattle.std.proofs.lemmas.Bool.{lt-ltb}
-use Rattle.dm_table.specs.io.Gathered.{Gathering}
+use Rattle.dm_table.proofs.Prelude.{◌≡◌, ◌+◌, ◌<◌, ◌≤◌, ◌||◌, ℕ, Bool, true, false, nat_lt, refl, sym, ◌∙◌, arith, lt-ltb, Gathering}
 use Rattle.dm_table.proofs.io.gathered.GatheredOutput.flush.Goals as goal
 
 first_false : (a b : Bool) → false ≡ (a || b) → a ≡ false

@@ -1,4 +1,4 @@
-use Rattle.std.proofs.lemmas.Result.{err_from_is_err_and}
+use Rattle.dm_table.proofs.Prelude.{err_from_is_err_and}
 use Rattle.dm_table.proofs.io.Growth.{wrote_nothing}
 use Rattle.dm_table.proofs.io.gathered.GatheredOutput.put.Goals as goal
 

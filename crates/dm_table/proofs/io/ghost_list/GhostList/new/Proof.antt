@@ -1,6 +1,5 @@
 -- The value made has no field that takes room, and the list that its clause names is picked here.
-use Rattle.std.proofs.Common.{List, [], ◌∷◌, refl}
-use Rattle.std.proofs.raw_atomic.Walks.{proved}
+use Rattle.dm_table.proofs.Prelude.{List, [], ◌∷◌, refl, proved, the_row}
 use mir.Syntax.{Args, a_type}
 use mir.MapTy.{inst_fn}
 use mir.Val.{Val, vstruct, vcons, vnil}
@@ -17,7 +16,6 @@ use denote.Struct.Laws.{makes}
 use denote.Struct.Struct.{Shape, within}
 use denote.Triple.Walked.{walk_of, says, ends_at}
 use Rattle.std.specs.contracts.marker.PhantomData as mark
-use Rattle.dm_table.specs.contracts.io.ghost_list.GhostList.{the_row}
 use Rattle.dm_table.specs.contracts.io.ghost_list.GhostList.new as f
 use Rattle.dm_table.proofs.io.ghost_list.GhostList.new.Statement.{statement}
 use Rattle.dm_table.proofs.io.ghost_list.GhostList.new.Code as code

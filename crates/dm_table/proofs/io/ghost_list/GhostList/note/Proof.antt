@@ -1,6 +1,5 @@
 -- The borrow of `self` is opened and closed again at the longer list: the code changes nothing.
-use Rattle.std.proofs.Common.{[], ◌∷◌, ◌++◌, refl}
-use Rattle.std.proofs.raw_atomic.Walks.{proved}
+use Rattle.dm_table.proofs.Prelude.{[], ◌∷◌, ◌++◌, refl, proved, the_row}
 use base.Fml.{ftrue, flft}
 use mir.Syntax.{Args, a_type, named}
 use mir.MapTy.{inst_fn}
@@ -16,7 +15,6 @@ use denote.Signature.{plain}
 use denote.Slice.{ShrSlice, shr_slice_vals, shr_slice_Tells, shr_slice_Lawful}
 use denote.Steps.{nothing, opens, closes}
 use denote.Triple.Walked.{Stays, walk_of, says, stay_ref, Goes-ref, stay_dropped, Goes-dropped, ends_at}
-use Rattle.dm_table.specs.contracts.io.ghost_list.GhostList.{the_row}
 use Rattle.dm_table.specs.contracts.io.ghost_list.GhostList.note as f
 use Rattle.dm_table.proofs.io.ghost_list.GhostList.note.Statement.{statement}
 use Rattle.dm_table.proofs.io.ghost_list.GhostList.note.Code as code

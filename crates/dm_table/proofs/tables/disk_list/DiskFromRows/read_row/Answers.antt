@@ -1,11 +1,5 @@
-use Rattle.std.proofs.lemmas.Result.{err_from_is_err_and}
-use Rattle.std.proofs.Common.{Bool, refl}
-use Rattle.dm_table.specs.declared.tables.disk.Disk.{Disk}
-use Rattle.dm_table.specs.words.Fields.{texts}
-use Rattle.dm_table.specs.words.Name.{is_disk_name}
-use Rattle.dm_table.specs.tables.DiskList.{disk_at}
+use Rattle.dm_table.proofs.Prelude.{err_from_is_err_and, Bool, refl, Disk, texts, is_disk_name, disk_at, number_of}
 use Rattle.dm_table.proofs.tables.PairRows.{pair_read, pair_refused}
-use Rattle.dm_table.specs.words.Number.{number_of}
 use Rattle.dm_table.proofs.tables.disk_list.DiskFromRows.read_row.Goals as goal
 
 abbrev is_named : Disk → Bool

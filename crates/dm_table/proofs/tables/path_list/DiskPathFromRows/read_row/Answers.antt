@@ -1,9 +1,4 @@
-use Rattle.std.proofs.lemmas.Result.{err_from_is_err_and}
-use Rattle.std.proofs.Common.{Bool, refl}
-use Rattle.dm_table.specs.declared.tables.disk_path.DiskPath.{DiskPath}
-use Rattle.dm_table.specs.words.Fields.{texts}
-use Rattle.dm_table.specs.words.Name.{is_disk_name}
-use Rattle.dm_table.specs.tables.PathList.{place_in, path_at}
+use Rattle.dm_table.proofs.Prelude.{err_from_is_err_and, Bool, refl, DiskPath, texts, is_disk_name, place_in, path_at}
 use Rattle.dm_table.proofs.tables.PairRows.{pair_read, pair_refused}
 use Rattle.dm_table.proofs.tables.path_list.DiskPathFromRows.read_row.Goals as goal
 

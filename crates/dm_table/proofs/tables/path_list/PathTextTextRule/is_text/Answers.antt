@@ -1,5 +1,4 @@
-use Rattle.std.proofs.Common.{◌≡◌, true, false, sym, ◌∙◌}
-use Rattle.std.specs.Str.{is_utf8}
+use Rattle.dm_table.proofs.Prelude.{◌≡◌, true, false, sym, ◌∙◌, is_utf8}
 use Rattle.dm_table.proofs.tables.PathPlaces.{told_utf8}
 use Rattle.dm_table.proofs.words.FieldLemmas.{lacks-searched}
 use Rattle.dm_table.proofs.tables.path_list.PathTextTextRule.is_text.Goals as goal

@@ -1,5 +1,4 @@
-use Rattle.std.proofs.Common.{sym, ◌∙◌}
-use Rattle.dm_table.specs.words.Fields.{texts}
+use Rattle.dm_table.proofs.Prelude.{sym, ◌∙◌, texts}
 use Rattle.dm_table.proofs.tables.TableFields.{row_made}
 use Rattle.dm_table.proofs.tables.TableLines.{row_values, row_fault}
 use Rattle.dm_table.proofs.tables.table_text.DeviceSpecFromRows.read_row.Goals as goal

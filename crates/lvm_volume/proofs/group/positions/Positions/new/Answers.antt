@@ -1,10 +1,4 @@
-use Rattle.std.proofs.Common.{◌++◌, List, ℕ, sym, ap, subst, ◌∙◌}
-use Rattle.std.specs.Prelude.{bytes_eq}
-use Rattle.std.specs.List.{IsDistinct}
-use Rattle.lvm_text.specs.Tree.{Tree}
-use Rattle.lvm_text.specs.Iterate.{sections_left}
-use Rattle.lvm_volume.specs.group.Group.{keys_in}
-use Rattle.lvm_volume.specs.group.GroupCode.{texts}
+use Rattle.lvm_volume.proofs.Prelude.{◌++◌, List, ℕ, sym, ap, subst, ◌∙◌, bytes_eq, IsDistinct, Tree, sections_left, keys_in, texts}
 use Rattle.lvm_volume.proofs.group.PositionLemmas.{none_before, sections_differ}
 use Rattle.lvm_volume.proofs.group.positions.Positions.new.Goals as goal
 

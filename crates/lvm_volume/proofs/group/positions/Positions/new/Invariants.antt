@@ -1,9 +1,5 @@
 -- the keys so far and those of the sections that are left are all
-use Rattle.std.proofs.Common.{◌≡◌, ◌++◌}
-use Rattle.lvm_text.specs.Tree.{sections_of}
-use Rattle.lvm_text.specs.Iterate.{sections_left}
-use Rattle.lvm_volume.specs.group.Group.{keys_in}
-use Rattle.lvm_volume.specs.group.GroupCode.{texts}
+use Rattle.lvm_volume.proofs.Prelude.{◌≡◌, ◌++◌, sections_of, sections_left, keys_in, texts}
 use Rattle.lvm_volume.proofs.group.positions.Positions.new.Given as goal
 
 abbrev pub invariant-loop-item : goal.invariant-loop-item

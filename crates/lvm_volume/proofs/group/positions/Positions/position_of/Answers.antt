@@ -1,4 +1,4 @@
-use Rattle.std.proofs.Common.{◌∙◌, Some, None}
+use Rattle.lvm_volume.proofs.Prelude.{◌∙◌, Some, None}
 use Rattle.lvm_volume.proofs.group.PositionLemmas.{position_is}
 use Rattle.lvm_volume.proofs.group.positions.Positions.position_of.Goals as goal
 

@@ -1,0 +1,4 @@
+pub mod BlockLemmas
+pub mod ByteLemmas
+pub mod FilledLemmas
+pub mod Prelude

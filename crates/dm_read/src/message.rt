@@ -1,0 +1,40 @@
+//! The message of a sector that has no bytes: one line.
+
+ghost use Rattle.dm_read.specs.Prelude.{◌≡◌, ◌≤◌, length, fault_word, stop_message};
+
+use crate::fault::{ByteFault, Stop};
+use arrayvec::ArrayVec;
+use dm_store::SectorFault;
+use dm_table::{append, append_number};
+
+/// The message of a sector that has no bytes, with its newline.
+pub type StopMessage = ArrayVec<u8, 64>;
+
+impl ByteFault {
+    /// The word that messages have for it.
+    fn word(self) -> &'static str
+        ensures word { result.now ≡ fault_word self }
+        ensures short { length result.now ≤ 7 }
+    {
+        match self {
+            ByteFault::Error => "error",
+            ByteFault::Unread(SectorFault::Missing) => "missing",
+            ByteFault::Unread(SectorFault::Read) => "read",
+        }
+    }
+}
+
+impl Stop {
+    /// The line that says it: the word and the sector of the device. Takes no memory.
+    pub fn message(self) -> StopMessage
+        ensures { result.items ≡ stop_message self }
+    {
+        let mut text = StopMessage::new();
+        append(&mut text, b"dmremap: device: ");
+        append(&mut text, self.fault.word().as_bytes());
+        append(&mut text, b" at ");
+        append_number(&mut text, self.sector);
+        append(&mut text, b"\n");
+        text
+    }
+}

@@ -1,0 +1,64 @@
+//! Sectors of a device in a row, written to an output block by block.
+
+ghost use Rattle.dm_read.specs.Prelude.{◌≡◌, ◌+◌, ◌<◌, ◌≤◌, ◌^◌, length, with_looked, device_len, Contents, disk_contents, fault_of, written_since, HasWritten, IsWritten, bytes_of, device_bytes};
+
+#[cfg(test)]
+mod tests;
+
+use crate::block::{BLOCK_SECTORS, fill_block};
+use crate::fault::Stop;
+use dm_map::{Mapper, Taken};
+use dm_stack::DeviceId;
+use dm_store::{DiskImages, Images, MOST_BYTES, SECTOR};
+use dm_table::{OutFault, Output, write_all};
+
+/// Writes the bytes of sectors of a device in a row, as its stack's disks hold them that lie in these images, in the
+/// state of the mapper: all, or those before the first sector that has no bytes, which is returned then. Nothing is
+/// flushed.
+///
+/// The images are read in blocks of at most 64 KiB, and sector by sector where a block can't be read. No memory is
+/// taken. Cost: one look-up in each device on the way for each run of sectors with one path, and one read for each
+/// run and for each block; one write, or as many as the output takes, for each block.
+///
+/// # Errors
+///
+/// The output failed: a beginning of the bytes was written, and not all of them.
+pub fn write_sectors<I: Images, T: Taken, W: Output>(
+    images: &mut I,
+    places: &DiskImages,
+    mapper: &mut Mapper<'_, T>,
+    device: DeviceId,
+    start: u64,
+    len: u64,
+    output: &mut W,
+) -> Result<Option<Stop>, OutFault>
+    requires device { device < length mapper.old.stack.devices }
+    requires inside { start + len ≤ device_len mapper.old.stack device }
+    requires near { start + len ≤ 2 ^ 50 }
+    // Whatever the images hold that agrees with all that was read of them: the bytes that this gives were written.
+    ensures wrote { (held : Contents) → I.IsSeen images.new held → IsWritten
+        (bytes_of (device_bytes mapper.old.stack mapper.old.state (disk_contents places.now held) device) start len)
+        (written_since (W.past output.old) (W.past output.new)) result }
+    // The output only took more, and a write failed only where that is returned.
+    ensures moved { HasWritten (W.past output.old) (W.past output.new) (fault_of result) }
+    ensures still { (held : Contents) → I.IsSeen images.new held → I.IsSeen images.old held }
+    ensures same { mapper.new ≡ with_looked mapper.old mapper.new.looked }
+{
+    let mut block = [0; MOST_BYTES];
+    let mut sector = start;
+    let mut left = len;
+    while left > 0 {
+        let count = left.min(BLOCK_SECTORS);
+        let filled = fill_block(images, places, mapper, device, sector, &mut block, count);
+        write_all(output, &block[..SECTOR * filled.count as usize])?;
+        if let Some(fault) = filled.fault {
+            return Ok(Some(Stop {
+                sector: sector + filled.count,
+                fault,
+            }));
+        }
+        sector += count;
+        left -= count;
+    }
+    Ok(None)
+}

@@ -1,0 +1,29 @@
+-- The words that contracts cite, here and in crates above, from one place.
+pub use Rattle.dm_map.specs.Prelude.{disk_unit, with_looked}
+pub use Rattle.dm_stack.specs.Prelude.{IsSound, LiesOnDisk}
+pub use Rattle.dm_stream.specs.Base.{BlockUnit, CopyOf, Description, FillOf, HasWritten, HasWrittenTo, IfErr, IfOk, IsClosedAfter, IsOnDisk, IsOnDisks, IsPut, IsReadOn, List, MetNothing, None, Ok, OnOk, OutputPast, Some, [], code, decimal, delivery, device_len, disk_name_at, diskless_len, drop, false, first_unit, if◌then◌else◌, length, map, name_at, parts_at, piece_len, refl, since, slice_range, take, units_in, units_of, written_since, written_to_more, written_to_none, ℕ, ◌+◌, ◌++◌, ◌-◌, ◌<◌, ◌==◌, ◌^◌, ◌∙◌, ◌∷◌, ◌≡◌, ◌≢◌, ◌≤◌}
+pub use Rattle.dm_stream.specs.declared.pieces.disk_range.DiskRange.{DiskRange}
+pub use Rattle.dm_stream.specs.declared.requests.front.Front.{Front}
+pub use Rattle.dm_stream.specs.declared.runs.earlier.EarlierFault.{EarlierFault}
+pub use Rattle.dm_stream.specs.declared.runs.ending.Ending.{Ending}
+pub use Rattle.dm_stream.specs.declared.runs.ending.Ending.TheVariants.{Done, WriteFault}
+pub use Rattle.dm_stream.specs.laws.Join.{beginning-before, join_lawful, last_of_units, onto_begins, some_before}
+pub use Rattle.dm_stream.specs.pieces.DiskText.{disk_text, line_head}
+pub use Rattle.dm_stream.specs.pieces.Join.{HasLeft, HasTaken, HasUnits, join_past}
+pub use Rattle.dm_stream.specs.pieces.LineEnds.{AreMade, IsLineEnd, line_end}
+pub use Rattle.dm_stream.specs.pieces.NumberPrefix.{number_prefix}
+pub use Rattle.dm_stream.specs.pieces.Pending.{AreApart, Fits, HoldsNoRange, IsHeld, IsNoRange, Pending, goes_on, held_diskless, held_of, held_units, holding, piece_of, piece_view, range_piece}
+pub use Rattle.dm_stream.specs.pieces.PieceText.{IsDiskless, IsOther, diskless_word, piece_text, pieces_text, sector_text, unit_text}
+pub use Rattle.dm_stream.specs.pieces.Pieces.{AreFewest, ArePiecesOf, NoneContinues, UnitRun, fewest, further, is_after, is_unit, joins, onto, piece_units}
+pub use Rattle.dm_stream.specs.pieces.RangeText.{IsKept, range_text}
+pub use Rattle.dm_stream.specs.requests.Batch.{AnswersFronts, AreFirst, AreFirstAnswered, IsAmongFirst, front_requests}
+pub use Rattle.dm_stream.specs.requests.Lines.{AFault, ALine, ALong, AnEnd, AnUnended, Answer, line_parts, next_answer, rest_answer}
+pub use Rattle.dm_stream.specs.requests.Requests.{HasMet, IsAmong, NumberedRequest, Requests, after_requests, is_bad, line_requests, next_requests, numbered, requests_from, requests_of, word_for}
+pub use Rattle.dm_stream.specs.runs.Earlier.{HasMoved, HasPlayed, HasStoppedAt, played_ending, refused_ending}
+pub use Rattle.dm_stream.specs.runs.Mapped.{HasAnswered, HasStopped, IsReady, failed_writes}
+pub use Rattle.dm_stream.specs.runs.Messages.{HasTold, IsTold, earlier_message, ending_message, refused_request, request_word, told_at_close, write_message}
+pub use Rattle.dm_stream.specs.runs.Outcome.{Outcome, device_of, if_done, outcome_from, request_answer, requests_outcome, run_outcome, step_of, with_status}
+pub use Rattle.dm_stream.specs.runs.Run.{CanMap, HasMappedAll, HasRun, IsLeft, IsMapped, ending_for, write_faults}
+pub use Rattle.dm_stream.specs.runs.StatusLines.{after_name, status_line, status_text, usage_text}
+pub use Rattle.dm_table.specs.Prelude.{HasRead, IsSameReference, Wrote, fault_of, given}
+pub use Rattle.dm_table.specs.Std.{All, IfSome, IsErr, MatchOption, OnErr, OnFalse, OnTrue, not, sem}

@@ -1,0 +1,8 @@
+use Rattle.dmremap.proofs.ReadLemmas.{number_read, number_unread}
+use Rattle.dmremap.proofs.words.number_of.Goals as goal
+
+pub returns-in-Ok : goal.returns-in-Ok
+returns-in-Ok c = number_read c.args.text.now c.in-Ok.number c.in-Ok.ensures.value.0.0 c.in-Ok.ensures.value.0.1
+
+pub returns-in-Err : goal.returns-in-Err
+returns-in-Err c = number_unread c.args.text.now c.in-Err.ensures.value.0

@@ -1,0 +1,25 @@
+-- What became of FILE, DISKS, PATHS and images that open a command.
+use Rattle.dmremap.specs.Base.{◌≡◌, InputPast, delivery, IsReadOn, Description, Contents}
+use Rattle.dmremap.specs.declared.parts.Parts.{Parts}
+use Rattle.dmremap.specs.Inputs.{IsReadOnIf, delivered_if, delivery_if}
+use Rattle.dmremap.specs.Load.{SoundAs}
+use Rattle.dmremap.specs.Opening.{Loaded, PartsOpen}
+use Rattle.dmremap.specs.StoredStart.{ReadInTurn}
+
+-- FILE and DISKS opened this stack, and nothing else was asked for
+pub record ArePartsOpened {S D P I : Type 0} (source_past : S → InputPast) (disks_past : D → InputPast) (stack : Description) (old new : Parts S D P I) : Type 0 where
+  pub opened : PartsOpen old.format (delivery (source_past old.source) (source_past new.source)) (delivery_if disks_past old.disks new.disks) (Loaded (SoundAs stack))
+  pub source : IsReadOn (source_past old.source) (source_past new.source)
+  pub disks : IsReadOnIf disks_past old.disks new.disks
+  pub paths : new.paths ≡ old.paths
+  pub images : new.images ≡ old.images
+
+-- each part was only read on, and nothing is asked of it after an end or a fault
+pub record ArePartsRead {S D P I : Type 0} (source_past : S → InputPast) (disks_past : D → InputPast) (paths_past : P → InputPast) (IsSeen : I → Contents → Type 0) (old new : Parts S D P I) : Type 0 where
+  pub source : IsReadOn (source_past old.source) (source_past new.source)
+  pub disks : IsReadOnIf disks_past old.disks new.disks
+  pub paths : IsReadOnIf paths_past old.paths new.paths
+  -- the list of paths is asked for only over a load that gave a stack, and images only where that list says where its disks lie
+  pub in_turn : ReadInTurn (PartsOpen old.format (delivery (source_past old.source) (source_past new.source)) (delivery_if disks_past old.disks new.disks)) (delivered_if paths_past old.paths new.paths) old.paths new.paths old.images new.images
+  -- what agrees with all that was read of the images agreed before
+  pub images : (held : Contents) → IsSeen new.images held → IsSeen old.images held
