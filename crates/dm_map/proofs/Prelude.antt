@@ -24,7 +24,7 @@ pub use Rattle.dm_stack.specs.declared.lines.resolved_line.ResolvedSnapshot.{Res
 pub use Rattle.dm_stack.specs.declared.lines.resolved_line.ResolvedTarget.{ResolvedTarget}
 pub use Rattle.dm_stack.specs.declared.lines.resolved_line.ResolvedTarget.TheVariants.{Origin, Snapshot}
 pub use Rattle.dm_table.proofs.Lists.{all_append, all_front, all_parts, at_index, on_ok}
-pub use Rattle.dm_table.proofs.Std.{All, All-contains, All-contains_itself, All-filter, All-from_get_or, All-from_recursion, All-get_or, All-push, AllByRecursion, Bool, Contains, Err, IfNone, IfSome, IsDistinct-cons, IsErr, List, None, Ok, Option, Result, Some, [], add-one, and_from, and_le_r, and_parts, and_right, ap, apart_from_distinct, append-nil, append_assoc, arith, bit_at, bit_at-lt, bit_at-trailing_zeros, bit_at-zero, bit_at_xor, bit_xor, both_ways, cases_Bool, cases_eq, cases_lt, cases_order, cond, div-add-mod', div-mul-le_self, drop, drop-cons, eq-eqb, eqb-true, false, false_from_ne_true, find, find_at, flat_map, get_or, get_or-insert_above, get_or-insert_at, get_or-insert_below, get_or-range_with_len, get_or-replicate, get_or-set_other, get_or-set_same, get_or_append_left, get_or_from_slice_get, get_or_push, get_or_read, if◌then◌else◌, inl, inr, insert, is_none, is_some, le-div_iff_mul-le, le-leb, le-ltb, leb-true, length, length-append, length-insert, length-le_from_distinct_below, length-map, length-range_with_len, length-replicate, length-set, length_push, list_all, list_any, list_any_at, lt-ltb, ltb-false, ltb-true, ltb_from_iff, map, map-append, map-set, merely, min, mod-mul-add, mul-div_cancel_left, mul-le-mul, mul-le-mul_left, mul-le-mul_right, nat_eq, nat_le, nat_lt, nat_tests, ne_eqb, none-some, not, not-false, not-true, on_err_weaker, on_ok_weaker, option_and_then, option_map, or_cases, or_parts, or_right, position_or_len, pow_pos, range_with_len, recursion_from_All, refl, replicate, replicate-append-replicate, rules, same_Some, same_from_bits, same_from_place, set, set-get_or, set_past, slice_get, slice_get-map, slice_get_past, slice_get_read, slice_get_within, subst, suc, sym, take, take-append-add, take-append-drop, take-append-le, take-nil, take_all, take_more, trailing_zeros, true, true_from_ne_false, true≢false, vec_capacity, w64, xor_lt, zero, ℕ, ∥∥₁_elim, ∥∥₁_map, ◌%◌, ◌&&◌, ◌*◌, ◌+◌, ◌++◌, ◌-◌, ◌/◌, ◌<◌, ◌==◌, ◌^◌, ◌||◌, ◌↔◌, ◌∙◌, ◌∷◌, ◌≡◌, ◌≤◌, ◌⊎◌}
+pub use Rattle.dm_table.proofs.Std.{All, All-contains, All-contains_itself, All-filter, All-from_get_or, All-from_recursion, All-get_or, All-push, AllByRecursion, Bool, Contains, Err, IfNone, IfSome, IsDistinct-cons, IsErr, List, None, Ok, Option, Result, Some, [], add-one, and_from, and_le_r, and_parts, and_right, ap, apart_from_distinct, append-nil, append_assoc, arith, bit_at, bit_at-lt, bit_at-trailing_zeros, bit_at-zero, bit_at_xor, bit_xor, both_ways, cases_Bool, cases_eq, cases_lt, cases_order, cond, div-add-mod', div-mul-le_self, drop, drop-cons, eq-eqb, eqb-true, false, false_from_ne_true, find, find_at, flat_map, get_or, get_or-insert_above, get_or-insert_at, get_or-insert_below, get_or-range_with_len, get_or-replicate, get_or-set_other, get_or-set_same, get_or_append_left, get_or_from_slice_get, get_or_push, get_or_read, inl, inr, insert, is_none, is_some, le-div_iff_mul-le, le-leb, le-ltb, leb-true, length, length-append, length-insert, length-le_from_distinct_below, length-map, length-range_with_len, length-replicate, length-set, length_push, list_all, list_any, list_any_at, lt-ltb, ltb-false, ltb-true, ltb_from_iff, map, map-append, map-set, merely, min, mod-mul-add, mul-div_cancel_left, mul-le-mul, mul-le-mul_left, mul-le-mul_right, nat_eq, nat_le, nat_lt, nat_tests, ne_eqb, none-some, not, not-false, not-true, on_err_weaker, on_ok_weaker, option_and_then, option_map, or_cases, or_parts, or_right, position_or_len, pow_pos, range_with_len, recursion_from_All, refl, replicate, replicate-append-replicate, rules, same_Some, same_from_bits, same_from_place, set, set-get_or, set_past, slice_get, slice_get-map, slice_get_past, slice_get_read, slice_get_within, subst, suc, sym, take, take-append-add, take-append-drop, take-append-le, take-nil, take_all, take_more, trailing_zeros, true, true_from_ne_false, true≢false, vec_capacity, w64, xor_lt, zero, ℕ, ∥∥₁_elim, ∥∥₁_map, ◌∙◌}
 unfoldable pub use Rattle.dm_table.proofs.Std.{IsDistinct}
 pub use Rattle.dm_table.specs.Prelude.{Span, column_span, spans, target_spans, whole_span}
 pub use Rattle.dm_table.specs.declared.requests.request.Op.{Op}

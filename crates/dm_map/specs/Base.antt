@@ -13,7 +13,7 @@ pub use Rattle.dm_stack.specs.declared.lines.resolved_line.ResolvedOver.{Resolve
 pub use Rattle.dm_stack.specs.declared.lines.resolved_line.ResolvedSnapshot.{ResolvedSnapshot}
 pub use Rattle.dm_stack.specs.declared.lines.resolved_line.ResolvedTarget.{ResolvedTarget}
 pub use Rattle.dm_table.specs.Prelude.{fault_of}
-pub use Rattle.dm_table.specs.Std.{AllByRecursion, Bool, Err, IfOk, List, MatchBool, None, Ok, OnErr, OnOk, Option, Result, Some, [], bit_at, bit_xor, false, flat_map, if◌then◌else◌, is_none, is_some, length, list_any, map, min, nat_eq, nat_le, nat_lt, not, option_and_then, option_map, pointwise, replicate, slice_get, slice_index_or, slice_set, suc, take, true, vec_capacity, zero, ℕ, ◌%◌, ◌&&◌, ◌*◌, ◌+◌, ◌++◌, ◌-◌, ◌/◌, ◌<◌, ◌==◌, ◌^◌, ◌||◌, ◌↔◌, ◌∷◌, ◌≡◌, ◌≤◌, ◌⊎◌}
+pub use Rattle.dm_table.specs.Std.{AllByRecursion, Bool, Err, IfOk, List, MatchBool, None, Ok, OnErr, OnOk, Option, Result, Some, [], bit_at, bit_xor, false, flat_map, is_none, is_some, length, list_any, map, min, nat_eq, nat_le, nat_lt, not, option_and_then, option_map, pointwise, replicate, slice_get, slice_index_or, slice_set, suc, take, true, vec_capacity, zero, ℕ}
 unfoldable pub use Rattle.dm_table.specs.Std.{IsDistinct}
 pub use Rattle.dm_table.specs.declared.requests.request.Op.{Op}
 pub use Rattle.dm_table.specs.declared.requests.request.Op.TheVariants.{Read, Write}

@@ -1,5 +1,5 @@
 -- A mapper, and what its results say.
-use Rattle.dm_map.specs.Base.{ℕ, ◌≡◌, ◌+◌, ◌*◌, ◌≤◌, Bool, true, false, List, Result, Ok, Err, OnOk, Read, Request, stack_depth, Description}
+use Rattle.dm_map.specs.Base.{ℕ, Bool, true, false, List, Result, Ok, Err, OnOk, Read, Request, stack_depth, Description}
 use Rattle.dm_map.specs.pieces.Sink.{OfBeginning, SinkPast}
 use Rattle.dm_map.specs.pieces.Units.{BlockUnit}
 use Rattle.dm_map.specs.state.Counts.{Counts, grown_by, most_comparisons}
@@ -9,6 +9,7 @@ use Rattle.dm_map.specs.walk.Mapping.{step_for}
 use Rattle.dm_map.specs.walk.Path.{read_stretches}
 use Rattle.dm_map.specs.declared.mapper.MapFault.{MapFault}
 use Rattle.dm_map.specs.declared.mapper.MapFault.TheVariants as faults
+use Rattle.std.specs.Prelude.{◌≡◌, ◌+◌, ◌*◌, ◌≤◌}
 
 -- a mapper: its stack, the state that the requests so far left, whether one of its sinks failed, what its looker counted so far, and how much of that in the last request that it did not refuse as `Stopped`
 pub record MapperView : Type 0 where

@@ -1,5 +1,5 @@
 -- The words that contracts cite, here and in crates above, from one place.
-pub use Rattle.dm_map.specs.Base.{AllByRecursion, Description, Device, Disk, IfOk, IsLine, IsLineOf, IsSound, IsTidy, IsTop, List, None, OnOk, Read, Some, Write, [], allocated, binary_digits, device_len, false, if◌then◌else◌, is_none, is_ro_at, is_some, length, lower_len, metadata, min, nat_lt, not, place, replicate, stack_depth, true, ℕ, ◌%◌, ◌&&◌, ◌*◌, ◌+◌, ◌++◌, ◌-◌, ◌/◌, ◌<◌, ◌^◌, ◌↔◌, ◌≡◌, ◌≤◌}
+pub use Rattle.dm_map.specs.Base.{AllByRecursion, Description, Device, Disk, IfOk, IsLine, IsLineOf, IsSound, IsTidy, IsTop, List, None, OnOk, Read, Some, Write, [], allocated, binary_digits, device_len, false, is_none, is_ro_at, is_some, length, lower_len, metadata, min, nat_lt, not, place, replicate, stack_depth, true, ℕ}
 pub use Rattle.dm_map.specs.Mapper.{HasMapped, MapperView, OnSinkFault, with_looked}
 pub use Rattle.dm_map.specs.declared.pieces.piece.Piece.{Piece}
 pub use Rattle.dm_map.specs.declared.state.run_taken.run.Run.{Run}
@@ -57,4 +57,4 @@ pub use Rattle.dm_map.specs.walk.SnapshotWrites.{any_error, can_take, copies, co
 pub use Rattle.dm_map.specs.walk.Steps.{Step, and_then, keep, steps}
 pub use Rattle.dm_map.specs.walk.Stretch.{IsFirst, IsFirstOf, IsFirstRead, IsGroundInStack, IsGroundNear, ground_unit, unit_at}
 pub use Rattle.dm_stack.specs.Prelude.{AreOnDisks, IsSnapshot, IsStore, is_striped, snapshots}
-pub use Rattle.dm_table.specs.Std.{All, IfNone, IfSome, ◌≢◌}
+pub use Rattle.dm_table.specs.Std.{All, IfNone, IfSome}

@@ -4,9 +4,10 @@
 //! `specs/walk/Mapping.antt` defines what becomes of a sector, `walk` cuts a range into pieces, and
 //! `walker` keeps what one request leaves for the next.
 
-ghost use Rattle.dm_map.specs.Prelude.{◌≡◌, ◌+◌, ◌*◌, ◌<◌, ◌≤◌, false, true, is_none, length, nat_lt, IfOk, IfSome, if◌then◌else◌, Read, snapshots, IsSnapshot, stack_depth, lower_len, IsStore, request_step, no_counts, AreAdded, IsFitting, IsWithinPlaces, with_looked, HasMapped, read_stretches, lost, put, start_state, taken_at, with_chunk, number_in, device_len, IsFirstHomes, has_room, snapshot_at, usage_of, or_home, HasRoomFor, IsWalked, IsFirstRead, IsGroundNear, Device};
+ghost use Rattle.dm_map.specs.Prelude.{false, true, is_none, length, nat_lt, IfOk, IfSome, Read, snapshots, IsSnapshot, stack_depth, lower_len, IsStore, request_step, no_counts, AreAdded, IsFitting, IsWithinPlaces, with_looked, HasMapped, read_stretches, lost, put, start_state, taken_at, with_chunk, number_in, device_len, IsFirstHomes, has_room, snapshot_at, usage_of, or_home, HasRoomFor, IsWalked, IsFirstRead, IsGroundNear, Device};
 ghost use Rattle.dm_map.specs.declared.mapper.MapFault.TheVariants.{Sink};
 ghost use Rattle.dm_stack.specs.declared.checks.limits.TheConstants.{MOST_LENGTH};
+ghost use Rattle.std.specs.Prelude.{◌≡◌, ◌+◌, ◌*◌, ◌<◌, ◌≤◌, if◌then◌else◌};
 
 use crate::pieces::piece::disk_piece;
 use crate::pieces::sink::Sink;
@@ -53,8 +54,8 @@ pub struct Mapper<'s, T: Taken> {
 }
 
 impl<'s, T: Taken> Model for Mapper<'s, T> {
-    ghost use Rattle.dm_map.specs.Base.{◌-◌, ◌≤◌};
     ghost use Rattle.dm_map.specs.Mapper.{MapperView};
+    ghost use Rattle.std.specs.Prelude.{◌-◌, ◌≤◌};
 
     ghost Value = { MapperView };
 

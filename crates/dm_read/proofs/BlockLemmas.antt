@@ -1,6 +1,7 @@
 -- Sectors of a block, a part of which is written.
-use Rattle.dm_read.proofs.Prelude.{◌≡◌, ℕ, ◌+◌, ◌-◌, ◌*◌, ◌<◌, ◌≤◌, List, ◌++◌, length, take, drop, replicate, length-append, length-drop, sym, ap, ◌∙◌, arith, drop-append-le, drop-drop, drop-take, drop_at, length-replicate, length-take-le, replicate-append-replicate, take-append-le, take_at, sector_in, zeros, AreKept}
+use Rattle.dm_read.proofs.Prelude.{ℕ, List, length, take, drop, replicate, length-append, length-drop, sym, ap, ◌∙◌, arith, drop-append-le, drop-drop, drop-take, drop_at, length-replicate, length-take-le, replicate-append-replicate, take-append-le, take_at, sector_in, zeros, AreKept}
 use Rattle.std.proofs.lemmas.Slice.{take-put_mid_below}
+use Rattle.std.specs.Prelude.{◌≡◌, ◌+◌, ◌-◌, ◌*◌, ◌<◌, ◌≤◌, ◌++◌}
 use borrow.Rule.Slice.PartMut.{put_mid}
 
 pub sector_is : (bytes : List ℕ) (i : ℕ) → sector_in bytes i ≡ take 512 (drop (512 * i) bytes)

@@ -1,6 +1,7 @@
 -- The bytes of sectors in a row, block by block.
-use Rattle.dm_read.proofs.Prelude.{◌≡◌, ℕ, zero, suc, ◌+◌, ◌-◌, ◌*◌, ◌<◌, ◌≤◌, List, [], ◌∷◌, ◌++◌, Option, Some, None, Result, Ok, Err, take, drop, append_assoc, refl, sym, ap, ◌∙◌, arith, take-add, append-nil, drop-drop, sector_in, ByteFault, Stop, Reading, after, bytes_of, OutputPast, written_since, HasWritten, Wrote, IsCutShort, since_more, written_more, Filled, AreFilled}
+use Rattle.dm_read.proofs.Prelude.{ℕ, zero, suc, List, [], Option, Some, None, Result, Ok, Err, take, drop, append_assoc, refl, sym, ap, ◌∙◌, arith, take-add, append-nil, drop-drop, sector_in, ByteFault, Stop, Reading, after, bytes_of, OutputPast, written_since, HasWritten, Wrote, IsCutShort, since_more, written_more, Filled, AreFilled}
 use Rattle.dm_read.proofs.BlockLemmas.{sector_is}
+use Rattle.std.specs.Prelude.{◌≡◌, ◌+◌, ◌-◌, ◌*◌, ◌<◌, ◌≤◌, ◌∷◌, ◌++◌}
 
 -- a sector behind the first of a block
 sector_behind : (block : List ℕ) (i : ℕ) → sector_in (drop 512 block) i ≡ sector_in block (i + 1)

@@ -1,6 +1,7 @@
 -- Blocks that are filled part by part.
-use Rattle.dm_read.proofs.Prelude.{◌≡◌, inl, inr, ℕ, ◌+◌, ◌-◌, ◌<◌, ◌≤◌, List, Option, Some, None, Result, Ok, Err, refl, sym, ap, subst, ◌∙◌, arith, cases_lt, IfNone, IfSome, BlockUnit, unit_at, DiskContents, sector_in, Sectors, ByteFault, Filled, of_disk, unit_bytes, AreCounted, AreFilled, AreKept}
+use Rattle.dm_read.proofs.Prelude.{inl, inr, ℕ, List, Option, Some, None, Result, Ok, Err, refl, sym, ap, subst, ◌∙◌, arith, cases_lt, IfNone, IfSome, BlockUnit, unit_at, DiskContents, sector_in, Sectors, ByteFault, Filled, of_disk, unit_bytes, AreCounted, AreFilled, AreKept}
 use Rattle.dm_map.specs.declared.walk.stretch.Ground.{Ground}
+use Rattle.std.specs.Prelude.{◌≡◌, ◌+◌, ◌-◌, ◌<◌, ◌≤◌}
 
 ok : List ℕ → Result (List ℕ) ByteFault
 ok bytes = Ok bytes

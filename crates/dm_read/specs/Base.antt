@@ -6,4 +6,4 @@ pub use Rattle.dm_read.specs.declared.fault.Stop.{Stop}
 pub use Rattle.dm_stack.specs.Prelude.{Description}
 pub use Rattle.dm_store.specs.Prelude.{DiskContents, sector_in}
 pub use Rattle.dm_table.specs.Prelude.{IsCutShort}
-pub use Rattle.dm_table.specs.Std.{Err, IfNone, IfSome, List, None, Ok, Option, Result, Some, [], codes, decimal, length, replicate, suc, zero, ℕ, ◌+◌, ◌++◌, ◌<◌, ◌≡◌}
+pub use Rattle.dm_table.specs.Std.{Err, IfNone, IfSome, List, None, Ok, Option, Result, Some, [], codes, decimal, length, replicate, suc, zero, ℕ}

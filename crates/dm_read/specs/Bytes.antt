@@ -1,7 +1,8 @@
 -- The bytes of a device: what its sectors read, by what disks hold.
-use Rattle.dm_read.specs.Base.{◌≡◌, ℕ, zero, suc, List, [], ◌++◌, replicate, Option, Some, None, Result, Ok, Err, IsCutShort, Description, BlockUnit, ReadOf, Zeros, State, read, DiskContents, ByteFault, Error, Unread, Stop}
+use Rattle.dm_read.specs.Base.{ℕ, zero, suc, List, [], replicate, Option, Some, None, Result, Ok, Err, IsCutShort, Description, BlockUnit, ReadOf, Zeros, State, read, DiskContents, ByteFault, Error, Unread, Stop}
 use Rattle.dm_stack.specs.declared.id.Lower.TheVariants.{Device}
 use Rattle.dm_store.specs.declared.fault.SectorFault.{SectorFault}
+use Rattle.std.specs.Prelude.{◌≡◌, ◌++◌}
 
 -- ---- a sector
 

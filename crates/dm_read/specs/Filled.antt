@@ -1,6 +1,7 @@
 -- What a block has of sectors on the way.
-use Rattle.dm_read.specs.Base.{ℕ, ◌≡◌, ◌+◌, ◌<◌, List, Result, Ok, Err, IfNone, IfSome, length, sector_in, ByteFault}
+use Rattle.dm_read.specs.Base.{ℕ, List, Result, Ok, Err, IfNone, IfSome, length, sector_in, ByteFault}
 use Rattle.dm_read.specs.declared.filled.Filled.{Filled}
+use Rattle.std.specs.Prelude.{◌≡◌, ◌+◌, ◌<◌}
 
 -- how many sectors of those asked for were read: all, or fewer where one has no bytes
 pub record AreCounted (asked : ℕ) (filled : Filled) : Type 0 where

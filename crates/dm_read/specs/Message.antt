@@ -1,6 +1,7 @@
 -- The message of a sector that has no bytes.
-use Rattle.dm_read.specs.Base.{ℕ, List, ◌++◌, codes, decimal, ByteFault, Error, Unread, Stop}
+use Rattle.dm_read.specs.Base.{ℕ, List, codes, decimal, ByteFault, Error, Unread, Stop}
 use Rattle.dm_store.specs.declared.fault.SectorFault.TheVariants.{Missing, Read}
+use Rattle.std.specs.Prelude.{◌++◌}
 
 -- the word of a fault
 abbrev pub fault_word : ByteFault → List ℕ

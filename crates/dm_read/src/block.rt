@@ -1,6 +1,7 @@
 //! Blocks: the bytes of a few sectors of a device in a row.
 
-ghost use Rattle.dm_read.specs.Prelude.{◌≡◌, ◌+◌, ◌*◌, ◌<◌, ◌≤◌, ◌^◌, length, with_looked, device_len, Contents, disk_contents, device_bytes, AreCounted, AreFilled};
+ghost use Rattle.dm_read.specs.Prelude.{length, with_looked, device_len, Contents, disk_contents, device_bytes, AreCounted, AreFilled};
+ghost use Rattle.std.specs.Prelude.{◌≡◌, ◌+◌, ◌*◌, ◌<◌, ◌≤◌, ◌^◌};
 
 use crate::filled::Filled;
 use crate::part::read_ground;

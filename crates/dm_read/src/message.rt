@@ -1,6 +1,7 @@
 //! The message of a sector that has no bytes: one line.
 
-ghost use Rattle.dm_read.specs.Prelude.{◌≡◌, ◌≤◌, length, fault_word, stop_message};
+ghost use Rattle.dm_read.specs.Prelude.{length, fault_word, stop_message};
+ghost use Rattle.std.specs.Prelude.{◌≡◌, ◌≤◌};
 
 use crate::fault::{ByteFault, Stop};
 use arrayvec::ArrayVec;

@@ -1,6 +1,7 @@
 //! Parts of a block: sectors in a row that are read from one ground.
 
-ghost use Rattle.dm_read.specs.Prelude.{◌≡◌, ◌+◌, ◌*◌, ◌<◌, ◌≤◌, ◌^◌, ℕ, Err, Ok, IfErr, OnOk, length, replicate, ReadOf, IsGroundNear, unit_at, Contents, disk_contents, sector_in, unit_bytes, zeros, AreCounted, AreFilled, AreKept};
+ghost use Rattle.dm_read.specs.Prelude.{ℕ, Err, Ok, IfErr, OnOk, length, replicate, ReadOf, IsGroundNear, unit_at, Contents, disk_contents, sector_in, unit_bytes, zeros, AreCounted, AreFilled, AreKept};
+ghost use Rattle.std.specs.Prelude.{◌≡◌, ◌+◌, ◌*◌, ◌<◌, ◌≤◌, ◌^◌};
 
 use crate::fault::ByteFault;
 use crate::filled::Filled;

@@ -1,6 +1,7 @@
 //! Sectors of a device in a row, written to an output block by block.
 
-ghost use Rattle.dm_read.specs.Prelude.{◌≡◌, ◌+◌, ◌<◌, ◌≤◌, ◌^◌, length, with_looked, device_len, Contents, disk_contents, fault_of, written_since, HasWritten, IsWritten, bytes_of, device_bytes};
+ghost use Rattle.dm_read.specs.Prelude.{length, with_looked, device_len, Contents, disk_contents, fault_of, written_since, HasWritten, IsWritten, bytes_of, device_bytes};
+ghost use Rattle.std.specs.Prelude.{◌≡◌, ◌+◌, ◌<◌, ◌≤◌, ◌^◌};
 
 #[cfg(test)]
 mod tests;

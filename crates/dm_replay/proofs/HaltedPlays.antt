@@ -1,7 +1,8 @@
 -- What a halting player has played of a request: the first of its units, or all of them.
-use Rattle.dm_replay.proofs.Prelude.{◌≡◌, ℕ, zero, suc, ◌+◌, ◌<◌, ◌≤◌, true, false, List, [], length, take, refl, sym, ap, subst, ◌∙◌, arith, take_all, take-append-le, Description, Piece, OfBeginning, BlockUnit, ReadOf, WriteOf, CopyOf, FillOf, IsOnDisk, IsOnDisks, first_unit, next_unit, piece_len, units_in, units_of, Halting, HasHalted, HasTaken, AreUnitsOf, played_nothing, HasPlayed}
+use Rattle.dm_replay.proofs.Prelude.{ℕ, zero, suc, true, false, List, [], length, take, refl, sym, ap, subst, ◌∙◌, arith, take_all, take-append-le, Description, Piece, OfBeginning, BlockUnit, ReadOf, WriteOf, CopyOf, FillOf, IsOnDisk, IsOnDisks, first_unit, next_unit, piece_len, units_in, units_of, Halting, HasHalted, HasTaken, AreUnitsOf, played_nothing, HasPlayed}
 use Rattle.dm_map.specs.declared.pieces.piece.Piece.TheVariants as pieces
 use Rattle.dm_replay.proofs.OfDiskLemmas.{piece_of}
+use Rattle.std.specs.Prelude.{◌≡◌, ◌+◌, ◌<◌, ◌≤◌}
 
 -- Pieces that are cut
 

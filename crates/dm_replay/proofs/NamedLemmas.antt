@@ -1,7 +1,8 @@
 -- The device of a name, and what is said of it by its id.
-use Rattle.dm_replay.proofs.Prelude.{◌≡◌, ℕ, ◌<◌, Bool, true, false, List, [], ◌∷◌, None, Some, Result, Ok, Err, IfErr, get_or, length, subst, arith, position, common_steps, position-Some, AreTops, IsTop, Description, device_id, is_same, ReplayFault, HasTop, IsUnanswered, Replaying}
+use Rattle.dm_replay.proofs.Prelude.{ℕ, Bool, true, false, List, [], None, Some, Result, Ok, Err, IfErr, get_or, length, subst, arith, position, common_steps, position-Some, AreTops, IsTop, Description, device_id, is_same, ReplayFault, HasTop, IsUnanswered, Replaying}
 use Rattle.dm_table.specs.declared.tables.table.DeviceSpec.{DeviceSpec}
 use Rattle.dm_replay.specs.declared.replay_fault.ReplayFault.TheVariants as faults
+use Rattle.std.specs.Prelude.{◌≡◌, ◌<◌, ◌∷◌}
 
 pub named_id : (stack : Description) (name : List ℕ) (id : ℕ) → position (λ device. is_same device.name name) stack.devices ≡ Some id → id ≡ device_id stack name
 named_id stack name id named = grind (arith, common_steps)

@@ -1,9 +1,10 @@
 -- What is played on the disks of a stack, and what it answers.
-use Rattle.dm_replay.proofs.Prelude.{◌≡◌, ℕ, zero, suc, ◌<◌, Bool, true, false, cond, length, List, [], ◌∷◌, ◌++◌, sym, subst, arith, ◌==◌, ◌&&◌, AllByRecursion, Description, Piece, stored, sector_after, BlockUnit, ReadOf, WriteOf, CopyOf, FillOf, IsOnDisks, first_unit, next_unit, piece_len, units_in, units_of, Value, ValueRun, AreUnitsOf, AreValuesOf, IsAnswerOf, IsRunOf, IsUnitOf, IsValueOf, answers_in, first_answer, flat, run_answers, run_len, Answer, Values, old_values, played, played_answers, played_unit, unit_answers}
+use Rattle.dm_replay.proofs.Prelude.{ℕ, zero, suc, Bool, true, false, cond, length, List, [], sym, subst, arith, AllByRecursion, Description, Piece, stored, sector_after, BlockUnit, ReadOf, WriteOf, CopyOf, FillOf, IsOnDisks, first_unit, next_unit, piece_len, units_in, units_of, Value, ValueRun, AreUnitsOf, AreValuesOf, IsAnswerOf, IsRunOf, IsUnitOf, IsValueOf, answers_in, first_answer, flat, run_answers, run_len, Answer, Values, old_values, played, played_answers, played_unit, unit_answers}
 use Rattle.dm_map.specs.declared.pieces.piece.Piece.TheVariants as pieces
 use Rattle.dm_map.specs.own.Contents.{played as contents_played}
 use Rattle.dm_replay.specs.declared.value.Value.TheVariants as value
 use Rattle.dm_replay.specs.declared.value_run.ValueRun.TheVariants as runs
+use Rattle.std.specs.Prelude.{◌≡◌, ◌<◌, ◌∷◌, ◌++◌, ◌==◌, ◌&&◌}
 
 -- Units
 

@@ -1,7 +1,8 @@
 -- Answers are those of one list of maximal runs.
-use Rattle.dm_replay.proofs.Prelude.{◌≡◌, ℕ, zero, suc, ◌<◌, List, [], ◌∷◌, ◌++◌, refl, sym, ap, subst, arith, AllByRecursion, append_cancel_left, ValueRun, NoneJoins, AreMaximal, answers_in, first_answer, flat, further_answer, next_answer, run_answers, run_len, Answer}
+use Rattle.dm_replay.proofs.Prelude.{ℕ, zero, suc, List, [], refl, sym, ap, subst, arith, AllByRecursion, append_cancel_left, ValueRun, NoneJoins, AreMaximal, answers_in, first_answer, flat, further_answer, next_answer, run_answers, run_len, Answer}
 use Rattle.dm_replay.specs.declared.value_run.ValueRun.TheVariants as runs
 use Rattle.dm_replay.proofs.RunLemmas.{answer_next, answer_none}
+use Rattle.std.specs.Prelude.{◌≡◌, ◌<◌, ◌∷◌, ◌++◌}
 
 -- a list's first answer is this one
 abbrev Begins : List Answer → Answer → Type 0

@@ -1,10 +1,11 @@
 -- The playback of a request whose first sector isn't taken beyond its device.
-use Rattle.dm_replay.proofs.Prelude.{◌≡◌, inl, inr, ℕ, zero, suc, ◌+◌, ◌<◌, ◌≤◌, true, length, min, List, [], take, refl, sym, ap, ◌∙◌, arith, nat_lt, cases_lt, nat_tests, Op, Request, Description, device_len, sector_past, request_step, step_for, State, halted_units, BlockUnit, Fails, units_in, Halting, Playing, ValueRun, AreUnitsOf, AreValuesOf, values_of, HasPlayed, flat, Values, played, played_answers}
+use Rattle.dm_replay.proofs.Prelude.{inl, inr, ℕ, zero, suc, true, length, min, List, [], take, refl, sym, ap, ◌∙◌, arith, nat_lt, cases_lt, nat_tests, Op, Request, Description, device_len, sector_past, request_step, step_for, State, halted_units, BlockUnit, Fails, units_in, Halting, Playing, ValueRun, AreUnitsOf, AreValuesOf, values_of, HasPlayed, flat, Values, played, played_answers}
 use Rattle.dm_map.proofs.Rows.{step_past_end}
 use Rattle.dm_replay.specs.declared.player.Player.{Player}
 use Rattle.dm_replay.proofs.HaltedPlays.{HasPlayedFront}
 use Rattle.dm_replay.proofs.OfDiskLemmas.{played_of, same_of}
 use Rattle.dm_replay.proofs.UnitPlays.{fails_answer, fails_played}
+use Rattle.std.specs.Prelude.{◌≡◌, ◌+◌, ◌<◌, ◌≤◌}
 
 -- units that all fail are the same wherever they begin
 fails_anywhere : (units : List BlockUnit) (n number first start : ℕ) (values : Values) → units_in Fails n ≡ units → (played number first units values ≡ played number start units values) × (played_answers number first units values ≡ played_answers number start units values)

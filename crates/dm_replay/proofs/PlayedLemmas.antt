@@ -1,8 +1,9 @@
 -- What a player has played.
-use Rattle.dm_replay.proofs.Prelude.{◌≡◌, ℕ, zero, suc, ◌+◌, List, [], ◌++◌, refl, sym, ap, ◌∙◌, arith, append-nil, sector_past, BlockUnit, ReadOf, WriteOf, Zeros, Drops, Fails, CopyOf, FillOf, units_in, Playing, Value, ValueRun, values_of, HasPlayed, played_both, CanCopyAtOnce, HoldOn, ranged, answers_in, first_answer, flat, run_answers, run_len, Answer, Gives, Failed, Values, played, played_answers}
+use Rattle.dm_replay.proofs.Prelude.{ℕ, zero, suc, List, [], refl, sym, ap, ◌∙◌, arith, append-nil, sector_past, BlockUnit, ReadOf, WriteOf, Zeros, Drops, Fails, CopyOf, FillOf, units_in, Playing, Value, ValueRun, values_of, HasPlayed, played_both, CanCopyAtOnce, HoldOn, ranged, answers_in, first_answer, flat, run_answers, run_len, Answer, Gives, Failed, Values, played, played_answers}
 use Rattle.dm_replay.specs.declared.disk_values.DiskValues.{DiskValues}
 use Rattle.dm_replay.specs.declared.value.Value.TheVariants as value
 use Rattle.dm_replay.proofs.UnitPlays.{reads_played, reads_answer, reads_past, zeros_played, zeros_answer, zeros_past, drops_played, drops_answer, drops_past, fails_played, fails_answer, fails_past, writes_played, writes_answer, writes_past, fills_played, fills_answer, fills_past, copies_played, copies_answer, copies_past}
+use Rattle.std.specs.Prelude.{◌≡◌, ◌+◌, ◌++◌}
 
 abbrev held : Playing → Values
 held p = values_of p.values.disks.items

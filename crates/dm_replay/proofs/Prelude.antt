@@ -8,7 +8,7 @@ unfoldable pub use Rattle.dm_replay.specs.Prelude.{played_answers, rerun_from, s
 pub use Rattle.dm_stack.specs.Prelude.{AreTops, Description, IsTidy, IsTop, device_id, device_len, is_same}
 pub use Rattle.dm_stack.specs.declared.id.Lower.TheVariants.{Device}
 pub use Rattle.dm_table.proofs.Lists.{all_append, at_index}
-pub use Rattle.dm_table.proofs.Std.{AllByRecursion, BTreeMap, Bool, Err, IfErr, IsOrdered, IsSome, Less, List, None, Ok, Option, Result, Some, Updates, [], ap, append-nil, append_assoc, append_cancel_left, arith, cases_eq, cases_lt, cases_order, common_steps, cond, drop, err_from_is_err_and, false, flat_map, flat_map-append, ge_from_not_lt, get, get_or, get_or_past, get_or_read, inl, inr, is_at, is_gt, le-ltb, le_from_not_gt, length, min, nat_cmp, nat_le, nat_lt, nat_tests, on_ok_weaker, position, position-Some, refl, replicate, rules, slice_get, slice_get_read, subst, suc, sym, take, take-append-le, take_all, take_more, true, zero, ℕ, ◌&&◌, ◌+◌, ◌++◌, ◌-◌, ◌<◌, ◌==◌, ◌^◌, ◌∙◌, ◌∷◌, ◌≡◌, ◌≤◌, ◌⊎◌}
+pub use Rattle.dm_table.proofs.Std.{AllByRecursion, BTreeMap, Bool, Err, IfErr, IsOrdered, IsSome, Less, List, None, Ok, Option, Result, Some, Updates, [], ap, append-nil, append_assoc, append_cancel_left, arith, cases_eq, cases_lt, cases_order, common_steps, cond, drop, err_from_is_err_and, false, flat_map, flat_map-append, ge_from_not_lt, get, get_or, get_or_past, get_or_read, inl, inr, is_at, is_gt, le-ltb, le_from_not_gt, length, min, nat_cmp, nat_le, nat_lt, nat_tests, on_ok_weaker, position, position-Some, refl, replicate, rules, slice_get, slice_get_read, subst, suc, sym, take, take-append-le, take_all, take_more, true, zero, ℕ, ◌∙◌}
 pub use Rattle.dm_table.specs.Prelude.{Wrote}
 pub use Rattle.dm_table.specs.declared.requests.request.Op.{Op}
 pub use Rattle.dm_table.specs.declared.requests.request.Request.{Request}

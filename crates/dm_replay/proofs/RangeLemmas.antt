@@ -1,6 +1,7 @@
 -- Ranges of stored values.
-use Rattle.dm_replay.proofs.Prelude.{◌≡◌, ℕ, suc, ◌+◌, ◌-◌, ◌<◌, cond, refl, sym, ap, ◌∙◌, arith, ◌==◌, ◌&&◌, nat_le, nat_lt, nat_tests, stored, Value, HoldOn, ranged, Values, further, next_value}
+use Rattle.dm_replay.proofs.Prelude.{ℕ, suc, cond, refl, sym, ap, ◌∙◌, arith, nat_le, nat_lt, nat_tests, stored, Value, HoldOn, ranged, Values, further, next_value}
 use Rattle.dm_replay.specs.declared.value.Value.TheVariants as value
+use Rattle.std.specs.Prelude.{◌≡◌, ◌+◌, ◌-◌, ◌<◌, ◌==◌, ◌&&◌}
 
 pub further_next : (first : Value) (n : ℕ) → further (next_value first) n ≡ further first (suc n)
 further_next (value.Old disk sector) n = rw (let e : suc sector + n ≡ sector + suc n = omega arith in e)

@@ -1,7 +1,8 @@
 -- The state that a halted request leaves, by mapping its whole sectors once more.
-use Rattle.dm_replay.proofs.Prelude.{◌≡◌, ℕ, zero, suc, ◌+◌, ◌-◌, ◌<◌, ◌≤◌, Bool, true, false, cond, List, [], ◌∷◌, ◌++◌, get_or, length, min, nat_lt, replicate, take, refl, sym, ap, ◌∙◌, arith, nat_tests, take_more, Op, Device, Description, device_len, answers, sector_after, sector_past, MapperView, request_step, sector_step, State, start_state, keep, steps, halted_state, halted_units, BlockUnit, Fails, KeptWrite, rerun_from, rerun_step, with_request}
+use Rattle.dm_replay.proofs.Prelude.{ℕ, zero, suc, Bool, true, false, cond, List, [], get_or, length, min, nat_lt, replicate, take, refl, sym, ap, ◌∙◌, arith, nat_tests, take_more, Op, Device, Description, device_len, answers, sector_after, sector_past, MapperView, request_step, sector_step, State, start_state, keep, steps, halted_state, halted_units, BlockUnit, Fails, KeptWrite, rerun_from, rerun_step, with_request}
 use Rattle.dm_table.specs.declared.requests.request.Op.TheVariants as ops
 use Rattle.dm_stack.specs.declared.checks.graph.TheConstants.{MOST_DEPTH}
+use Rattle.std.specs.Prelude.{◌≡◌, ◌+◌, ◌-◌, ◌<◌, ◌≤◌, ◌∷◌, ◌++◌}
 
 -- Requests that change no state
 

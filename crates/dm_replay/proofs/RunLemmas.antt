@@ -1,6 +1,7 @@
 -- Runs in a row, and what they answer.
-use Rattle.dm_replay.proofs.Prelude.{◌≡◌, ℕ, zero, suc, ◌+◌, ◌<◌, List, [], ◌∷◌, ◌++◌, append_assoc, refl, sym, ap, ◌∙◌, arith, AllByRecursion, flat_map-append, append-nil, ValueRun, NoneJoins, AreMaximal, Joins, answers_in, first_answer, flat, further_answer, next_answer, run_answers, run_len, Answer, Gives, Failed}
+use Rattle.dm_replay.proofs.Prelude.{ℕ, zero, suc, List, [], append_assoc, refl, sym, ap, ◌∙◌, arith, AllByRecursion, flat_map-append, append-nil, ValueRun, NoneJoins, AreMaximal, Joins, answers_in, first_answer, flat, further_answer, next_answer, run_answers, run_len, Answer, Gives, Failed}
 use Rattle.dm_replay.proofs.RangeLemmas.{further_next, further_none}
+use Rattle.std.specs.Prelude.{◌≡◌, ◌+◌, ◌<◌, ◌∷◌, ◌++◌}
 
 -- What they answer
 

@@ -1,10 +1,11 @@
 -- Ranges of what was stored on a disk.
-use Rattle.dm_replay.proofs.Prelude.{◌≡◌, ◌⊎◌, ℕ, suc, ◌+◌, ◌-◌, ◌<◌, ◌≤◌, ◌^◌, Bool, true, false, cond, List, [], ◌∷◌, length, Option, Some, None, Less, refl, sym, ap, ◌∙◌, arith, rules, inl, inr, ◌&&◌, nat_le, nat_lt, IsSome, cases_eq, cases_order, nat_tests, common_steps, get_or_past, slice_get, is_gt, nat_cmp, BTreeMap, IsOrdered, Updates, get, is_at, RangeValues, Value, AreFirst, HoldOn, AreApart, Has, IsBare, IsCleared, IsCut, IsLastBefore, IsRoomMade, KeepsStored, NoneFrom, Shows, Stored, held, spanned, stored_in, values_of, further}
+use Rattle.dm_replay.proofs.Prelude.{ℕ, suc, Bool, true, false, cond, List, [], length, Option, Some, None, Less, refl, sym, ap, ◌∙◌, arith, rules, inl, inr, nat_le, nat_lt, IsSome, cases_eq, cases_order, nat_tests, common_steps, get_or_past, slice_get, is_gt, nat_cmp, BTreeMap, IsOrdered, Updates, get, is_at, RangeValues, Value, AreFirst, HoldOn, AreApart, Has, IsBare, IsCleared, IsCut, IsLastBefore, IsRoomMade, KeepsStored, NoneFrom, Shows, Stored, held, spanned, stored_in, values_of, further}
 use Rattle.std.proofs.lemmas.Map.Entries.{btree_map_get_place}
 use Rattle.std.specs.Cmp.{nat_cmp_total}
 use Rattle.std.specs.Map.{lookup}
 use Rattle.dm_replay.specs.declared.value.Value.TheVariants as value
 use Rattle.dm_replay.proofs.RangeLemmas.{further_twice}
+use Rattle.std.specs.Prelude.{◌≡◌, ◌⊎◌, ◌+◌, ◌-◌, ◌<◌, ◌≤◌, ◌^◌, ◌∷◌, ◌&&◌}
 
 -- a map with another value, or none, at a key
 pub record Sets (old new : BTreeMap ℕ RangeValues) (key : ℕ) (to : Option RangeValues) : Type 0 where

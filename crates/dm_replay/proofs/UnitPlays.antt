@@ -1,8 +1,9 @@
 -- What units in a row do to the values of disks, and answer.
-use Rattle.dm_replay.proofs.Prelude.{◌≡◌, ℕ, zero, suc, ◌+◌, ◌<◌, ◌≤◌, [], refl, sym, ◌∙◌, arith, sector_past, stored, ReadOf, WriteOf, Zeros, Drops, Fails, CopyOf, FillOf, units_in, Value, CanCopyAtOnce, HoldOn, ranged, AreSame, answers_in, Gives, Failed, Values, next_value, played, played_answers}
+use Rattle.dm_replay.proofs.Prelude.{ℕ, zero, suc, [], refl, sym, ◌∙◌, arith, sector_past, stored, ReadOf, WriteOf, Zeros, Drops, Fails, CopyOf, FillOf, units_in, Value, CanCopyAtOnce, HoldOn, ranged, AreSame, answers_in, Gives, Failed, Values, next_value, played, played_answers}
 use Rattle.dm_map.specs.own.Contents.{played as contents_played}
 use Rattle.dm_replay.specs.declared.value.Value.TheVariants as value
 use Rattle.dm_replay.proofs.RangeLemmas.{hold_here, hold_later, ranged_none, ranged_step, stored_other}
+use Rattle.std.specs.Prelude.{◌≡◌, ◌+◌, ◌<◌, ◌≤◌}
 
 -- Units that change nothing
 

@@ -1,11 +1,12 @@
 -- Worlds after one request more, played to its end or halted.
-use Rattle.dm_replay.proofs.Prelude.{◌≡◌, ℕ, ◌+◌, ◌-◌, ◌<◌, ◌≤◌, false, cond, List, [], ◌∷◌, ◌++◌, length, min, nat_lt, Option, Some, None, refl, ◌∙◌, arith, AllByRecursion, Op, Request, IsTidy, IsTop, Description, device_len, MapperView, left_state, played_of, request_step, step_for, IsFitting, State, sector_past, halted_units, AreAlone, KeptWrite, RangeValues, Value, ValueRun, Asked, World, asked_answers, first_world, next_world, with_values, world_after, world_from, AreValuesOf, values_of, answers_cong, played_cong, AreOfTops, IsGoing, IsKept, whole_request, kept_request, rerun_from, with_request, flat, old_values, played, played_answers, all_append}
+use Rattle.dm_replay.proofs.Prelude.{ℕ, false, cond, List, [], length, min, nat_lt, Option, Some, None, refl, ◌∙◌, arith, AllByRecursion, Op, Request, IsTidy, IsTop, Description, device_len, MapperView, left_state, played_of, request_step, step_for, IsFitting, State, sector_past, halted_units, AreAlone, KeptWrite, RangeValues, Value, ValueRun, Asked, World, asked_answers, first_world, next_world, with_values, world_after, world_from, AreValuesOf, values_of, answers_cong, played_cong, AreOfTops, IsGoing, IsKept, whole_request, kept_request, rerun_from, with_request, flat, old_values, played, played_answers, all_append}
 use Rattle.dm_table.specs.declared.requests.request.Op.TheVariants as ops
 use Rattle.dm_replay.proofs.OfDiskLemmas.{old_of, same_of}
 use Rattle.dm_replay.proofs.OwnWorlds.{own_after}
 use Rattle.dm_replay.proofs.Playbacks.{units_asked}
 use Rattle.dm_replay.proofs.RerunLemmas.{next_inside, rerun_halted, rerun_more, whole_few}
 use Rattle.dm_replay.proofs.StoredLemmas.{nothing_held}
+use Rattle.std.specs.Prelude.{◌≡◌, ◌+◌, ◌-◌, ◌<◌, ◌≤◌, ◌∷◌, ◌++◌}
 
 from-push : (stack : Description) (world : World) (all : List Asked) (asked : Asked) → world_from stack world (all ++ asked ∷ []) ≡ next_world stack (world_from stack world all) asked
 unfolding world_from

@@ -1,8 +1,9 @@
 -- What a halting player has played.
-use Rattle.dm_replay.specs.Base.{◌≡◌, ◌+◌, ◌<◌, List, length, take, BlockUnit}
+use Rattle.dm_replay.specs.Base.{List, length, take, BlockUnit}
 use Rattle.dm_replay.specs.declared.halting.Halting.{Halting}
 use Rattle.dm_replay.specs.OfDisks.{AreUnitsOf}
 use Rattle.dm_replay.specs.Player.{HasPlayed}
+use Rattle.std.specs.Prelude.{◌≡◌, ◌+◌, ◌<◌}
 
 -- these units, on the disks of its stack, of those that were left
 pub record HasTaken (old : Halting) (units : List BlockUnit) (new : Halting) : Type 0 where

@@ -1,8 +1,9 @@
 -- What there is after the requests of a replay, and what each of them answers.
-use Rattle.dm_replay.specs.Base.{ℕ, List, [], ◌∷◌, Option, Op, Description, Moment, after_asked, asked_units, rows_in, State, Value}
+use Rattle.dm_replay.specs.Base.{ℕ, List, [], Option, Op, Description, Moment, after_asked, asked_units, rows_in, State, Value}
 use Rattle.dm_map.specs.own.Histories as history
 use Rattle.dm_replay.specs.declared.value.Value.TheVariants as value
 use Rattle.dm_replay.specs.Values.{Answer, old_values, played_answers}
+use Rattle.std.specs.Prelude.{◌∷◌}
 
 -- a request that was accepted, of a device by its id; it was played whole, or halted after this many of its units
 pub record Asked : Type 0 where

@@ -1,9 +1,10 @@
 -- Units, values and answers that name only disks of a stack, which has the given number of them.
-use Rattle.dm_replay.specs.Base.{◌≡◌, ℕ, ◌<◌, List, AllByRecursion, BlockUnit, ReadOf, CopyOf, Value, ValueRun}
+use Rattle.dm_replay.specs.Base.{ℕ, List, AllByRecursion, BlockUnit, ReadOf, CopyOf, Value, ValueRun}
 use Rattle.dm_replay.specs.declared.value.Value.TheVariants as value
 use Rattle.dm_replay.specs.declared.value_run.ValueRun.TheVariants as runs
 use Rattle.dm_replay.specs.Runs.{AreMaximal, flat}
 use Rattle.dm_replay.specs.Values.{Answer, Gives, Failed, Values}
+use Rattle.std.specs.Prelude.{◌≡◌, ◌<◌}
 
 -- a value that names no disk but those below a count
 abbrev pub IsValueOf : (disks : ℕ) → Value → Type 0

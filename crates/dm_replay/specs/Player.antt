@@ -1,9 +1,10 @@
 -- What a player of units has played.
-use Rattle.dm_replay.specs.Base.{◌≡◌, ℕ, List, ◌++◌, sector_past, BlockUnit}
+use Rattle.dm_replay.specs.Base.{ℕ, List, sector_past, BlockUnit}
 use Rattle.dm_replay.specs.declared.playing.Playing.{Playing}
 use Rattle.dm_replay.specs.Stored.{values_of}
 use Rattle.dm_replay.specs.Runs.{flat}
 use Rattle.dm_replay.specs.Values.{played, played_answers}
+use Rattle.std.specs.Prelude.{◌≡◌, ◌++◌}
 
 -- these units were played, and answered
 pub record HasPlayed (old : Playing) (units : List BlockUnit) (new : Playing) : Type 0 where

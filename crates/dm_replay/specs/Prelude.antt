@@ -1,6 +1,6 @@
 -- The words that contracts cite, here and in crates above, from one place.
 pub use Rattle.dm_map.specs.Prelude.{FillOf, IsOnDisk, IsOnDisks, halted_units, piece_len, step_for, units_in, units_of}
-pub use Rattle.dm_replay.specs.Base.{AllByRecursion, AreTops, CopyOf, IsFitting, IsIntact, IsTidy, IsTop, None, OnFalse, OnTrue, Option, ReadOf, Some, WriteOf, [], code, decimal, device_len, false, if◌then◌else◌, is_same, length, nat_lt, position, start_state, true, ℕ, ◌+◌, ◌++◌, ◌-◌, ◌<◌, ◌==◌, ◌^◌, ◌∷◌, ◌≡◌, ◌≤◌}
+pub use Rattle.dm_replay.specs.Base.{AllByRecursion, AreTops, CopyOf, IsFitting, IsIntact, IsTidy, IsTop, None, OnFalse, OnTrue, Option, ReadOf, Some, WriteOf, [], code, decimal, device_len, false, is_same, length, nat_lt, position, start_state, true, ℕ}
 unfoldable pub use Rattle.dm_replay.specs.Base.{sector_past}
 pub use Rattle.dm_replay.specs.Halting.{HasHalted, HasTaken}
 pub use Rattle.dm_replay.specs.Histories.{Asked, World, asked_answers, first_world, next_world, with_values, world_after}

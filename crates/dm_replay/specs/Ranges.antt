@@ -1,7 +1,8 @@
 -- Values of ranges of disks.
-use Rattle.dm_replay.specs.Base.{◌≡◌, ℕ, ◌+◌, ◌-◌, ◌≤◌, ◌<◌, ◌&&◌, ◌==◌, Bool, nat_le, nat_lt, if◌then◌else◌, Value}
+use Rattle.dm_replay.specs.Base.{ℕ, Bool, nat_le, nat_lt, Value}
 use Rattle.dm_replay.specs.declared.range_values.RangeValues.{RangeValues}
 use Rattle.dm_replay.specs.Values.{Values, further}
+use Rattle.std.specs.Prelude.{◌≡◌, ◌+◌, ◌-◌, ◌≤◌, ◌<◌, ◌&&◌, ◌==◌, if◌then◌else◌}
 
 -- a sector of a disk is one of len sectors from a start on
 abbrev pub is_within : (on start len disk sector : ℕ) → Bool

@@ -1,5 +1,5 @@
 -- A replay, and what its results say.
-use Rattle.dm_replay.specs.Base.{◌≡◌, ℕ, ◌+◌, ◌<◌, ◌≤◌, Bool, true, false, List, [], ◌∷◌, ◌++◌, None, Some, length, position, AllByRecursion, Request, AreTops, IsClash, IsTidy, IsTop, claims, Description, device_id, device_len, is_same, MapperView, IsAmple, IsIntact, IsFitting, State, start_state, KeptWrite, ValueRun}
+use Rattle.dm_replay.specs.Base.{ℕ, Bool, true, false, List, [], None, Some, length, position, AllByRecursion, Request, AreTops, IsClash, IsTidy, IsTop, claims, Description, device_id, device_len, is_same, MapperView, IsAmple, IsIntact, IsFitting, State, start_state, KeptWrite, ValueRun}
 use Rattle.dm_table.specs.declared.requests.request.Op.TheVariants.{Read}
 use Rattle.dm_stack.specs.declared.claims.clash.Clash.{Clash}
 use Rattle.dm_table.specs.declared.requests.request.TheConstants.{MOST_SECTORS}
@@ -12,6 +12,7 @@ use Rattle.dm_replay.specs.Reruns.{kept_request, rerun_from}
 use Rattle.dm_replay.specs.Rows.{AreExactlyRow, AreOfRow, rows_after}
 use Rattle.dm_replay.specs.Runs.{flat}
 use Rattle.dm_replay.specs.Stored.{values_of}
+use Rattle.std.specs.Prelude.{◌≡◌, ◌+◌, ◌<◌, ◌≤◌, ◌∷◌, ◌++◌}
 
 -- a replay: its stack, the state that it began from, the requests that it accepted, and whether it failed: it was out of memory
 pub record Replaying : Type 0 where

@@ -1,8 +1,9 @@
 -- The requests that a replay accepted, and the state that its writes leave where they are mapped once more.
-use Rattle.dm_replay.specs.Base.{ℕ, List, [], ◌∷◌, ◌++◌, Option, map, Op, Request, Description, MapperView, request_step, State, KeptWrite}
+use Rattle.dm_replay.specs.Base.{ℕ, List, [], Option, map, Op, Request, Description, MapperView, request_step, State, KeptWrite}
 use Rattle.dm_table.specs.declared.requests.request.Op.TheVariants as ops
 use Rattle.dm_replay.specs.declared.asked_request.AskedRequest.{AskedRequest}
 use Rattle.dm_replay.specs.Histories.{Asked}
+use Rattle.std.specs.Prelude.{◌∷◌, ◌++◌}
 
 -- a request of a device, played to its end or halted after this many units
 abbrev pub kept_request : Request → (id : ℕ) → Option ℕ → Asked

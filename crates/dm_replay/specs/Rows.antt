@@ -1,7 +1,8 @@
 -- What each device would hold if it were alone on disks of its own: one row of answers, which only writes to it change.
-use Rattle.dm_replay.specs.Base.{◌≡◌, ◌⊎◌, ℕ, suc, List, [], ◌∷◌, Option, Some, None, Description, Rows, State, Value}
+use Rattle.dm_replay.specs.Base.{ℕ, suc, List, [], Option, Some, None, Description, Rows, State, Value}
 use Rattle.dm_replay.specs.Histories.{Asked, world_after}
 use Rattle.dm_replay.specs.Values.{Answer, Gives, Failed}
+use Rattle.std.specs.Prelude.{◌≡◌, ◌⊎◌, ◌∷◌}
 
 -- what a sector answers that has this, or none
 abbrev pub answer_of : Option Value → Answer

@@ -1,6 +1,7 @@
 -- How runs are written: a line each, under the number of their request.
-use Rattle.dm_replay.specs.Base.{ℕ, List, [], ◌∷◌, ◌++◌, codes, decimal, flat_map, code, Description, disk_name_at, ValueRun}
+use Rattle.dm_replay.specs.Base.{ℕ, List, [], codes, decimal, flat_map, code, Description, disk_name_at, ValueRun}
 use Rattle.dm_replay.specs.declared.value_run.ValueRun.TheVariants as runs
+use Rattle.std.specs.Prelude.{◌∷◌, ◌++◌}
 
 -- a run, after the number
 abbrev pub run_text : Description → ValueRun → List ℕ

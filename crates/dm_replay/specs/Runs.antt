@@ -1,8 +1,9 @@
 -- Runs of answers: consecutive sectors whose answers go on, as one.
-use Rattle.dm_replay.specs.Base.{◌≡◌, ℕ, zero, suc, ◌<◌, List, [], ◌∷◌, AllByRecursion, flat_map, ValueRun}
+use Rattle.dm_replay.specs.Base.{ℕ, zero, suc, List, [], AllByRecursion, flat_map, ValueRun}
 use Rattle.dm_replay.specs.declared.value.Value.TheVariants as value
 use Rattle.dm_replay.specs.declared.value_run.ValueRun.TheVariants as runs
 use Rattle.dm_replay.specs.Values.{Answer, Gives, Failed, next_value, further}
+use Rattle.std.specs.Prelude.{◌≡◌, ◌<◌, ◌∷◌}
 
 -- the answer of a run's first sector, and how many sectors it has
 abbrev pub first_answer : ValueRun → Answer

@@ -1,8 +1,9 @@
 -- What was stored in the sectors of a disk, as ranges by their first sectors.
-use Rattle.dm_replay.specs.Base.{◌≡◌, ℕ, ◌+◌, ◌-◌, ◌^◌, ◌<◌, ◌≤◌, ◌&&◌, nat_le, nat_lt, List, [], ◌∷◌, Option, Some, None, if◌then◌else◌, get_or, nat_cmp, BTreeMap, IsOrdered, get, Value}
+use Rattle.dm_replay.specs.Base.{ℕ, nat_le, nat_lt, List, [], Option, Some, None, get_or, nat_cmp, BTreeMap, IsOrdered, get, Value}
 use Rattle.dm_replay.specs.declared.range_values.RangeValues.{RangeValues}
 use Rattle.dm_replay.specs.declared.value.Value.TheVariants as value
 use Rattle.dm_replay.specs.Values.{Values, further}
+use Rattle.std.specs.Prelude.{◌≡◌, ◌+◌, ◌-◌, ◌^◌, ◌<◌, ◌≤◌, ◌&&◌, ◌∷◌, if◌then◌else◌}
 
 -- what was stored in each sector of a disk, if anything was
 abbrev pub Stored : Type 0

@@ -1,7 +1,8 @@
 -- What the sectors of disks hold, and what units do to it.
-use Rattle.dm_replay.specs.Base.{ℕ, suc, ◌+◌, List, [], ◌∷◌, ◌++◌, sector_after, BlockUnit, ReadOf, WriteOf, Zeros, Drops, Fails, Value}
+use Rattle.dm_replay.specs.Base.{ℕ, suc, List, [], sector_after, BlockUnit, ReadOf, WriteOf, Zeros, Drops, Fails, Value}
 use Rattle.dm_map.specs.own.Contents as contents
 use Rattle.dm_replay.specs.declared.value.Value.TheVariants as value
+use Rattle.std.specs.Prelude.{◌+◌, ◌∷◌, ◌++◌}
 
 -- what each sector of each disk holds
 abbrev pub Values : Type 0

@@ -1,6 +1,7 @@
 //! Requests that a replay accepted.
 
-ghost use Rattle.dm_replay.specs.Prelude.{◌≡◌, asked_of, kept_request};
+ghost use Rattle.dm_replay.specs.Prelude.{asked_of, kept_request};
+ghost use Rattle.std.specs.Prelude.{◌≡◌};
 
 use dm_stack::DeviceId;
 use dm_table::{Op, Request};

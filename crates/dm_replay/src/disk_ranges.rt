@@ -3,7 +3,8 @@
 //! Ranges that have no sector in common are in a map by their first sector. Of those that begin before a
 //! sector only the last can reach it, so a look-up finds it. Ranges that go on from each other are joined.
 
-ghost use Rattle.dm_replay.specs.Prelude.{◌≡◌, ℕ, ◌+◌, ◌<◌, ◌≤◌, ◌^◌, None, [], OnOk, IfSome, AreFirst, AreApart, Has, IsBare, IsCleared, IsCut, IsFirstFrom, IsLastBefore, IsRoomMade, KeepsCuts, KeepsStored, NoneFrom, Shows, Stored, held, spanned, stored_in};
+ghost use Rattle.dm_replay.specs.Prelude.{ℕ, None, [], OnOk, IfSome, AreFirst, AreApart, Has, IsBare, IsCleared, IsCut, IsFirstFrom, IsLastBefore, IsRoomMade, KeepsCuts, KeepsStored, NoneFrom, Shows, Stored, held, spanned, stored_in};
+ghost use Rattle.std.specs.Prelude.{◌≡◌, ◌+◌, ◌<◌, ◌≤◌, ◌^◌};
 
 use crate::range_values::RangeValues;
 use crate::value::Value;

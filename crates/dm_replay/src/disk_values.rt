@@ -3,7 +3,8 @@
 //! Each disk has its ranges, up to the last one in which something was stored. So memory grows with
 //! what was stored, however long the disks are.
 
-ghost use Rattle.dm_replay.specs.Prelude.{◌≡◌, ℕ, ◌+◌, ◌<◌, ◌≤◌, ◌^◌, [], length, OnOk, AreFirst, ranged, values_of};
+ghost use Rattle.dm_replay.specs.Prelude.{ℕ, [], length, OnOk, AreFirst, ranged, values_of};
+ghost use Rattle.std.specs.Prelude.{◌≡◌, ◌+◌, ◌<◌, ◌≤◌, ◌^◌};
 
 use crate::disk_ranges::DiskRanges;
 use crate::range_values::RangeValues;

@@ -1,6 +1,7 @@
 //! The list of requests that a replay accepted, which only proofs read.
 
-ghost use Rattle.dm_replay.specs.Prelude.{◌≡◌, ◌++◌, ◌∷◌, [], kept_request};
+ghost use Rattle.dm_replay.specs.Prelude.{[], kept_request};
+ghost use Rattle.std.specs.Prelude.{◌≡◌, ◌++◌, ◌∷◌};
 
 use crate::asked_request::AskedRequest;
 use dm_stack::DeviceId;

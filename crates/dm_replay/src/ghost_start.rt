@@ -1,6 +1,6 @@
 //! The state that a replay began from, which only proofs read.
 
-ghost use Rattle.dm_replay.specs.Prelude.{◌≡◌};
+ghost use Rattle.std.specs.Prelude.{◌≡◌};
 
 use dm_map::{Mapper, Taken};
 use dm_table::GhostList;

@@ -3,7 +3,8 @@
 //! It owns the player while a request is mapped. After a sink failed, nothing but the sink tells what
 //! was played, so what it says then has to speak of the values of its own player.
 
-ghost use Rattle.dm_replay.specs.Prelude.{◌≡◌, ◌<◌, ◌≤◌, true, false, OnErr, OnOk, IsOnDisks, piece_len, units_of, HasHalted, HasTaken};
+ghost use Rattle.dm_replay.specs.Prelude.{true, false, OnErr, OnOk, IsOnDisks, piece_len, units_of, HasHalted, HasTaken};
+ghost use Rattle.std.specs.Prelude.{◌≡◌, ◌<◌, ◌≤◌};
 
 use crate::player::Player;
 use dm_map::{Piece, Sink};
@@ -81,9 +82,10 @@ impl<'s> Halting<'s> {
 }
 
 impl Sink for Halting<'_> {
-    ghost use Rattle.dm_replay.specs.Base.{◌^◌, ◌≡◌, true, false, ◌∙◌};
+    ghost use Rattle.dm_replay.specs.Base.{true, false, ◌∙◌};
     ghost use Rattle.dm_replay.specs.Halting.{HasHalted, HasTaken};
     ghost use Rattle.dm_replay.specs.laws.Halt.{taken_both, taken_halted, taken_nothing};
+    ghost use Rattle.std.specs.Prelude.{◌^◌, ◌≡◌};
 
     type Fault = ();
 

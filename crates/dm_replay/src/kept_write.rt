@@ -1,6 +1,7 @@
 //! Writes that a replay keeps, to map them once more.
 
-ghost use Rattle.dm_replay.specs.Prelude.{◌≡◌, OnOk, with_request};
+ghost use Rattle.dm_replay.specs.Prelude.{OnOk, with_request};
+ghost use Rattle.std.specs.Prelude.{◌≡◌};
 
 use dm_stack::DeviceId;
 use dm_table::Op;

@@ -1,7 +1,8 @@
 //! The playback of one request: its units, or the first of them, through a mapper, on the values of disks.
 
-ghost use Rattle.dm_replay.specs.Prelude.{◌≡◌, false, length, min, IfOk, OnOk, device_len, sector_past, halted_units, step_for, AreRunsOf, values_of, played_answers};
+ghost use Rattle.dm_replay.specs.Prelude.{false, length, min, IfOk, OnOk, device_len, sector_past, halted_units, step_for, AreRunsOf, values_of, played_answers};
 ghost use Rattle.dm_replay.specs.Playback.{CanPlay, HasPlayedOf};
+ghost use Rattle.std.specs.Prelude.{◌≡◌};
 
 use crate::halting::Halting;
 use crate::player::Player;

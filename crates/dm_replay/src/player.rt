@@ -3,7 +3,8 @@
 //! Its relation speaks of values sector by sector, so nothing above knows that they are kept as
 //! ranges. Nothing is said of a player that failed.
 
-ghost use Rattle.dm_replay.specs.Prelude.{◌≡◌, ◌+◌, ◌<◌, ◌≤◌, ◌^◌, [], OnOk, IsOnDisk, IsOnDisks, piece_len, units_of, HasPlayed, AreMaximal};
+ghost use Rattle.dm_replay.specs.Prelude.{[], OnOk, IsOnDisk, IsOnDisks, piece_len, units_of, HasPlayed, AreMaximal};
+ghost use Rattle.std.specs.Prelude.{◌≡◌, ◌+◌, ◌<◌, ◌≤◌, ◌^◌};
 
 use crate::disk_values::DiskValues;
 use crate::playing::Playing;
@@ -120,11 +121,12 @@ fn recall_length(stack: &Stack, disk: DiskId, start: u64, len: u64)
 }
 
 impl Sink for Player<'_> {
-    ghost use Rattle.dm_replay.specs.Base.{◌^◌, ◌≡◌, length, refl, subst, ◌∙◌, Description};
+    ghost use Rattle.dm_replay.specs.Base.{length, refl, subst, ◌∙◌, Description};
     ghost use Rattle.dm_replay.specs.Player.{HasPlayed};
     ghost use Rattle.dm_replay.specs.OfDisks.{AreUnitsOf};
     ghost use Rattle.dm_replay.specs.laws.OfDisks.{units_of-append};
     ghost use Rattle.dm_replay.specs.laws.Play.{played_nothing, played_both};
+    ghost use Rattle.std.specs.Prelude.{◌^◌, ◌≡◌};
 
     type Fault = AllocError;
 

@@ -1,6 +1,7 @@
 //! Playing: what the pieces of a request do to the values of disks, and answer.
 
-ghost use Rattle.dm_replay.specs.Prelude.{◌≡◌, ◌+◌, ◌<◌, ◌≤◌, ◌^◌, ◌++◌, OnOk, ReadOf, WriteOf, CopyOf, FillOf, units_in, CanCopyAtOnce, HasPlayed, flat, run_answers, run_len};
+ghost use Rattle.dm_replay.specs.Prelude.{OnOk, ReadOf, WriteOf, CopyOf, FillOf, units_in, CanCopyAtOnce, HasPlayed, flat, run_answers, run_len};
+ghost use Rattle.std.specs.Prelude.{◌≡◌, ◌+◌, ◌<◌, ◌≤◌, ◌^◌, ◌++◌};
 
 use crate::disk_values::DiskValues;
 use crate::range_values::RangeValues;

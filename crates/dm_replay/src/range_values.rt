@@ -1,7 +1,8 @@
 //! The values of consecutive sectors, which go on from that of the first.
 
-ghost use Rattle.dm_replay.specs.Base.{◌≡◌, ◌≢◌, ◌+◌, ◌<◌, ◌≤◌, ◌^◌, OnTrue, OnFalse};
+ghost use Rattle.dm_replay.specs.Base.{OnTrue, OnFalse};
 ghost use Rattle.dm_replay.specs.Values.{further, value_end};
+ghost use Rattle.std.specs.Prelude.{◌≡◌, ◌≢◌, ◌+◌, ◌<◌, ◌≤◌, ◌^◌};
 
 use crate::value::Value;
 

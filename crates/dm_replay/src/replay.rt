@@ -3,7 +3,8 @@
 //! `specs/Histories.antt` says what the disks hold after the requests that were accepted, and what a
 //! request answers then; `specs/Rows.antt` says what each device would hold if it were alone.
 
-ghost use Rattle.dm_replay.specs.Prelude.{◌≡◌, ◌∷◌, ◌+◌, ◌++◌, ◌-◌, ◌<◌, ◌≤◌, [], IfErr, IfOk, IfSome, None, OnOk, Option, Some, false, if◌then◌else◌, length, nat_lt, position, AreTops, IsTidy, IsTop, device_len, is_same, world_after, AreOfTops, HasTop, IsAnswered, IsNotAnswered, IsNotBegun, IsNotHalted, IsUnanswered, IsIntact, IsFitting, start_state, asked_request, halted_request, new_replay, replay_from, whole_request};
+ghost use Rattle.dm_replay.specs.Prelude.{[], IfErr, IfOk, IfSome, None, OnOk, Option, Some, false, length, nat_lt, position, AreTops, IsTidy, IsTop, device_len, is_same, world_after, AreOfTops, HasTop, IsAnswered, IsNotAnswered, IsNotBegun, IsNotHalted, IsUnanswered, IsIntact, IsFitting, start_state, asked_request, halted_request, new_replay, replay_from, whole_request};
+ghost use Rattle.std.specs.Prelude.{◌≡◌, ◌∷◌, ◌+◌, ◌++◌, ◌-◌, ◌<◌, ◌≤◌, if◌then◌else◌};
 
 #[cfg(test)]
 mod tests;

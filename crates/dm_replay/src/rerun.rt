@@ -3,7 +3,8 @@
 //! A mapper whose sink failed maps nothing more. So a new one maps what was whole of each write, to
 //! a sink that takes everything and does nothing.
 
-ghost use Rattle.dm_replay.specs.Prelude.{◌≡◌, false, IfOk, AllByRecursion, start_state, IsKept, rerun_from, rerun_step};
+ghost use Rattle.dm_replay.specs.Prelude.{false, IfOk, AllByRecursion, start_state, IsKept, rerun_from, rerun_step};
+ghost use Rattle.std.specs.Prelude.{◌≡◌};
 
 use crate::kept_write::KeptWrite;
 use dm_map::{Discard, MapFault, Mapper, Taken};

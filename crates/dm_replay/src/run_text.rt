@@ -1,6 +1,7 @@
 //! The lines of runs, written to an output.
 
-ghost use Rattle.dm_replay.specs.Prelude.{◌++◌, ◌+◌, ◌≤◌, ◌∷◌, length, decimal, AllByRecursion, IsPut, Wrote, code, IsRunOf, run_line, run_text, runs_text};
+ghost use Rattle.dm_replay.specs.Prelude.{length, decimal, AllByRecursion, IsPut, Wrote, code, IsRunOf, run_line, run_text, runs_text};
+ghost use Rattle.std.specs.Prelude.{◌++◌, ◌+◌, ◌≤◌, ◌∷◌};
 
 use crate::value_run::ValueRun;
 use dm_stack::Stack;

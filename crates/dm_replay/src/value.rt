@@ -1,6 +1,7 @@
 //! Values: what a sector of a disk holds.
 
-ghost use Rattle.dm_replay.specs.Prelude.{◌≡◌, ◌+◌, ◌<◌, ◌^◌, first_answer, run_len, Gives, further, value_end};
+ghost use Rattle.dm_replay.specs.Prelude.{first_answer, run_len, Gives, further, value_end};
+ghost use Rattle.std.specs.Prelude.{◌≡◌, ◌+◌, ◌<◌, ◌^◌};
 
 use crate::value_run::ValueRun;
 use dm_stack::DiskId;

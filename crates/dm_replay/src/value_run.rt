@@ -1,6 +1,7 @@
 //! Runs: the answers of consecutive sectors.
 
-ghost use Rattle.dm_replay.specs.Prelude.{◌≡◌, ◌+◌, ◌==◌, OnTrue, OnFalse, Joins, first_answer, run_len};
+ghost use Rattle.dm_replay.specs.Prelude.{OnTrue, OnFalse, Joins, first_answer, run_len};
+ghost use Rattle.std.specs.Prelude.{◌≡◌, ◌+◌, ◌==◌};
 
 use dm_stack::DiskId;
 

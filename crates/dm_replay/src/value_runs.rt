@@ -1,6 +1,7 @@
 //! Runs in a row, as long as can be.
 
-ghost use Rattle.dm_replay.specs.Prelude.{◌≡◌, ◌<◌, ◌++◌, [], OnOk, AreMaximal, flat, run_answers, run_len};
+ghost use Rattle.dm_replay.specs.Prelude.{[], OnOk, AreMaximal, flat, run_answers, run_len};
+ghost use Rattle.std.specs.Prelude.{◌≡◌, ◌<◌, ◌++◌};
 
 use crate::value_run::ValueRun;
 use std::alloc::{AllocError, Global};

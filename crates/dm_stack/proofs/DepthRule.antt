@@ -1,9 +1,10 @@
 -- In a sound stack a device is one deeper than the deepest of what it names.
-use Rattle.dm_stack.proofs.Prelude.{◌≡◌, ℕ, zero, suc, ◌+◌, ◌<◌, ◌≤◌, Bool, false, List, [], ◌∷◌, ◌++◌, Some, arith, refl, ap, ◌∙◌, length, map, max, nat_lt, slice_get, option_map, flat_map, ltb-false, flat_map-append, get_or_from_slice_get, slice_get-map, LoadKind, Deep, DevRef, DeviceSpec, Line, Span, spans, Description, device_links, links, lower_of, ref_link, greatest, links_of, IsDeeperByOne, lower_depth, IsSound, depth_of, faults_by_id, line_links, cond_none}
+use Rattle.dm_stack.proofs.Prelude.{ℕ, zero, suc, Bool, false, List, [], Some, arith, refl, ap, ◌∙◌, length, map, max, nat_lt, slice_get, option_map, flat_map, ltb-false, flat_map-append, get_or_from_slice_get, slice_get-map, LoadKind, Deep, DevRef, DeviceSpec, Line, Span, spans, Description, device_links, links, lower_of, ref_link, greatest, links_of, IsDeeperByOne, lower_depth, IsSound, depth_of, faults_by_id, line_links, cond_none}
 use Rattle.dm_table.specs.declared.tables.table.DevRef.TheVariants as refs
 use Rattle.dm_stack.proofs.checks.DepthLemmas.{depth_to-deeper}
 use Rattle.dm_stack.proofs.checks.Passes.{passes_all}
 use Rattle.dm_stack.proofs.SoundLines.{lines_there, there}
+use Rattle.std.specs.Prelude.{◌≡◌, ◌+◌, ◌<◌, ◌≤◌, ◌∷◌, ◌++◌}
 
 -- Depths within the limit
 

@@ -1,8 +1,9 @@
 -- What has a sector is a device or a disk of the stack, and none is longer than a line may be.
-use Rattle.dm_stack.proofs.Prelude.{◌≡◌, ℕ, ◌^◌, ◌<◌, ◌≤◌, inl, inr, Option, Some, None, length, refl, arith, slice_get, cases_lt, option_map_or, slice_get_past, Lower, Description, device_len, disk_len, lower_len, IsSound}
+use Rattle.dm_stack.proofs.Prelude.{ℕ, inl, inr, Option, Some, None, length, refl, arith, slice_get, cases_lt, option_map_or, slice_get_past, Lower, Description, device_len, disk_len, lower_len, IsSound}
 use Rattle.dm_table.specs.declared.tables.disk.Disk.{Disk}
 use Rattle.dm_stack.specs.declared.id.Lower.TheVariants as lowers
 use Rattle.dm_stack.proofs.SoundLines.{device_small, disk_small}
+use Rattle.std.specs.Prelude.{◌≡◌, ◌^◌, ◌<◌, ◌≤◌}
 
 -- a device that has a sector is one of the stack
 pub device_there : (stack : Description) (device sector : ℕ) → sector < device_len stack device → device < length stack.devices

@@ -3,7 +3,7 @@ pub use Rattle.dm_stack.specs.Prelude.{AreFirst, AreFirsts, AreInside, AreLeft, 
 unfoldable pub use Rattle.dm_stack.specs.Prelude.{all_over, copied, depth_to, is_store_to, origin_over, snapshots_over}
 pub use Rattle.dm_table.proofs.FaultLemmas.{cond_none, first_fault-none, first_or-found, first_or-none, first_or-passed, unless-ok}
 pub use Rattle.dm_table.proofs.Lists.{all_append, all_changed, all_parts, append-nil_both, at_index, mapped}
-pub use Rattle.dm_table.proofs.Std.{All, All-cons, All-contains, All-contains_itself, All-drop, All-filter, All-from_recursion, All-map, All-nil, All-permutation, All-same, All-take, All-weaker, AllByRecursion, AllPairs, AllPass-from_list_all, Any-from_list_any, Bool, Bor, Contains, Contains-append_cases, Contains-append_left, Contains-append_right, Contains-get_or, Contains-push, Contains-push_cases, Decides-eqb, Err, FnReturns, FnReturnsAt, Global, IfErr, IfNone, IfOk, IfOk-weaker, IfSome, IfSome_then, IsDistinct-head, IsDistinct-tail, IsErrAnd, IsNonDecreasingBy, IsNonDecreasingBy-from_sort_by_key, IsPermutation, IsPermutation-keeps, IsPermutation-sym, IsTrue, List, None, Ok, OnOk, Option, Result, Some, String, Vec, [], add-one, after_first, all_pairs_push, and-false, and-true, and_assoc, and_comm, and_from, and_le_r, and_mask, and_parts, ap, append-nil, append_assoc, arith, below_more, bit_and, bytes_eq, bytes_eq-Decides, cases_Bool, cases_eq, cases_lt, cases_order, codes, cond, count_ones, decimal, div-add-mod, div-add-mod', div-lt_iff_lt-mul, div-mul-add, div-mul-le_self, drop, drop-cons, drop_all, drop_more, eq-eqb, eqb-false, eqb-true, err_from_is_err_and, fails_before_first, false, fill_by_all, filter, filter-append, filter_passes, find, find_at, flat_map, flat_map-append, flat_map-map, fold, fold-append, from_le_bytes, fun_ext, get_or, get_or-append_seam, get_or-chunk, get_or-map, get_or-map-range_with_len, get_or-range_with_len, get_or-replicate, get_or-set_other, get_or-set_same, get_or-take, get_or_append_left, get_or_default, get_or_from_slice_get, get_or_past, get_or_push, inl, inr, is_none, is_power_of_two, is_some, le-div_iff_mul-le, le-leb, le-ltb, le_bytes_8, le_of_mul-le-mul_right, leb-false, leb-suc-suc, leb-suc-zero, leb-true, length, length-append, length-drop, length-map, length-map-range_with_len, length-range_with_len, length-replicate, length-swap, length-take, length-take-le, length_permutation, length_push, list_all, list_all-append, list_any, list_any-append, list_any-from_Any, list_any_none, lt-leb, lt-ltb, lt_of_mul-lt-mul_right, ltb-false, ltb-true, map, map-append, map-id, map-map, map-range_with_len_more, mask_l-mod, max, min, mod-eq_of_lt, mod-lt, mod-mul-add, mod_below, mul-le-mul_left, mul-le-mul_right, mul_comm, nat_eq, nat_le, nat_lt, ne_eqb, nil_from_length, not, not-false, not-true, not_from_false, one-le-pow, one_shl, ones_cat, ones_le_self, option_map, option_map_or, or-false, or_cases, or_left, or_parts, or_right, passes_at_first, pos_of_ne-zero, position, position-Some, position_or_len, pow-add, pow-le-pow_right, pow-succ', pow_below, pow_mono, pow_pos, prefix_len, prefix_len-le-length, prefix_len_stops, range_with_len, recursion_from_All, refl, replicate, result_err, row_fits, rules, same_Some, set, slice_eq-Decides, slice_get, slice_get-get_or, slice_get-map, slice_get_cases, slice_get_past, slice_get_read, slice_get_within, slice_index_or, slice_range, split_at_first, string_bytes, subst, suc, sum_by, sum_by-cons, sum_by-set, swap, swapped_from_swap, sym, take, take-append-drop, take-append-le, take-append_seam, take-take, take_all, take_more, tests, tops_compared, trailing_mask_l, true, true_from_ne_false, true≢false, unwrap_or, w64, w8, zero, zero-add, zero_from_ones, zip2_splat, ℕ, ◌%◌, ◌&&◌, ◌*◌, ◌+◌, ◌++◌, ◌-◌, ◌/◌, ◌<◌, ◌==◌, ◌^◌, ◌||◌, ◌↔◌, ◌∙◌, ◌∷◌, ◌≡◌, ◌≢◌, ◌≤◌, ◌⊎◌}
+pub use Rattle.dm_table.proofs.Std.{All, All-cons, All-contains, All-contains_itself, All-drop, All-filter, All-from_recursion, All-map, All-nil, All-permutation, All-same, All-take, All-weaker, AllByRecursion, AllPairs, AllPass-from_list_all, Any-from_list_any, Bool, Bor, Contains, Contains-append_cases, Contains-append_left, Contains-append_right, Contains-get_or, Contains-push, Contains-push_cases, Decides-eqb, Err, FnReturns, FnReturnsAt, Global, IfErr, IfNone, IfOk, IfOk-weaker, IfSome, IfSome_then, IsDistinct-head, IsDistinct-tail, IsErrAnd, IsNonDecreasingBy, IsNonDecreasingBy-from_sort_by_key, IsPermutation, IsPermutation-keeps, IsPermutation-sym, IsTrue, List, None, Ok, OnOk, Option, Result, Some, String, Vec, [], add-one, after_first, all_pairs_push, and-false, and-true, and_assoc, and_comm, and_from, and_le_r, and_mask, and_parts, ap, append-nil, append_assoc, arith, below_more, bit_and, bytes_eq, bytes_eq-Decides, cases_Bool, cases_eq, cases_lt, cases_order, codes, cond, count_ones, decimal, div-add-mod, div-add-mod', div-lt_iff_lt-mul, div-mul-add, div-mul-le_self, drop, drop-cons, drop_all, drop_more, eq-eqb, eqb-false, eqb-true, err_from_is_err_and, fails_before_first, false, fill_by_all, filter, filter-append, filter_passes, find, find_at, flat_map, flat_map-append, flat_map-map, fold, fold-append, from_le_bytes, fun_ext, get_or, get_or-append_seam, get_or-chunk, get_or-map, get_or-map-range_with_len, get_or-range_with_len, get_or-replicate, get_or-set_other, get_or-set_same, get_or-take, get_or_append_left, get_or_default, get_or_from_slice_get, get_or_past, get_or_push, inl, inr, is_none, is_power_of_two, is_some, le-div_iff_mul-le, le-leb, le-ltb, le_bytes_8, le_of_mul-le-mul_right, leb-false, leb-suc-suc, leb-suc-zero, leb-true, length, length-append, length-drop, length-map, length-map-range_with_len, length-range_with_len, length-replicate, length-swap, length-take, length-take-le, length_permutation, length_push, list_all, list_all-append, list_any, list_any-append, list_any-from_Any, list_any_none, lt-leb, lt-ltb, lt_of_mul-lt-mul_right, ltb-false, ltb-true, map, map-append, map-id, map-map, map-range_with_len_more, mask_l-mod, max, min, mod-eq_of_lt, mod-lt, mod-mul-add, mod_below, mul-le-mul_left, mul-le-mul_right, mul_comm, nat_eq, nat_le, nat_lt, ne_eqb, nil_from_length, not, not-false, not-true, not_from_false, one-le-pow, one_shl, ones_cat, ones_le_self, option_map, option_map_or, or-false, or_cases, or_left, or_parts, or_right, passes_at_first, pos_of_ne-zero, position, position-Some, position_or_len, pow-add, pow-le-pow_right, pow-succ', pow_below, pow_mono, pow_pos, prefix_len, prefix_len-le-length, prefix_len_stops, range_with_len, recursion_from_All, refl, replicate, result_err, row_fits, rules, same_Some, set, slice_eq-Decides, slice_get, slice_get-get_or, slice_get-map, slice_get_cases, slice_get_past, slice_get_read, slice_get_within, slice_index_or, slice_range, split_at_first, string_bytes, subst, suc, sum_by, sum_by-cons, sum_by-set, swap, swapped_from_swap, sym, take, take-append-drop, take-append-le, take-append_seam, take-take, take_all, take_more, tests, tops_compared, trailing_mask_l, true, true_from_ne_false, true≢false, unwrap_or, w64, w8, zero, zero-add, zero_from_ones, zip2_splat, ℕ, ◌∙◌}
 unfoldable pub use Rattle.dm_table.proofs.Std.{IsDistinct}
 pub use Rattle.dm_table.specs.Prelude.{IsMemoryFault, Span, column_span, either, fault, faults_by, first_fault, first_or, is_device_name, spans, unless}
 pub use Rattle.dm_table.specs.Std.{ones-ones}

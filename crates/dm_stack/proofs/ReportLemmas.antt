@@ -1,5 +1,6 @@
 -- The lines of a report, put together from their parts.
-use Rattle.dm_stack.proofs.Prelude.{◌≡◌, ℕ, List, [], ◌∷◌, ◌++◌, append_assoc, Option, codes, decimal, length, Clash, Description, stack_depth, report_text, tidiness_text}
+use Rattle.dm_stack.proofs.Prelude.{ℕ, List, [], append_assoc, Option, codes, decimal, length, Clash, Description, stack_depth, report_text, tidiness_text}
+use Rattle.std.specs.Prelude.{◌≡◌, ◌∷◌, ◌++◌}
 
 pub clash_line : (front name lower sector first second : List ℕ) → front ++ name ≡ lower
     → codes "clash " ++ lower ++ 32 ∷ sector ++ 32 ∷ first ++ 32 ∷ second ≡ codes "clash " ++ (front ++ (name ++ (32 ∷ (sector ++ (32 ∷ (first ++ (32 ∷ second)))))))

@@ -1,10 +1,11 @@
 -- In a sound stack the snapshots are the devices whose first sector lies in a snapshot's line, and that line is all of them.
-use Rattle.dm_stack.proofs.Prelude.{◌≡◌, ℕ, ◌+◌, ◌<◌, Bool, true, false, cond, not, inl, inr, List, [], ◌∷◌, Some, arith, refl, sym, ap, subst, ◌∙◌, get_or, length, ◌==◌, ◌||◌, find, option_map, AllByRecursion, range_with_len, or-false, cases_lt, eqb-true, not-false, or_cases, or_left, or_parts, or_right, filter_passes, slice_get_past, Line, Target, ResolvedLine, ResolvedSnapshot, found_at, resolved_line, resolved_target, holds, line_of, Description, device_len, end_of, lines_at, lower_len, lower_of, AreSnapshots, IsSnapshot, has_snapshot, is_snapshot, snapshots, resolved_snapshot, IsSound, is_bad_chunk, is_bad_snapshot}
+use Rattle.dm_stack.proofs.Prelude.{ℕ, Bool, true, false, cond, not, inl, inr, List, [], Some, arith, refl, sym, ap, subst, ◌∙◌, get_or, length, find, option_map, AllByRecursion, range_with_len, or-false, cases_lt, eqb-true, not-false, or_cases, or_left, or_parts, or_right, filter_passes, slice_get_past, Line, Target, ResolvedLine, ResolvedSnapshot, found_at, resolved_line, resolved_target, holds, line_of, Description, device_len, end_of, lines_at, lower_len, lower_of, AreSnapshots, IsSnapshot, has_snapshot, is_snapshot, snapshots, resolved_snapshot, IsSound, is_bad_chunk, is_bad_snapshot}
 use Rattle.dm_table.specs.declared.tables.table.Target.TheVariants as targets
 use Rattle.dm_stack.specs.declared.lines.resolved_line.ResolvedTarget.TheVariants as found
 use Rattle.dm_stack.proofs.checks.LayoutLemmas.{AreInRow}
 use Rattle.dm_stack.proofs.lines.Members.{in_range, kept}
 use Rattle.dm_stack.proofs.SoundLines.{device_some, device_sound, holds_from, lines_there, there}
+use Rattle.std.specs.Prelude.{◌≡◌, ◌+◌, ◌<◌, ◌∷◌, ◌==◌, ◌||◌}
 
 -- A device with a snapshot's line has no other
 

@@ -1,5 +1,5 @@
 -- What a sound stack says of its devices, of its disks, and of the line of a sector.
-use Rattle.dm_stack.proofs.Prelude.{◌≡◌, ℕ, zero, suc, ◌+◌, ◌*◌, ◌^◌, ◌<◌, ◌≤◌, Bool, true, false, nat_lt, nat_le, List, [], ◌∷◌, length, map, Some, refl, sym, ap, subst, ◌∙◌, arith, ◌/◌, ◌%◌, ◌==◌, ◌&&◌, ◌||◌, not, find, position, slice_get, AllByRecursion, flat_map, list_any, position_or_len, and_parts, or_parts, leb-true, le-leb, ltb-true, ltb-false, lt-ltb, eqb-true, not-false, length-map, find_at, passes_at_first, get_or_from_slice_get, slice_get_within, div-add-mod, mul_comm, DevRef, StoreKind, Target, Line, Own, DeviceSpec, Limit, Empty, Stripe, Range, Snapshot, Store, column_span, Lower, ResolvedLine, Description, lines_at, lines_or_none, end_of, device_len, lower_len, lower_of, holds, line_of, resolved_line, resolved_columns, resolved_target, found_at, LiesIn, AreStripes, IsOriginSound, IsSnapshotSound, IsTargetSound, copied, has_crowd, is_whole, origin_over, resolved_snapshot, snapshots_over, all_lines, is_large, without_lines, empty_in, misplaced_in, is_bad_chunk, is_bad_snapshot, is_bad_stripe, has_bad_store, has_bad_stripes, bad_snapshots_in, IsSound, passes_end, all_parts, append-nil_both, at_index}
+use Rattle.dm_stack.proofs.Prelude.{ℕ, zero, suc, Bool, true, false, nat_lt, nat_le, List, [], length, map, Some, refl, sym, ap, subst, ◌∙◌, arith, not, find, position, slice_get, AllByRecursion, flat_map, list_any, position_or_len, and_parts, or_parts, leb-true, le-leb, ltb-true, ltb-false, lt-ltb, eqb-true, not-false, length-map, find_at, passes_at_first, get_or_from_slice_get, slice_get_within, div-add-mod, mul_comm, DevRef, StoreKind, Target, Line, Own, DeviceSpec, Limit, Empty, Stripe, Range, Snapshot, Store, column_span, Lower, ResolvedLine, Description, lines_at, lines_or_none, end_of, device_len, lower_len, lower_of, holds, line_of, resolved_line, resolved_columns, resolved_target, found_at, LiesIn, AreStripes, IsOriginSound, IsSnapshotSound, IsTargetSound, copied, has_crowd, is_whole, origin_over, resolved_snapshot, snapshots_over, all_lines, is_large, without_lines, empty_in, misplaced_in, is_bad_chunk, is_bad_snapshot, is_bad_stripe, has_bad_store, has_bad_stripes, bad_snapshots_in, IsSound, passes_end, all_parts, append-nil_both, at_index}
 use Rattle.dm_table.specs.declared.tables.table.Column.{Column}
 use Rattle.dm_table.specs.declared.tables.disk.Disk.{Disk}
 use Rattle.dm_table.specs.Prelude.{target_spans}
@@ -11,6 +11,7 @@ use Rattle.dm_stack.proofs.checks.LayoutLemmas.{AreInRow, in_row}
 use Rattle.dm_stack.proofs.checks.ChunkLemmas.{chunk_within}
 use Rattle.dm_stack.proofs.lines.Members.{found_there, only}
 use Rattle.dm_stack.proofs.checks.Passes.{faults_by_none, passes_all}
+use Rattle.std.specs.Prelude.{◌≡◌, ◌+◌, ◌*◌, ◌^◌, ◌<◌, ◌≤◌, ◌∷◌, ◌/◌, ◌%◌, ◌==◌, ◌&&◌, ◌||◌}
 
 -- A search in a list, and in what its elements become
 

@@ -1,9 +1,10 @@
 -- What a stack is, for every definition: its devices with their lines, and its disks, by their indexes in the lists.
-use Rattle.dm_stack.specs.Base.{ℕ, ◌+◌, ◌==◌, Bool, false, List, [], ◌∷◌, Option, Some, None, map, nat_eq, slice_get, flat_map, position_or_len, option_map_or, pointwise, DevRef, Line, DeviceSpec, spans}
+use Rattle.dm_stack.specs.Base.{ℕ, Bool, false, List, [], Option, Some, None, map, nat_eq, slice_get, flat_map, position_or_len, option_map_or, pointwise, DevRef, Line, DeviceSpec, spans}
 use Rattle.dm_table.specs.declared.tables.disk.Disk.{Disk}
 use Rattle.dm_table.specs.declared.tables.table.DevRef.TheVariants as refs
 use Rattle.dm_stack.specs.declared.id.Lower.{Lower}
 use Rattle.dm_stack.specs.declared.id.Lower.TheVariants as lowers
+use Rattle.std.specs.Prelude.{◌+◌, ◌==◌, ◌∷◌}
 
 -- the devices of one list, and the disks of the other
 pub record Description : Type 0 where

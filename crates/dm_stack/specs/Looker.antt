@@ -1,6 +1,7 @@
 -- What a looker is.
-use Rattle.dm_stack.specs.Base.{ℕ, suc, ◌^◌, nat_lt, if◌then◌else◌}
+use Rattle.dm_stack.specs.Base.{ℕ, suc, nat_lt}
 use Rattle.dm_stack.specs.Description.{Description}
+use Rattle.std.specs.Prelude.{◌^◌, if◌then◌else◌}
 
 -- a looker: its stack, and the counts of its searches and of their comparisons of a start with a sector
 pub record Looking : Type 0 where

@@ -1,11 +1,12 @@
 -- What a check says of a stack.
-use Rattle.dm_stack.specs.Base.{◌≡◌, ℕ, List, [], ◌∷◌, ◌++◌, Option, Some, None, codes, decimal, length, code}
+use Rattle.dm_stack.specs.Base.{ℕ, List, [], Option, Some, None, codes, decimal, length, code}
 use Rattle.dm_stack.specs.declared.claims.clash.Clash.{Clash}
 use Rattle.dm_stack.specs.declared.id.Lower.{Lower}
 use Rattle.dm_stack.specs.declared.id.Lower.TheVariants.{Device, Disk}
 use Rattle.dm_stack.specs.claims.Claims.{IsFirstClash, claims}
 use Rattle.dm_stack.specs.Description.{Description, disk_name_at, name_at}
 use Rattle.dm_stack.specs.checks.Depth.{stack_depth}
+use Rattle.std.specs.Prelude.{◌≡◌, ◌∷◌, ◌++◌}
 
 -- a lower device or disk, as a line names it
 abbrev pub lower_text : Description → Lower → List ℕ

@@ -1,11 +1,12 @@
 -- What a stack keeps beside its description.
-use Rattle.dm_stack.specs.Base.{◌≡◌, ℕ, ◌^◌, ◌≤◌, List, map, DeviceSpec}
+use Rattle.dm_stack.specs.Base.{ℕ, List, map, DeviceSpec}
 use Rattle.dm_stack.specs.declared.lines.resolved_table.ResolvedDevice.{ResolvedDevice}
 use Rattle.dm_stack.specs.Description.{Description, end_of}
 use Rattle.dm_stack.specs.lines.Below.{resolved_line}
 use Rattle.dm_stack.specs.checks.Soundness.{IsSound}
 use Rattle.dm_stack.specs.checks.Snapshots.{snapshots}
 use Rattle.dm_stack.specs.checks.Depth.{stack_depth}
+use Rattle.std.specs.Prelude.{◌≡◌, ◌^◌, ◌≤◌}
 
 -- a device with ids for names
 abbrev pub resolved_device : Description → DeviceSpec → ResolvedDevice

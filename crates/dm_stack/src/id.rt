@@ -3,7 +3,7 @@
 //! A clause sees an id as the number that it is. An id is of the stack that gave it: of another one
 //! it may name nothing.
 
-ghost use Rattle.dm_stack.specs.Prelude.{◌≡◌};
+ghost use Rattle.std.specs.Prelude.{◌≡◌};
 
 use std::marker::Model;
 

@@ -4,7 +4,8 @@
 //! No call hands out the stack, and a looker is not copied: its count is that of all its searches.
 //! Whoever has the line of an origin has its snapshots too (`ResolvedOrigin::over`), without a search.
 
-ghost use Rattle.dm_stack.specs.Prelude.{◌≡◌, ◌+◌, ◌-◌, ◌*◌, ◌<◌, ◌≤◌, length, IsLineOf, device_len, disk_len, is_ro_at, lines_at, next_count, snapshots, AreSnapshots, stack_depth, IsLength, IsSound, binary_digits};
+ghost use Rattle.dm_stack.specs.Prelude.{length, IsLineOf, device_len, disk_len, is_ro_at, lines_at, next_count, snapshots, AreSnapshots, stack_depth, IsLength, IsSound, binary_digits};
+ghost use Rattle.std.specs.Prelude.{◌≡◌, ◌+◌, ◌-◌, ◌*◌, ◌<◌, ◌≤◌};
 
 use crate::id::{DeviceId, DiskId};
 use crate::lines::line_search::LastLine;

@@ -1,6 +1,7 @@
 //! What a check says of a stack, as text.
 
-ghost use Rattle.dm_stack.specs.Prelude.{◌≡◌, ◌++◌, IfOk, List, ℕ, string_bytes, IsLower, Description, IsReport, SaysTidiness, lower_text};
+ghost use Rattle.dm_stack.specs.Prelude.{IfOk, List, ℕ, string_bytes, IsLower, Description, IsReport, SaysTidiness, lower_text};
+ghost use Rattle.std.specs.Prelude.{◌≡◌, ◌++◌};
 
 use crate::id::Lower;
 use crate::stack::Stack;

@@ -1,6 +1,7 @@
 -- What comes from a store fits it.
-use Rattle.dm_store.proofs.Prelude.{◌≡◌, ℕ, zero, suc, ◌+◌, ◌/◌, ◌<◌, ◌≤◌, Bool, true, false, cond, List, Option, Some, None, Result, Ok, Err, length, nat_eq, refl, sym, subst, arith, length-append, IsDistinct, ◌==◌, not, is_some, nat_lt, ltb-true, and_parts, or_parts, SectorFault, ListFault, StoreFault, Magic, Version, Chunk, Pair, Store, four_at, Sectors, each, pair, old_chunks, row_sector, pair_count, rest_count, Stored, Fresh, Lost, Holds, Refused, by_header, clear_count, list_fault, fault_of, is_any_again, is_near, is_placed, list_count, listed, of_list, rest_fault, AlwaysFit, Persistent, place, number_in, none_of}
+use Rattle.dm_store.proofs.Prelude.{ℕ, zero, suc, Bool, true, false, cond, List, Option, Some, None, Result, Ok, Err, length, nat_eq, refl, sym, subst, arith, length-append, IsDistinct, not, is_some, nat_lt, ltb-true, and_parts, or_parts, SectorFault, ListFault, StoreFault, Magic, Version, Chunk, Pair, Store, four_at, Sectors, each, pair, old_chunks, row_sector, pair_count, rest_count, Stored, Fresh, Lost, Holds, Refused, by_header, clear_count, list_fault, fault_of, is_any_again, is_near, is_placed, list_count, listed, of_list, rest_fault, AlwaysFit, Persistent, place, number_in, none_of}
 use Rattle.dm_map.proofs.Numbers.{distinct_more}
+use Rattle.std.specs.Prelude.{◌≡◌, ◌+◌, ◌/◌, ◌<◌, ◌≤◌, ◌==◌}
 
 distinct_all : (pairs : ℕ → Pair) (count : ℕ) → is_any_again pairs count ≡ false → IsDistinct nat_eq (old_chunks pairs count)
 unfolding is_any_again old_chunks IsDistinct

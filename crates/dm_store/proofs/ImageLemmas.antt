@@ -1,6 +1,7 @@
 -- The path of a disk, found by its name.
-use Rattle.dm_store.proofs.Prelude.{◌≡◌, ◌≢◌, ℕ, ◌+◌, ◌<◌, true, false, List, ◌∷◌, length, drop, get_or, Some, refl, sym, ap, ◌∙◌, find, false_from_ne_true, drop_more, bytes_eq-Decides, is_same}
+use Rattle.dm_store.proofs.Prelude.{ℕ, true, false, List, length, drop, get_or, Some, refl, sym, ap, ◌∙◌, find, false_from_ne_true, drop_more, bytes_eq-Decides, is_same}
 use Rattle.dm_table.specs.declared.tables.disk_path.DiskPath.{DiskPath}
+use Rattle.std.specs.Prelude.{◌≡◌, ◌≢◌, ◌+◌, ◌<◌, ◌∷◌}
 
 -- a path of this name is the one that is found
 pub path_here : (paths : List DiskPath) (i : ℕ) (path : DiskPath) (name : List ℕ) → i < length paths → path ≡ get_or paths i path → path.disk ≡ name

@@ -1,5 +1,6 @@
 -- Of lists of pairs: how long they are, and one more pair.
-use Rattle.dm_store.proofs.Prelude.{◌≡◌, inl, inr, ℕ, zero, suc, ◌+◌, ◌<◌, ◌≤◌, Bool, true, false, cond, [], ◌∷◌, ◌++◌, refl, sym, arith, ◌&&◌, ◌||◌, is_some, le-suc_iff, and-false, Pair, Store, each, count_of, old_chunks, next_fault, list_fault, fault_of, is_any_again, is_placed, is_near, number_in}
+use Rattle.dm_store.proofs.Prelude.{inl, inr, ℕ, zero, suc, Bool, true, false, cond, [], refl, sym, arith, is_some, le-suc_iff, and-false, Pair, Store, each, count_of, old_chunks, next_fault, list_fault, fault_of, is_any_again, is_placed, is_near, number_in}
+use Rattle.std.specs.Prelude.{◌≡◌, ◌+◌, ◌<◌, ◌≤◌, ◌∷◌, ◌++◌, ◌&&◌, ◌||◌}
 
 -- one more
 pub each_more : (p : ℕ → Bool) (n : ℕ) → each p n ≡ true → p n ≡ true → each p (n + 1) ≡ true

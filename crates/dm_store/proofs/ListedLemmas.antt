@@ -1,9 +1,10 @@
 -- Lists, by what is read of them.
-use Rattle.dm_store.proofs.Prelude.{◌≡◌, inl, inr, ℕ, ◌+◌, ◌/◌, ◌%◌, ◌<◌, Bool, true, false, cond, List, Option, Some, None, Result, Ok, Err, length, refl, sym, ap, subst, ◌∙◌, arith, option_and_then, ◌==◌, ◌⊎◌, not, cases_Bool, eqb-true, true≢false, none-some, ResolvedLine, Description, found_at, State, Taken, lost, none_taken, taken_at, snapshot_of, home, line_there, ListFault, SectorFault, StoreFault, Magic, Version, Chunk, Pair, Store, DiskContents, pair_count, rest_count, row_sector, four_at, Sectors, bytes_or_none, old_chunks, pair, pair_in, AreKept, AreListed, Gone, HoldMore, IsGone, Lists, Spelled, Unused, kept_in, AreClearFrom, Spells, start_of, store_if, store_sectors, stored_state, taken_if, taken_in, Stored, Fresh, Lost, Holds, Refused, by_header, clear_count, list_count, list_fault, listed, of_list, rest_fault, stored}
+use Rattle.dm_store.proofs.Prelude.{inl, inr, ℕ, Bool, true, false, cond, List, Option, Some, None, Result, Ok, Err, length, refl, sym, ap, subst, ◌∙◌, arith, option_and_then, not, cases_Bool, eqb-true, true≢false, none-some, ResolvedLine, Description, found_at, State, Taken, lost, none_taken, taken_at, snapshot_of, home, line_there, ListFault, SectorFault, StoreFault, Magic, Version, Chunk, Pair, Store, DiskContents, pair_count, rest_count, row_sector, four_at, Sectors, bytes_or_none, old_chunks, pair, pair_in, AreKept, AreListed, Gone, HoldMore, IsGone, Lists, Spelled, Unused, kept_in, AreClearFrom, Spells, start_of, store_if, store_sectors, stored_state, taken_if, taken_in, Stored, Fresh, Lost, Holds, Refused, by_header, clear_count, list_count, list_fault, listed, of_list, rest_fault, stored}
 use Rattle.dm_store.proofs.RestartLemmas.{gone_kept, valid_kept}
 use Rattle.dm_store.proofs.SpeltLemmas.{is_spelled}
 use Rattle.dm_store.proofs.StateLemmas.{are_first, ok_is}
 use Rattle.dm_store.proofs.WalkLemmas.{pair_known}
+use Rattle.std.specs.Prelude.{◌≡◌, ◌+◌, ◌/◌, ◌%◌, ◌<◌, ◌==◌, ◌⊎◌}
 
 -- ---- headers, by what is read of a store
 

@@ -1,5 +1,6 @@
 -- A log with one more read.
-use Rattle.dm_store.proofs.Prelude.{◌≡◌, ◌↔◌, ℕ, ◌+◌, ◌≤◌, List, [], ◌∷◌, ◌++◌, drop, length, length-drop, arith, take-append-le, take_all, drop-append-le, Asked, AreRead, Contents, Agrees, given_total, path_total}
+use Rattle.dm_store.proofs.Prelude.{ℕ, List, [], drop, length, length-drop, arith, take-append-le, take_all, drop-append-le, Asked, AreRead, Contents, Agrees, given_total, path_total}
+use Rattle.std.specs.Prelude.{◌≡◌, ◌↔◌, ◌+◌, ◌≤◌, ◌∷◌, ◌++◌}
 
 pub path_more : (log : List Asked) (asked : Asked) → path_total (log ++ asked ∷ []) ≡ path_total log + asked.path_len
 unfolding path_total

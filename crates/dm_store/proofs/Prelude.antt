@@ -11,7 +11,7 @@ pub use Rattle.dm_stack.specs.declared.lines.resolved_line.ResolvedSnapshot.{Res
 pub use Rattle.dm_stack.specs.declared.lines.resolved_line.ResolvedTarget.{ResolvedTarget}
 pub use Rattle.dm_store.specs.Prelude.{Ahead, AllKeepLists, AlwaysFit, AreClearFrom, AreKept, AreListed, AreRead, Asked, Chunk, Contents, DiskContents, Event, Fit, Fresh, Gap, Gone, HasRead, HasRows, Held, HoldMore, Holds, IsClear, IsFound, IsGone, IsLostInStore, IsOfTop, IsPair, IsRestart, IsRowOf, IsSpelled, IsStart, IsUsed, ListFault, Listed, Lists, Loses, Lost, Magic, Missing, Order, Pair, Plays, Range, ReadsBack, Refused, SectorFault, Sectors, Spelled, Spells, Store, StoreFault, StoreRefusal, Stored, Unread, Unused, Version, Walked, after_event, are_zeros, area_count, by_header, bytes_or_none, clear_count, disk_contents, ended, ended_by, fault_of, four_at, if_listing, image_in, is_clear, is_clear_in, is_listed, is_near, is_placed, kept, kept_in, list_count, list_fault, listed, next_fault, of_count, of_list, pair, pair_count, pair_in, rest_count, rest_fault, row_sector, sector_in, snapshot_store, start_of, store_at, store_if, store_sectors, stored, stored_state, taken_if, taken_in, told, told_list, with_next}
 unfoldable pub use Rattle.dm_store.specs.Prelude.{Agrees, AreRestarts, after_events, count_of, each, given_total, is_any_again, kept_first, old_chunks, path_total, state_of_first}
-pub use Rattle.dm_table.proofs.Std.{All-from_recursion, All-get_or, AllByRecursion, Bool, Contains, Err, IfErr, IfOk, List, None, Ok, OnOk, Option, Result, Some, [], and-false, and_from, and_parts, ap, arith, bytes_eq-Decides, cases_Bool, cases_lt, cases_order, cond, div-add-mod', div-mul-add, drop, drop-append-le, drop_more, eq-eqb, eqb-true, false, false_from_ne_true, filter, find, get_or, get_or-append_seam, get_or-set_other, get_or_append_left, get_or_default, get_or_past, get_or_read, inl, inr, is_some, le-div_iff_mul-le, le-leb, le-suc_iff, leb-true, length, length-append, length-drop, length-replicate, length-set, lt-ltb, ltb-true, map, mod-mul-add, mul-le-mul_right, nat_eq, nat_lt, ne_eqb, none-some, not, option_and_then, or_parts, range_with_len, refl, set-get_or, set-set, slice_get-get_or, slice_index, subst, suc, sym, take, take-append-le, take-suc, take_all, true, true≢false, zero, ℕ, ◌%◌, ◌&&◌, ◌*◌, ◌+◌, ◌++◌, ◌-◌, ◌/◌, ◌<◌, ◌==◌, ◌||◌, ◌↔◌, ◌∙◌, ◌∷◌, ◌≡◌, ◌≢◌, ◌≤◌, ◌⊎◌}
+pub use Rattle.dm_table.proofs.Std.{All-from_recursion, All-get_or, AllByRecursion, Bool, Contains, Err, IfErr, IfOk, List, None, Ok, OnOk, Option, Result, Some, [], and-false, and_from, and_parts, ap, arith, bytes_eq-Decides, cases_Bool, cases_lt, cases_order, cond, div-add-mod', div-mul-add, drop, drop-append-le, drop_more, eq-eqb, eqb-true, false, false_from_ne_true, filter, find, get_or, get_or-append_seam, get_or-set_other, get_or_append_left, get_or_default, get_or_past, get_or_read, inl, inr, is_some, le-div_iff_mul-le, le-leb, le-suc_iff, leb-true, length, length-append, length-drop, length-replicate, length-set, lt-ltb, ltb-true, map, mod-mul-add, mul-le-mul_right, nat_eq, nat_lt, ne_eqb, none-some, not, option_and_then, or_parts, range_with_len, refl, set-get_or, set-set, slice_get-get_or, slice_index, subst, suc, sym, take, take-append-le, take-suc, take_all, true, true≢false, zero, ℕ, ◌∙◌}
 unfoldable pub use Rattle.dm_table.proofs.Std.{IsDistinct}
 pub use Rattle.dm_table.specs.declared.tables.table.StoreKind.{StoreKind}
 pub use Rattle.dm_table.specs.declared.tables.table.StoreKind.TheVariants.{Persistent, Transient}

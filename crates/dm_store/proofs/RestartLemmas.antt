@@ -1,5 +1,5 @@
 -- A restart finds the state that the lists of stores keep, and in it each top device has its row, or errors.
-use Rattle.dm_store.proofs.Prelude.{◌≡◌, ◌≢◌, inl, inr, ℕ, zero, suc, ◌-◌, ◌<◌, true, false, List, [], ◌∷◌, ◌++◌, Option, Some, None, Result, Ok, length, refl, sym, ap, subst, ◌∙◌, arith, AllByRecursion, cases_Bool, eq-eqb, get_or_append_left, length-append, le-suc_iff, get_or-append_seam, StoreKind, Transient, Device, Disk, ResolvedLine, ResolvedSnapshot, ResolvedTarget, IsSound, IsTidy, IsTop, Description, Below, Lies, IsError, below_line, below_target, found_at, AreExact, IsAmple, IsOwnAt, Moment, after_played, Stays, value_read, AreOwn, Rows, BlockUnit, Zeros, Fails, IsFitting, read_over, State, Taken, lost, none_taken, taken_at, snapshot_at, by_below, read_below, read_unit, exact, line_snapshot, line_there, snapshot_sound, StoreFault, Store, IsLostInStore, DiskContents, Sectors, Ahead, AllKeepLists, AreListed, AreRestarts, Event, Gone, Held, IsFound, IsOfTop, IsRestart, Lists, Loses, Plays, Spelled, Unused, after_event, after_events, kept, kept_first, kept_in, if_listing, snapshot_store, start_of, state_of_first, store_at, store_if, store_sectors, stored_state, taken_if, taken_in, Fresh, Lost, listed, stored}
+use Rattle.dm_store.proofs.Prelude.{inl, inr, ℕ, zero, suc, true, false, List, [], Option, Some, None, Result, Ok, length, refl, sym, ap, subst, ◌∙◌, arith, AllByRecursion, cases_Bool, eq-eqb, get_or_append_left, length-append, le-suc_iff, get_or-append_seam, StoreKind, Transient, Device, Disk, ResolvedLine, ResolvedSnapshot, ResolvedTarget, IsSound, IsTidy, IsTop, Description, Below, Lies, IsError, below_line, below_target, found_at, AreExact, IsAmple, IsOwnAt, Moment, after_played, Stays, value_read, AreOwn, Rows, BlockUnit, Zeros, Fails, IsFitting, read_over, State, Taken, lost, none_taken, taken_at, snapshot_at, by_below, read_below, read_unit, exact, line_snapshot, line_there, snapshot_sound, StoreFault, Store, IsLostInStore, DiskContents, Sectors, Ahead, AllKeepLists, AreListed, AreRestarts, Event, Gone, Held, IsFound, IsOfTop, IsRestart, Lists, Loses, Plays, Spelled, Unused, after_event, after_events, kept, kept_first, kept_in, if_listing, snapshot_store, start_of, state_of_first, store_at, store_if, store_sectors, stored_state, taken_if, taken_in, Fresh, Lost, listed, stored}
 use Rattle.dm_stack.specs.declared.id.Lower.{Lower}
 use Rattle.dm_stack.specs.declared.checks.graph.TheConstants.{MOST_DEPTH}
 use Rattle.dm_stack.specs.declared.lines.resolved_line.ResolvedTarget.TheVariants as found
@@ -12,6 +12,7 @@ use Rattle.dm_map.proofs.OwnRequests.{request_own}
 use Rattle.dm_store.proofs.SpellingLemmas.{reads_back}
 use Rattle.dm_store.proofs.StateLemmas.{stored_fits}
 use Rattle.dm_store.proofs.StoreLemmas.{taken_valid}
+use Rattle.std.specs.Prelude.{◌≡◌, ◌≢◌, ◌-◌, ◌<◌, ◌∷◌, ◌++◌}
 
 -- ---- what lists say is read
 

@@ -1,6 +1,7 @@
 -- Rows of a list: those of an area lie in a row in the store, and inside it.
-use Rattle.dm_store.proofs.Prelude.{◌≡◌, ℕ, ◌+◌, ◌-◌, ◌*◌, ◌/◌, ◌%◌, ◌<◌, ◌≤◌, List, Result, Ok, length, sym, ap, subst, ◌∙◌, arith, Err, IfErr, IfOk, OnOk, div-add-mod', div-mul-add, mod-mul-add, take_all, mul-le-mul_right, Description, GoOn, Home, home, SectorFault, Store, AreRead, DiskContents, sector_in, area_count, row_sector, Sectors, HasRows, IsRowOf, store_sectors}
+use Rattle.dm_store.proofs.Prelude.{ℕ, List, Result, Ok, length, sym, ap, subst, ◌∙◌, arith, Err, IfErr, IfOk, OnOk, div-add-mod', div-mul-add, mod-mul-add, take_all, mul-le-mul_right, Description, GoOn, Home, home, SectorFault, Store, AreRead, DiskContents, sector_in, area_count, row_sector, Sectors, HasRows, IsRowOf, store_sectors}
 use Rattle.dm_store.specs.declared.row_range.RowRange.{RowRange}
+use Rattle.std.specs.Prelude.{◌≡◌, ◌+◌, ◌-◌, ◌*◌, ◌/◌, ◌%◌, ◌<◌, ◌≤◌}
 
 -- rows of one area lie one after the other
 pub row_after : (chunk row i : ℕ) → row % chunk + i < chunk → row_sector chunk (row + i) ≡ row_sector chunk row + i

@@ -1,6 +1,7 @@
 -- What is said to be held is spelled.
-use Rattle.dm_store.proofs.Prelude.{◌≡◌, ◌⊎◌, inl, inr, ℕ, zero, suc, ◌+◌, ◌/◌, ◌%◌, ◌<◌, ◌≤◌, Bool, true, false, cond, List, [], ◌∷◌, ◌++◌, None, Result, Ok, Err, get_or, length, refl, sym, ap, subst, ◌∙◌, arith, ◌≢◌, ◌==◌, ◌&&◌, nat_lt, slice_index, eq-eqb, eqb-true, leb-true, ne_eqb, and_parts, le-suc_iff, get_or_append_left, get_or-append_seam, SectorFault, Pair, Store, four_at, Sectors, count_of, each, old_chunks, pair, pair_in, pair_count, rest_count, row_sector, AreClearFrom, IsClear, IsSpelled, IsUsed, Holds, Stored, by_header, clear_count, fault_of, is_any_again, is_clear, is_clear_in, is_listed, is_near, is_placed, list_count, list_fault, listed, Persistent, place}
+use Rattle.dm_store.proofs.Prelude.{inl, inr, ℕ, zero, suc, Bool, true, false, cond, List, [], None, Result, Ok, Err, get_or, length, refl, sym, ap, subst, ◌∙◌, arith, nat_lt, slice_index, eq-eqb, eqb-true, leb-true, ne_eqb, and_parts, le-suc_iff, get_or_append_left, get_or-append_seam, SectorFault, Pair, Store, four_at, Sectors, count_of, each, old_chunks, pair, pair_in, pair_count, rest_count, row_sector, AreClearFrom, IsClear, IsSpelled, IsUsed, Holds, Stored, by_header, clear_count, fault_of, is_any_again, is_clear, is_clear_in, is_listed, is_near, is_placed, list_count, list_fault, listed, Persistent, place}
 use Rattle.dm_store.proofs.FittingLemmas.{always_fits, header_holds, length_old, list_ends, list_holds, words_hold}
+use Rattle.std.specs.Prelude.{◌≡◌, ◌⊎◌, ◌+◌, ◌/◌, ◌%◌, ◌<◌, ◌≤◌, ◌∷◌, ◌++◌, ◌≢◌, ◌==◌, ◌&&◌}
 
 unequal : (n : ℕ) → (n == 0) ≡ false → n ≢ 0
 unequal n e = λ zero. absurd (let t : (n == 0) ≡ true = eq-eqb n 0 zero in cc)

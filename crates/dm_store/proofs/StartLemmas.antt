@@ -1,6 +1,7 @@
 -- The state of all devices, from that of each; and which of them are snapshots.
-use Rattle.dm_store.proofs.Prelude.{◌≡◌, inl, inr, ℕ, zero, suc, ◌+◌, ◌<◌, ◌≤◌, Bool, true, false, cond, List, ◌∷◌, Option, Some, None, Result, Ok, Err, filter, get_or, length, take, refl, sym, ap, subst, ◌∙◌, arith, option_and_then, Contains, range_with_len, cases_lt, cases_order, get_or-set_other, get_or_default, get_or_past, All-get_or, le-suc_iff, take-suc, ResolvedLine, ResolvedSnapshot, ResolvedTarget, Description, lines_at, AreSnapshots, IsSnapshot, has_snapshot, snapshots, found_at, State, Taken, none_taken, put, taken_at, snapshot_of, StoreFault, DiskContents, start_of, state_of_first, store_if, taken_if, with_next}
+use Rattle.dm_store.proofs.Prelude.{inl, inr, ℕ, zero, suc, Bool, true, false, cond, List, Option, Some, None, Result, Ok, Err, filter, get_or, length, take, refl, sym, ap, subst, ◌∙◌, arith, option_and_then, Contains, range_with_len, cases_lt, cases_order, get_or-set_other, get_or_default, get_or_past, All-get_or, le-suc_iff, take-suc, ResolvedLine, ResolvedSnapshot, ResolvedTarget, Description, lines_at, AreSnapshots, IsSnapshot, has_snapshot, snapshots, found_at, State, Taken, none_taken, put, taken_at, snapshot_of, StoreFault, DiskContents, start_of, state_of_first, store_if, taken_if, with_next}
 use Rattle.dm_stack.specs.declared.lines.resolved_line.ResolvedTarget.TheVariants as found
+use Rattle.std.specs.Prelude.{◌≡◌, ◌+◌, ◌<◌, ◌≤◌, ◌∷◌}
 
 -- ---- the state of the first devices
 

@@ -1,8 +1,9 @@
 -- The state that the stores of a stack hold is one that the stack can be in.
-use Rattle.dm_store.proofs.Prelude.{◌≡◌, inl, inr, ℕ, zero, suc, ◌+◌, ◌-◌, ◌*◌, ◌/◌, ◌<◌, ◌≤◌, true, false, List, [], ◌∷◌, ◌++◌, Option, Some, None, Result, Ok, get_or, length, refl, sym, ap, subst, ◌∙◌, arith, ◌⊎◌, ◌↔◌, slice_index, AllByRecursion, IsDistinct, cases_Bool, cases_lt, le-leb, get_or_append_left, get_or_past, length-append, le-div_iff_mul-le, le-suc_iff, get_or-append_seam, true≢false, none-some, StoreKind, Transient, ResolvedSnapshot, IsSound, Description, device_len, lower_len, found_at, AreExact, AreOwnChunks, IsAmple, chunk_count, Values, AreOwn, IsFitting, State, Taken, none_taken, taken_at, snapshot_at, rows_in, line_there, snapshot_sound, chunk_inside, exact, StoreFault, StoreRefusal, Store, Fit, IsLostInStore, IsStart, DiskContents, Sectors, if_listing, snapshot_store, start_of, state_of_first, store_at, store_if, store_sectors, stored_state, taken_if, taken_in, with_next, Stored, Fresh, Lost, Holds, Refused, stored}
+use Rattle.dm_store.proofs.Prelude.{inl, inr, ℕ, zero, suc, true, false, List, [], Option, Some, None, Result, Ok, get_or, length, refl, sym, ap, subst, ◌∙◌, arith, slice_index, AllByRecursion, IsDistinct, cases_Bool, cases_lt, le-leb, get_or_append_left, get_or_past, length-append, le-div_iff_mul-le, le-suc_iff, get_or-append_seam, true≢false, none-some, StoreKind, Transient, ResolvedSnapshot, IsSound, Description, device_len, lower_len, found_at, AreExact, AreOwnChunks, IsAmple, chunk_count, Values, AreOwn, IsFitting, State, Taken, none_taken, taken_at, snapshot_at, rows_in, line_there, snapshot_sound, chunk_inside, exact, StoreFault, StoreRefusal, Store, Fit, IsLostInStore, IsStart, DiskContents, Sectors, if_listing, snapshot_store, start_of, state_of_first, store_at, store_if, store_sectors, stored_state, taken_if, taken_in, with_next, Stored, Fresh, Lost, Holds, Refused, stored}
 use Rattle.dm_stack.proofs.StoreLayoutLemmas.{has_place}
 use Rattle.dm_store.proofs.SpeltLemmas.{is_spelled}
 use Rattle.dm_store.proofs.StartLemmas.{no_snapshot_in}
+use Rattle.std.specs.Prelude.{◌≡◌, ◌+◌, ◌-◌, ◌*◌, ◌/◌, ◌<◌, ◌≤◌, ◌∷◌, ◌++◌, ◌⊎◌, ◌↔◌}
 
 -- ---- the state of the first devices
 

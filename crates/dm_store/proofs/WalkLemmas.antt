@@ -1,6 +1,7 @@
 -- What the reader knows of a list where it stops, and after one more pair.
-use Rattle.dm_store.proofs.Prelude.{◌≡◌, ℕ, ◌+◌, ◌*◌, ◌/◌, ◌%◌, ◌<◌, ◌≤◌, Bool, true, false, List, [], ◌∷◌, ◌++◌, Option, Some, None, Result, Ok, Err, refl, sym, ap, subst, ◌∙◌, arith, is_some, eq-eqb, ne_eqb, div-add-mod', mul-le-mul_right, SectorFault, ListFault, Range, Unread, Pair, Store, Sectors, each, pair, pair_in, old_chunks, bytes_or_none, area_count, row_sector, pair_count, rest_count, IsPair, Walked, next_fault, Stored, Refused, ended, ended_by, is_any_again, is_clear, is_clear_in, list_fault, is_listed, is_near, is_placed, list_count, listed, of_count, of_list, rest_fault, number_in}
+use Rattle.dm_store.proofs.Prelude.{ℕ, Bool, true, false, List, [], Option, Some, None, Result, Ok, Err, refl, sym, ap, subst, ◌∙◌, arith, is_some, eq-eqb, ne_eqb, div-add-mod', mul-le-mul_right, SectorFault, ListFault, Range, Unread, Pair, Store, Sectors, each, pair, pair_in, old_chunks, bytes_or_none, area_count, row_sector, pair_count, rest_count, IsPair, Walked, next_fault, Stored, Refused, ended, ended_by, is_any_again, is_clear, is_clear_in, list_fault, is_listed, is_near, is_placed, list_count, listed, of_count, of_list, rest_fault, number_in}
 use Rattle.dm_store.proofs.ListLemmas.{count_full, count_stop, each_more, fault_more, old_more}
+use Rattle.std.specs.Prelude.{◌≡◌, ◌+◌, ◌*◌, ◌/◌, ◌%◌, ◌<◌, ◌≤◌, ◌∷◌, ◌++◌}
 
 -- where a list has a fault, what was taken of it doesn't matter
 of_same : (f : Option ListFault) (a b : List ℕ) → (f ≡ None → a ≡ b) → of_list f a ≡ of_list f b

@@ -1,5 +1,5 @@
 -- A restart worked by hand, against which the definitions are checked.
-use Rattle.dm_store.proofs.Prelude.{◌≡◌, ℕ, zero, suc, true, false, [], ◌∷◌, ◌++◌, Option, Some, Ok, refl, sym, ap, subst, ◌∙◌, arith, All-from_recursion, Persistent, Device, Disk, ResolvedSnapshot, IsTop, claims, Description, found_at, Moment, content, played, sector_past, HaveSameData, IsSpareSector, first_rows, State, start_state, taken_at, home_to, write_step, read_unit, Store, DiskContents, count_of, each, old_chunks, AreListed, Event, Held, IsRestart, Lists, Plays, Spelled, after_events, kept, kept_first, snapshot_store, store_at, store_sectors, stored_state, Holds, is_any_again, stored}
+use Rattle.dm_store.proofs.Prelude.{ℕ, zero, suc, true, false, [], Option, Some, Ok, refl, sym, ap, subst, ◌∙◌, arith, All-from_recursion, Persistent, Device, Disk, ResolvedSnapshot, IsTop, claims, Description, found_at, Moment, content, played, sector_past, HaveSameData, IsSpareSector, first_rows, State, start_state, taken_at, home_to, write_step, read_unit, Store, DiskContents, count_of, each, old_chunks, AreListed, Event, Held, IsRestart, Lists, Plays, Spelled, after_events, kept, kept_first, snapshot_store, store_at, store_sectors, stored_state, Holds, is_any_again, stored}
 use Rattle.dm_table.specs.declared.requests.request.Op.TheVariants.{Write}
 use Rattle.dm_table.specs.declared.tables.table.DevRef.TheVariants as refs
 use Rattle.dm_table.specs.declared.tables.table.Target.TheVariants as targets
@@ -8,6 +8,7 @@ use Rattle.dm_store.proofs.ListedLemmas.{store_there}
 use Rattle.dm_store.proofs.RestartLemmas.{listed_back}
 use Rattle.dm_store.proofs.SpeltLemmas.{is_spelled}
 use Rattle.dm_store.proofs.WorkedStore.{entry, header}
+use Rattle.std.specs.Prelude.{◌≡◌, ◌∷◌, ◌++◌}
 
 -- s: a snapshot of disk 0 in chunks of one sector. Its store is disk 1, with room for two areas: the header, area 0, 32 places, area 1, and 29 places
 abbrev sample : Description

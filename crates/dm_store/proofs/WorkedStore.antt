@@ -1,5 +1,6 @@
 -- A store worked by hand, against which the definitions are checked.
-use Rattle.dm_store.proofs.Prelude.{◌≡◌, ℕ, zero, suc, List, [], ◌∷◌, ◌++◌, Result, Ok, Err, refl, Disk, SectorFault, Unread, Gap, Listed, Order, Store, area_count, row_sector, Sectors, count_of, each, old_chunks, Fresh, Lost, Holds, Refused, is_any_again, stored, Missing}
+use Rattle.dm_store.proofs.Prelude.{ℕ, zero, suc, List, [], Result, Ok, Err, refl, Disk, SectorFault, Unread, Gap, Listed, Order, Store, area_count, row_sector, Sectors, count_of, each, old_chunks, Fresh, Lost, Holds, Refused, is_any_again, stored, Missing}
+use Rattle.std.specs.Prelude.{◌≡◌, ◌∷◌, ◌++◌}
 
 -- chunks of one sector, and room for two areas: the header, area 0, 32 places, area 1, and 29 places
 abbrev store : Store

@@ -1,9 +1,10 @@
 -- What a state that comes from stores is like.
-use Rattle.dm_store.specs.Base.{◌≡◌, ◌≤◌, ◌↔◌, ℕ, false, List, Some, Ok, length, nat_eq, IsDistinct, Description, AreExact, IsAmple, IsIntact, TookOwn, Values, AreOwn, rows_in, IsFitting, State, taken_at, Store}
+use Rattle.dm_store.specs.Base.{ℕ, false, List, Some, Ok, length, nat_eq, IsDistinct, Description, AreExact, IsAmple, IsIntact, TookOwn, Values, AreOwn, rows_in, IsFitting, State, taken_at, Store}
 use Rattle.dm_store.specs.Images.{DiskContents}
 use Rattle.dm_store.specs.Pairs.{Sectors}
 use Rattle.dm_store.specs.Start.{store_at, store_sectors, stored_state}
 use Rattle.dm_store.specs.Stored.{Holds, Lost, stored}
+use Rattle.std.specs.Prelude.{◌≡◌, ◌≤◌, ◌↔◌}
 
 -- no more chunks than places, and none twice
 pub record Fit (store : Store) (chunks : List ℕ) : Type 0 where

@@ -1,8 +1,9 @@
 -- What images hold, and what disks do that lie in them.
-use Rattle.dm_store.specs.Base.{ℕ, ◌≡◌, ◌+◌, ◌*◌, ◌<◌, List, Option, Some, None, Result, Ok, Err, length, slice_range, slice_index_or, SectorFault, Missing, Read}
+use Rattle.dm_store.specs.Base.{ℕ, List, Option, Some, None, Result, Ok, Err, length, slice_range, slice_index_or, SectorFault, Missing, Read}
 use Rattle.dm_store.specs.declared.images.ReadFault.{ReadFault}
 use Rattle.dm_store.specs.Places.{Place}
 use Rattle.dm_store.specs.Pairs.{Sectors}
+use Rattle.std.specs.Prelude.{◌≡◌, ◌+◌, ◌*◌, ◌<◌}
 
 -- what each sector of each image holds, or that it can't be read; an image is named by its line in a list, and by its path
 abbrev pub Contents : Type 0

@@ -1,5 +1,6 @@
 -- Where a store keeps its list: in areas of one chunk, each with 32 pairs a sector, of which the first is the second chunk of the store (the kernel's admin guide, device-mapper/snapshot, and its dm-snap-persistent). Where it keeps the chunks themselves says dm_stack's StoreLayout.
-use Rattle.dm_store.specs.Base.{ℕ, ◌+◌, ◌-◌, ◌*◌, ◌/◌, ◌%◌}
+use Rattle.dm_store.specs.Base.{ℕ}
+use Rattle.std.specs.Prelude.{◌+◌, ◌-◌, ◌*◌, ◌/◌, ◌%◌}
 
 -- the sector of a row of the list, which has its pairs from 32 * row on: each sector of an area is a row, and an area begins 32 * chunk + 1 chunks after the one before
 abbrev pub row_sector : (chunk row : ℕ) → ℕ

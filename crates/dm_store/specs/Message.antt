@@ -1,5 +1,6 @@
 -- The message of a refused store.
-use Rattle.dm_store.specs.Base.{ℕ, List, ◌++◌, codes, Order, Range, Again, Missing, Read, StoreFault, Unread, Magic, Version, Chunk, Gap, Listed}
+use Rattle.dm_store.specs.Base.{ℕ, List, codes, Order, Range, Again, Missing, Read, StoreFault, Unread, Magic, Version, Chunk, Gap, Listed}
+use Rattle.std.specs.Prelude.{◌++◌}
 
 -- the word of a fault
 abbrev pub fault_word : StoreFault → List ℕ

@@ -1,5 +1,6 @@
 -- Numbers in bytes: the least significant byte is the first (the kernel's dm-snap-persistent).
-use Rattle.dm_store.specs.Base.{ℕ, ◌+◌, ◌*◌, List, slice_index}
+use Rattle.dm_store.specs.Base.{ℕ, List, slice_index}
+use Rattle.std.specs.Prelude.{◌+◌, ◌*◌}
 
 -- the number of the 4 bytes from here on
 abbrev pub four_at : (bytes : List ℕ) → (at : ℕ) → ℕ

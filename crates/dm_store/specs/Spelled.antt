@@ -1,10 +1,11 @@
 -- A store that spells a list of chunks: the same as a store that holds it, said of the sectors alone.
-use Rattle.dm_store.specs.Base.{◌≡◌, ◌≢◌, ◌<◌, ◌≤◌, ◌⊎◌, ℕ, ◌+◌, ◌/◌, ◌%◌, List, Ok, length, slice_index, Persistent, place, Store}
+use Rattle.dm_store.specs.Base.{ℕ, List, Ok, length, slice_index, Persistent, place, Store}
 use Rattle.dm_store.specs.Numbers.{four_at}
 use Rattle.dm_store.specs.Fitting.{Fit}
 use Rattle.dm_store.specs.Layout.{row_sector, pair_count, rest_count}
 use Rattle.dm_store.specs.Pairs.{Sectors, pair, pair_in}
 use Rattle.dm_store.specs.Stored.{Holds, stored}
+use Rattle.std.specs.Prelude.{◌≡◌, ◌≢◌, ◌<◌, ◌≤◌, ◌⊎◌, ◌+◌, ◌/◌, ◌%◌}
 
 -- the header of a store in use
 pub record IsUsed (chunk : ℕ) (header : List ℕ) : Type 0 where

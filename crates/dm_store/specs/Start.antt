@@ -1,10 +1,11 @@
 -- The state that the stores of a stack hold, from which a run can start.
-use Rattle.dm_store.specs.Base.{ℕ, zero, suc, ◌-◌, ◌/◌, true, [], ◌∷◌, ◌++◌, Option, Some, None, Result, Ok, Err, length, Transient, ResolvedSnapshot, Description, device_len, lower_len, place_count, State, Taken, lost, none_taken, snapshot_at, home, StoreFault, Store}
+use Rattle.dm_store.specs.Base.{ℕ, zero, suc, true, [], Option, Some, None, Result, Ok, Err, length, Transient, ResolvedSnapshot, Description, device_len, lower_len, place_count, State, Taken, lost, none_taken, snapshot_at, home, StoreFault, Store}
 use Rattle.dm_table.specs.declared.tables.table.StoreKind.{StoreKind}
 use Rattle.dm_store.specs.declared.fault.StoreRefusal.{StoreRefusal}
 use Rattle.dm_store.specs.Images.{DiskContents}
 use Rattle.dm_store.specs.Pairs.{Sectors}
 use Rattle.dm_store.specs.Stored.{Stored, Fresh, Lost, Holds, Refused, stored}
+use Rattle.std.specs.Prelude.{◌-◌, ◌/◌, ◌∷◌, ◌++◌}
 
 -- the store of a snapshot of a device
 abbrev pub snapshot_store : Description → (device : ℕ) → ResolvedSnapshot → Store

@@ -1,8 +1,9 @@
 //! The images of a stack's disks, as a list of paths has them.
 
-ghost use Rattle.dm_store.specs.Prelude.{◌≡◌, ◌≢◌, IfErr, IfOk, Ok, Err, find, map, option_map, IsMemoryFault, is_same, image_in, images_of};
+ghost use Rattle.dm_store.specs.Prelude.{IfErr, IfOk, Ok, Err, find, map, option_map, IsMemoryFault, is_same, image_in, images_of};
 ghost use Rattle.dm_table.specs.declared.load.load_fault.LoadKind.TheVariants.{Memory};
 ghost use Rattle.dm_table.specs.declared.load.place.Part.TheVariants.{Source};
+ghost use Rattle.std.specs.Prelude.{◌≡◌, ◌≢◌};
 
 use crate::disk_images::DiskImages;
 use crate::image_place::ImagePlace;

@@ -1,6 +1,7 @@
 //! Where a disk lies.
 
-ghost use Rattle.dm_store.specs.Prelude.{◌≡◌, ◌<◌, ◌^◌, string_bytes};
+ghost use Rattle.dm_store.specs.Prelude.{string_bytes};
+ghost use Rattle.std.specs.Prelude.{◌≡◌, ◌<◌, ◌^◌};
 
 use std::marker::Model;
 
@@ -14,8 +15,9 @@ pub struct ImagePlace {
 }
 
 impl Model for ImagePlace {
-    ghost use Rattle.dm_store.specs.Base.{◌<◌, ◌^◌, string_bytes};
+    ghost use Rattle.dm_store.specs.Base.{string_bytes};
     ghost use Rattle.dm_store.specs.Places.{Place};
+    ghost use Rattle.std.specs.Prelude.{◌<◌, ◌^◌};
 
     ghost Value = { Place };
 

@@ -4,8 +4,9 @@
 //! that was read so far, and these are exactly the ones that agree with each read. If an image gives other bytes
 //! for a sector than it gave before, none do.
 
-ghost use Rattle.dm_store.specs.Base.{◌≡◌, ◌<◌, ◌≤◌, ◌%◌, ◌^◌, length};
+ghost use Rattle.dm_store.specs.Base.{length};
 ghost use Rattle.dm_store.specs.Images.{AreRead, Contents};
+ghost use Rattle.std.specs.Prelude.{◌≡◌, ◌<◌, ◌≤◌, ◌%◌, ◌^◌};
 
 /// The bytes of a sector.
 pub const SECTOR: usize = 512;

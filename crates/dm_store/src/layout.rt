@@ -1,6 +1,7 @@
 //! Where a store keeps its list.
 
-ghost use Rattle.dm_store.specs.Prelude.{◌≡◌, ◌+◌, ◌<◌, ◌≤◌, ◌^◌, pair_count, rest_count, row_sector};
+ghost use Rattle.dm_store.specs.Prelude.{pair_count, rest_count, row_sector};
+ghost use Rattle.std.specs.Prelude.{◌≡◌, ◌+◌, ◌<◌, ◌≤◌, ◌^◌};
 
 /// How many pairs the areas of a store have.
 pub(crate) fn pair_count(chunk: u64, store_len: u64) -> u64

@@ -2,7 +2,8 @@
 //!
 //! The words are fixed by `specs/Message.antt`, since users match on them.
 
-ghost use Rattle.dm_store.specs.Prelude.{◌≡◌, ◌<◌, ◌≤◌, length, name_at, fault_word, store_message};
+ghost use Rattle.dm_store.specs.Prelude.{length, name_at, fault_word, store_message};
+ghost use Rattle.std.specs.Prelude.{◌≡◌, ◌<◌, ◌≤◌};
 
 use crate::fault::{ListFault, SectorFault, StoreFault, StoreRefusal};
 use arrayvec::ArrayVec;

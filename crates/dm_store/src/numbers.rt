@@ -1,6 +1,7 @@
 //! Numbers in bytes, the least significant byte first.
 
-ghost use Rattle.dm_store.specs.Prelude.{◌≡◌, ◌+◌, ◌≤◌, length, eight_at, four_at};
+ghost use Rattle.dm_store.specs.Prelude.{length, eight_at, four_at};
+ghost use Rattle.std.specs.Prelude.{◌≡◌, ◌+◌, ◌≤◌};
 
 /// The number of four bytes.
 #[inline(always)]

@@ -2,7 +2,8 @@
 //!
 //! What a real image holds is known by it alone. Note each read as it is returned.
 
-ghost use Rattle.dm_store.specs.Prelude.{◌≡◌, ◌↔◌, [], length, AreRead, Contents, AgreesWith};
+ghost use Rattle.dm_store.specs.Prelude.{[], length, AreRead, Contents, AgreesWith};
+ghost use Rattle.std.specs.Prelude.{◌≡◌, ◌↔◌};
 
 use crate::asked::Asked;
 use crate::images::ReadFault;
@@ -18,8 +19,9 @@ pub struct ReadLog {
 }
 
 impl Model for ReadLog {
-    ghost use Rattle.dm_store.specs.Base.{◌≡◌, length};
+    ghost use Rattle.dm_store.specs.Base.{length};
     ghost use Rattle.dm_store.specs.ReadLog.{Logged, given_total, path_total};
+    ghost use Rattle.std.specs.Prelude.{◌≡◌};
 
     ghost Value = { Logged };
 

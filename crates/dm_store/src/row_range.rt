@@ -1,6 +1,6 @@
 //! Which rows of a list were read last.
 
-ghost use Rattle.dm_store.specs.Base.{◌≡◌, ◌≤◌};
+ghost use Rattle.std.specs.Prelude.{◌≡◌, ◌≤◌};
 
 /// Rows of a list, each a sector: `count` of them, from `first` on.
 #[derive(Clone, Copy, Debug, Drop)]

@@ -1,6 +1,7 @@
 //! The store of a device, where it is to be read.
 
-ghost use Rattle.dm_store.specs.Prelude.{◌≡◌, IfSome, IsSnapshot, IsStoreOf, store_at};
+ghost use Rattle.dm_store.specs.Prelude.{IfSome, IsSnapshot, IsStoreOf, store_at};
+ghost use Rattle.std.specs.Prelude.{◌≡◌};
 
 use crate::store::Store;
 use dm_map::lower_len;

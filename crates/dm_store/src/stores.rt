@@ -1,6 +1,7 @@
 //! The state that the stores of a stack hold, read into a mapper.
 
-ghost use Rattle.dm_store.specs.Prelude.{◌≡◌, ◌<◌, IfErr, OnOk, length, with_looked, IsWithinPlaces, none_taken, put, start_state, taken_at, IsSnapshot, Contents, disk_contents, IsStoreIn, IsStoreOf, told, told_header, start_of, store_sectors, stored_state, taken_in, Stored, by_header, stored};
+ghost use Rattle.dm_store.specs.Prelude.{IfErr, OnOk, length, with_looked, IsWithinPlaces, none_taken, put, start_state, taken_at, IsSnapshot, Contents, disk_contents, IsStoreIn, IsStoreOf, told, told_header, start_of, store_sectors, stored_state, taken_in, Stored, by_header, stored};
+ghost use Rattle.std.specs.Prelude.{◌≡◌, ◌<◌};
 
 use crate::disk_images::DiskImages;
 use crate::fault::{StoreFault, StoreRefusal};

@@ -1,5 +1,6 @@
 -- What proofs of several crates need of lists, options and results.
-use Rattle.dm_table.proofs.Prelude.{◌≡◌, ℕ, zero, suc, List, [], ◌∷◌, ◌++◌, Option, Some, None, Result, Ok, Err, OnOk, refl, subst, OnErr, option_map, slice_get, AllByRecursion}
+use Rattle.dm_table.proofs.Prelude.{ℕ, zero, suc, List, [], Option, Some, None, Result, Ok, Err, OnOk, refl, subst, OnErr, option_map, slice_get, AllByRecursion}
+use Rattle.std.specs.Prelude.{◌≡◌, ◌∷◌, ◌++◌}
 
 -- Lists
 

@@ -16,7 +16,7 @@ unfoldable pub use Rattle.std.specs.List.{IsDistinct}
 pub use Rattle.std.specs.List.Sorted.{IsNonDecreasingBy, IsPermutation}
 pub use Rattle.std.specs.Option.{ok_or, option_map_or, option_or, option_to_list}
 pub use Rattle.std.specs.Ordering.{is_gt, nat_cmp}
-pub use Rattle.std.specs.Prelude.{Bool, Err, IfErr, IfNone, IfOk, IfSome, IsErr, IsOkAnd, IsSome, IsTrue, List, MatchBool, MatchOption, MatchResult, None, Ok, OnErr, OnOk, Option, Result, Some, String, [], bit_or, bit_xor, bytes_eq, codes, count_by, count_ones, decimal, drop, false, filter, find, fold, get_or, if◌then◌else◌, is_err, is_none, is_ok, is_some, length, map, max, min, nat_eq, nat_le, nat_lt, not, option_and_then, option_copied, option_map, position, replicate, slice_get, slice_index, slice_index_or, slice_range, slice_set, string_bytes, suc, take, true, unwrap_or, vec_capacity, vec_len, zero, ℕ, ⊤, ◌%◌, ◌&&◌, ◌*◌, ◌+◌, ◌++◌, ◌-◌, ◌/◌, ◌<◌, ◌==◌, ◌^◌, ◌||◌, ◌↔◌, ◌∷◌, ◌≡◌, ◌≢◌, ◌≤◌, ◌⊎◌}
+pub use Rattle.std.specs.Prelude.{Bool, Err, IfErr, IfNone, IfOk, IfSome, IsErr, IsOkAnd, IsSome, IsTrue, List, MatchBool, MatchOption, MatchResult, None, Ok, OnErr, OnOk, Option, Result, Some, String, [], bit_or, bit_xor, bytes_eq, codes, count_by, count_ones, decimal, drop, false, filter, find, fold, get_or, is_err, is_none, is_ok, is_some, length, map, max, min, nat_eq, nat_le, nat_lt, not, option_and_then, option_copied, option_map, position, replicate, slice_get, slice_index, slice_index_or, slice_range, slice_set, string_bytes, suc, take, true, unwrap_or, vec_capacity, vec_len, zero, ℕ, ⊤}
 pub use Rattle.std.specs.Result.{IsErrAnd, result_err}
 pub use Rattle.std.specs.Slice.Iter.{iter_rest}
 pub use Rattle.std.specs.Str.{IsAscii, IsUtf8}

@@ -6,7 +6,8 @@
 //! nothing but these, takes no memory. That is so as long as this module hands out no allocator, which no
 //! contract says.
 
-ghost use Rattle.dm_table.specs.Prelude.{◌≡◌, ◌<◌, ◌≤◌, ◌++◌, ◌∷◌, [], IfOk, OnOk, length, slice_index_or, vec_capacity, sem, insert, string_bytes};
+ghost use Rattle.dm_table.specs.Prelude.{[], IfOk, OnOk, length, slice_index_or, vec_capacity, sem, insert, string_bytes};
+ghost use Rattle.std.specs.Prelude.{◌≡◌, ◌<◌, ◌≤◌, ◌++◌, ◌∷◌};
 
 use std::alloc::{AllocError, Global};
 use std::marker::Model;

@@ -1,5 +1,5 @@
 -- What the exit of a command says of its answer.
-use Rattle.dmremap.proofs.Prelude.{◌≡◌, ◌≢◌, true, false, ℕ, ◌+◌, List, [], ◌++◌, Option, Some, None, Err, arith, inl, inr, refl, sym, ap, subst, ◌∙◌, append-nil, LoadFault, LoadKind, Delivery, InputPast, OutputPast, delivery, written_since, HasWritten, since-same, written_none, IsCutShort, kind_message, load_message, memory_message, Description, NameFault, Answer, Answers, End, Failed, OutOfMemory, Tells, Told, Writes, end_of, refused_by, Does, HasDone, Exit, Refusal, exit_status, failed_writes, is_flushed, is_refused, load_status, name_status, refusal_message, refusal_status, IsUnasked, RefusedBy, SoundAs, IsOpened, Loaded, Opened, Opening, Stops, AskedBy, EndsAs, Exits, IsClosedAs, IsOut, Moved, StreamsLeft}
+use Rattle.dmremap.proofs.Prelude.{true, false, ℕ, List, [], Option, Some, None, Err, arith, inl, inr, refl, sym, ap, subst, ◌∙◌, append-nil, LoadFault, LoadKind, Delivery, InputPast, OutputPast, delivery, written_since, HasWritten, since-same, written_none, IsCutShort, kind_message, load_message, memory_message, Description, NameFault, Answer, Answers, End, Failed, OutOfMemory, Tells, Told, Writes, end_of, refused_by, Does, HasDone, Exit, Refusal, exit_status, failed_writes, is_flushed, is_refused, load_status, name_status, refusal_message, refusal_status, IsUnasked, RefusedBy, SoundAs, IsOpened, Loaded, Opened, Opening, Stops, AskedBy, EndsAs, Exits, IsClosedAs, IsOut, Moved, StreamsLeft}
 use Rattle.dm_table.specs.declared.load.load_fault.LoadKind.TheVariants as kinds
 use Rattle.dm_stream.specs.declared.runs.ending.Ending.TheVariants as endings
 use Rattle.lvm_volume.specs.declared.fault.NameFault.TheVariants as names
@@ -8,6 +8,7 @@ use Rattle.dmremap.specs.declared.exit.Exit.TheVariants as exits
 use Rattle.dmremap.specs.declared.exit.Refusal.TheVariants as refusals
 use Rattle.dmremap.specs.declared.status.TheConstants.{STATUS_MEMORY, STATUS_WRITE_FAULT}
 use Rattle.dmremap.proofs.ExitLemmas.{closed_requests, exits_told, kind_memory, of_refusal, read_on_none, refused_output, unasked_requests, write_fault_is}
+use Rattle.std.specs.Prelude.{◌≡◌, ◌≢◌, ◌+◌, ◌++◌}
 
 -- a stream of which nothing is asked
 abbrev pub still : {Past : Type 0} → Past → Moved Past

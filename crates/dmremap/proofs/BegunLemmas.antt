@@ -1,8 +1,9 @@
 -- How a run begins: what was refused before earlier requests, and what they do.
-use Rattle.dmremap.proofs.Prelude.{◌≡◌, arith, Option, Some, None, Result, Ok, Err, sym, subst, IfErr, IsErrAnd, err_from_is_err_and, Delivery, InputPast, Description, State, EarlierFault, Ending, refused_ending, Refusal, IsOutOfMemory, IsBegunAt, ArePlayedIf, ArePlayedOver, Begins, Start, earlier_from}
+use Rattle.dmremap.proofs.Prelude.{arith, Option, Some, None, Result, Ok, Err, sym, subst, IfErr, IsErrAnd, err_from_is_err_and, Delivery, InputPast, Description, State, EarlierFault, Ending, refused_ending, Refusal, IsOutOfMemory, IsBegunAt, ArePlayedIf, ArePlayedOver, Begins, Start, earlier_from}
 use Rattle.dm_stream.specs.declared.runs.earlier.EarlierFault.TheVariants as earlier
 use Rattle.dm_stream.specs.declared.runs.ending.Ending.TheVariants as endings
 use Rattle.dmremap.specs.declared.exit.Refusal.TheVariants as refusals
+use Rattle.std.specs.Prelude.{◌≡◌}
 
 -- what the exit of a `?` returns is why it was given
 pub handed_on : {T : Type 0} (P : Result T Refusal → Type 0) (result : Result T Refusal) (why : Refusal) → IsErrAnd result (λ found. found ≡ why) → P (Err why) → P result

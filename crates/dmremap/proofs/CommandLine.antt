@@ -1,5 +1,5 @@
 -- What clap's clauses say of the program's own command line.
-use Rattle.dmremap.proofs.Prelude.{◌≡◌, ◌∙◌, Bool, List, Option, Result, Ok, Err, IfOk, Some, None, option_map, [], ◌&&◌, not, true, false, true≢false, ap, ap₂, refl, sym, subst, inl, inr, cond, JobWords, HasApp, IsOfKind, IsRefusedFor, IsTaken, IsUntaken, Parsers, TakeFormats, command_line, fault_from, has_lone_hyphen, is_invalid, is_memory, is_unknown, job_in, said_by}
+use Rattle.dmremap.proofs.Prelude.{◌∙◌, Bool, List, Option, Result, Ok, Err, IfOk, Some, None, option_map, [], not, true, false, true≢false, ap, ap₂, refl, sym, subst, inl, inr, cond, JobWords, HasApp, IsOfKind, IsRefusedFor, IsTaken, IsUntaken, Parsers, TakeFormats, command_line, fault_from, has_lone_hyphen, is_invalid, is_memory, is_unknown, job_in, said_by}
 use Rattle.clap.specs.Kinds.{HasKind, IsAmong}
 use Rattle.clap.specs.Words.{AddsSubcommand, App, HasMatchesOf, Row, Text, app_of, fault_of, is_simple, is_simple_and_free, kind_of, shape_of, subcommand_rows_of, with_subcommand}
 use Rattle.clap.specs.declared.builder.command.Command.{Command}
@@ -11,6 +11,7 @@ use Rattle.clap.specs.declared.parser.matches.ArgMatches.{ArgMatches}
 use Rattle.clap.proofs.OnLiterals.{clap_on_literals}
 use Rattle.dmremap.specs.declared.words.WordsFault.{WordsFault}
 use Rattle.dmremap.specs.declared.words.WordsFault.TheVariants.{Words, Disks, Memory}
+use Rattle.std.specs.Prelude.{◌≡◌, ◌&&◌}
 
 -- a command that a parse reads as a plain one has no global argument
 third : (a b c d : Bool) → (a && (b && (not c && d))) ≡ true → c ≡ false

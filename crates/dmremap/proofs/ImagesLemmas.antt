@@ -1,5 +1,5 @@
 -- What PATHS opens that is a list of images, and from where a run starts then.
-use Rattle.dmremap.proofs.Prelude.{◌≡◌, ◌≢◌, inl, inr, ◌+◌, ◌-◌, ◌<◌, ◌≤◌, Bool, ℕ, List, [], ◌∷◌, Option, None, Some, Result, Ok, Err, IfOk, drop, length, map, slice_get, refl, sym, ap, ap₂, subst, if◌then◌else◌, is_ok, nat_lt, position, position-Some, cases_Bool, drop_all, LoadFault, Paths, Disk, DiskPath, DeviceSpec, Delivery, InputPast, delivery, IsReadOn, PartRead, TextOf, part_read, read_paths, Description, described, IsSound, OwnedFault, Owners, Gives, OwnedAnswers, images_of, Contents, HeadRefusal, AllSaid, heads_of, Refusal, AreImagesOpened, AreSeen, DisksOpen, HeadsOpen, ImagesOpen, IsStoppedBy, IsUnowned, ListOpens, OpensBy, SaidOpens, StackGives, by_text, disk_message, ended_by, few, len_of, list_in, listed_disks, owners_of, short_of, unless_short, RefusedBy, SoundAs, IsOpened, Loaded, Opening, Stops, images_in, start_over, stored_start}
+use Rattle.dmremap.proofs.Prelude.{inl, inr, Bool, ℕ, List, [], Option, None, Some, Result, Ok, Err, IfOk, drop, length, map, slice_get, refl, sym, ap, ap₂, subst, is_ok, nat_lt, position, position-Some, cases_Bool, drop_all, LoadFault, Paths, Disk, DiskPath, DeviceSpec, Delivery, InputPast, delivery, IsReadOn, PartRead, TextOf, part_read, read_paths, Description, described, IsSound, OwnedFault, Owners, Gives, OwnedAnswers, images_of, Contents, HeadRefusal, AllSaid, heads_of, Refusal, AreImagesOpened, AreSeen, DisksOpen, HeadsOpen, ImagesOpen, IsStoppedBy, IsUnowned, ListOpens, OpensBy, SaidOpens, StackGives, by_text, disk_message, ended_by, few, len_of, list_in, listed_disks, owners_of, short_of, unless_short, RefusedBy, SoundAs, IsOpened, Loaded, Opening, Stops, images_in, start_over, stored_start}
 use Rattle.dm_table.specs.declared.load.load_fault.LoadKind.TheVariants as kinds
 use Rattle.lvm_volume.specs.declared.owned_metadata.OwnedFault.TheVariants as owned
 use Rattle.lvm_volume.specs.OwnedMetadata.{Tables}
@@ -8,6 +8,7 @@ use Rattle.lvm_head.specs.declared.fault.HeadFault.TheVariants as faults
 use Rattle.lvm_head.specs.Disks.{Contents as DiskContents}
 use Rattle.dmremap.specs.declared.exit.Refusal.TheVariants as refusals
 use Rattle.dmremap.specs.declared.group_images.GroupImages.{GroupImages}
+use Rattle.std.specs.Prelude.{◌≡◌, ◌≢◌, ◌+◌, ◌-◌, ◌<◌, ◌≤◌, ◌∷◌, if◌then◌else◌}
 
 -- ---- a list that is read
 

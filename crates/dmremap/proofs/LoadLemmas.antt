@@ -1,6 +1,7 @@
 -- The first fault of checks that run before others, what parts give that were read, and inputs of which nothing is asked.
-use Rattle.dmremap.proofs.Prelude.{◌≡◌, ℕ, List, [], ◌∷◌, ◌++◌, Option, Some, None, Delivery, InputPast, LoadFault, Disks, Source, first_fault, TextOf, part_read, Lvm, Tables, TableForm, IsReadOnIf, Load, MetadataGives, PartsGive, TextsGive}
+use Rattle.dmremap.proofs.Prelude.{ℕ, List, [], Option, Some, None, Delivery, InputPast, LoadFault, Disks, Source, first_fault, TextOf, part_read, Lvm, Tables, TableForm, IsReadOnIf, Load, MetadataGives, PartsGive, TextsGive}
 use Rattle.dmremap.proofs.ExitLemmas.{read_on_none}
+use Rattle.std.specs.Prelude.{◌≡◌, ◌∷◌, ◌++◌}
 
 -- a fault of the first checks
 pub first_before : (checks more : List (List LoadFault)) (fault : LoadFault) → first_fault checks ≡ Some fault → first_fault (checks ++ more) ≡ Some fault

@@ -1,5 +1,5 @@
 -- What the exit of `map` says of the run.
-use Rattle.dmremap.proofs.Prelude.{◌≡◌, ◌≢◌, ◌⊎◌, ◌<◌, Bool, ℕ, Option, Some, Err, arith, inl, inr, option_map, refl, sym, ap, ◌∙◌, Delivery, InputPast, OutputPast, delivery, written_since, FailedOutput, IsReadOn, finished_as, Description, State, Ending, HasMet, HasTold, ending_message, refused_ending, Outcome, run_outcome, EarlierFault, HasRun, Answers, End, Failed, FailedAfter, Tells, Writes, end_of, Refusal, ending_status, refusal_status, SoundAs, IsOpened, Loaded, Opening, IsBegunAt, Exits, Moved, OutputWritten, StreamsLeft, ArePlayedOver, Begins, EarlierRead, Maps, MapsOver, Start, answer_after, answer_over, earlier_from, outcome_from}
+use Rattle.dmremap.proofs.Prelude.{Bool, ℕ, Option, Some, Err, arith, inl, inr, option_map, refl, sym, ap, ◌∙◌, Delivery, InputPast, OutputPast, delivery, written_since, FailedOutput, IsReadOn, finished_as, Description, State, Ending, HasMet, HasTold, ending_message, refused_ending, Outcome, run_outcome, EarlierFault, HasRun, Answers, End, Failed, FailedAfter, Tells, Writes, end_of, Refusal, ending_status, refusal_status, SoundAs, IsOpened, Loaded, Opening, IsBegunAt, Exits, Moved, OutputWritten, StreamsLeft, ArePlayedOver, Begins, EarlierRead, Maps, MapsOver, Start, answer_after, answer_over, earlier_from, outcome_from}
 use Rattle.dm_stream.specs.declared.runs.ending.Ending.TheVariants as endings
 use Rattle.dm_stream.specs.declared.runs.earlier.EarlierFault.TheVariants as earlier
 use Rattle.dmremap.specs.Answers.{Wrote}
@@ -8,6 +8,7 @@ use Rattle.dmremap.specs.declared.exit.Refusal.TheVariants as refusals
 use Rattle.dmremap.specs.declared.status.TheConstants.{STATUS_MEMORY, STATUS_WRITE_FAULT}
 use Rattle.dmremap.proofs.AnswerLemmas.{end_refused, loaded_answers, refused_answers, still, unopened_answers}
 use Rattle.dmremap.proofs.ExitLemmas.{exits_told, never_one, ran_requests, write_fault_is}
+use Rattle.std.specs.Prelude.{◌≡◌, ◌≢◌, ◌⊎◌, ◌<◌}
 
 -- ---- a load
 

@@ -1,5 +1,5 @@
 -- What the words and the deliveries give is one, save where the output failed or memory ran out.
-use Rattle.dmremap.proofs.Prelude.{◌≡◌, ◌≢◌, true, false, ℕ, List, [], ◌∷◌, ◌++◌, Option, Some, None, refl, sym, ap, subst, ◌∙◌, AllByRecursion, Delivery, IsClash, IsTidy, claims, Description, State, Ending, NumberedRequest, Requests, requests_of, Asked, HasTop, runs_text, spaced, Exit, Answer, End, IsOne, IsOneSettled, IsSettled, Tells, Writes, end_of, IsPlain, is_flushed, JobWords, RangeWords, print_words, check_words, read_words, replay_words, name_words, split_words, explain_words, Opened, Opening, JobAnswers, JobMakes, has_requests, is_loading, Prints, Refuses, ReportSays, Said, SaidBy, SplitSays, answer_said, line, ReplaysOver, ReplaysStack, Start, AreAnswered, IsAnswer, IsOfNone, IsPlayed, IsWhole, StopsAt, asked_of}
+use Rattle.dmremap.proofs.Prelude.{true, false, ℕ, List, [], Option, Some, None, refl, sym, ap, subst, ◌∙◌, AllByRecursion, Delivery, IsClash, IsTidy, claims, Description, State, Ending, NumberedRequest, Requests, requests_of, Asked, HasTop, runs_text, spaced, Exit, Answer, End, IsOne, IsOneSettled, IsSettled, Tells, Writes, end_of, IsPlain, is_flushed, JobWords, RangeWords, print_words, check_words, read_words, replay_words, name_words, split_words, explain_words, Opened, Opening, JobAnswers, JobMakes, has_requests, is_loading, Prints, Refuses, ReportSays, Said, SaidBy, SplitSays, answer_said, line, ReplaysOver, ReplaysStack, Start, AreAnswered, IsAnswer, IsOfNone, IsPlayed, IsWhole, StopsAt, asked_of}
 use Rattle.dm_stack.specs.declared.claims.clash.Clash.{Clash}
 use Rattle.dm_stack.proofs.TopLemmas.{one_clash, one_report}
 use Rattle.dm_stream.specs.declared.runs.ending.Ending.TheVariants as endings
@@ -10,6 +10,7 @@ use Rattle.dmremap.specs.declared.status.TheConstants.{STATUS_MEMORY}
 use Rattle.dmremap.specs.Whole as start
 use Rattle.dmremap.proofs.ExitLemmas.{write_fault_is}
 use Rattle.dmremap.proofs.OneWhole.{one_opened}
+use Rattle.std.specs.Prelude.{◌≡◌, ◌≢◌, ◌∷◌, ◌++◌}
 
 -- What is said to be printed
 

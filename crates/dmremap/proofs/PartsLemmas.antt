@@ -1,7 +1,8 @@
 -- What parts were read, that opened a stack, before and after its stores are.
-use Rattle.dmremap.proofs.Prelude.{◌≡◌, List, Option, None, Result, Ok, Err, IfErr, inr, subst, LoadFault, InputPast, Description, Contents, Place, Refusal, IsReadOnIf, delivered_if, ArePartsOpened, ArePartsRead, AreSettled, places_in, AreImagesAsked, IsBegunAt, stored_start}
+use Rattle.dmremap.proofs.Prelude.{List, Option, None, Result, Ok, Err, IfErr, inr, subst, LoadFault, InputPast, Description, Contents, Place, Refusal, IsReadOnIf, delivered_if, ArePartsOpened, ArePartsRead, AreSettled, places_in, AreImagesAsked, IsBegunAt, stored_start}
 use Rattle.dmremap.specs.declared.parts.Parts.{Parts}
 use Rattle.dmremap.specs.declared.prepared.Prepared.{Prepared}
+use Rattle.std.specs.Prelude.{◌≡◌}
 
 -- what holds of a refusal for one reason holds for another
 pub refused_more : {T : Type 0} {P Q : Refusal → Type 0} (result : Result T Refusal) → ((refusal : Refusal) → P refusal → Q refusal) → IfErr result P → IfErr result Q

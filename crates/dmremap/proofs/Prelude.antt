@@ -10,7 +10,7 @@ pub use Rattle.dm_store.specs.Prelude.{Contents, DiskContents, Place, disk_conte
 pub use Rattle.dm_stream.specs.Prelude.{HasMet, HasRun, HasTold, IsAmong, NumberedRequest, Outcome, Requests, device_of, ending_message, numbered, refused_ending, requests_of, run_outcome}
 pub use Rattle.dm_stream.specs.declared.runs.earlier.EarlierFault.{EarlierFault}
 pub use Rattle.dm_stream.specs.declared.runs.ending.Ending.{Ending}
-pub use Rattle.dm_table.proofs.Std.{AllByRecursion, Bool, Bor, Err, FindsText, IfErr, IfErr-at_err, IfNone, IfOk, IfSome, IsErr, IsErrAnd, LacksTextAt, List, MatchOption, None, Ok, OnErr, OnOk, Option, Result, Some, SplitsAroundMatch, [], add-one, ap, append-nil, append_assoc, ap₂, arith, before_first, bytes_eq, bytes_eq-Decides, cases_Bool, codes, cond, drop, drop_all, drop_at, drop_more, err_from_is_err_and, false, filter, filter-append, get_or, get_or-map, if◌then◌else◌, inl, inr, is_ok, join_with_byte, le-leb, length, length-append, length-drop, length-map, list_any, lt-leb, map, map-append, nat_lt, not, option_and_then, option_map, option_map_or, position, position-Some, refl, rules, slice_get, slice_get_read, string_bytes, subst, suc, sym, take, take-append-drop, take-length, take_at, take_while-cons, true, true≢false, unwrap_or, zero, ℕ, ◌&&◌, ◌*◌, ◌+◌, ◌++◌, ◌-◌, ◌<◌, ◌^◌, ◌∙◌, ◌∷◌, ◌≡◌, ◌≢◌, ◌≤◌, ◌⊎◌}
+pub use Rattle.dm_table.proofs.Std.{AllByRecursion, Bool, Bor, Err, FindsText, IfErr, IfErr-at_err, IfNone, IfOk, IfSome, IsErr, IsErrAnd, LacksTextAt, List, MatchOption, None, Ok, OnErr, OnOk, Option, Result, Some, SplitsAroundMatch, [], add-one, ap, append-nil, append_assoc, ap₂, arith, before_first, bytes_eq, bytes_eq-Decides, cases_Bool, codes, cond, drop, drop_all, drop_at, drop_more, err_from_is_err_and, false, filter, filter-append, get_or, get_or-map, inl, inr, is_ok, join_with_byte, le-leb, length, length-append, length-drop, length-map, list_any, lt-leb, map, map-append, nat_lt, not, option_and_then, option_map, option_map_or, position, position-Some, refl, rules, slice_get, slice_get_read, string_bytes, subst, suc, sym, take, take-append-drop, take-length, take_at, take_while-cons, true, true≢false, unwrap_or, zero, ℕ, ◌∙◌}
 pub use Rattle.dm_table.proofs.WriteLemmas.{and_then, stopped}
 pub use Rattle.dm_table.specs.Prelude.{Delivery, FailedOutput, HasWritten, InputPast, IsClosedAfter, IsCutShort, IsFinished, IsReadOn, MetNothing, OutputPast, PartRead, TextOf, Unread, Wrote, delivery, disk_checks, fault_of, finished_as, first_fault, grows-same, kind_message, load_message, memory_message, part_read, since, since-same, written_none, written_since, written_to_none}
 unfoldable pub use Rattle.dm_table.specs.Prelude.{read_paths}

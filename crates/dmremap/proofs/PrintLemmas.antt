@@ -1,10 +1,11 @@
 -- What a command that prints wrote, and how it would exit.
-use Rattle.dmremap.proofs.Prelude.{◌≡◌, ℕ, List, Some, Result, Ok, Err, refl, sym, ap, subst, arith, InputPast, OutputPast, written_since, Wrote, NameParts, built, End, Writes, end_of, Exit, Does, HasDone, exit_after, Prints, Refuses, Said, SaidBy, answer_said, line, name_said, AskedBy}
+use Rattle.dmremap.proofs.Prelude.{ℕ, List, Some, Result, Ok, Err, refl, sym, ap, subst, arith, InputPast, OutputPast, written_since, Wrote, NameParts, built, End, Writes, end_of, Exit, Does, HasDone, exit_after, Prints, Refuses, Said, SaidBy, answer_said, line, name_said, AskedBy}
 use Rattle.dm_stream.specs.declared.runs.ending.Ending.TheVariants as endings
 use Rattle.dmremap.specs.declared.exit.Exit.TheVariants as exits
 use Rattle.dmremap.specs.declared.status.TheConstants.{STATUS_DONE}
 use Rattle.dmremap.proofs.AnswerLemmas.{asked_refused, does_more}
 use Rattle.dmremap.proofs.ExitLemmas.{read_on_none}
+use Rattle.std.specs.Prelude.{◌≡◌}
 
 -- a text was written, or a write of it failed
 pub text_done : {E : Type 0} {old new : OutputPast} (result : Result (Unit {0}) E) (text : List ℕ) (exit : Exit) → exit ≡ exit_after result → Wrote old new result text → HasDone (Does (SaidBy (λ said. Prints text ≡ said))) old new exit

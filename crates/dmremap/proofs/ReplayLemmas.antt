@@ -1,5 +1,5 @@
 -- What the requests that a player was handed say of a replay.
-use Rattle.dmremap.proofs.Prelude.{◌≡◌, ◌≢◌, ℕ, List, [], ◌∷◌, ◌++◌, None, Some, Result, Err, IfErr, refl, sym, ap, subst, append_assoc, append-nil, IfErr-at_err, Delivery, InputPast, since, IsReadOn, MetNothing, IsCutShort, since-same, IsTidy, IsTop, Description, State, Ending, device_of, IsAmong, NumberedRequest, Requests, requests_of, Asked, asked_answers, world_after, HasTop, AreMaximal, flat, runs_text, named_id, named_top, top_named, Exit, Refusal, Tells, end_of, Does, refusal_status, ReplaysOver, ReplaysStack, AreAnswered, HasPlayed, HasStopped, IsAnswer, IsCutReplay, IsPlayed, StopsAt, asked_of, IsBegunAt, AskedBy, HasMetBy, Begins, Start}
+use Rattle.dmremap.proofs.Prelude.{ℕ, List, [], None, Some, Result, Err, IfErr, refl, sym, ap, subst, append_assoc, append-nil, IfErr-at_err, Delivery, InputPast, since, IsReadOn, MetNothing, IsCutShort, since-same, IsTidy, IsTop, Description, State, Ending, device_of, IsAmong, NumberedRequest, Requests, requests_of, Asked, asked_answers, world_after, HasTop, AreMaximal, flat, runs_text, named_id, named_top, top_named, Exit, Refusal, Tells, end_of, Does, refusal_status, ReplaysOver, ReplaysStack, AreAnswered, HasPlayed, HasStopped, IsAnswer, IsCutReplay, IsPlayed, StopsAt, asked_of, IsBegunAt, AskedBy, HasMetBy, Begins, Start}
 use Rattle.dm_stream.specs.declared.runs.ending.Ending.TheVariants as endings
 use Rattle.dm_replay.specs.declared.replay_fault.ReplayFault.{ReplayFault}
 use Rattle.dm_replay.specs.declared.value_run.ValueRun.{ValueRun}
@@ -8,6 +8,7 @@ use Rattle.dmremap.specs.declared.exit.Refusal.TheVariants as refusals
 use Rattle.dmremap.specs.declared.status.TheConstants.{STATUS_MEMORY}
 use Rattle.dmremap.proofs.AnswerLemmas.{does_more, end_refused}
 use Rattle.dmremap.proofs.BegunLemmas.{never_done}
+use Rattle.std.specs.Prelude.{◌≡◌, ◌≢◌, ◌∷◌, ◌++◌}
 
 -- ---- one request
 

@@ -1,11 +1,12 @@
 -- What the command that prints the text of a group has to answer.
-use Rattle.dmremap.proofs.Prelude.{◌≡◌, ◌≢◌, ℕ, List, Some, Result, Ok, Err, length, option_map, refl, sym, ap, slice_get, ◌∙◌, LoadFault, Paths, DiskPath, Delivery, part_read, Contents, HeadRefusal, AllSaid, heads_of, Answer, End, Tells, end_of, Refusal, load_status, refusal_status, IsStoppedBy, disk_message, list_in, listed_disks, PrintsImages, heads_text, images_text, text_answer, Prints, SaidBy, answer_said}
+use Rattle.dmremap.proofs.Prelude.{ℕ, List, Some, Result, Ok, Err, length, option_map, refl, sym, ap, slice_get, ◌∙◌, LoadFault, Paths, DiskPath, Delivery, part_read, Contents, HeadRefusal, AllSaid, heads_of, Answer, End, Tells, end_of, Refusal, load_status, refusal_status, IsStoppedBy, disk_message, list_in, listed_disks, PrintsImages, heads_text, images_text, text_answer, Prints, SaidBy, answer_said}
 use Rattle.dm_table.specs.declared.load.load_fault.LoadKind.TheVariants as kinds
 use Rattle.lvm_head.specs.declared.fault.HeadFault.TheVariants as faults
 use Rattle.dmremap.specs.declared.exit.Exit.TheVariants as exits
 use Rattle.dmremap.specs.declared.exit.Refusal.TheVariants as refusals
 use Rattle.dmremap.specs.declared.status.TheConstants.{STATUS_MEMORY}
 use Rattle.dmremap.proofs.AnswerLemmas.{end_refused}
+use Rattle.std.specs.Prelude.{◌≡◌, ◌≢◌}
 
 -- what heads said that are read
 text_said : (paths : Delivery) (held : Contents) (listed : List DiskPath) (heads : Result AllSaid HeadRefusal) → list_in (part_read Paths paths) ≡ Some (Ok listed) → heads_of (listed_disks listed held) (length listed) ≡ heads → images_text paths held ≡ Some (heads_text listed heads)

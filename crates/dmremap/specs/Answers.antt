@@ -1,8 +1,9 @@
 -- What a command has to answer by what was delivered, and what it did: what it wrote and told, and its status.
-use Rattle.dmremap.specs.Base.{◌≡◌, ◌≢◌, ℕ, List, [], Option, None, Some, Delivery, InputPast, OutputPast, delivery, written_since, FailedWhere, IsFlushed, IsCutShort, IsTold, Exit}
+use Rattle.dmremap.specs.Base.{ℕ, List, [], Option, None, Some, Delivery, InputPast, OutputPast, delivery, written_since, FailedWhere, IsFlushed, IsCutShort, IsTold, Exit}
 use Rattle.dmremap.specs.declared.status.TheConstants.{STATUS_MEMORY, STATUS_REFUSED, STATUS_WRITE_FAULT}
 use Rattle.dmremap.specs.Exit.{exit_message, exit_status}
 use Rattle.dmremap.specs.Streams.{IsOut, IsUnmoved, Moved}
+use Rattle.std.specs.Prelude.{◌≡◌, ◌≢◌}
 
 -- how a command ends: the message that it tells, and its status
 pub record End : Type 0 where

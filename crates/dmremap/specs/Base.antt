@@ -10,7 +10,7 @@ pub use Rattle.dm_stream.specs.declared.runs.ending.Ending.{Ending}
 pub use Rattle.dm_stream.specs.declared.runs.ending.Ending.TheVariants.{Done, WriteFault}
 pub use Rattle.dm_table.specs.Prelude.{Delivery, DescribesConcise, DescribesDisks, DescribesTable, Failed, FailedWhere, HasWritten, InputPast, IsCutShort, IsFinished, IsFlushed, IsReadOn, MetNothing, OutputPast, PartRead, Refuses, TextOf, Unread, code, concise_checks, concise_text, delivery, disk_checks, fault_at, first_fault, load_message, memory_message, part_read, since, since-same, since_more, table_checks, table_text, written_since}
 unfoldable pub use Rattle.dm_table.specs.Prelude.{read_paths}
-pub use Rattle.dm_table.specs.Std.{Bool, Bor, Err, IfErr, IfOk, List, None, Ok, Option, Result, Some, [], before_first, bytes_eq, codes, digits_value, drop, false, filter, if◌then◌else◌, is_ok, join_with_byte, length, list_any, map, nat_le, nat_lt, not, option_and_then, option_map, option_map_or, position, slice_get, take, true, unwrap_or, ℕ, ⊤, ◌&&◌, ◌+◌, ◌++◌, ◌-◌, ◌<◌, ◌^◌, ◌||◌, ◌∷◌, ◌≡◌, ◌≢◌, ◌≤◌, ◌⊎◌}
+pub use Rattle.dm_table.specs.Std.{Bool, Bor, Err, IfErr, IfOk, List, None, Ok, Option, Result, Some, [], before_first, bytes_eq, codes, digits_value, drop, false, filter, is_ok, join_with_byte, length, list_any, map, nat_le, nat_lt, not, option_and_then, option_map, option_map_or, position, slice_get, take, true, unwrap_or, ℕ, ⊤}
 pub use Rattle.dm_table.specs.declared.load.load_fault.LoadFault.{LoadFault}
 pub use Rattle.dm_table.specs.declared.load.load_fault.LoadKind.TheVariants.{Limit, Memory, Read}
 pub use Rattle.dm_table.specs.declared.load.place.Part.TheVariants.{Disks, Paths, Source}

@@ -1,8 +1,9 @@
 -- What a command did until its output is closed.
-use Rattle.dmremap.specs.Base.{◌≡◌, ◌≢◌, ℕ, List, [], Option, Some, OutputPast, written_since, HasWritten, IsCutShort, WriteFault, Exit, Ended, Refused}
+use Rattle.dmremap.specs.Base.{ℕ, List, [], Option, Some, OutputPast, written_since, HasWritten, IsCutShort, WriteFault, Exit, Ended, Refused}
 use Rattle.dmremap.specs.Answers.{Answer, End, Tells, Writes, end_of}
 use Rattle.dmremap.specs.declared.status.TheConstants.{STATUS_MEMORY}
 use Rattle.dmremap.specs.Exit.{failed_writes, refusal_status}
+use Rattle.std.specs.Prelude.{◌≡◌, ◌≢◌}
 
 -- what was written up to an exit, of a command with such an answer: all of a text; or a beginning, where a write failed; or nothing, where it is refused. That memory ran
 -- out says nothing of the answer

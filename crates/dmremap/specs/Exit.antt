@@ -1,5 +1,5 @@
 -- How a command exits: its status and its message.
-use Rattle.dmremap.specs.Base.{◌≡◌, ◌≢◌, ℕ, Bool, true, false, List, Result, Ok, Err, codes, load_message, memory_message, Ending, earlier_message, ending_message, refused_request, write_faults, stop_message, NameFault, name_message, name_refusal, Exit, Refusal}
+use Rattle.dmremap.specs.Base.{ℕ, Bool, true, false, List, Result, Ok, Err, codes, load_message, memory_message, Ending, earlier_message, ending_message, refused_request, write_faults, stop_message, NameFault, name_message, name_refusal, Exit, Refusal}
 use Rattle.dm_table.specs.declared.load.load_fault.LoadKind.{LoadKind}
 use Rattle.dm_table.specs.declared.load.load_fault.LoadKind.TheVariants as kinds
 use Rattle.dm_stream.specs.declared.runs.ending.Ending.TheVariants as endings
@@ -7,6 +7,7 @@ use Rattle.lvm_volume.specs.declared.fault.NameFault.TheVariants as names
 use Rattle.dmremap.specs.declared.exit.Exit.TheVariants as exits
 use Rattle.dmremap.specs.declared.exit.Refusal.TheVariants as refusals
 use Rattle.dmremap.specs.declared.status.TheConstants.{STATUS_BAD_REQUEST, STATUS_DONE, STATUS_MEMORY, STATUS_READ_FAULT, STATUS_REFUSED, STATUS_STOPPED, STATUS_WRITE_FAULT}
+use Rattle.std.specs.Prelude.{◌≡◌, ◌≢◌}
 
 -- ---- the status
 

@@ -1,5 +1,5 @@
 -- What the images of a list of paths open: a load of the text that their heads have, or a message where a head is refused.
-use Rattle.dmremap.specs.Base.{◌≡◌, ◌≢◌, ◌⊎◌, ◌+◌, ◌-◌, ℕ, List, [], ◌∷◌, Option, Some, None, Result, Ok, Err, length, map, nat_lt, position, slice_get, if◌then◌else◌, option_map_or, is_ok, LoadFault, Limit, Memory, Paths, DiskPath, Delivery, InputPast, delivery, IsReadOn, fault_at, PartRead, TextOf, Refuses, Unread, part_read, read_paths, Description, described, disk_len, is_same, IsSound, IsRefusedBy, Contents, HeadRefusal, Sectors, AllSaid, heads_of, head_message, Owners, Gives, Refusal}
+use Rattle.dmremap.specs.Base.{ℕ, List, [], Option, Some, None, Result, Ok, Err, length, map, nat_lt, position, slice_get, option_map_or, is_ok, LoadFault, Limit, Memory, Paths, DiskPath, Delivery, InputPast, delivery, IsReadOn, fault_at, PartRead, TextOf, Refuses, Unread, part_read, read_paths, Description, described, disk_len, is_same, IsSound, IsRefusedBy, Contents, HeadRefusal, Sectors, AllSaid, heads_of, head_message, Owners, Gives, Refusal}
 use Rattle.dm_store.specs.declared.images.ReadFault.{ReadFault}
 use Rattle.lvm_head.specs.declared.disks.ReadFault.{ReadFault as HeadReadFault}
 use Rattle.lvm_head.specs.declared.fault.HeadFault.{HeadFault}
@@ -14,6 +14,7 @@ use Rattle.dmremap.specs.declared.exit.Refusal.TheVariants as refusals
 use Rattle.dmremap.specs.declared.group_images.GroupImages.{GroupImages}
 use Rattle.dmremap.specs.Load.{Load, RefusedBy, SoundAs}
 use Rattle.dmremap.specs.Opening.{Loaded, Opening, Stops}
+use Rattle.std.specs.Prelude.{◌≡◌, ◌≢◌, ◌⊎◌, ◌+◌, ◌-◌, ◌∷◌, if◌then◌else◌}
 
 -- ---- what the disks of a list hold, by what images do
 

@@ -1,7 +1,8 @@
 -- What the command that prints the text of a group gives, by what the images of its disks hold.
-use Rattle.dmremap.specs.Base.{◌≡◌, ℕ, List, Option, Some, Result, Ok, Err, length, option_map, slice_get, LoadFault, Paths, DiskPath, Delivery, load_message, part_read, Done, Contents, HeadRefusal, AllSaid, heads_of, Ended}
+use Rattle.dmremap.specs.Base.{ℕ, List, Option, Some, Result, Ok, Err, length, option_map, slice_get, LoadFault, Paths, DiskPath, Delivery, load_message, part_read, Done, Contents, HeadRefusal, AllSaid, heads_of, Ended}
 use Rattle.dmremap.specs.Answers.{Answer, Tells, Writes, end_of, refused_by}
 use Rattle.dmremap.specs.ImagesLoad.{disk_message, list_in, listed_disks}
+use Rattle.std.specs.Prelude.{◌≡◌}
 
 -- the text that heads said, or the message of the disk whose head is refused
 abbrev pub heads_text : List DiskPath → Result AllSaid HeadRefusal → Result (List ℕ) (List ℕ)

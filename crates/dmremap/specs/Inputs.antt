@@ -1,5 +1,6 @@
 -- What the inputs of a run delivered, where one may be missing.
-use Rattle.dmremap.specs.Base.{◌≡◌, [], Option, None, Some, Failed, Delivery, InputPast, delivery, IsReadOn}
+use Rattle.dmremap.specs.Base.{[], Option, None, Some, Failed, Delivery, InputPast, delivery, IsReadOn}
+use Rattle.std.specs.Prelude.{◌≡◌}
 
 -- the delivery of an input that may be missing: it is that of one that can't be read, where there is none
 abbrev pub delivery_if : {X : Type 0} → (past : X → InputPast) → (old new : Option X) → Delivery

@@ -1,8 +1,9 @@
 -- What a command begins with, and what it makes of that.
-use Rattle.dmremap.specs.Base.{◌≡◌, ◌≢◌, List, ℕ, Result, Ok, Err, Memory, Delivery, Description, Refused, Refusal, Format}
+use Rattle.dmremap.specs.Base.{List, ℕ, Result, Ok, Err, Memory, Delivery, Description, Refused, Refusal, Format}
 use Rattle.dmremap.specs.declared.exit.Refusal.TheVariants as refusals
 use Rattle.dmremap.specs.Answers.{Answer, Tells, end_of, refused_by}
 use Rattle.dmremap.specs.Load.{Load, PartsGive, RefusedBy, SoundAs}
+use Rattle.std.specs.Prelude.{◌≡◌, ◌≢◌}
 
 -- what a command begins with: a load; or it stops before that, by a message
 pub data Opening : Type 0 where

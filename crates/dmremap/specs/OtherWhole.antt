@@ -1,5 +1,5 @@
 -- What the commands but `map` have to answer, by their words, by what opens them and by the requests that were delivered.
-use Rattle.dmremap.specs.Base.{◌≡◌, Bool, true, false, Option, Some, Delivery, Description, built}
+use Rattle.dmremap.specs.Base.{Bool, true, false, Option, Some, Delivery, Description, built}
 use Rattle.dmremap.specs.Answers.{Answer}
 use Rattle.dmremap.specs.Explanation.{explanation}
 use Rattle.dmremap.specs.Job.{JobWords, RangeWords, map_words, metadata_words, print_words, check_words, read_words, replay_words, name_words, split_words, explain_words}
@@ -7,6 +7,7 @@ use Rattle.dmremap.specs.Opening.{Opened, Opening}
 use Rattle.dmremap.specs.Printing.{Prints, ReportSays, SaidBy, SplitSays, name_said, written_as}
 use Rattle.dmremap.specs.ReplayWhole.{ReplaysOver}
 use Rattle.dmremap.specs.Whole.{Start}
+use Rattle.std.specs.Prelude.{◌≡◌}
 
 -- the job is another than `map`, and not of the heads of images alone
 abbrev pub is_other : JobWords → Bool

@@ -1,10 +1,11 @@
 -- What became of FILE, DISKS, PATHS and images that open a command.
-use Rattle.dmremap.specs.Base.{◌≡◌, InputPast, delivery, IsReadOn, Description, Contents}
+use Rattle.dmremap.specs.Base.{InputPast, delivery, IsReadOn, Description, Contents}
 use Rattle.dmremap.specs.declared.parts.Parts.{Parts}
 use Rattle.dmremap.specs.Inputs.{IsReadOnIf, delivered_if, delivery_if}
 use Rattle.dmremap.specs.Load.{SoundAs}
 use Rattle.dmremap.specs.Opening.{Loaded, PartsOpen}
 use Rattle.dmremap.specs.StoredStart.{ReadInTurn}
+use Rattle.std.specs.Prelude.{◌≡◌}
 
 -- FILE and DISKS opened this stack, and nothing else was asked for
 pub record ArePartsOpened {S D P I : Type 0} (source_past : S → InputPast) (disks_past : D → InputPast) (stack : Description) (old new : Parts S D P I) : Type 0 where

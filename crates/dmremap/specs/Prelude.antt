@@ -6,7 +6,7 @@ pub use Rattle.dm_stream.specs.Prelude.{AreFewest, fewest, refl}
 pub use Rattle.dm_table.specs.Prelude.{HasWrittenTo, written_to_more, written_to_none}
 pub use Rattle.dm_table.specs.Std.{IfSome, IsErr, IsErrAnd, OnErr, OnOk, ReadConsumes}
 pub use Rattle.dmremap.specs.Answers.{Answer, Answers, End, Failed, FailedAfter, IsOne, IsOneSettled, IsSettled, OutOfMemory, Tells, Told, Writes, Wrote, end_of, refused_by, unread}
-pub use Rattle.dmremap.specs.Base.{Bool, CanMap, Contents, Delivery, Description, Disks, Err, HasWritten, IfErr, IfOk, InputPast, IsReadOn, IsSound, List, Memory, None, Ok, Option, Paths, Place, Read, Result, Some, TextOf, [], built, codes, delivery, disk_contents, disk_len, false, fault_at, first_fault, heads_of, images_of, length, list_any, map, option_map, part_read, requests_of, slice_get, start_state, stored_state, true, written_since, ◌+◌, ◌++◌, ◌<◌, ◌^◌, ◌∙◌, ◌∷◌, ◌≡◌, ◌≢◌, ◌≤◌, ◌⊎◌}
+pub use Rattle.dmremap.specs.Base.{Bool, CanMap, Contents, Delivery, Description, Disks, Err, HasWritten, IfErr, IfOk, InputPast, IsReadOn, IsSound, List, Memory, None, Ok, Option, Paths, Place, Read, Result, Some, TextOf, [], built, codes, delivery, disk_contents, disk_len, false, fault_at, first_fault, heads_of, images_of, length, list_any, map, option_map, part_read, requests_of, slice_get, start_state, stored_state, true, written_since, ◌∙◌}
 pub use Rattle.dmremap.specs.Done.{Does, HasDone}
 pub use Rattle.dmremap.specs.Exit.{IsOutOfMemory, IsPlain, ending_status, exit_after, exit_message, exit_status, failed_writes, is_flushed, is_refused, load_status, name_status, refusal_message, refusal_status}
 pub use Rattle.dmremap.specs.Explanation.{Entry, after, before, fits, part_in, part_meant, table_of, texts_of, word_in}

@@ -1,9 +1,10 @@
 -- What is printed of devices, of a name and of a word.
-use Rattle.dmremap.specs.Base.{◌≡◌, ℕ, List, [], ◌∷◌, ◌++◌, Some, Result, Ok, Err, DeviceSpec, concise_text, table_text, code, Description, IsReport, NameFault, Builds, IsSpaced, NameParts, Refusal, TableForm, Concise, Table}
+use Rattle.dmremap.specs.Base.{ℕ, List, [], Some, Result, Ok, Err, DeviceSpec, concise_text, table_text, code, Description, IsReport, NameFault, Builds, IsSpaced, NameParts, Refusal, TableForm, Concise, Table}
 use Rattle.dm_stream.specs.declared.runs.ending.Ending.TheVariants as endings
 use Rattle.dmremap.specs.Answers.{Answer, Tells, Writes, end_of}
 use Rattle.dmremap.specs.declared.exit.Exit.TheVariants as exits
 use Rattle.dmremap.specs.declared.exit.Refusal.TheVariants as refusals
+use Rattle.std.specs.Prelude.{◌≡◌, ◌∷◌, ◌++◌}
 
 -- ---- what there is to print
 

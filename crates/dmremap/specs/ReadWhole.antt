@@ -1,5 +1,5 @@
 -- What `read` has to answer, by what was delivered and what images hold: the bytes of sectors of a device.
-use Rattle.dmremap.specs.Base.{◌≡◌, ◌≢◌, ◌+◌, ◌-◌, ◌<◌, ◌≤◌, ℕ, List, length, Option, Some, None, Result, Ok, Err, nat_le, position, unwrap_or, if◌then◌else◌, option_map_or, LoadFault, Memory, Read, Paths, Delivery, fault_at, part_read, Description, device_len, is_same, Contents, DiskContents, disk_contents, Place, stored_state, Reading, bytes_of, device_bytes, Exit, Refusal}
+use Rattle.dmremap.specs.Base.{ℕ, List, length, Option, Some, None, Result, Ok, Err, nat_le, position, unwrap_or, option_map_or, LoadFault, Memory, Read, Paths, Delivery, fault_at, part_read, Description, device_len, is_same, Contents, DiskContents, disk_contents, Place, stored_state, Reading, bytes_of, device_bytes, Exit, Refusal}
 use Rattle.dm_stack.specs.declared.checks.limits.TheConstants.{MOST_LENGTH}
 use Rattle.dm_stream.specs.declared.runs.ending.Ending.TheVariants as endings
 use Rattle.dm_read.specs.declared.fault.Stop.{Stop}
@@ -10,6 +10,7 @@ use Rattle.dmremap.specs.declared.read_run.Extent.{Extent}
 use Rattle.dmremap.specs.Job.{RangeWords}
 use Rattle.dmremap.specs.StoredStart.{images_in, start_at}
 use Rattle.dmremap.specs.Whole.{Begins, Refuses, Start, Unsettled}
+use Rattle.std.specs.Prelude.{◌≡◌, ◌≢◌, ◌+◌, ◌-◌, ◌<◌, ◌≤◌, if◌then◌else◌}
 
 -- ---- the sectors that are asked for
 

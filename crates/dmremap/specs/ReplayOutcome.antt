@@ -1,8 +1,9 @@
 -- What a replay of the requests that were delivered writes, and how it exits.
-use Rattle.dmremap.specs.Base.{◌≡◌, ℕ, List, [], ◌∷◌, ◌++◌, None, Some, map, since, IsCutShort, Description, device_id, State, Ending, NumberedRequest, Requests, Asked, asked_answers, world_after, HasTop, AreMaximal, flat, runs_text, Exit}
+use Rattle.dmremap.specs.Base.{ℕ, List, [], None, Some, map, since, IsCutShort, Description, device_id, State, Ending, NumberedRequest, Requests, Asked, asked_answers, world_after, HasTop, AreMaximal, flat, runs_text, Exit}
 use Rattle.dm_stream.specs.declared.runs.ending.Ending.TheVariants as endings
 use Rattle.dm_replay.specs.declared.value_run.ValueRun.{ValueRun}
 use Rattle.dmremap.specs.declared.exit.Exit.TheVariants as exits
+use Rattle.std.specs.Prelude.{◌≡◌, ◌∷◌, ◌++◌}
 
 -- a request of a stack that was played whole
 abbrev pub asked_of : Description → NumberedRequest → Asked

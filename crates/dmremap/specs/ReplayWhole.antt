@@ -1,11 +1,12 @@
 -- What a replay has to answer, from where a stack starts, by the requests that were delivered.
-use Rattle.dmremap.specs.Base.{◌≡◌, ◌++◌, ℕ, true, List, [], None, Some, Delivery, IsClash, IsTidy, claims, Description, State, NumberedRequest, requests_of, Exit, Refused}
+use Rattle.dmremap.specs.Base.{ℕ, true, List, [], None, Some, Delivery, IsClash, IsTidy, claims, Description, State, NumberedRequest, requests_of, Exit, Refused}
 use Rattle.dm_stack.specs.declared.claims.clash.Clash.{Clash}
 use Rattle.dmremap.specs.declared.exit.Refusal.TheVariants as refusals
 use Rattle.dmremap.specs.Answers.{Answer, Tells, Writes, end_of, refused_by}
 use Rattle.dmremap.specs.Exit.{is_flushed}
 use Rattle.dmremap.specs.ReplayOutcome.{AreAnswered, IsPlayed}
 use Rattle.dmremap.specs.Whole.{Begins, Refuses, Start, Unsettled}
+use Rattle.std.specs.Prelude.{◌≡◌, ◌++◌}
 
 -- what is written for the first of some requests to a stack in a state
 pub record BeginsReplay (stack : Description) (state : State) (requests : List NumberedRequest) (text : List ℕ) : Type 0 where

@@ -1,5 +1,5 @@
 -- From which state a run begins whose stores are read: what PATHS delivered says where disks lie, and what is held there which state that is.
-use Rattle.dmremap.specs.Base.{◌≡◌, ◌≢◌, ◌⊎◌, List, Option, None, Some, Result, Ok, Err, LoadFault, Paths, DiskPath, Delivery, load_message, PartRead, TextOf, Refuses, Unread, part_read, read_paths, Description, name_at, State, refused_ending, Place, Contents, disk_contents, images_of, store_message, stored_state, Refusal}
+use Rattle.dmremap.specs.Base.{List, Option, None, Some, Result, Ok, Err, LoadFault, Paths, DiskPath, Delivery, load_message, PartRead, TextOf, Refuses, Unread, part_read, read_paths, Description, name_at, State, refused_ending, Place, Contents, disk_contents, images_of, store_message, stored_state, Refusal}
 use Rattle.dm_stream.specs.declared.runs.ending.Ending.TheVariants as endings
 use Rattle.dm_store.specs.declared.fault.StoreRefusal.{StoreRefusal}
 use Rattle.dmremap.specs.declared.prepared.Prepared.{Prepared}
@@ -10,6 +10,7 @@ use Rattle.dmremap.specs.Load.{SoundAs}
 use Rattle.dmremap.specs.Opening.{Loaded, Opening}
 use Rattle.dmremap.specs.Whole as start
 use Rattle.dmremap.specs.Whole.{Start}
+use Rattle.std.specs.Prelude.{◌≡◌, ◌≢◌, ◌⊎◌}
 
 -- ---- PATHS
 

@@ -1,8 +1,9 @@
 -- What became of the streams of a command until it exited.
-use Rattle.dmremap.specs.Base.{◌≡◌, ◌≢◌, ◌⊎◌, ◌+◌, ℕ, ◌<◌, ◌≤◌, true, false, List, InputPast, OutputPast, memory_message, HasWritten, IsFinished, IsFlushed, IsReadOn, MetNothing, WriteFault, HasMet, HasTold, IsTold, write_message, Exit}
+use Rattle.dmremap.specs.Base.{ℕ, true, false, List, InputPast, OutputPast, memory_message, HasWritten, IsFinished, IsFlushed, IsReadOn, MetNothing, WriteFault, HasMet, HasTold, IsTold, write_message, Exit}
 use Rattle.dmremap.specs.declared.exit.Exit.TheVariants as exits
 use Rattle.dmremap.specs.declared.status.TheConstants.{STATUS_BAD_REQUEST, STATUS_DONE, STATUS_MEMORY, STATUS_READ_FAULT, STATUS_REFUSED, STATUS_WRITE_FAULT}
 use Rattle.dmremap.specs.Exit.{exit_message, exit_status, failed_writes, is_flushed, is_refused}
+use Rattle.std.specs.Prelude.{◌≡◌, ◌≢◌, ◌⊎◌, ◌+◌, ◌<◌, ◌≤◌}
 
 -- how a stream moved on: its past before a command, and after it
 pub record Moved (Past : Type 0) : Type 0 where

@@ -1,12 +1,13 @@
 -- What `map` has to answer, by what was delivered. A run may come after earlier requests, which are played and not answered, and begin from the state that stores
 -- hold.
-use Rattle.dmremap.specs.Base.{◌≡◌, ◌⊎◌, ℕ, Bool, List, [], Option, None, Some, option_map, Delivery, InputPast, delivery, Ending, State, start_state, Description, Outcome, requests_outcome, run_outcome, HasMet, Ended, Refused}
+use Rattle.dmremap.specs.Base.{ℕ, Bool, List, [], Option, None, Some, option_map, Delivery, InputPast, delivery, Ending, State, start_state, Description, Outcome, requests_outcome, run_outcome, HasMet, Ended, Refused}
 use Rattle.dm_stream.specs.declared.runs.earlier.EarlierFault.TheVariants as earlier
 use Rattle.dm_stream.specs.declared.runs.ending.Ending.TheVariants as endings
 use Rattle.dmremap.specs.declared.exit.Refusal.TheVariants as refusals
 use Rattle.dmremap.specs.Answers.{Answer, Tells, Writes, end_of, refused_by}
 use Rattle.dmremap.specs.Load.{SoundAs}
 use Rattle.dmremap.specs.Opening.{Loaded, Opened, Opening}
+use Rattle.std.specs.Prelude.{◌≡◌, ◌⊎◌}
 
 -- the outcome of what earlier requests delivered, over a stack in this state; where there are none, nothing happened yet
 abbrev pub earlier_from : State → Description → (before : Option Delivery) → Outcome

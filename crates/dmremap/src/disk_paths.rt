@@ -2,7 +2,8 @@
 //!
 //! It is read and checked after the stack is loaded, since its names are looked up there.
 
-ghost use Rattle.dmremap.specs.Prelude.{◌≡◌, ◌≢◌, Err, IfErr, IfOk, Ok, Some, delivery, IsReadOn, Memory, Paths, part_read, IsReadOnIf, delivered_if, AreSettled, places_in, images_in};
+ghost use Rattle.dmremap.specs.Prelude.{Err, IfErr, IfOk, Ok, Some, delivery, IsReadOn, Memory, Paths, part_read, IsReadOnIf, delivered_if, AreSettled, places_in, images_in};
+ghost use Rattle.std.specs.Prelude.{◌≡◌, ◌≢◌};
 
 use crate::load::unread;
 use dm_stack::Stack;

@@ -1,7 +1,8 @@
 //! What is said of the word of a message, for who asks `help` about it.
 
-ghost use Rattle.dmremap.specs.Prelude.{◌≡◌, ◌<◌, length, map, option_map, list_any, Does, HasDone, after, before, explanation, first_entries, fits, is_explained, later_entries, part_in, part_meant, table_of, texts_of, word_in, Prints, SaidBy};
+ghost use Rattle.dmremap.specs.Prelude.{length, map, option_map, list_any, Does, HasDone, after, before, explanation, first_entries, fits, is_explained, later_entries, part_in, part_meant, table_of, texts_of, word_in, Prints, SaidBy};
 ghost use Rattle.dm_table.specs.io.Progress.{Wrote};
+ghost use Rattle.std.specs.Prelude.{◌≡◌, ◌<◌};
 
 use crate::exit::Exit;
 use crate::messages::{Entry, FIRST_ENTRIES, LATER_ENTRIES};

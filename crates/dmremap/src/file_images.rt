@@ -5,7 +5,8 @@
 //! pipe would wait for a writer. Each read names its place, and one that the image doesn't fill, since it ends before,
 //! fails.
 
-ghost use Rattle.dmremap.specs.Prelude.{◌≡◌, IfOk, Contents, AgreesWith};
+ghost use Rattle.dmremap.specs.Prelude.{IfOk, Contents, AgreesWith};
+ghost use Rattle.std.specs.Prelude.{◌≡◌};
 
 use dm_store::{Images, ReadFault, ReadLog};
 use std::alloc::{AllocError, Global};

@@ -4,9 +4,10 @@
 //! The order here is the order of the refusals: the list, the heads, disk by disk, the text, what it describes, and the
 //! first disk that ends before its text says. Stores lie in the same images, so they are read through the same list.
 
-ghost use Rattle.dmremap.specs.Prelude.{◌≡◌, ◌≢◌, ◌≤◌, ◌^◌, Err, IfErr, IfOk, Ok, Some, length, slice_get, Memory, Paths, Delivery, delivery, IsReadOn, part_read, Contents, heads_of, AreSeen, HeadsOpen, ImagesOpen, IsStoppedBy, IsUnowned, by_text, len_of, list_in, short_of, IsOpened};
+ghost use Rattle.dmremap.specs.Prelude.{Err, IfErr, IfOk, Ok, Some, length, slice_get, Memory, Paths, Delivery, delivery, IsReadOn, part_read, Contents, heads_of, AreSeen, HeadsOpen, ImagesOpen, IsStoppedBy, IsUnowned, by_text, len_of, list_in, short_of, IsOpened};
 ghost use Rattle.lvm_head.specs.declared.fault.HeadFault.TheVariants as faults;
 ghost use Rattle.lvm_head.specs.Disks.{Contents as DiskContents};
+ghost use Rattle.std.specs.Prelude.{◌≡◌, ◌≢◌, ◌≤◌, ◌^◌};
 
 use crate::exit::Refusal;
 use crate::listed_images::ListedImages;

@@ -1,6 +1,7 @@
 //! The images of a list of paths as disks, whose heads are read by their places in the list.
 
-ghost use Rattle.dmremap.specs.Prelude.{◌≡◌, AreSeen};
+ghost use Rattle.dmremap.specs.Prelude.{AreSeen};
+ghost use Rattle.std.specs.Prelude.{◌≡◌};
 
 use dm_store::Images;
 use dm_table::DiskPath;

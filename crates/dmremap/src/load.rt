@@ -5,8 +5,9 @@
 //! over what they describe. A new format is an arm of `load` here and of `PartsGive` in
 //! `specs/Load.antt`, and takes the parts that it has.
 
-ghost use Rattle.dmremap.specs.Prelude.{◌≡◌, ◌≢◌, IfOk, IfErr, None, OnOk, Some, delivery, Disks, Memory, Read, fault_at, first_fault, TextOf, part_read, IsReadOn, IsReadOnIf, delivery_if, DescribesDevices, Loads, PartsGive, device_checks};
+ghost use Rattle.dmremap.specs.Prelude.{IfOk, IfErr, None, OnOk, Some, delivery, Disks, Memory, Read, fault_at, first_fault, TextOf, part_read, IsReadOn, IsReadOnIf, delivery_if, DescribesDevices, Loads, PartsGive, device_checks};
 ghost use Rattle.dm_table.specs.load.PartInput.{Refuses};
+ghost use Rattle.std.specs.Prelude.{◌≡◌, ◌≢◌};
 
 use crate::job::{Format, TableForm};
 use dm_stack::Stack;

@@ -4,7 +4,8 @@
 //! `print_metadata` do the work, and `main` joins them to the real files and streams and does nothing else.
 #![tactic(auto)]
 
-ghost use Rattle.dmremap.specs.Prelude.{◌≡◌, true, job_words, is_other};
+ghost use Rattle.dmremap.specs.Prelude.{true, job_words, is_other};
+ghost use Rattle.std.specs.Prelude.{◌≡◌};
 
 mod disk_paths;
 mod exit;

@@ -1,8 +1,9 @@
 //! The run of `map` over a stack that is loaded, as it was begun: what `map_whole` and `map_stored` promise of a run
 //! stands here.
 
-ghost use Rattle.dmremap.specs.Prelude.{◌≡◌, IfOk, Option, IsErrAnd, Delivery, CanMap, Answers, IsOutOfMemory, IsBegunAt, IsOut, StreamsLeft, moved, MapsOver, Start};
+ghost use Rattle.dmremap.specs.Prelude.{IfOk, Option, IsErrAnd, Delivery, CanMap, Answers, IsOutOfMemory, IsBegunAt, IsOut, StreamsLeft, moved, MapsOver, Start};
 ghost use Rattle.dmremap.specs.declared.status.TheConstants.{STATUS_MEMORY};
+ghost use Rattle.std.specs.Prelude.{◌≡◌};
 
 use crate::exit::{Exit, Refusal};
 use crate::prepared::Prepared;

@@ -4,8 +4,9 @@
 //! What it promises of a run is said by the definitions of `map_whole`, in `specs/Whole.antt`; what opens it, by those
 //! of its source (`Opens`).
 
-ghost use Rattle.dmremap.specs.Prelude.{◌≡◌, Bool, Option, Delivery, Description, Contents, Answers, IsOne, IsReadOnIf, IsUnasked, delivered_if, IsOut, StreamsLeft, moved, EarlierRead, Maps, Start};
+ghost use Rattle.dmremap.specs.Prelude.{Bool, Option, Delivery, Description, Contents, Answers, IsOne, IsReadOnIf, IsUnasked, delivered_if, IsOut, StreamsLeft, moved, EarlierRead, Maps, Start};
 ghost use Rattle.dmremap.specs.declared.status.TheConstants.{STATUS_MEMORY};
+ghost use Rattle.std.specs.Prelude.{◌≡◌};
 
 #[cfg(test)]
 mod tests;

@@ -1,6 +1,7 @@
 //! What opens a command that loads nothing: if it is asked, a source that can't be read.
 
-ghost use Rattle.dmremap.specs.Prelude.{◌≡◌, None, Read, fault_at, RefusedBy, Loaded, fresh_start};
+ghost use Rattle.dmremap.specs.Prelude.{None, Read, fault_at, RefusedBy, Loaded, fresh_start};
+ghost use Rattle.std.specs.Prelude.{◌≡◌};
 ghost use Rattle.dm_table.specs.declared.load.place.Part.TheVariants as parts;
 
 use crate::exit::{Exit, Refusal};

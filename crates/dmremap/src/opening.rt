@@ -4,7 +4,7 @@
 //!
 //! What images hold can't be said beforehand, so each clause speaks of any contents that agree with all that was read.
 
-ghost use Rattle.dmremap.specs.Base.{◌≡◌, IfErr, IfOk, None, Option, Some, InputPast, written_since, HasWritten, Description, Contents, CanMap};
+ghost use Rattle.dmremap.specs.Base.{IfErr, IfOk, None, Option, Some, InputPast, written_since, HasWritten, Description, Contents, CanMap};
 ghost use Rattle.dmremap.specs.Answers.{Answer};
 ghost use Rattle.dmremap.specs.declared.status.TheConstants.{STATUS_MEMORY};
 ghost use Rattle.dmremap.specs.Done.{Does};
@@ -15,6 +15,7 @@ ghost use Rattle.dmremap.specs.Opening.{IsOpened, Loaded, Opening};
 ghost use Rattle.dmremap.specs.StoredStart.{IsBegunAt};
 ghost use Rattle.dmremap.specs.Streams.{AskedBy};
 ghost use Rattle.dmremap.specs.Whole.{Start};
+ghost use Rattle.std.specs.Prelude.{◌≡◌};
 
 use crate::exit::{Exit, Refusal};
 use crate::job::SectorRange;

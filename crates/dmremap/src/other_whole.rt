@@ -6,8 +6,9 @@
 //! closed, and the message told. A new command is an arm of `answer` or of `answer_over` here, and of `JobAnswers` or
 //! of `JobMakes` in `specs/OtherWhole.antt`.
 
-ghost use Rattle.dmremap.specs.Prelude.{◌≡◌, ◌⊎◌, Option, false, true, Description, Contents, Delivery, delivery, written_since, HasWritten, Answer, Answers, IsOne, IsOneSettled, Does, exit_status, failed_writes, RangeWords, job_words, SoundAs, Loaded, Opening, JobAnswers, JobMakes, has_requests, is_loading, is_other, is_reading, ReplaysOver, AskedBy, StreamsLeft, moved, Start};
+ghost use Rattle.dmremap.specs.Prelude.{Option, false, true, Description, Contents, Delivery, delivery, written_since, HasWritten, Answer, Answers, IsOne, IsOneSettled, Does, exit_status, failed_writes, RangeWords, job_words, SoundAs, Loaded, Opening, JobAnswers, JobMakes, has_requests, is_loading, is_other, is_reading, ReplaysOver, AskedBy, StreamsLeft, moved, Start};
 ghost use Rattle.dmremap.specs.declared.status.TheConstants.{STATUS_MEMORY};
+ghost use Rattle.std.specs.Prelude.{◌≡◌, ◌⊎◌};
 
 #[cfg(test)]
 mod tests;

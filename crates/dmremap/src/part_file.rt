@@ -5,10 +5,11 @@
 //! read, so that one refusal serves both; why it can't be opened is not told. Each read is one read of
 //! the file.
 
-ghost use Rattle.dmremap.specs.Prelude.{◌≡◌, IsErr, ReadConsumes};
+ghost use Rattle.dmremap.specs.Prelude.{IsErr, ReadConsumes};
 ghost use Rattle.std.specs.Io.{ReadsAtMost};
 ghost use Rattle.dmremap.specs.PartFile.{left_of};
 ghost use Rattle.dmremap.specs.declared.part_file.Stage.TheVariants.{Unopened};
+ghost use Rattle.std.specs.Prelude.{◌≡◌};
 
 mod opened;
 

@@ -1,7 +1,8 @@
 //! FILE, DISKS and PATHS as what opens a command: FILE and DISKS describe the devices, and PATHS, if it is there, says
 //! in which images the stores of their snapshots lie.
 
-ghost use Rattle.dmremap.specs.Prelude.{◌≡◌, delivery, delivered_if, delivery_if, PartsOpen, ArePartsOpened, ArePartsRead, places_in, range_answer, stored_start};
+ghost use Rattle.dmremap.specs.Prelude.{delivery, delivered_if, delivery_if, PartsOpen, ArePartsOpened, ArePartsRead, places_in, range_answer, stored_start};
+ghost use Rattle.std.specs.Prelude.{◌≡◌};
 
 use crate::disk_paths::load_images_if;
 use crate::exit::{Exit, Refusal};

@@ -3,8 +3,9 @@
 //! All memory of a run is taken here, after the load and before a request is read. The state is that at the start
 //! of the stack or that of its stores, or what earlier requests left of it.
 
-ghost use Rattle.dmremap.specs.Prelude.{◌≡◌, ◌⊎◌, IfErr, IfOk, None, Some, IsErrAnd, start_state, CanMap, images_of, Contents, disk_contents, stored_state, IsOutOfMemory, IsReadOnIf, IsUnasked, delivered_if, AreImagesAsked, IsBegunAt, start_at, start_over, stored_start, ArePlayedIf, ArePlayedOver, Start, earlier_from, fresh_start};
+ghost use Rattle.dmremap.specs.Prelude.{IfErr, IfOk, None, Some, IsErrAnd, start_state, CanMap, images_of, Contents, disk_contents, stored_state, IsOutOfMemory, IsReadOnIf, IsUnasked, delivered_if, AreImagesAsked, IsBegunAt, start_at, start_over, stored_start, ArePlayedIf, ArePlayedOver, Start, earlier_from, fresh_start};
 ghost use Rattle.dm_stream.specs.runs.Earlier.{HasPlayed};
+ghost use Rattle.std.specs.Prelude.{◌≡◌, ◌⊎◌};
 
 use crate::disk_paths::load_images;
 use crate::exit::Refusal;

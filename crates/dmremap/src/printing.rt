@@ -3,8 +3,9 @@
 //! Each writes its text and says how the command would exit; nothing is flushed here. What is printed
 //! is said in `specs/Printing.antt`.
 
-ghost use Rattle.dmremap.specs.Prelude.{◌≡◌, ◌++◌, option_map, built, Does, HasDone, Prints, ReportSays, SaidBy, SplitSays, line, name_said, written_as};
+ghost use Rattle.dmremap.specs.Prelude.{option_map, built, Does, HasDone, Prints, ReportSays, SaidBy, SplitSays, line, name_said, written_as};
 ghost use Rattle.dm_table.specs.io.Progress.{Wrote};
+ghost use Rattle.std.specs.Prelude.{◌≡◌, ◌++◌};
 
 use crate::exit::{Exit, Refusal};
 use crate::job::TableForm;

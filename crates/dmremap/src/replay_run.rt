@@ -2,8 +2,9 @@
 //!
 //! `specs/ReplayOutcome.antt` says what is written for the requests, and what one request adds to it.
 
-ghost use Rattle.dmremap.specs.Prelude.{◌≡◌, false, refl, ◌∙◌, delivery, written_since, HasWrittenTo, IsReadOn, written_to_none, written_to_more, requests_of, replay_from, Does, HasDone, failed_writes, CanMap, ReplaysStack, HasPlayed, HasStopped, IsPlayed, AskedBy, HasMetBy};
+ghost use Rattle.dmremap.specs.Prelude.{false, refl, ◌∙◌, delivery, written_since, HasWrittenTo, IsReadOn, written_to_none, written_to_more, requests_of, replay_from, Does, HasDone, failed_writes, CanMap, ReplaysStack, HasPlayed, HasStopped, IsPlayed, AskedBy, HasMetBy};
 ghost use Rattle.dmremap.specs.laws.Played.{played_none, played_more, stopped_more};
+ghost use Rattle.std.specs.Prelude.{◌≡◌};
 
 use crate::exit::{Exit, Refusal};
 use dm_map::{Mapper, TrieTaken};

@@ -4,9 +4,10 @@
 //! A new command is a line in `program` and one in `job_in` or, if it loads a source, in `loading_job`. A new
 //! format is a word of `FORMATS` and of `format_named`. Images, which are no text, are asked for in `source_in`.
 
-ghost use Rattle.dmremap.specs.Prelude.{◌≡◌, ◌∷◌, [], IfErr, IfOk, List, codes, false, option_map, true, job_words, range_words, source_words, HasApp, TakeFormats, TakesNames, bare_app, before_rule, command_line, flag_rule, format_named, format_rule, formats, loading_app, map_app, metadata_app, name_app, optional_rule, paths_rule, read_app, replay_app, required_rule, sectors_rule, split_app, version_rule, files_at, has_flag, has_lone_hyphen, images_at, job_in, last_of, loading_job, name_job, number_at, number_of, range_at, range_job, read_from, read_job, said_by, source_in, source_job, word_of, IsCommandOf, IsFaultOf, IsJobOf, IsOfKind, IsRefusedFor, IsTaken, IsUntaken, asked_word, fault_from, is_command, is_unknown, status_of};
+ghost use Rattle.dmremap.specs.Prelude.{[], IfErr, IfOk, List, codes, false, option_map, true, job_words, range_words, source_words, HasApp, TakeFormats, TakesNames, bare_app, before_rule, command_line, flag_rule, format_named, format_rule, formats, loading_app, map_app, metadata_app, name_app, optional_rule, paths_rule, read_app, replay_app, required_rule, sectors_rule, split_app, version_rule, files_at, has_flag, has_lone_hyphen, images_at, job_in, last_of, loading_job, name_job, number_at, number_of, range_at, range_job, read_from, read_job, said_by, source_in, source_job, word_of, IsCommandOf, IsFaultOf, IsJobOf, IsOfKind, IsRefusedFor, IsTaken, IsUntaken, asked_word, fault_from, is_command, is_unknown, status_of};
 ghost use Rattle.clap.specs.Walk.{texts};
 ghost use Rattle.clap.specs.Words.{App, Rule, Text, app_of, first_of, found_of, kind_of, new_app, rows_of, rule_of, subcommand_rows_of, with_rule, with_subcommand};
+ghost use Rattle.std.specs.Prelude.{◌≡◌, ◌∷◌};
 ghost use Rattle.clap.specs.declared.error.kind.ErrorKind.TheVariants as kind;
 ghost use Rattle.dmremap.specs.declared.words.WordsFault.TheVariants as fault;
 

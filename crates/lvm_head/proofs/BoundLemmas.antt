@@ -1,5 +1,6 @@
 -- Steps one after another: what each gave where all were taken.
-use Rattle.lvm_head.proofs.Prelude.{◌≡◌, Bool, true, false, List, ℕ, Result, Ok, Err, refl, if◌then◌else◌, ReadFault, HeadFault, ◌>>=◌, needed}
+use Rattle.lvm_head.proofs.Prelude.{Bool, true, false, List, ℕ, Result, Ok, Err, refl, ReadFault, HeadFault, ◌>>=◌, needed}
+use Rattle.std.specs.Prelude.{◌≡◌, if◌then◌else◌}
 
 pub bound : {X Y : Type 0} (first : Result X HeadFault) (next : X → Result Y HeadFault) (last : Y) → (first >>= next) ≡ Ok last → (x : X) × (first ≡ Ok x) × (next x ≡ Ok last)
 bound (Ok x) next last e = (x, refl, e)

@@ -1,5 +1,6 @@
 -- What is found first.
-use Rattle.lvm_head.proofs.Prelude.{◌≡◌, inl, inr, ℕ, zero, suc, ◌+◌, ◌<◌, Option, Some, None, refl, arith, le-suc_iff, earlier, first_found}
+use Rattle.lvm_head.proofs.Prelude.{inl, inr, ℕ, zero, suc, Option, Some, None, refl, arith, le-suc_iff, earlier, first_found}
+use Rattle.std.specs.Prelude.{◌≡◌, ◌+◌, ◌<◌}
 
 pub found_none : {X : Type 0} (has : ℕ → Option X) → first_found has 0 ≡ None
 unfolding first_found

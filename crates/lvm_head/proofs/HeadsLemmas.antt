@@ -1,5 +1,6 @@
 -- The heads of some disks, one more at a time.
-use Rattle.lvm_head.proofs.Prelude.{◌≡◌, ℕ, suc, ◌+◌, ◌-◌, ◌<◌, Result, Ok, refl, arith, HeadFault, Contents, ◌>>=◌, AllSaid, Said, at_disk, head_of, heads_from, joined}
+use Rattle.lvm_head.proofs.Prelude.{ℕ, suc, Result, Ok, refl, arith, HeadFault, Contents, ◌>>=◌, AllSaid, Said, at_disk, head_of, heads_from, joined}
+use Rattle.std.specs.Prelude.{◌≡◌, ◌+◌, ◌-◌, ◌<◌}
 
 pub heads_more : (held : Contents) (all : AllSaid) (disk count : ℕ) (next : Result Said HeadFault) (after : Result AllSaid HeadFault) → disk < count → head_of (held disk) ≡ next → (next >>= joined all) ≡ after
     → heads_from held all disk (count - disk) ≡ (at_disk disk after >>= (λ joined. heads_from held joined (disk + 1) (count - (disk + 1))))

@@ -1,5 +1,6 @@
 -- Labels, and the pairs in them.
-use Rattle.lvm_head.proofs.Prelude.{◌≡◌, ℕ, zero, suc, ◌+◌, true, false, List, [], ◌∷◌, ◌++◌, Some, None, Result, Ok, Err, map, refl, ap, arith, range_with_len, ReadFault, Label, Unread, is_sound, is_taken, label_in}
+use Rattle.lvm_head.proofs.Prelude.{ℕ, zero, suc, true, false, List, [], Some, None, Result, Ok, Err, map, refl, ap, arith, range_with_len, ReadFault, Label, Unread, is_sound, is_taken, label_in}
+use Rattle.std.specs.Prelude.{◌≡◌, ◌+◌, ◌∷◌, ◌++◌}
 
 pub label_found : (place : ℕ) (read : Result (List ℕ) ReadFault) (bytes : List ℕ) → read ≡ Ok bytes → is_taken place bytes ≡ true → is_sound bytes ≡ true → label_in place read ≡ Some (Ok bytes)
 label_found place read bytes is taken sound = rw is (rw taken (rw sound refl))

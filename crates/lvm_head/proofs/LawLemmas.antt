@@ -1,5 +1,5 @@
 -- What is read of a head is what it spells.
-use Rattle.lvm_head.proofs.Prelude.{◌≡◌, ◌⊎◌, inl, inr, ℕ, zero, suc, ◌+◌, ◌-◌, ◌<◌, ◌==◌, ◌/◌, ◌||◌, Bool, true, false, List, [], ◌∷◌, ◌++◌, Option, Some, None, Result, Ok, Err, length, get_or, take, refl, sym, ap, subst, ◌∙◌, arith, if◌then◌else◌, nat_lt, not, All, Any, bytes_eq, le-suc_iff, take-suc, get_or-append_seam, eq-eqb, eqb-true, le-ltb, ltb-false, ne_eqb, not-false, or_parts, take-append-le, take_all, All-cons, All-nil, All-tail, bytes_eq-Decides, Area, HeadFault, Array, Differ, Header, Label, Long, Partitions, Text, ReadFault, earlier, first_found, Sectors, ◌>>=◌, needed, is_header, is_near, is_none, is_within, location_in, ring_place, Said, areas_text, same_text, areas_of, id_of, is_member, is_partitioned, is_sound, is_taken, label_in, label_of, or_no_label, undivided, HasBytes, IsEnded, IsTheLabel, IsUndivided, ReadsBack, SpellsArea, SpellsText, sum_of, area_text, byte_at, ended, gathered, ring_bytes, text_at}
+use Rattle.lvm_head.proofs.Prelude.{inl, inr, ℕ, zero, suc, Bool, true, false, List, [], Option, Some, None, Result, Ok, Err, length, get_or, take, refl, sym, ap, subst, ◌∙◌, arith, nat_lt, not, All, Any, bytes_eq, le-suc_iff, take-suc, get_or-append_seam, eq-eqb, eqb-true, le-ltb, ltb-false, ne_eqb, not-false, or_parts, take-append-le, take_all, All-cons, All-nil, All-tail, bytes_eq-Decides, Area, HeadFault, Array, Differ, Header, Label, Long, Partitions, Text, ReadFault, earlier, first_found, Sectors, ◌>>=◌, needed, is_header, is_near, is_none, is_within, location_in, ring_place, Said, areas_text, same_text, areas_of, id_of, is_member, is_partitioned, is_sound, is_taken, label_in, label_of, or_no_label, undivided, HasBytes, IsEnded, IsTheLabel, IsUndivided, ReadsBack, SpellsArea, SpellsText, sum_of, area_text, byte_at, ended, gathered, ring_bytes, text_at}
 use Rattle.std.proofs.lemmas.List.Elements.{All-head}
 use Rattle.lvm_head.specs.declared.area.Location.{Location}
 use Rattle.lvm_head.specs.Laws.IsEnded.{AtNul, AtNewline}
@@ -7,6 +7,7 @@ use Rattle.lvm_head.proofs.BoundLemmas.{bound, chosen, needed_ok, passed}
 use Rattle.lvm_head.proofs.FoundLemmas.{found_at}
 use Rattle.lvm_head.proofs.LabelLemmas.{label_found}
 use Rattle.lvm_head.proofs.TextLemmas.{area_known, gathered_row}
+use Rattle.std.specs.Prelude.{◌≡◌, ◌⊎◌, ◌+◌, ◌-◌, ◌<◌, ◌==◌, ◌/◌, ◌||◌, ◌∷◌, ◌++◌, if◌then◌else◌}
 
 -- ---- bytes
 

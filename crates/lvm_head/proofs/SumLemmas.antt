@@ -1,8 +1,9 @@
 -- Sums by the table.
-use Rattle.lvm_head.proofs.Prelude.{◌≡◌, ℕ, ◌*◌, ◌/◌, ◌%◌, ◌<◌, refl, ◌∙◌, arith, get_or, map, bit_xor, range_with_len, get_or-map-range_with_len, sum_bit, sum_byte}
+use Rattle.lvm_head.proofs.Prelude.{ℕ, refl, ◌∙◌, arith, get_or, map, bit_xor, range_with_len, get_or-map-range_with_len, sum_bit, sum_byte}
 use Rattle.std.specs.Int.Bits.{xor_assoc, xor_zero_l, xor_zero_r}
 use Rattle.std.proofs.lemmas.Nat.{xor_block, xor_mod, xor_shr}
 use Rattle.lvm_head.specs.declared.sums.TheConstants.{EIGHT_STEPS}
+use Rattle.std.specs.Prelude.{◌≡◌, ◌*◌, ◌/◌, ◌%◌, ◌<◌}
 
 abbrev eight_steps : ℕ → ℕ
 eight_steps sum = sum_bit (sum_bit (sum_bit (sum_bit (sum_bit (sum_bit (sum_bit (sum_bit sum)))))))

@@ -1,5 +1,6 @@
 -- The bytes of a text, a row after another, and the texts of areas.
-use Rattle.lvm_head.proofs.Prelude.{◌≡◌, inl, inr, true, ℕ, zero, suc, ◌+◌, ◌-◌, ◌*◌, ◌<◌, ◌≤◌, ◌/◌, ◌%◌, List, [], ◌∷◌, ◌++◌, Result, Ok, Err, length, take, drop, get_or, refl, sym, ap, ◌∙◌, arith, le-suc_iff, get_or-drop, get_or-take, take-suc, append-nil, append_assoc, drop_all, take_all, Area, HeadFault, ReadFault, AreRead, Sectors, ◌>>=◌, answer, sector_in, areas_text, same_text, is_header, is_near, location_in, area_text, byte_at, gathered, text_at}
+use Rattle.lvm_head.proofs.Prelude.{inl, inr, true, ℕ, zero, suc, List, [], Result, Ok, Err, length, take, drop, get_or, refl, sym, ap, ◌∙◌, arith, le-suc_iff, get_or-drop, get_or-take, take-suc, append-nil, append_assoc, drop_all, take_all, Area, HeadFault, ReadFault, AreRead, Sectors, ◌>>=◌, answer, sector_in, areas_text, same_text, is_header, is_near, location_in, area_text, byte_at, gathered, text_at}
+use Rattle.std.specs.Prelude.{◌≡◌, ◌+◌, ◌-◌, ◌*◌, ◌<◌, ◌≤◌, ◌/◌, ◌%◌, ◌∷◌, ◌++◌}
 
 -- ---- one sector
 

@@ -1,7 +1,8 @@
 -- A metadata area: its header, and where its text lies in the ring that comes after it (lvm2's format_text: mda_header, raw_locn).
-use Rattle.lvm_head.specs.Base.{ℕ, ◌+◌, ◌-◌, ◌%◌, ◌==◌, ◌&&◌, ◌||◌, Bool, List, nat_le, nat_lt, slice_range, if◌then◌else◌, Area, Location}
+use Rattle.lvm_head.specs.Base.{ℕ, Bool, List, nat_le, nat_lt, slice_range, Area, Location}
 use Rattle.lvm_head.specs.Numbers.{eight_at, four_at}
 use Rattle.lvm_head.specs.Sums.{sum_of}
+use Rattle.std.specs.Prelude.{◌+◌, ◌-◌, ◌%◌, ◌==◌, ◌&&◌, ◌||◌, if◌then◌else◌}
 
 -- an area begins with a sector, and lies where disks may have sectors
 abbrev pub is_near : Area → Bool

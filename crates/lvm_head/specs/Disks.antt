@@ -1,5 +1,6 @@
 -- What disks hold.
-use Rattle.lvm_head.specs.Base.{◌≡◌, ◌<◌, ◌+◌, ◌*◌, ℕ, List, Result, Ok, Err, length, slice_range, ReadFault, HeadFault, Unread}
+use Rattle.lvm_head.specs.Base.{ℕ, List, Result, Ok, Err, length, slice_range, ReadFault, HeadFault, Unread}
+use Rattle.std.specs.Prelude.{◌≡◌, ◌<◌, ◌+◌, ◌*◌}
 
 -- what each sector of a disk holds, or that it can't be read
 abbrev pub Sectors : Type 0

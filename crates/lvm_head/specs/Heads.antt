@@ -1,9 +1,10 @@
 -- What the head of a physical volume says, and what the heads of a group say together.
-use Rattle.lvm_head.specs.Base.{◌≡◌, ◌≢◌, ℕ, zero, suc, ◌+◌, ◌==◌, List, [], ◌∷◌, ◌++◌, Result, Ok, Err, length, if◌then◌else◌, list_any, bytes_eq, Area, HeadFault, Differ, Twice, Memory}
+use Rattle.lvm_head.specs.Base.{ℕ, zero, suc, List, [], Result, Ok, Err, length, list_any, bytes_eq, Area, HeadFault, Differ, Twice, Memory}
 use Rattle.lvm_head.specs.declared.fault.HeadRefusal.{HeadRefusal}
 use Rattle.lvm_head.specs.Disks.{Contents, Sectors, ◌>>=◌}
 use Rattle.lvm_head.specs.Labels.{areas_of, id_of, label_of, undivided}
 use Rattle.lvm_head.specs.Texts.{area_text}
+use Rattle.std.specs.Prelude.{◌≡◌, ◌≢◌, ◌+◌, ◌==◌, ◌∷◌, ◌++◌, if◌then◌else◌}
 
 -- two texts, of which each may be [], which is none: they are the same
 abbrev pub same_text : (text next : List ℕ) → Result (List ℕ) HeadFault

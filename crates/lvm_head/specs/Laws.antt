@@ -1,11 +1,12 @@
 -- What holds of all heads: what is read of a head is what it spells.
-use Rattle.lvm_head.specs.Base.{◌≡◌, ◌↔◌, ◌⊎◌, ◌<◌, ◌≤◌, ◌/◌, ◌++◌, ◌∷◌, [], ℕ, true, false, List, None, Result, Ok, length, slice_index, All, Any, Area, Location, HeadFault}
+use Rattle.lvm_head.specs.Base.{[], ℕ, true, false, List, None, Result, Ok, length, slice_index, All, Any, Area, Location, HeadFault}
 use Rattle.lvm_head.specs.Areas.{is_header, is_near, is_none, is_within, location_in, ring_place}
 use Rattle.lvm_head.specs.Disks.{Sectors}
 use Rattle.lvm_head.specs.Heads.{Said, head_of}
 use Rattle.lvm_head.specs.Labels.{areas_of, id_of, is_sound, is_taken, is_member, is_partitioned, label_in}
 use Rattle.lvm_head.specs.Sums.{sum_of}
 use Rattle.lvm_head.specs.Texts.{byte_at}
+use Rattle.std.specs.Prelude.{◌≡◌, ◌↔◌, ◌⊎◌, ◌<◌, ◌≤◌, ◌/◌, ◌++◌, ◌∷◌}
 
 -- ---- a label
 

@@ -1,5 +1,6 @@
 -- The message of a refused head.
-use Rattle.lvm_head.specs.Base.{ℕ, List, ◌++◌, codes, memory_message, HeadFault, Unread, Partitions, Array, Label, Header, Long, Text, Differ, Twice, Foreign, Missing, Ends, Memory}
+use Rattle.lvm_head.specs.Base.{ℕ, List, codes, memory_message, HeadFault, Unread, Partitions, Array, Label, Header, Long, Text, Differ, Twice, Foreign, Missing, Ends, Memory}
+use Rattle.std.specs.Prelude.{◌++◌}
 
 -- the word of a fault
 abbrev pub fault_word : HeadFault → List ℕ

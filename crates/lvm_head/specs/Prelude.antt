@@ -1,7 +1,7 @@
 -- The words that contracts cite, here and in crates above, from one place.
 pub use Rattle.dm_table.specs.Std.{IfErr, IfOk, OnOk}
 pub use Rattle.lvm_head.specs.Areas.{is_header, is_near, is_none, is_within, location_in, ring_place}
-pub use Rattle.lvm_head.specs.Base.{Err, Ok, [], bytes_eq, false, if◌then◌else◌, length, list_any, map, nat_le, nat_lt, not, slice_index, slice_range, slice_split, true, ℕ, ◌%◌, ◌&&◌, ◌*◌, ◌+◌, ◌-◌, ◌/◌, ◌<◌, ◌==◌, ◌^◌, ◌≡◌, ◌≢◌, ◌≤◌}
+pub use Rattle.lvm_head.specs.Base.{Err, Ok, [], bytes_eq, false, length, list_any, map, nat_le, nat_lt, not, slice_index, slice_range, slice_split, true, ℕ}
 pub use Rattle.lvm_head.specs.Disks.{AreRead, Contents, Sectors, answer, needed, sector_in, ◌>>=◌}
 pub use Rattle.lvm_head.specs.FirstFound.{earlier}
 unfoldable pub use Rattle.lvm_head.specs.FirstFound.{first_found}

@@ -1,5 +1,6 @@
 -- The sums of labels, headers and texts (lvm2's calc_crc): CRC-32 with zlib's polynomial, bit by bit, the lowest first. The first sum is another, and the last one isn't inverted.
-use Rattle.lvm_head.specs.Base.{ℕ, ◌/◌, ◌%◌, ◌*◌, List, bit_xor, fold}
+use Rattle.lvm_head.specs.Base.{ℕ, List, bit_xor, fold}
+use Rattle.std.specs.Prelude.{◌/◌, ◌%◌, ◌*◌}
 
 -- one bit
 unfoldable pub sum_bit : (sum : ℕ) → ℕ

@@ -1,8 +1,9 @@
 -- The text of a metadata area.
-use Rattle.lvm_head.specs.Base.{ℕ, zero, suc, ◌-◌, ◌/◌, ◌%◌, ◌==◌, not, List, [], ◌∷◌, ◌++◌, Result, Ok, Err, length, take, nat_lt, slice_index, if◌then◌else◌, Area, Location, HeadFault, Header, Long, Text}
+use Rattle.lvm_head.specs.Base.{ℕ, zero, suc, not, List, [], Result, Ok, Err, length, take, nat_lt, slice_index, Area, Location, HeadFault, Header, Long, Text}
 use Rattle.lvm_head.specs.Areas.{is_header, is_near, is_none, is_within, location_in, ring_place}
 use Rattle.lvm_head.specs.Disks.{Sectors, ◌>>=◌, needed}
 use Rattle.lvm_head.specs.Sums.{sum_of}
+use Rattle.std.specs.Prelude.{◌-◌, ◌/◌, ◌%◌, ◌==◌, ◌∷◌, ◌++◌, if◌then◌else◌}
 
 -- a byte of a disk
 abbrev pub byte_at : Sectors → (place : ℕ) → Result ℕ HeadFault

@@ -4,9 +4,10 @@
 //! read so far, and these are exactly the ones that agree with each read. If a disk gives other bytes for a sector
 //! than it gave before, none do.
 
-ghost use Rattle.lvm_head.specs.Base.{◌≡◌, ◌≤◌, ◌%◌, ◌^◌, List, length};
+ghost use Rattle.lvm_head.specs.Base.{List, length};
 ghost use Rattle.dm_table.specs.declared.tables.disk_path.DiskPath.{DiskPath};
 ghost use Rattle.lvm_head.specs.Disks.{AreRead, Contents, answer};
+ghost use Rattle.std.specs.Prelude.{◌≡◌, ◌≤◌, ◌%◌, ◌^◌};
 
 /// The bytes of a sector.
 pub const SECTOR: usize = 512;

@@ -1,6 +1,7 @@
 //! Why a head is refused.
 
-ghost use Rattle.lvm_head.specs.Prelude.{◌≡◌, Memory};
+ghost use Rattle.lvm_head.specs.Prelude.{Memory};
+ghost use Rattle.std.specs.Prelude.{◌≡◌};
 
 use std::alloc::{AllocError, AllocFailed};
 use thiserror::Error;

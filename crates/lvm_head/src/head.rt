@@ -1,6 +1,7 @@
 //! The head of one disk.
 
-ghost use Rattle.lvm_head.specs.Prelude.{◌≡◌, [], Contents, Returns, areas_text, head_of, same_text};
+ghost use Rattle.lvm_head.specs.Prelude.{[], Contents, Returns, areas_text, head_of, same_text};
+ghost use Rattle.std.specs.Prelude.{◌≡◌};
 
 use crate::area::Area;
 use crate::disks::Disks;

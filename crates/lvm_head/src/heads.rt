@@ -1,6 +1,7 @@
 //! The heads of the disks of a group.
 
-ghost use Rattle.lvm_head.specs.Prelude.{◌≡◌, ◌≢◌, ◌<◌, Err, IfErr, IfOk, Ok, list_any, bytes_eq, Contents, Returns, heads_of, joined, Memory};
+ghost use Rattle.lvm_head.specs.Prelude.{Err, IfErr, IfOk, Ok, list_any, bytes_eq, Contents, Returns, heads_of, joined, Memory};
+ghost use Rattle.std.specs.Prelude.{◌≡◌, ◌≢◌, ◌<◌};
 
 use crate::disks::Disks;
 use crate::fault::{HeadFault, HeadRefusal};

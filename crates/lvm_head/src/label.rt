@@ -1,7 +1,8 @@
 //! The label of a physical volume, and the header in its sector.
 
-ghost use Rattle.lvm_head.specs.Prelude.{◌≡◌, ◌+◌, ◌<◌, ◌≤◌, ◌==◌, ◌-◌, ◌/◌, true, IfOk, length, map, slice_split, Contents, Returns, area_at, areas_in, has_sectors, header_at, id_of, is_entry, is_member, is_partitioned, is_sound, is_taken, label_of, pairs_of, undivided};
+ghost use Rattle.lvm_head.specs.Prelude.{true, IfOk, length, map, slice_split, Contents, Returns, area_at, areas_in, has_sectors, header_at, id_of, is_entry, is_member, is_partitioned, is_sound, is_taken, label_of, pairs_of, undivided};
 ghost use Rattle.lvm_head.specs.declared.disks.TheConstants.{SECTOR};
+ghost use Rattle.std.specs.Prelude.{◌≡◌, ◌+◌, ◌<◌, ◌≤◌, ◌==◌, ◌-◌, ◌/◌};
 
 use crate::area::Area;
 use crate::disks::{Disks, ReadFault, SECTOR, read_sector};
@@ -98,8 +99,9 @@ pub(crate) struct Label {
 }
 
 impl Model for Label {
-    ghost use Rattle.lvm_head.specs.Base.{◌≤◌, ℕ, List};
+    ghost use Rattle.lvm_head.specs.Base.{ℕ, List};
     ghost use Rattle.lvm_head.specs.Labels.{header_at};
+    ghost use Rattle.std.specs.Prelude.{◌≤◌};
 
     ghost Value = { List ℕ };
 

@@ -2,7 +2,8 @@
 //!
 //! The words are fixed by `specs/Message.antt`, since users match on them.
 
-ghost use Rattle.lvm_head.specs.Prelude.{◌≡◌, ◌≤◌, length, fault_word, head_message};
+ghost use Rattle.lvm_head.specs.Prelude.{length, fault_word, head_message};
+ghost use Rattle.std.specs.Prelude.{◌≡◌, ◌≤◌};
 
 use crate::fault::HeadFault;
 use arrayvec::ArrayVec;

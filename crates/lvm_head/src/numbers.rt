@@ -1,6 +1,7 @@
 //! Numbers in a sector, the least significant byte first.
 
-ghost use Rattle.lvm_head.specs.Prelude.{◌≡◌, ◌+◌, ◌≤◌, length, eight_at, four_at};
+ghost use Rattle.lvm_head.specs.Prelude.{length, eight_at, four_at};
+ghost use Rattle.std.specs.Prelude.{◌≡◌, ◌+◌, ◌≤◌};
 
 use byteorder::{ByteOrder, LittleEndian};
 

@@ -1,6 +1,7 @@
 //! The sums of labels, headers and texts: CRC-32 with zlib's polynomial, another first value, and no inversion.
 
-ghost use Rattle.lvm_head.specs.Prelude.{◌≡◌, sum_byte, sum_of};
+ghost use Rattle.lvm_head.specs.Prelude.{sum_byte, sum_of};
+ghost use Rattle.std.specs.Prelude.{◌≡◌};
 
 /// The sum of no bytes.
 const FIRST_SUM: u32 = 0xF597_A6CF;

@@ -1,6 +1,7 @@
 //! Heads in memory, and what is read of them.
 
-ghost use Rattle.lvm_head.specs.Prelude.{◌≡◌, [], ℕ, ◌+◌, ◌*◌, ◌==◌, ◌&&◌, Err, Ok, if◌then◌else◌, length, nat_le, nat_lt, not, slice_range};
+ghost use Rattle.lvm_head.specs.Prelude.{[], ℕ, Err, Ok, length, nat_le, nat_lt, not, slice_range};
+ghost use Rattle.std.specs.Prelude.{◌≡◌, ◌+◌, ◌*◌, ◌==◌, ◌&&◌, if◌then◌else◌};
 
 use super::*;
 use dm_table::DiskName;

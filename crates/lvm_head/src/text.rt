@@ -1,7 +1,8 @@
 //! The text of a metadata area that is in force.
 
-ghost use Rattle.lvm_head.specs.Prelude.{◌≡◌, ◌+◌, ◌/◌, ◌%◌, ◌<◌, ◌≤◌, ◌^◌, ℕ, Err, Ok, true, IfErr, IfOk, OnOk, length, slice_index, is_within, Contents, sector_in, Returns, area_text, byte_at, ended, ring_bytes, text_at};
+ghost use Rattle.lvm_head.specs.Prelude.{ℕ, Err, Ok, true, IfErr, IfOk, OnOk, length, slice_index, is_within, Contents, sector_in, Returns, area_text, byte_at, ended, ring_bytes, text_at};
 ghost use Rattle.lvm_head.specs.declared.disks.TheConstants.{MOST_BYTES};
+ghost use Rattle.std.specs.Prelude.{◌≡◌, ◌+◌, ◌/◌, ◌%◌, ◌<◌, ◌≤◌, ◌^◌};
 
 use crate::area::{
     Area, Location, is_header, is_near, is_none, is_within, location_in, ring_place, row_len,

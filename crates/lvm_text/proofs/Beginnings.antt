@@ -1,6 +1,7 @@
 -- The parser's stages say which tokens can still become a text.
-use Rattle.lvm_text.proofs.Prelude.{◌≡◌, ◌≢◌, ℕ, zero, suc, ◌-◌, ◌≤◌, Bool, true, false, cond, nat_lt, List, [], ◌∷◌, ◌++◌, Option, Some, None, refl, sym, ap, ◌∙◌, arith, is_some, option_and_then, lt-ltb, eqb-true, eq-eqb, some_pair_parts, MatchOption, Token, Word, Open, Close, ListOpen, ListClose, Equals, Comma, TokenAtLine, Scalar, Values, Nothing, Section, Single, Several, scalar_of, is_key, ReadsMore, ReadsList, Reads, IsText, BeginsText, IsBreak, IsUnfinished, State, scalar_then, stage_after, run, is_over, Stage, Text}
+use Rattle.lvm_text.proofs.Prelude.{ℕ, zero, suc, Bool, true, false, cond, nat_lt, List, [], Option, Some, None, refl, sym, ap, ◌∙◌, arith, is_some, option_and_then, lt-ltb, eqb-true, eq-eqb, some_pair_parts, MatchOption, Token, Word, Open, Close, ListOpen, ListClose, Equals, Comma, TokenAtLine, Scalar, Values, Nothing, Section, Single, Several, scalar_of, is_key, ReadsMore, ReadsList, Reads, IsText, BeginsText, IsBreak, IsUnfinished, State, scalar_then, stage_after, run, is_over, Stage, Text}
 use Rattle.lvm_text.specs.declared.syntax.Stage.TheVariants as at
+use Rattle.std.specs.Prelude.{◌≡◌, ◌≢◌, ◌-◌, ◌≤◌, ◌∷◌, ◌++◌}
 
 -- Runs
 

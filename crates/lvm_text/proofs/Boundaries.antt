@@ -1,6 +1,7 @@
 -- Where a text is cut, a character begins.
-use Rattle.lvm_text.proofs.Prelude.{◌≡◌, ℕ, zero, suc, ◌<◌, ◌≤◌, true, cond, eqb, List, [], ◌∷◌, length, get_or, drop, Option, Some, None, refl, sym, subst, arith, MatchOption, option_map, IsUtf8, IsCharBoundary, cond_both, eqb-true, nat_tests, MatchOption-at_some, IsUtf8-drop, IsCharBoundary-start, IsCharBoundary-before_ascii, IsCharBoundary-after_ascii, code, is_word_byte, is_escapable, newline_at, leading_word_bytes, raw_length}
+use Rattle.lvm_text.proofs.Prelude.{ℕ, zero, suc, true, cond, eqb, List, [], length, get_or, drop, Option, Some, None, refl, sym, subst, arith, MatchOption, option_map, IsUtf8, IsCharBoundary, cond_both, eqb-true, nat_tests, MatchOption-at_some, IsUtf8-drop, IsCharBoundary-start, IsCharBoundary-before_ascii, IsCharBoundary-after_ascii, code, is_word_byte, is_escapable, newline_at, leading_word_bytes, raw_length}
 use Rattle.lvm_text.proofs.Cases.{mapped}
+use Rattle.std.specs.Prelude.{◌≡◌, ◌<◌, ◌≤◌, ◌∷◌}
 
 -- after an ASCII byte at the front of what a text ends with
 pub after_byte : (text rest : List ℕ) (i : ℕ) → IsUtf8 text → i < length text → get_or text i 0 < 128 → rest ≡ drop i text → get_or rest 0 0 ≡ get_or text i 0 → 0 < length rest → IsCharBoundary rest 1

@@ -1,7 +1,8 @@
 -- Where no integer is out of range, the builder reads the scalars of the grammar.
-use Rattle.lvm_text.proofs.Prelude.{◌≡◌, ℕ, Bool, true, false, cond, ◌&&◌, List, [], ◌∷◌, Some, None, refl, sym, ap, ◌∙◌, is_none, unwrap_or, nat_le, nat_lt, ◌^◌, length, digits_value, Token, Word, Open, Close, ListOpen, ListClose, Equals, Comma, TokenAtLine, Scalar, Values, Nothing, Section, Single, Several, are_digits, number_of, scalar_of, ReadsListBy, ReadsMoreBy, ReadsBy, leads_scalar, is_refused, number_lines, bounded_of, Text}
+use Rattle.lvm_text.proofs.Prelude.{ℕ, Bool, true, false, cond, List, [], Some, None, refl, sym, ap, ◌∙◌, is_none, unwrap_or, nat_le, nat_lt, length, digits_value, Token, Word, Open, Close, ListOpen, ListClose, Equals, Comma, TokenAtLine, Scalar, Values, Nothing, Section, Single, Several, are_digits, number_of, scalar_of, ReadsListBy, ReadsMoreBy, ReadsBy, leads_scalar, is_refused, number_lines, bounded_of, Text}
 use Rattle.lvm_text.specs.Tree as tree
 use Rattle.lvm_text.proofs.Keys.{no_hit}
+use Rattle.std.specs.Prelude.{◌≡◌, ◌&&◌, ◌∷◌, ◌^◌}
 
 bounded_number : (w : List ℕ) (digits small : Bool) → are_digits w ≡ digits → is_none (cond (digits && small) (Some (digits_value 10 w)) None) ≡ false
     → cond digits (Some (tree.Int (unwrap_or (cond (digits && small) (Some (digits_value 10 w)) None) 0))) None ≡ cond digits (Some (tree.Int (digits_value 10 w))) None

@@ -1,6 +1,7 @@
 -- What the builder has read so far.
-use Rattle.lvm_text.proofs.Prelude.{◌≡◌, ℕ, true, false, List, [], ◌∷◌, ◌++◌, drop, Option, Some, None, refl, sym, ap, ◌∙◌, append_assoc, inl, inr, ◌⊎◌, option_map, append-nil, some_pair_parts, and_parts, and_from, Token, Word, Open, Close, ListOpen, ListClose, Equals, Comma, TokenAtLine, Scalar, Values, Nothing, Section, Single, Several, ReadsListBy, ReadsMoreBy, ReadsBy, bounded_of, is_open, is_list_open, begins_key, scalar_first, item_of, ReadsScalars, ReadsLeaf, ReadsValue, ReadsValues, before, put, values_of, has_line, lines_agree, token_view, views, Value, Entry, Text}
+use Rattle.lvm_text.proofs.Prelude.{ℕ, true, false, List, [], drop, Option, Some, None, refl, sym, ap, ◌∙◌, append_assoc, inl, inr, option_map, append-nil, some_pair_parts, and_parts, and_from, Token, Word, Open, Close, ListOpen, ListClose, Equals, Comma, TokenAtLine, Scalar, Values, Nothing, Section, Single, Several, ReadsListBy, ReadsMoreBy, ReadsBy, bounded_of, is_open, is_list_open, begins_key, scalar_first, item_of, ReadsScalars, ReadsLeaf, ReadsValue, ReadsValues, before, put, values_of, has_line, lines_agree, token_view, views, Value, Entry, Text}
 use Rattle.lvm_text.specs.declared.token.TokenAtLine as code
+use Rattle.std.specs.Prelude.{◌≡◌, ◌∷◌, ◌++◌, ◌⊎◌}
 
 -- Lists
 

@@ -1,8 +1,9 @@
 -- A text is cut into elements in one way.
-use Rattle.lvm_text.proofs.Prelude.{◌≡◌, ℕ, suc, ◌+◌, true, false, cond, eqb, List, [], ◌∷◌, ◌++◌, length, take, drop, Option, Some, None, refl, sym, ap, ◌∙◌, append_assoc, arith, MatchOption, option_map, list_all, cond_both, and_parts, eqb-true, nat_tests, some_pair_parts, code, Token, Word, Open, Close, ListOpen, ListClose, Equals, Comma, TokenAtLine, Element, White, Comment, Lexeme, spelling, token_spelling, IsWord, IsToken, IsElement, Begins, Cut, is_white, is_line, is_word_byte, is_end, line_after, tokens_from, put_token, newlines, Spells, IsBadToken, newline_at, leading_word_bytes, raw_length, sign_of, element_at, Text}
+use Rattle.lvm_text.proofs.Prelude.{ℕ, suc, true, false, cond, eqb, List, [], length, take, drop, Option, Some, None, refl, sym, ap, ◌∙◌, append_assoc, arith, MatchOption, option_map, list_all, cond_both, and_parts, eqb-true, nat_tests, some_pair_parts, code, Token, Word, Open, Close, ListOpen, ListClose, Equals, Comma, TokenAtLine, Element, White, Comment, Lexeme, spelling, token_spelling, IsWord, IsToken, IsElement, Begins, Cut, is_white, is_line, is_word_byte, is_end, line_after, tokens_from, put_token, newlines, Spells, IsBadToken, newline_at, leading_word_bytes, raw_length, sign_of, element_at, Text}
 use Rattle.lvm_text.proofs.Cases.{mapped}
 use Rattle.lvm_text.proofs.Scans.{line_again, line_none, Line, line_found, word_again, word_found, raw_again, Raw, raw_found}
 use Rattle.std.proofs.Math.Seq.{drop-append_seam, take-append_seam}
+use Rattle.std.specs.Prelude.{◌≡◌, ◌+◌, ◌∷◌, ◌++◌}
 
 -- An element is found
 

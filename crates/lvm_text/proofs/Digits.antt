@@ -1,7 +1,8 @@
 -- The value of digits.
-use Rattle.lvm_text.proofs.Prelude.{◌≡◌, ℕ, ◌+◌, ◌-◌, ◌*◌, ◌^◌, ◌<◌, ◌≤◌, true, List, length, get_or, take, sym, arith, rules, digits_value, digit_value_digit, digit_value, are_digits}
+use Rattle.lvm_text.proofs.Prelude.{ℕ, true, List, length, get_or, take, sym, arith, rules, digits_value, digit_value_digit, digit_value, are_digits}
 use Rattle.std.proofs.lemmas.Str.Parse.{IsNumeralModel, numerals_by_value, digits_value_short, digits_value-take-le, digit_at}
 use Rattle.std.proofs.lemmas.Int.Digits.{digits_value_more}
+use Rattle.std.specs.Prelude.{◌≡◌, ◌+◌, ◌-◌, ◌*◌, ◌^◌, ◌<◌, ◌≤◌}
 
 pub digits_model : IsNumeralModel (λ ds. are_digits ds ≡ true) (digits_value 10)
 digits_model = numerals_by_value _ (search rules)

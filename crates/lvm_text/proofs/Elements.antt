@@ -1,6 +1,7 @@
 -- The elements at the front of a text, and the newlines in them.
-use Rattle.lvm_text.proofs.Prelude.{◌≡◌, ℕ, suc, ◌+◌, ◌<◌, ◌≤◌, Bool, true, true≢false, false, cond, not, ◌&&◌, eqb, List, [], ◌∷◌, ◌++◌, length, get_or, drop, Some, None, refl, sym, ap, arith, inl, inr, length-append, list_all, and_parts, or_cases, not-true, eqb-true, nat_tests, MatchOption-at_some, code, Token, Word, TokenAtLine, Element, White, Lexeme, spelling, token_spelling, IsToken, IsElement, Begins, is_white, is_line, is_word_byte, is_raw, is_plain, is_escapable, newlines, put_token, element_at, element_from, Text}
+use Rattle.lvm_text.proofs.Prelude.{ℕ, suc, Bool, true, true≢false, false, cond, not, eqb, List, [], length, get_or, drop, Some, None, refl, sym, ap, arith, inl, inr, length-append, list_all, and_parts, or_cases, not-true, eqb-true, nat_tests, MatchOption-at_some, code, Token, Word, TokenAtLine, Element, White, Lexeme, spelling, token_spelling, IsToken, IsElement, Begins, is_white, is_line, is_word_byte, is_raw, is_plain, is_escapable, newlines, put_token, element_at, element_from, Text}
 use Rattle.lvm_text.proofs.Cuts.{Found, element_found, Before, before_more}
+use Rattle.std.specs.Prelude.{◌≡◌, ◌+◌, ◌<◌, ◌≤◌, ◌&&◌, ◌∷◌, ◌++◌}
 
 -- The front
 

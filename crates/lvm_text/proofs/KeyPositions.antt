@@ -1,8 +1,9 @@
 -- The positions of keys: among the first entries and after them, as entries are added, and the node at a position.
-use Rattle.lvm_text.proofs.Prelude.{◌≡◌, ℕ, zero, suc, min, ◌+◌, ◌<◌, ◌≤◌, true, false, cond, List, [], ◌∷◌, ◌++◌, length, get_or, take, drop, Option, Some, None, refl, sym, ap, ◌∙◌, inl, inr, arith, add-one, add-zero, zero-add, length-append, length-drop, bytes_eq, cond_both, and_parts, cases_lt, drop_all, drop-append-le, bytes_eq-Decides, nat_cmp, slice_cmp, BTreeMap, Updates, node_of, values_of, has_line, lines_agree, node_view, position_of, Finds, Entry}
+use Rattle.lvm_text.proofs.Prelude.{ℕ, zero, suc, min, true, false, cond, List, [], length, get_or, take, drop, Option, Some, None, refl, sym, ap, ◌∙◌, inl, inr, arith, add-one, add-zero, zero-add, length-append, length-drop, bytes_eq, cond_both, and_parts, cases_lt, drop_all, drop-append-le, bytes_eq-Decides, nat_cmp, slice_cmp, BTreeMap, Updates, node_of, values_of, has_line, lines_agree, node_view, position_of, Finds, Entry}
 use Rattle.std.proofs.lemmas.Map.Text.{btree_map_updates_str}
 use Rattle.lvm_text.specs.declared.index.TheConstants.{FEW}
 use Rattle.lvm_text.proofs.Looks.{node_put}
+use Rattle.std.specs.Prelude.{◌≡◌, ◌+◌, ◌<◌, ◌≤◌, ◌∷◌, ◌++◌}
 use denote.Ref.{Bor}
 
 -- a position among the first entries, else one after them

@@ -1,7 +1,8 @@
 -- The keys of a section differ, so each section in it is the one under its key.
-use Rattle.lvm_text.proofs.Prelude.{◌≡◌, ◌≢◌, ℕ, Bool, true, false, List, [], ◌∷◌, ◌++◌, refl, All, AllPairs, Some, cond, arith, bytes_eq, or_right, bytes_eq-Decides, Values, Nothing, Section, Single, Several, Tree, Shown, Inner, Whole, Items, keys_of, sections_of, node_of, IsFound, hit, has_key, twice_lines}
+use Rattle.lvm_text.proofs.Prelude.{ℕ, Bool, true, false, List, [], refl, All, AllPairs, Some, cond, arith, bytes_eq, or_right, bytes_eq-Decides, Values, Nothing, Section, Single, Several, Tree, Shown, Inner, Whole, Items, keys_of, sections_of, node_of, IsFound, hit, has_key, twice_lines}
 use Rattle.std.proofs.lemmas.List.Elements.{All-cons, All-nil, All-tail}
 use Rattle.std.proofs.lemmas.List.Kept.{AllPairs-cons}
+use Rattle.std.specs.Prelude.{◌≡◌, ◌≢◌, ◌∷◌, ◌++◌}
 
 pub no_hit : (b : Bool) (n : ℕ) (later : List ℕ) → hit b n later ≡ [] → (b ≡ false) × (later ≡ [])
 no_hit true n later e = absurd cc

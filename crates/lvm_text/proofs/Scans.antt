@@ -1,6 +1,7 @@
 -- What the lengths of elements say of a text, and which lengths a spelled element has.
-use Rattle.lvm_text.proofs.Prelude.{◌≡◌, ℕ, suc, Bool, true, false, cond, not, ◌&&◌, ◌||◌, eqb, List, [], ◌∷◌, ◌++◌, length, take, drop, Option, Some, None, refl, inl, inr, MatchOption, option_map, list_all, cond_both, and_parts, and_from, or_cases, not-true, not_from_false, eqb-true, or_left, or_right, code, is_line, is_word_byte, begins_word, is_plain, is_escapable, is_raw, newline_at, leading_word_bytes, raw_length}
+use Rattle.lvm_text.proofs.Prelude.{ℕ, suc, Bool, true, false, cond, not, eqb, List, [], length, take, drop, Option, Some, None, refl, inl, inr, MatchOption, option_map, list_all, cond_both, and_parts, and_from, or_cases, not-true, not_from_false, eqb-true, or_left, or_right, code, is_line, is_word_byte, begins_word, is_plain, is_escapable, is_raw, newline_at, leading_word_bytes, raw_length}
 use Rattle.lvm_text.proofs.Cases.{mapped}
+use Rattle.std.specs.Prelude.{◌≡◌, ◌&&◌, ◌||◌, ◌∷◌, ◌++◌}
 
 -- Lines
 

@@ -1,7 +1,8 @@
 -- The first position of a byte, as a length of what stands before it.
-use Rattle.lvm_text.proofs.Prelude.{◌≡◌, ◌≢◌, ℕ, zero, suc, ◌+◌, ◌-◌, ◌<◌, ◌≤◌, Bool, true, false, cond, not, ◌&&◌, ◌||◌, eqb, List, [], ◌∷◌, length, get_or, take, drop, Option, Some, None, refl, sym, ap, ◌∙◌, arith, length-drop, option_map, is_some, is_none, and_parts, false_from_ne_true, eqb-true, ne_eqb, take_rest, drop-drop, code, is_line, is_end, is_escapable, newline_at, raw_length, is_escape}
+use Rattle.lvm_text.proofs.Prelude.{ℕ, zero, suc, Bool, true, false, cond, not, eqb, List, [], length, get_or, take, drop, Option, Some, None, refl, sym, ap, ◌∙◌, arith, length-drop, option_map, is_some, is_none, and_parts, false_from_ne_true, eqb-true, ne_eqb, take_rest, drop-drop, code, is_line, is_end, is_escapable, newline_at, raw_length, is_escape}
 use Rattle.memchr.specs.Find.{is_byte, is_byte3, IsFirstByte}
 use Rattle.lvm_text.proofs.Boundaries.{first_of_drop}
+use Rattle.std.specs.Prelude.{◌≡◌, ◌≢◌, ◌+◌, ◌-◌, ◌<◌, ◌≤◌, ◌&&◌, ◌||◌, ◌∷◌}
 
 pub line_first : (xs : List ℕ) (r : Option ℕ) → IsFirstByte (is_byte (code "\n")) xs r → r ≡ newline_at xs
 line_first [] None h = refl

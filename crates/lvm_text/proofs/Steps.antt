@@ -1,8 +1,9 @@
 -- The tokens before a position, at it and after it.
-use Rattle.lvm_text.proofs.Prelude.{◌≡◌, ℕ, zero, suc, ◌+◌, ◌<◌, ◌≤◌, false, List, [], ◌∷◌, ◌++◌, length, get_or, take, drop, Some, None, refl, sym, ap, ◌∙◌, arith, inl, inr, add-one, option_and_then, MatchOption-at_some, take_all, IsSyntaxLine, State, stage_after, run, is_over, token_view, view, views, Stage}
+use Rattle.lvm_text.proofs.Prelude.{ℕ, zero, suc, false, List, [], length, get_or, take, drop, Some, None, refl, sym, ap, ◌∙◌, arith, inl, inr, add-one, option_and_then, MatchOption-at_some, take_all, IsSyntaxLine, State, stage_after, run, is_over, token_view, view, views, Stage}
 use Rattle.lvm_text.specs.declared.token.TokenAtLine.{TokenAtLine}
 use Rattle.lvm_text.specs.declared.syntax.Stage.TheVariants as at
 use Rattle.lvm_text.proofs.Beginnings.{broken, unfinished, last_run, shallow, not_over}
+use Rattle.std.specs.Prelude.{◌≡◌, ◌+◌, ◌<◌, ◌≤◌, ◌∷◌, ◌++◌}
 
 pub views_at : (ts : List TokenAtLine) (i : ℕ) (d : TokenAtLine) → i < length ts → views ts ≡ views (take i ts) ++ view (get_or ts i d) ∷ views (drop (suc i) ts)
 views_at [] i d lt = absurd (omega arith)

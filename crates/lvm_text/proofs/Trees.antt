@@ -1,9 +1,10 @@
 -- From the tree of tokens to what the text says.
-use Rattle.lvm_text.proofs.Prelude.{◌≡◌, ◌≢◌, ℕ, List, [], ◌∷◌, Option, Some, None, refl, subst, ◌∙◌, Result, Ok, Err, IfOk, IfErr, same_Some, Close, TokenAtLine, Values, Tree, Spells, IsText, run, head_line, first_line, deep_lines, number_lines, twice_lines, fault_of, ReadsValues, IsTwice, Describes, HasFault, TreeOf, TextFault}
+use Rattle.lvm_text.proofs.Prelude.{ℕ, List, [], Option, Some, None, refl, subst, ◌∙◌, Result, Ok, Err, IfOk, IfErr, same_Some, Close, TokenAtLine, Values, Tree, Spells, IsText, run, head_line, first_line, deep_lines, number_lines, twice_lines, fault_of, ReadsValues, IsTwice, Describes, HasFault, TreeOf, TextFault}
 use Rattle.lvm_text.specs.declared.syntax.Stage.TheVariants as at
 use Rattle.lvm_text.specs.declared.fault.TextFault.TheVariants as fault
 use Rattle.lvm_text.proofs.Bounds.{bounded_text}
 use Rattle.lvm_text.proofs.Beginnings.{text_from}
+use Rattle.std.specs.Prelude.{◌≡◌, ◌≢◌, ◌∷◌}
 
 -- no check of tokens finds a fault of tokens or of syntax, or runs out of memory
 abbrev IsLater : TextFault → Type 0

@@ -1,9 +1,10 @@
 -- Keys that stand twice: those of the entries read so far, and the first that a new key hits.
-use Rattle.lvm_text.proofs.Prelude.{◌≡◌, ℕ, ◌+◌, Bool, true, false, cond, ◌||◌, List, [], ◌∷◌, ◌++◌, Option, Some, refl, sym, ap, ◌∙◌, append_assoc, bytes_eq, is_some, or_right, Word, Open, Equals, ListOpen, TokenAtLine, Values, Nothing, Section, Single, Several, ReadsBy, head_line, hit, has_key, twice_lines, inner_lines, bounded_of, begins_key, is_open, before, IsTwice, IsTwiceInside, put, values_of, position_of, Value, Entry, TextFault}
+use Rattle.lvm_text.proofs.Prelude.{ℕ, Bool, true, false, cond, List, [], Option, Some, refl, sym, ap, ◌∙◌, append_assoc, bytes_eq, is_some, or_right, Word, Open, Equals, ListOpen, TokenAtLine, Values, Nothing, Section, Single, Several, ReadsBy, head_line, hit, has_key, twice_lines, inner_lines, bounded_of, begins_key, is_open, before, IsTwice, IsTwiceInside, put, values_of, position_of, Value, Entry, TextFault}
 use Rattle.std.proofs.Math.Bool.{or-false}
 use Rattle.lvm_text.specs.declared.tree.Value.TheVariants as variants
 use Rattle.lvm_text.specs.declared.fault.TextFault.TheVariants as fault
 use Rattle.lvm_text.proofs.Building.{ValuesSoFar, before_push, before_all, no_values, same_key, opened}
+use Rattle.std.specs.Prelude.{◌≡◌, ◌+◌, ◌||◌, ◌∷◌, ◌++◌}
 
 -- the keys of entries, before these
 abbrev pub keys_after : List Entry → List (List ℕ) → List (List ℕ)

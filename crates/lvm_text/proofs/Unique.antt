@@ -1,8 +1,9 @@
 -- A text says one thing: one tree, or one fault.
-use Rattle.lvm_text.proofs.Prelude.{◌≡◌, ◌≢◌, ℕ, ◌+◌, true, false, List, [], ◌∷◌, ◌++◌, Some, None, refl, sym, ap, subst, ◌∙◌, append_assoc, inl, inr, ◌⊎◌, Result, Ok, Err, IfOk, IfErr, same_Some, some_pair_parts, append-nil, Token, Word, Open, Close, ListOpen, ListClose, Equals, Comma, TokenAtLine, Scalar, Values, Nothing, Section, Single, Several, Tree, scalar_of, ReadsList, ReadsMore, Reads, IsText, BeginsText, IsBreak, IsSyntaxLine, begins_key, Spells, IsBadToken, newlines, Describes, IsBadSyntax, IsUnsound, HasFault, Answers, TextFault}
+use Rattle.lvm_text.proofs.Prelude.{ℕ, true, false, List, [], Some, None, refl, sym, ap, subst, ◌∙◌, append_assoc, inl, inr, Result, Ok, Err, IfOk, IfErr, same_Some, some_pair_parts, append-nil, Token, Word, Open, Close, ListOpen, ListClose, Equals, Comma, TokenAtLine, Scalar, Values, Nothing, Section, Single, Several, Tree, scalar_of, ReadsList, ReadsMore, Reads, IsText, BeginsText, IsBreak, IsSyntaxLine, begins_key, Spells, IsBadToken, newlines, Describes, IsBadSyntax, IsUnsound, HasFault, Answers, TextFault}
 use Rattle.lvm_text.specs.declared.fault.TextFault.TheVariants as fault
 use Rattle.lvm_text.proofs.Cuts.{one_spelling, spelled_no_bad, one_bad}
 use Rattle.lvm_text.proofs.Building.{SameKey, same_key, list_same}
+use Rattle.std.specs.Prelude.{◌≡◌, ◌≢◌, ◌+◌, ◌∷◌, ◌++◌, ◌⊎◌}
 
 -- One tree
 

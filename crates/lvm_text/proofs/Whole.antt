@@ -1,11 +1,12 @@
 -- Every text says a tree, or has a fault.
-use Rattle.lvm_text.proofs.Prelude.{◌≡◌, ℕ, zero, suc, ◌+◌, ◌<◌, false, List, [], ◌∷◌, ◌++◌, length, Option, Some, None, refl, sym, ◌∙◌, ◌⊎◌, inl, inr, append_assoc, arith, cases_Bool, append-nil, TokenAtLine, Values, Tree, Element, Spells, IsBadToken, is_end, newlines, spelling, put_token, element_at, IsText, IsSyntaxLine, State, stage_after, run, is_over, fault_of, Describes, HasFault, TextFault}
+use Rattle.lvm_text.proofs.Prelude.{ℕ, zero, suc, false, List, [], length, Option, Some, None, refl, sym, ◌∙◌, inl, inr, append_assoc, arith, cases_Bool, append-nil, TokenAtLine, Values, Tree, Element, Spells, IsBadToken, is_end, newlines, spelling, put_token, element_at, IsText, IsSyntaxLine, State, stage_after, run, is_over, fault_of, Describes, HasFault, TextFault}
 use Rattle.lvm_text.specs.declared.syntax.Stage.TheVariants as at
 use Rattle.lvm_text.specs.declared.fault.TextFault.TheVariants as fault
 use Rattle.lvm_text.proofs.Cuts.{Before, before_all, before_more, spells_whole, bad_here}
 use Rattle.lvm_text.proofs.Elements.{begins, shorter}
 use Rattle.lvm_text.proofs.Beginnings.{done, text_from, last_run, broken, unfinished, over, not_over}
 use Rattle.lvm_text.proofs.Trees.{fault_here}
+use Rattle.std.specs.Prelude.{◌≡◌, ◌+◌, ◌<◌, ◌∷◌, ◌++◌, ◌⊎◌}
 
 -- Tokens
 

@@ -1,5 +1,5 @@
 -- What the tree's builder reads, from the tokens that are left.
-use Rattle.lvm_text.specs.Base.{◌≡◌, ℕ, Bool, true, false, List, [], ◌∷◌, Option, Some, None, drop, unwrap_or, option_map, if◌then◌else◌, TextFault, KeyTwice, Memory, Scalar}
+use Rattle.lvm_text.specs.Base.{ℕ, Bool, true, false, List, [], Option, Some, None, drop, unwrap_or, option_map, TextFault, KeyTwice, Memory, Scalar}
 use Rattle.lvm_text.specs.Token.{Token, Word, Text, Open, Comma, ListOpen, TokenAtLine}
 use Rattle.lvm_text.specs.Tree as tree
 use Rattle.lvm_text.specs.Tree.{Values, Section, Single, Several}
@@ -10,6 +10,7 @@ use Rattle.lvm_text.specs.TokenView.{views}
 use Rattle.lvm_text.specs.declared.build.Builder.{Builder}
 use Rattle.lvm_text.specs.declared.tree.Value.{Value}
 use Rattle.lvm_text.specs.declared.tree.Entry.{Entry}
+use Rattle.std.specs.Prelude.{◌≡◌, ◌∷◌, if◌then◌else◌}
 
 -- what a token is as a scalar, where integers are in range; others were refused before, so any number will do for them
 abbrev pub bounded_of : Token → Option tree.Scalar

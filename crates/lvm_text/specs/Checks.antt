@@ -1,8 +1,9 @@
 -- The checks of a text of the grammar: for each the lines where it finds something, in source order.
-use Rattle.lvm_text.specs.Base.{ℕ, suc, ◌-◌, Bool, true, false, ◌&&◌, nat_lt, List, [], ◌∷◌, ◌++◌, Option, Some, None, is_none, bytes_eq, if◌then◌else◌, list_any, TextFault, Deep, Number, KeyTwice}
+use Rattle.lvm_text.specs.Base.{ℕ, suc, Bool, true, false, nat_lt, List, [], Option, Some, None, is_none, bytes_eq, list_any, TextFault, Deep, Number, KeyTwice}
 use Rattle.lvm_text.specs.Token.{Token, Word, Open, Close, ListOpen, Equals, Comma, TokenAtLine}
 use Rattle.lvm_text.specs.Tree.{Values, Nothing, Section, Single, Several}
 use Rattle.lvm_text.specs.Grammar.{number_of}
+use Rattle.std.specs.Prelude.{◌-◌, ◌&&◌, ◌∷◌, ◌++◌, if◌then◌else◌}
 
 -- a line, if a test finds something there, before later lines
 abbrev pub hit : Bool → ℕ → List ℕ → List ℕ

@@ -1,9 +1,10 @@
 -- The grammar of a text by its tokens, and the beginnings of its texts.
-use Rattle.lvm_text.specs.Base.{◌≡◌, ℕ, ◌^◌, ◌⊎◌, Bool, true, false, ◌&&◌, not, ◌==◌, nat_le, nat_lt, List, [], ◌∷◌, ◌++◌, length, Option, Some, None, if◌then◌else◌, list_all, is_ascii_digit, digits_value}
+use Rattle.lvm_text.specs.Base.{ℕ, Bool, true, false, not, nat_le, nat_lt, List, [], length, Option, Some, None, list_all, is_ascii_digit, digits_value}
 use Rattle.lvm_text.specs.Bytes.{code}
 use Rattle.lvm_text.specs.Token.{Token, Word, Text, Open, Close, ListOpen, ListClose, Equals, Comma, TokenAtLine}
 use Rattle.lvm_text.specs.Tree as tree
 use Rattle.lvm_text.specs.Tree.{Values, Nothing, Section, Single, Several}
+use Rattle.std.specs.Prelude.{◌≡◌, ◌^◌, ◌⊎◌, ◌&&◌, ◌==◌, ◌∷◌, ◌++◌, if◌then◌else◌}
 
 -- digits alone
 abbrev pub are_digits : List ℕ → Bool

@@ -1,9 +1,10 @@
 -- The stages of a parser. That they say which tokens can still become a text is proved, not assumed.
-use Rattle.lvm_text.specs.Base.{ℕ, suc, ◌-◌, Bool, false, ◌==◌, List, [], ◌∷◌, Option, Some, None, is_some, option_and_then, if◌then◌else◌, nat_lt}
+use Rattle.lvm_text.specs.Base.{ℕ, suc, Bool, false, List, [], Option, Some, None, is_some, option_and_then, nat_lt}
 use Rattle.lvm_text.specs.Token.{Token, Word, Open, Close, ListOpen, ListClose, Equals, Comma, TokenAtLine}
 use Rattle.lvm_text.specs.Grammar.{scalar_of, is_key}
 use Rattle.lvm_text.specs.declared.syntax.Stage.{Stage}
 use Rattle.lvm_text.specs.declared.syntax.Stage.TheVariants as at
+use Rattle.std.specs.Prelude.{◌-◌, ◌==◌, ◌∷◌, if◌then◌else◌}
 
 -- the open sections, and how far a value was read
 abbrev pub State : Type 0

@@ -1,7 +1,8 @@
 -- Where the keys of a section stand.
-use Rattle.lvm_text.specs.Base.{◌≡◌, ℕ, ◌+◌, List, [], ◌∷◌, drop, Option, Some, None, bytes_eq, if◌then◌else◌, nat_cmp, slice_cmp, BTreeMap, get_by}
+use Rattle.lvm_text.specs.Base.{ℕ, List, [], drop, Option, Some, None, bytes_eq, nat_cmp, slice_cmp, BTreeMap, get_by}
 use Rattle.lvm_text.specs.declared.index.TheConstants.{FEW}
 use Rattle.lvm_text.specs.declared.tree.Entry.{Entry}
+use Rattle.std.specs.Prelude.{◌≡◌, ◌+◌, ◌∷◌, if◌then◌else◌}
 use denote.Ref.{Bor}
 
 -- the position of the first entry with a key, where the first entry of all has the position `first`

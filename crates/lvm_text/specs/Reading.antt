@@ -1,10 +1,11 @@
 -- What a text says, and the fault of one that says nothing.
-use Rattle.lvm_text.specs.Base.{◌≡◌, ℕ, ◌+◌, List, Some, None, Result, Ok, Err, TextFault, Token, Syntax, Deep, Number, KeyTwice, Memory}
+use Rattle.lvm_text.specs.Base.{ℕ, List, Some, None, Result, Ok, Err, TextFault, Token, Syntax, Deep, Number, KeyTwice, Memory}
 use Rattle.lvm_text.specs.Token.{TokenAtLine}
 use Rattle.lvm_text.specs.Tree.{Tree, Values}
 use Rattle.lvm_text.specs.Spelling.{Spells, IsBadToken, newlines}
 use Rattle.lvm_text.specs.Grammar.{IsText, IsSyntaxLine}
 use Rattle.lvm_text.specs.Checks.{fault_of}
+use Rattle.std.specs.Prelude.{◌≡◌, ◌+◌}
 
 -- the text says this tree: it spells tokens that are a text of these values, and no check finds anything
 pub record Describes (text : List ℕ) (t : Tree) : Type 0 where

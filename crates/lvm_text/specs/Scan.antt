@@ -1,8 +1,9 @@
 -- How many bytes an element of a text takes.
-use Rattle.lvm_text.specs.Base.{ℕ, suc, Bool, false, ◌&&◌, ◌==◌, List, [], ◌∷◌, take, drop, Option, Some, None, option_map, if◌then◌else◌}
+use Rattle.lvm_text.specs.Base.{ℕ, suc, Bool, false, List, [], take, drop, Option, Some, None, option_map}
 use Rattle.lvm_text.specs.Bytes.{code}
 use Rattle.lvm_text.specs.Token.{Token, Word, Text, Open, Close, ListOpen, ListClose, Equals, Comma}
 use Rattle.lvm_text.specs.Spelling.{Element, White, Comment, Lexeme, is_white, is_word_byte, is_escapable}
+use Rattle.std.specs.Prelude.{◌&&◌, ◌==◌, ◌∷◌, if◌then◌else◌}
 
 -- up to the newline
 abbrev pub newline_at : List ℕ → Option ℕ

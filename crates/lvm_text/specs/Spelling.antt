@@ -1,7 +1,8 @@
 -- How a text spells its tokens, with white space and comments between them.
-use Rattle.lvm_text.specs.Base.{◌≡◌, ◌≢◌, ℕ, ◌+◌, Bool, true, false, ◌&&◌, ◌||◌, not, ◌==◌, List, [], ◌∷◌, ◌++◌, suc, if◌then◌else◌, list_all, is_ascii_alphanumeric}
+use Rattle.lvm_text.specs.Base.{ℕ, Bool, true, false, not, List, [], suc, list_all, is_ascii_alphanumeric}
 use Rattle.lvm_text.specs.Bytes.{code}
 use Rattle.lvm_text.specs.Token.{Token, Word, Text, Open, Close, ListOpen, ListClose, Equals, Comma, TokenAtLine}
+use Rattle.std.specs.Prelude.{◌≡◌, ◌≢◌, ◌+◌, ◌&&◌, ◌||◌, ◌==◌, ◌∷◌, ◌++◌, if◌then◌else◌}
 
 -- The bytes
 

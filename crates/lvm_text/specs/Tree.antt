@@ -1,5 +1,6 @@
 -- The tree of a text.
-use Rattle.lvm_text.specs.Base.{◌≡◌, ℕ, ◌+◌, List, [], ◌∷◌, Option, Some, None, bytes_eq, if◌then◌else◌}
+use Rattle.lvm_text.specs.Base.{ℕ, List, [], Option, Some, None, bytes_eq}
+use Rattle.std.specs.Prelude.{◌≡◌, ◌+◌, ◌∷◌, if◌then◌else◌}
 
 -- an integer, or the raw text between quotes
 pub data Scalar : Type 0 where

@@ -1,5 +1,5 @@
 -- What the crate's types show.
-use Rattle.lvm_text.specs.Base.{ℕ, Bool, true, ◌&&◌, ◌==◌, List, [], ◌∷◌, map, Scalar}
+use Rattle.lvm_text.specs.Base.{ℕ, Bool, true, List, [], map, Scalar}
 use Rattle.lvm_text.specs.Tree as tree
 use Rattle.lvm_text.specs.Tree.{Values, Tree, Nothing, Single, Several, Content, Inner, Whole, Items, Shown}
 use Rattle.lvm_text.specs.declared.tree.Scalar.TheVariants as scalars
@@ -7,6 +7,7 @@ use Rattle.lvm_text.specs.declared.tree.Value.{Value}
 use Rattle.lvm_text.specs.declared.tree.Value.TheVariants as variants
 use Rattle.lvm_text.specs.declared.tree.Node.{Node}
 use Rattle.lvm_text.specs.declared.tree.Entry.{Entry}
+use Rattle.std.specs.Prelude.{◌&&◌, ◌==◌, ◌∷◌}
 
 -- a scalar
 abbrev pub scalar_view : Scalar → tree.Scalar

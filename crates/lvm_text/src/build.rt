@@ -3,7 +3,8 @@
 //! is looked for before what it holds is read, which is the order of the source. Sections inside sections are
 //! calls inside calls, at most 16 deep, since depth was checked.
 
-ghost use Rattle.lvm_text.specs.Prelude.{◌≡◌, ◌≤◌, ◌<◌, ◌+◌, ◌∷◌, [], drop, length, option_map, IfOk, IfErr, IfSome, MatchOption, ℕ, true, false, token_view, views, scalar_view, scalar_views, has_line, bounded_of, is_comma, is_open, is_list_open, begins_key, scalar_first, item_of, left, ReadsScalars, ShowsScalar, ReadsLeaf, ReadsValue, ReadsValues, IsTwice, IsTwiceInside, twice_lines, inner_lines};
+ghost use Rattle.lvm_text.specs.Prelude.{[], drop, length, option_map, IfOk, IfErr, IfSome, MatchOption, ℕ, true, false, token_view, views, scalar_view, scalar_views, has_line, bounded_of, is_comma, is_open, is_list_open, begins_key, scalar_first, item_of, left, ReadsScalars, ShowsScalar, ReadsLeaf, ReadsValue, ReadsValues, IsTwice, IsTwiceInside, twice_lines, inner_lines};
+ghost use Rattle.std.specs.Prelude.{◌≡◌, ◌≤◌, ◌<◌, ◌+◌, ◌∷◌};
 ghost use Rattle.lvm_text.specs.Token as spec;
 
 use crate::fault::TextFault;

@@ -1,7 +1,8 @@
 //! The checks of tokens that are a text by the grammar.
 //! Each returns the first line where it finds something, in source order; `parse` makes them in their order.
 
-ghost use Rattle.lvm_text.specs.Prelude.{◌≡◌, ◌<◌, ◌^◌, token_view, views, head_line, level_after, opens_deep, deep_lines, leads_scalar, is_refused, number_lines};
+ghost use Rattle.lvm_text.specs.Prelude.{token_view, views, head_line, level_after, opens_deep, deep_lines, leads_scalar, is_refused, number_lines};
+ghost use Rattle.std.specs.Prelude.{◌≡◌, ◌<◌, ◌^◌};
 ghost use Rattle.lvm_text.specs.Token as spec;
 
 use crate::number::number_of;

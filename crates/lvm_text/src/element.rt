@@ -2,7 +2,8 @@
 //! A text is cut at its front, element by element, so an element is found by its first byte. A new form of
 //! token is a case of `element_at`.
 
-ghost use Rattle.lvm_text.specs.Prelude.{◌≡◌, ◌<◌, ◌∷◌, suc, None, Some, length, take, drop, slice_index, option_map, IfSome, IsTrue, is_ascii, Lexeme, comment_from, string_from, leading_word_bytes, sign_of, element_from, element_at, element_view, found_view, token_view};
+ghost use Rattle.lvm_text.specs.Prelude.{suc, None, Some, length, take, drop, slice_index, option_map, IfSome, IsTrue, is_ascii, Lexeme, comment_from, string_from, leading_word_bytes, sign_of, element_from, element_at, element_view, found_view, token_view};
+ghost use Rattle.std.specs.Prelude.{◌≡◌, ◌<◌, ◌∷◌};
 ghost use Rattle.lvm_text.specs.Spelling as spelling;
 ghost use Rattle.lvm_text.specs.Token as spec;
 

@@ -1,6 +1,7 @@
 //! Why a text is refused.
 
-ghost use Rattle.lvm_text.specs.Prelude.{◌≡◌, Memory};
+ghost use Rattle.lvm_text.specs.Prelude.{Memory};
+ghost use Rattle.std.specs.Prelude.{◌≡◌};
 
 use std::alloc::{AllocError, AllocFailed};
 use thiserror::Error;

@@ -3,7 +3,8 @@
 //! `log n` steps: metadata is mostly small sections, and an index for each of them would take most of its
 //! memory. What an index has is `Finds` in `specs/Positions`; change that first.
 
-ghost use Rattle.lvm_text.specs.Prelude.{◌≡◌, None, ◌∷◌, ◌++◌, [], OnOk, Finds, position_of};
+ghost use Rattle.lvm_text.specs.Prelude.{None, [], OnOk, Finds, position_of};
+ghost use Rattle.std.specs.Prelude.{◌≡◌, ◌∷◌, ◌++◌};
 
 use crate::tree::Entry;
 use std::alloc::AllocError;

@@ -1,7 +1,8 @@
 //! How a text is cut into tokens: element by element, from its front to its end.
 //! White bytes and comments are dropped here; their newlines say on which line the next token begins.
 
-ghost use Rattle.lvm_text.specs.Prelude.{◌≡◌, ◌++◌, [], MatchResult, OnOk, Spells, SomeElement, newlines, spelling, put_token, IsTokenFault, views, element_view};
+ghost use Rattle.lvm_text.specs.Prelude.{[], MatchResult, OnOk, Spells, SomeElement, newlines, spelling, put_token, IsTokenFault, views, element_view};
+ghost use Rattle.std.specs.Prelude.{◌≡◌, ◌++◌};
 
 use crate::element::{Element, element_at, white_at};
 use crate::fault::TextFault;

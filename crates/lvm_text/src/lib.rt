@@ -3,7 +3,8 @@
 //! from bytes to a tree. To change what a text may say, change `specs/` first.
 #![tactic(auto)]
 
-ghost use Rattle.lvm_text.specs.Prelude.{◌≡◌, ◌≢◌, ◌⊎◌, ℕ, List, Ok, Err, IfOk, IfErr, Tree, Describes, HasFault, Answers, TextFault, Memory};
+ghost use Rattle.lvm_text.specs.Prelude.{ℕ, List, Ok, Err, IfOk, IfErr, Tree, Describes, HasFault, Answers, TextFault, Memory};
+ghost use Rattle.std.specs.Prelude.{◌≡◌, ◌≢◌, ◌⊎◌};
 
 mod build;
 mod check;

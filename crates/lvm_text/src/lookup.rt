@@ -1,16 +1,18 @@
 //! What a section answers: its line, the node of a key, and the sections inside it.
 //! A key is found by its position in `index`; sections are found by going over the entries.
 
-ghost use Rattle.lvm_text.specs.Prelude.{◌≡◌, option_map};
+ghost use Rattle.lvm_text.specs.Prelude.{option_map};
+ghost use Rattle.std.specs.Prelude.{◌≡◌};
 
 use crate::index::position_of;
 use crate::tree::{Entry, Node, Section, Value};
 
 impl<'a> Section<'a> {
-    ghost use Rattle.lvm_text.specs.Base.{All, AllPairs, ◌≢◌};
+    ghost use Rattle.lvm_text.specs.Base.{All, AllPairs};
     ghost use Rattle.lvm_text.specs.Tree.{keys_of, node_of, sections_of, IsFound};
     ghost use Rattle.lvm_text.specs.View.{node_view};
     ghost use Rattle.lvm_text.specs.Iterate.{sections_left};
+    ghost use Rattle.std.specs.Prelude.{◌≢◌};
 
     /// The line of the section's key, from 1; 1 for the top.
     pub fn line(&self) -> u64

@@ -2,7 +2,8 @@
 //! Leading zeros are allowed. 19 digits bound the work, and a `u64` holds their value, which then has to be
 //! below 2^63. A sign or a decimal point would be a change of `scalar_of` in `specs/Grammar`.
 
-ghost use Rattle.lvm_text.specs.Prelude.{◌≡◌, ◌≤◌, length, IsTrue, digits_value, are_digits, number_of};
+ghost use Rattle.lvm_text.specs.Prelude.{length, IsTrue, digits_value, are_digits, number_of};
+ghost use Rattle.std.specs.Prelude.{◌≡◌, ◌≤◌};
 
 /// Whether a word has digits alone.
 pub(crate) fn are_digits(word: &[u8]) -> bool

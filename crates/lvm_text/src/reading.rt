@@ -2,7 +2,8 @@
 //! Each check goes over the whole text before the next begins, since the order of the checks, and not that of
 //! the lines, decides which fault is returned. A new check goes between two of these.
 
-ghost use Rattle.lvm_text.specs.Prelude.{◌≡◌, ◌≢◌, ◌+◌, Ok, Err, IfOk, IfErr, Values, newlines, IsText, views, Describes, HasFault, TreeOf, Memory};
+ghost use Rattle.lvm_text.specs.Prelude.{Ok, Err, IfOk, IfErr, Values, newlines, IsText, views, Describes, HasFault, TreeOf, Memory};
+ghost use Rattle.std.specs.Prelude.{◌≡◌, ◌≢◌, ◌+◌};
 
 use crate::build::Builder;
 use crate::check::{deep_line, number_line};

@@ -2,7 +2,8 @@
 //! Each is found by one look at each byte, since a text may be one long word. A new form of token begins
 //! here, with its length.
 
-ghost use Rattle.lvm_text.specs.Prelude.{◌≡◌, None, is_none, is_white, is_word_byte, is_end, newline_at, leading_word_bytes, raw_length, is_escape};
+ghost use Rattle.lvm_text.specs.Prelude.{None, is_none, is_white, is_word_byte, is_end, newline_at, leading_word_bytes, raw_length, is_escape};
+ghost use Rattle.std.specs.Prelude.{◌≡◌};
 
 use memchr::{memchr, memchr3};
 

@@ -2,7 +2,8 @@
 //! Sections may nest without bound here, so the number of open ones takes the place of a stack. A new form of
 //! value is a stage and its steps; the proof then asks how a text can go on from there.
 
-ghost use Rattle.lvm_text.specs.Prelude.{◌≡◌, ◌<◌, ◌+◌, ◌^◌, Some, is_some, MatchOption, scalar_of, is_key, IsSyntaxLine, stage_after, run, is_over, newlines, token_view, views, Key};
+ghost use Rattle.lvm_text.specs.Prelude.{Some, is_some, MatchOption, scalar_of, is_key, IsSyntaxLine, stage_after, run, is_over, newlines, token_view, views, Key};
+ghost use Rattle.std.specs.Prelude.{◌≡◌, ◌<◌, ◌+◌, ◌^◌};
 
 use crate::number::are_digits;
 use crate::reading::end_line;

@@ -2,7 +2,7 @@
 //! A section is a list of entries in source order and an index of their keys; contracts see its line and its
 //! values alone. What is true of every section is `IsSection` in `specs/Sound`: change that first.
 
-ghost use Rattle.lvm_text.specs.Prelude.{◌≡◌};
+ghost use Rattle.std.specs.Prelude.{◌≡◌};
 
 use std::collections::BTreeMap;
 use std::marker::Model;

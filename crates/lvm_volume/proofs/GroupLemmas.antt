@@ -1,6 +1,7 @@
 -- The checks of a group one after the other, and the fault of each.
-use Rattle.lvm_volume.proofs.Prelude.{◌≡◌, ◌≢◌, ◌⊎◌, inl, inr, List, [], ◌∷◌, Option, Some, None, Result, Ok, Err, refl, ◌∙◌, Tree, Source, Memory, LoadFault, IsMemoryFault, first_fault, first_or, unless, Fields, Limits, name_faults, snapshot_faults, unknown_faults, faults_of_fields, Group, group_of, members_of, checks_of_parts, extent_faults, group_checks, unnamed, first_or-found, first_or-passed, unless-err}
+use Rattle.lvm_volume.proofs.Prelude.{inl, inr, List, [], Option, Some, None, Result, Ok, Err, refl, ◌∙◌, Tree, Source, Memory, LoadFault, IsMemoryFault, first_fault, first_or, unless, Fields, Limits, name_faults, snapshot_faults, unknown_faults, faults_of_fields, Group, group_of, members_of, checks_of_parts, extent_faults, group_checks, unnamed, first_or-found, first_or-passed, unless-err}
 use Rattle.lvm_volume.proofs.checks.FaultKinds.{NoMemory, first_kind, of_walk, of_unknown, of_extents, of_snapshots, of_unnamed}
+use Rattle.std.specs.Prelude.{◌≡◌, ◌≢◌, ◌⊎◌, ◌∷◌}
 
 -- what is returned where a fault is found
 abbrev pub Refused : {X : Type 0} → LoadFault → Result X LoadFault → Type 0

@@ -1,6 +1,7 @@
 -- What the steps from a text of metadata to its tables say together.
-use Rattle.lvm_volume.proofs.Prelude.{◌≡◌, ◌≢◌, ℕ, List, [], ◌∷◌, ◌++◌, Option, Some, None, Result, Ok, Err, IfErr, refl, sym, ap, ◌∙◌, IsUtf8, TextFault, Source, Memory, LoadFault, DeviceSpec, Disk, Tree, HasFault, Answers, first_fault, first_or, unless, Group, group_of, SaysTree, IsRefusedText, OfText, OfGroup, metadata_checks, group_checks, tables_of, text_fault, unnamed, unless-err, unless-ok}
+use Rattle.lvm_volume.proofs.Prelude.{ℕ, List, [], Option, Some, None, Result, Ok, Err, IfErr, refl, sym, ap, ◌∙◌, IsUtf8, TextFault, Source, Memory, LoadFault, DeviceSpec, Disk, Tree, HasFault, Answers, first_fault, first_or, unless, Group, group_of, SaysTree, IsRefusedText, OfText, OfGroup, metadata_checks, group_checks, tables_of, text_fault, unnamed, unless-err, unless-ok}
 use Rattle.lvm_text.specs.declared.fault.TextFault.TheVariants as texts
+use Rattle.std.specs.Prelude.{◌≡◌, ◌≢◌, ◌∷◌, ◌++◌}
 
 -- a check after others of which none finds anything, and after one that does
 pub last_check : (checks : List (List LoadFault)) (last : List LoadFault) → first_fault checks ≡ None → first_fault (checks ++ last ∷ []) ≡ first_or last None

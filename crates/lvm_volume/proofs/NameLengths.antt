@@ -1,5 +1,6 @@
 -- How long a name is.
-use Rattle.lvm_volume.proofs.Prelude.{◌≡◌, ℕ, ◌+◌, ◌==◌, Bool, true, false, cond, List, [], ◌∷◌, ◌++◌, length, length-append, arith, refl, count_by, option_map, sum_by-cons, code, NameParts, doubled, joined, with_hyphen}
+use Rattle.lvm_volume.proofs.Prelude.{ℕ, Bool, true, false, cond, List, [], length, length-append, arith, refl, count_by, option_map, sum_by-cons, code, NameParts, doubled, joined, with_hyphen}
+use Rattle.std.specs.Prelude.{◌≡◌, ◌+◌, ◌==◌, ◌∷◌, ◌++◌}
 
 -- each hyphen counts twice
 pub length_doubled : (part : List ℕ) → length (doubled part) ≡ length part + count_by (λ b. b == code "-") part

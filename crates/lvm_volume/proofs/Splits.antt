@@ -1,5 +1,6 @@
 -- A name is cut in one way, and its slices are its parts doubled.
-use Rattle.lvm_volume.proofs.Prelude.{◌≡◌, ◌≢◌, ℕ, suc, ◌+◌, ◌<◌, ◌≤◌, Bool, true, false, cond, eqb, ◌&&◌, List, [], ◌∷◌, ◌++◌, length, take, drop, Option, Some, None, refl, sym, ap, subst, ◌∙◌, zero, get_or, arith, append_assoc, drop-cons, length-append, Result, Err, IfSome, IsTrue, option_map, MatchOption, option_and_then, is_none, nat_le, list_all, LacksTextAt, HasTextAt, cond_both, eqb-true, and_parts, and_from, leb-true, le-leb, lt-leb, nat_tests, append-nil, take_more, take-append-drop, drop_more, same_Some, drop-append_seam, take-append_seam, code, is_device_byte, is_device_name, NameParts, built, Returns, is_letter, begins_with, part_fault, layer_fault, or_later, doubled, undoubled, undoubled_parts, with_hyphen, joined, fault_of, Builds, IsSplit, doubled_parts, slice_length, first_slice, after_hyphen, later_slices, with_layer, slices_of, NameFault}
+use Rattle.lvm_volume.proofs.Prelude.{ℕ, suc, Bool, true, false, cond, eqb, List, [], length, take, drop, Option, Some, None, refl, sym, ap, subst, ◌∙◌, zero, get_or, arith, append_assoc, drop-cons, length-append, Result, Err, IfSome, IsTrue, option_map, MatchOption, option_and_then, is_none, nat_le, list_all, LacksTextAt, HasTextAt, cond_both, eqb-true, and_parts, and_from, leb-true, le-leb, lt-leb, nat_tests, append-nil, take_more, take-append-drop, drop_more, same_Some, drop-append_seam, take-append_seam, code, is_device_byte, is_device_name, NameParts, built, Returns, is_letter, begins_with, part_fault, layer_fault, or_later, doubled, undoubled, undoubled_parts, with_hyphen, joined, fault_of, Builds, IsSplit, doubled_parts, slice_length, first_slice, after_hyphen, later_slices, with_layer, slices_of, NameFault}
+use Rattle.std.specs.Prelude.{◌≡◌, ◌≢◌, ◌+◌, ◌<◌, ◌≤◌, ◌&&◌, ◌∷◌, ◌++◌}
 use denote.Ref.{Bor}
 use Rattle.dm_table.proofs.ByteLemmas.{list_all-both}
 use Rattle.lvm_volume.specs.declared.fault.NameFault.TheVariants.{Letter, HyphenFirst, Empty, Long, Memory}

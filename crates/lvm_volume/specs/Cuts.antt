@@ -1,6 +1,7 @@
 -- Where a name is cut: at a hyphen that has no neighbour left to pair with.
-use Rattle.lvm_volume.specs.Base.{ℕ, suc, ◌==◌, List, [], ◌∷◌, take, drop, Option, Some, None, is_none, option_and_then, if◌then◌else◌, code}
+use Rattle.lvm_volume.specs.Base.{ℕ, suc, List, [], take, drop, Option, Some, None, is_none, option_and_then, code}
 use Rattle.lvm_volume.specs.Names.{NameParts}
+use Rattle.std.specs.Prelude.{◌==◌, ◌∷◌, if◌then◌else◌}
 
 -- up to a hyphen that no hyphen follows, where pairs of them are passed over
 abbrev pub slice_length : List ℕ → ℕ

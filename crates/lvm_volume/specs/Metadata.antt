@@ -1,5 +1,6 @@
 -- What a text of metadata describes, and why one is refused.
-use Rattle.lvm_volume.specs.Base.{◌≡◌, ◌⊎◌, ℕ, ◌+◌, List, [], ◌∷◌, ◌++◌, None, Some, take, IsUtf8, TextFault, Source, NotText, LoadFault, DeviceSpec, Disk, Tree, newlines, Describes, HasFault, fault_at, first_fault}
+use Rattle.lvm_volume.specs.Base.{ℕ, List, [], None, Some, take, IsUtf8, TextFault, Source, NotText, LoadFault, DeviceSpec, Disk, Tree, newlines, Describes, HasFault, fault_at, first_fault}
+use Rattle.std.specs.Prelude.{◌≡◌, ◌⊎◌, ◌+◌, ◌∷◌, ◌++◌}
 use Rattle.std.specs.Str.Lossy.{utf8_valid_len}
 use Rattle.lvm_volume.specs.group.Group.{group_of}
 use Rattle.lvm_volume.specs.tables.Tables.{group_checks, tables_of, text_fault, unnamed}

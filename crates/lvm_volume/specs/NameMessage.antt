@@ -1,6 +1,7 @@
 -- The messages of names that are not built, or have no parts.
-use Rattle.lvm_volume.specs.Base.{ℕ, List, ◌++◌, codes, memory_message, NameFault, Letter, HyphenFirst, Empty, Long}
+use Rattle.lvm_volume.specs.Base.{ℕ, List, codes, memory_message, NameFault, Letter, HyphenFirst, Empty, Long}
 use Rattle.lvm_volume.specs.declared.fault.NameFault.TheVariants.{Memory}
+use Rattle.std.specs.Prelude.{◌++◌}
 
 -- a message about a name, with this word
 abbrev pub name_refusal : List ℕ → List ℕ

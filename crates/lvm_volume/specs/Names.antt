@@ -1,7 +1,8 @@
 -- How the device mapper's name of a volume is spelled from its parts (lvm(8), "Valid names"; dmsetup splitname).
-use Rattle.lvm_volume.specs.Base.{◌≡◌, ℕ, Bool, false, ◌&&◌, ◌||◌, ◌==◌, nat_le, List, [], ◌∷◌, ◌++◌, length, Option, Some, None, option_map, Result, Ok, Err, if◌then◌else◌, list_all, is_ascii_alphanumeric, code, NameFault, Letter, HyphenFirst, Empty, Long}
+use Rattle.lvm_volume.specs.Base.{ℕ, Bool, false, nat_le, List, [], length, Option, Some, None, option_map, Result, Ok, Err, list_all, is_ascii_alphanumeric, code, NameFault, Letter, HyphenFirst, Empty, Long}
 use Rattle.lvm_volume.specs.declared.fault.NameFault.TheVariants.{Memory}
 use Rattle.lvm_volume.specs.declared.names.Parts.{Parts}
+use Rattle.std.specs.Prelude.{◌≡◌, ◌&&◌, ◌||◌, ◌==◌, ◌∷◌, ◌++◌, if◌then◌else◌}
 use denote.Ref.{Bor}
 
 -- The parts

@@ -1,5 +1,5 @@
 -- What a text of metadata gives where images have some of its physical volumes.
-use Rattle.lvm_volume.specs.Base.{◌≡◌, ◌≢◌, ℕ, List, Option, Some, None, Result, Ok, Err, IsUtf8, Tree, HasFault, TextFault, Source, Memory, NotText, LoadFault, DeviceSpec, IsMemoryFault, fault_at, first_fault, unless, DiskFault}
+use Rattle.lvm_volume.specs.Base.{ℕ, List, Option, Some, None, Result, Ok, Err, IsUtf8, Tree, HasFault, TextFault, Source, Memory, NotText, LoadFault, DeviceSpec, IsMemoryFault, fault_at, first_fault, unless, DiskFault}
 use Rattle.dm_table.specs.declared.tables.disk.Disk.{Disk as TableDisk}
 use Rattle.lvm_volume.specs.declared.owned_metadata.OwnedFault.{OwnedFault}
 use Rattle.lvm_volume.specs.declared.owned_metadata.OwnedFault.TheVariants.{Disk, Load}
@@ -7,6 +7,7 @@ use Rattle.lvm_volume.specs.group.Group.{group_of}
 use Rattle.lvm_volume.specs.group.Owners.{Owners, ids_of, owned_group, physicals_of, untaken}
 use Rattle.lvm_volume.specs.Metadata.{SaysTree, bad_byte_line, metadata_checks}
 use Rattle.lvm_volume.specs.tables.Tables.{tables_of, text_fault}
+use Rattle.std.specs.Prelude.{◌≡◌, ◌≢◌}
 
 -- devices and disks
 abbrev pub Tables : Type 0

@@ -2,7 +2,7 @@
 pub use Rattle.dm_table.specs.Prelude.{Answers}
 pub use Rattle.dm_table.specs.Std.{IfErr, IfNone, IfOk, IfSome, IsTrue, MatchOption, MatchResult, OnOk, result_err}
 pub use Rattle.lvm_text.specs.Prelude.{content_view, item_view, node_view, scalar_view}
-pub use Rattle.lvm_volume.specs.Base.{AllByRecursion, Bool, Err, IsMemoryFault, IsUtf8, List, Memory, None, NotText, Some, Source, Tree, Unknown, [], bytes_eq, codes, decimal, false, fault_at, first_fault, first_or, flat_map, get_by, if◌then◌else◌, is_disk_name, length, list_all, list_any, map, nat_cmp, nat_lt, node_of, not, option_map, range_with_len, scalar_views, sections_of, slice_cmp, slice_index_or, string_bytes, true, unless, unwrap_or, zip, ℕ, ◌%◌, ◌*◌, ◌+◌, ◌++◌, ◌/◌, ◌<◌, ◌==◌, ◌^◌, ◌||◌, ◌∷◌, ◌≡◌, ◌≢◌}
+pub use Rattle.lvm_volume.specs.Base.{AllByRecursion, Bool, Err, IsMemoryFault, IsUtf8, List, Memory, None, NotText, Some, Source, Tree, Unknown, [], bytes_eq, codes, decimal, false, fault_at, first_fault, first_or, flat_map, get_by, is_disk_name, length, list_all, list_any, map, nat_cmp, nat_lt, node_of, not, option_map, range_with_len, scalar_views, sections_of, slice_cmp, slice_index_or, string_bytes, true, unless, unwrap_or, zip, ℕ}
 pub use Rattle.lvm_volume.specs.Cuts.{after_hyphen, first_slice, later_slices, slice_length, slices_of, with_layer}
 pub use Rattle.lvm_volume.specs.Metadata.{DescribesGroup, IsRefusedText, NotUtf8, OfGroup, OfText, SaysOneThing, SaysTree, bad_byte_line, metadata_checks}
 pub use Rattle.lvm_volume.specs.NameMessage.{name_message, name_refusal}

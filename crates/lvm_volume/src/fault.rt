@@ -2,7 +2,8 @@
 //! A part is checked for `Empty`, `Letter` and `HyphenFirst`, in this order, and the whole for `Long` after that.
 //! A new reason is a variant here, an arm of `part_fault` in `specs/Names` and a word of `specs/NameMessage`.
 
-ghost use Rattle.lvm_volume.specs.Prelude.{◌≡◌, name_message};
+ghost use Rattle.lvm_volume.specs.Prelude.{name_message};
+ghost use Rattle.std.specs.Prelude.{◌≡◌};
 
 use dm_table::memory_message;
 use thiserror::Error;

@@ -3,7 +3,8 @@
 //! This joins the steps in the order of their refusals: bytes that are no UTF-8, the language of the text,
 //! the group, the names of its volumes. None has a rule of its own here.
 
-ghost use Rattle.lvm_volume.specs.Prelude.{◌≡◌, ◌≢◌, IfErr, IfOk, IsUtf8, Memory, NotText, Source, Answers, IsMemoryFault, fault_at, first_fault, unless, group_of, DescribesGroup, IsRefusedText, SaysOneThing, bad_byte_line, metadata_checks, tables_of};
+ghost use Rattle.lvm_volume.specs.Prelude.{IfErr, IfOk, IsUtf8, Memory, NotText, Source, Answers, IsMemoryFault, fault_at, first_fault, unless, group_of, DescribesGroup, IsRefusedText, SaysOneThing, bad_byte_line, metadata_checks, tables_of};
+ghost use Rattle.std.specs.Prelude.{◌≡◌, ◌≢◌};
 
 use crate::fields::source_line::source_fault;
 use crate::refused_text::text_fault;

@@ -2,7 +2,8 @@
 //! hyphens. That tells the hyphen that ends a part from those inside it, so a name splits in one way: a
 //! clause of `split_name` says so. To change what a part may be, change `specs/Names` first.
 
-ghost use Rattle.lvm_volume.specs.Prelude.{◌≡◌, ℕ, ◌++◌, ◌<◌, ◌^◌, List, IfOk, IfSome, IfNone, OnOk, length, option_map, IsTrue, list_all, string_bytes, NameParts, name_parts, is_letter, begins_with, part_fault, layer_fault, or_later, doubled, undoubled, fault_of, joined, built, Returns, with_hyphen, Builds, IsSplit, IsSpaced, parts_view, spaced, undoubled_parts, slice_length, first_slice, later_slices, slices_of};
+ghost use Rattle.lvm_volume.specs.Prelude.{ℕ, List, IfOk, IfSome, IfNone, OnOk, length, option_map, IsTrue, list_all, string_bytes, NameParts, name_parts, is_letter, begins_with, part_fault, layer_fault, or_later, doubled, undoubled, fault_of, joined, built, Returns, with_hyphen, Builds, IsSplit, IsSpaced, parts_view, spaced, undoubled_parts, slice_length, first_slice, later_slices, slices_of};
+ghost use Rattle.std.specs.Prelude.{◌≡◌, ◌++◌, ◌<◌, ◌^◌};
 
 use crate::fault::NameFault;
 use dm_table::{CheckFault, Name};

@@ -4,7 +4,8 @@
 //! That an image is of another group, or that its disk isn't to be taken, is asked once the text is read, before any
 //! check of its group: else a fault of the group would hide it.
 
-ghost use Rattle.lvm_volume.specs.Prelude.{◌≡◌, owners_view, Gives, GivesOneThing, OwnedAnswers, owned_tables};
+ghost use Rattle.lvm_volume.specs.Prelude.{owners_view, Gives, GivesOneThing, OwnedAnswers, owned_tables};
+ghost use Rattle.std.specs.Prelude.{◌≡◌};
 
 use crate::fields::source_line::memory_fault;
 use crate::group::owners::{DiskFault, Owners, first_untaken, ids_of, owned_group, physicals_of};

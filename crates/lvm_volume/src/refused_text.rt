@@ -1,6 +1,7 @@
 //! The faults of a metadata text, as faults of a load.
 
-ghost use Rattle.lvm_volume.specs.Prelude.{◌≡◌, text_fault};
+ghost use Rattle.lvm_volume.specs.Prelude.{text_fault};
+ghost use Rattle.std.specs.Prelude.{◌≡◌};
 
 use crate::fields::source_line::{memory_fault, source_fault};
 use dm_table::{LoadFault, LoadKind};

@@ -3,7 +3,8 @@
 //! The checks of a group have passed, so each product fits 64 bits and each position is one of its list: only
 //! a name can still be refused.
 
-ghost use Rattle.lvm_volume.specs.Prelude.{◌≡◌, None, Source, Answers, unless, first_of, tables_of, unnamed};
+ghost use Rattle.lvm_volume.specs.Prelude.{None, Source, Answers, unless, first_of, tables_of, unnamed};
+ghost use Rattle.std.specs.Prelude.{◌≡◌};
 
 pub(crate) mod device_names;
 pub(crate) mod devices;

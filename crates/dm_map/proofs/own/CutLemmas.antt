@@ -1,5 +1,5 @@
 -- What a power cut may leave: no read from a root comes to a sector without data, and chunks that are taken ahead change nothing that roots have, but to errors.
-use Rattle.dm_map.proofs.Prelude.{◌≡◌, ℕ, ◌+◌, ◌*◌, ◌/◌, ◌%◌, ◌<◌, true, false, List, Option, sym, ap, subst, ◌∙◌, arith, AllByRecursion, div-add-mod', same_from_place, true≢false, Lower, Device, ResolvedSnapshot, IsSound, IsTidy, Description, is_metadata, place, place_data, Stays, Values, played, value_read, HaveSameData, IsOfSnapshot, IsSpareSector, take_chunks, IsListSector, Due, AreOwn, Rows, node, ReadOf, IsFitting, store_sector, State, taken_at, read}
+use Rattle.dm_map.proofs.Prelude.{ℕ, true, false, List, Option, sym, ap, subst, ◌∙◌, arith, AllByRecursion, div-add-mod', same_from_place, true≢false, Lower, Device, ResolvedSnapshot, IsSound, IsTidy, Description, is_metadata, place, place_data, Stays, Values, played, value_read, HaveSameData, IsOfSnapshot, IsSpareSector, take_chunks, IsListSector, Due, AreOwn, Rows, node, ReadOf, IsFitting, store_sector, State, taken_at, read}
 use Rattle.dm_map.proofs.own.HomeLemmas.{fresh_apart}
 use Rattle.dm_map.proofs.own.Losses.{stays_on}
 use Rattle.dm_map.proofs.own.TakenInARow.{grown_same, ran, run_stays, value_kept}
@@ -7,6 +7,7 @@ use Rattle.dm_map.proofs.own.UniqueSteps.{IsRoot, top_root}
 use Rattle.dm_map.proofs.own.WayLemmas.{read_touches}
 use Rattle.dm_map.proofs.state.ResolvedLines.{snapshot_sound}
 use Rattle.dm_map.proofs.state.TableLemmas.{number_within}
+use Rattle.std.specs.Prelude.{◌≡◌, ◌+◌, ◌*◌, ◌/◌, ◌%◌, ◌<◌}
 
 -- Sectors without data
 

@@ -1,8 +1,9 @@
 -- Chunks that are due for a write: it leaves the state that they leave, and each is one of a snapshot of the stack.
-use Rattle.dm_map.proofs.Prelude.{◌≡◌, ℕ, zero, suc, ◌-◌, ◌*◌, ◌/◌, ◌<◌, Bool, true, false, cond, List, [], ◌∷◌, ◌++◌, Option, Some, None, refl, sym, ap, ◌∙◌, arith, AllByRecursion, div-mul-le_self, Lower, Device, Disk, ResolvedLine, ResolvedOver, ResolvedTarget, Below, Lies, below_plain, found_at, Description, device_len, is_ro_at, lower_len, IsSound, Due, due_at_line, due_at_target, due_in, due_over, State, taken_at, snapshot_at, write_line, write_step, write_target, by_below, IsOver, serve, is_refused, take_chunk, unit_in_store, Step, keep, and_then, Drops, Fails, all_append}
+use Rattle.dm_map.proofs.Prelude.{ℕ, zero, suc, Bool, true, false, cond, List, [], Option, Some, None, refl, sym, ap, ◌∙◌, arith, AllByRecursion, div-mul-le_self, Lower, Device, Disk, ResolvedLine, ResolvedOver, ResolvedTarget, Below, Lies, below_plain, found_at, Description, device_len, is_ro_at, lower_len, IsSound, Due, due_at_line, due_at_target, due_in, due_over, State, taken_at, snapshot_at, write_line, write_step, write_target, by_below, IsOver, serve, is_refused, take_chunk, unit_in_store, Step, keep, and_then, Drops, Fails, all_append}
 use Rattle.dm_stack.specs.declared.lines.resolved_line.ResolvedTarget.TheVariants as founds
 use Rattle.dm_map.proofs.state.ResolvedLines.{line_origin, line_snapshot, line_sound, origin_sound}
 use Rattle.dm_map.proofs.walk.Overs.{overs}
+use Rattle.std.specs.Prelude.{◌≡◌, ◌-◌, ◌*◌, ◌/◌, ◌<◌, ◌∷◌, ◌++◌}
 
 -- the state after one
 abbrev pub due_taken : Description → State → Due → State

@@ -1,11 +1,12 @@
 -- Where a read is an error: where its way meets an `error` line or a snapshot that is lost.
-use Rattle.dm_map.proofs.Prelude.{◌≡◌, ℕ, ◌+◌, ◌-◌, ◌/◌, ◌<◌, Bool, true, false, cond, List, [], ◌∷◌, Option, Some, None, length, refl, sym, ap, ◌∙◌, arith, slice_get, Lower, Device, Disk, ResolvedColumn, ResolvedLine, ResolvedSnapshot, ResolvedTarget, Below, Lies, IsZero, IsError, below_column, below_line, below_target, column_of, found_at, in_column, IsTargetSound, Description, device_len, lower_len, lower_depth, IsSound, device_there, sector_found, there, AtError, AtLost, EndsHere, MeetsError, IsWay, Leads, Node, node, IsFitting, number_in, read_numbered, read_over, State, taken_at, snapshot_at, by_below, read_below, read, ReadOf, Zeros, Fails}
+use Rattle.dm_map.proofs.Prelude.{ℕ, Bool, true, false, cond, List, [], Option, Some, None, length, refl, sym, ap, ◌∙◌, arith, slice_get, Lower, Device, Disk, ResolvedColumn, ResolvedLine, ResolvedSnapshot, ResolvedTarget, Below, Lies, IsZero, IsError, below_column, below_line, below_target, column_of, found_at, in_column, IsTargetSound, Description, device_len, lower_len, lower_depth, IsSound, device_there, sector_found, there, AtError, AtLost, EndsHere, MeetsError, IsWay, Leads, Node, node, IsFitting, number_in, read_numbered, read_over, State, taken_at, snapshot_at, by_below, read_below, read, ReadOf, Zeros, Fails}
 use Rattle.dm_stack.specs.declared.lines.resolved_line.ResolvedTarget.TheVariants as founds
 use Rattle.dm_map.proofs.own.UniqueSteps.{fits, goes_on_inside, read_inside, serve_inside, step_inside}
 use Rattle.dm_map.proofs.own.WayLemmas.{touch_first, touch_self}
 use Rattle.dm_map.proofs.state.ResolvedLines.{line_snapshot, snapshot_sound}
 use Rattle.dm_map.proofs.walk.OneLevel.{by_depth, next_depth, read_disk, read_down}
 use Rattle.dm_map.proofs.walk.ReadSteps.{ReadStep, ByLine, ByStore, ByRead, ByServe, read_step}
+use Rattle.std.specs.Prelude.{◌≡◌, ◌+◌, ◌-◌, ◌/◌, ◌<◌, ◌∷◌}
 
 -- A read goes on inside of what it comes to
 

@@ -1,10 +1,11 @@
 -- What a chunk that is due leaves as it is, the first sectors of a request do; so a state that fits its stack still fits after them.
-use Rattle.dm_map.proofs.Prelude.{ℕ, zero, suc, ◌+◌, Bool, true, false, List, [], ◌∷◌, nat_lt, AllByRecursion, Op, Device, Description, device_len, IsSound, state_past, Due, due, IsFitting, State, sector_step, take_chunk}
+use Rattle.dm_map.proofs.Prelude.{ℕ, zero, suc, Bool, true, false, List, [], nat_lt, AllByRecursion, Op, Device, Description, device_len, IsSound, state_past, Due, due, IsFitting, State, sector_step, take_chunk}
 use Rattle.dm_table.specs.declared.requests.request.Op.TheVariants as ops
 use Rattle.dm_stack.specs.declared.checks.graph.TheConstants.{MOST_DEPTH}
 use Rattle.dm_map.proofs.own.ChunkOutcomes.{full_outcome, full_outcome_fits}
 use Rattle.dm_map.proofs.own.DueChunks.{IsDue, all_due, all_taken, due_taken, write_leaves}
 use Rattle.dm_map.proofs.own.LostSnapshots.{due_there, past_by, state_at}
+use Rattle.std.specs.Prelude.{◌+◌, ◌∷◌}
 
 -- it stays so where a chunk that is due is taken, or can't be
 abbrev pub IsKept : Description → (State → Type 0) → Type 0

@@ -1,5 +1,5 @@
 -- Lists of stores: no unit of a request of a top device writes there.
-use Rattle.dm_map.proofs.Prelude.{◌≡◌, ℕ, zero, suc, ◌+◌, ◌/◌, ◌<◌, Bool, true, false, cond, List, [], ◌∷◌, ◌++◌, Some, take, drop, nat_lt, replicate, refl, sym, ap, ◌∙◌, AllByRecursion, take-append-drop, true≢false, Op, Own, Lower, Device, ResolvedSnapshot, IsSound, is_store_to, IsTidy, IsTop, Description, device_len, lower_len, Lies, found_at, has_state, is_metadata, all_append, all_front, IsVia, one_via, Values, answers, played, played_unit, sector_after, IsOfSnapshot, take_chunks, halted_units, IsListSector, Due, write, IsWay, Leads, Node, node, BlockUnit, WriteOf, Fails, CopyOf, FillOf, IsFitting, read_over, store_sector, State, taken_at, snapshot_at, Home, home, request_step, sector_step, read_below, copy_to, count_of, first_of, home_in_store, read, take_chunk, Step, keep, steps}
+use Rattle.dm_map.proofs.Prelude.{ℕ, zero, suc, Bool, true, false, cond, List, [], Some, take, drop, nat_lt, replicate, refl, sym, ap, ◌∙◌, AllByRecursion, take-append-drop, true≢false, Op, Own, Lower, Device, ResolvedSnapshot, IsSound, is_store_to, IsTidy, IsTop, Description, device_len, lower_len, Lies, found_at, has_state, is_metadata, all_append, all_front, IsVia, one_via, Values, answers, played, played_unit, sector_after, IsOfSnapshot, take_chunks, halted_units, IsListSector, Due, write, IsWay, Leads, Node, node, BlockUnit, WriteOf, Fails, CopyOf, FillOf, IsFitting, read_over, store_sector, State, taken_at, snapshot_at, Home, home, request_step, sector_step, read_below, copy_to, count_of, first_of, home_in_store, read, take_chunk, Step, keep, steps}
 use Rattle.dm_table.specs.declared.requests.request.Op.TheVariants as ops
 use Rattle.dm_stack.specs.declared.checks.graph.TheConstants.{MOST_DEPTH}
 use Rattle.dm_map.proofs.own.ChunkOutcomes.{FullOutcome, Done, Taking, Losing, IsRead, Sector, Nothing, Fault, full_outcome, full_outcome_fits, is_read}
@@ -17,6 +17,7 @@ use Rattle.dm_map.proofs.state.Numbers.{store_sector_inside}
 use Rattle.dm_map.proofs.state.ResolvedLines.{first_line, snapshot_sound}
 use Rattle.dm_map.proofs.walk.ReadSteps.{read_step}
 use Rattle.dm_map.proofs.walk.Stores.{below_store, store_line}
+use Rattle.std.specs.Prelude.{◌≡◌, ◌+◌, ◌/◌, ◌<◌, ◌∷◌, ◌++◌}
 
 -- A place is no part of a list
 

@@ -1,9 +1,10 @@
 -- A snapshot that is lost: what any sector has stays, or is an error.
-use Rattle.dm_map.proofs.Prelude.{◌≡◌, ◌⊎◌, inl, inr, ℕ, ◌-◌, ◌<◌, false, Option, Some, None, length, refl, sym, ap, ◌∙◌, cases_eq, ResolvedLine, ResolvedTarget, Lower, Device, Disk, Below, Lies, IsError, below_line, below_target, found_at, Description, lower_depth, IsSound, Values, Stays, content, value_read, by_below, read_below, read_over, lost, put, State, Taken, taken_at}
+use Rattle.dm_map.proofs.Prelude.{inl, inr, ℕ, false, Option, Some, None, length, refl, sym, ap, ◌∙◌, cases_eq, ResolvedLine, ResolvedTarget, Lower, Device, Disk, Below, Lies, IsError, below_line, below_target, found_at, Description, lower_depth, IsSound, Values, Stays, content, value_read, by_below, read_below, read_over, lost, put, State, Taken, taken_at}
 use Rattle.dm_stack.specs.declared.lines.resolved_line.ResolvedTarget.TheVariants as founds
 use Rattle.dm_map.proofs.walk.OneLevel.{by_depth, next_depth, read_disk}
 use Rattle.dm_map.proofs.walk.ChunkTaking.{taken_other, taken_same}
 use Rattle.dm_map.proofs.own.Takes.{content_down, next_same}
+use Rattle.std.specs.Prelude.{◌≡◌, ◌⊎◌, ◌-◌, ◌<◌}
 
 -- What stays, or is an error, twice
 

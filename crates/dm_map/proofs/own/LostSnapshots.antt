@@ -1,11 +1,12 @@
 -- When a snapshot is lost: exactly by a chunk that is due and can't be taken; and what is lost stays so.
-use Rattle.dm_map.proofs.Prelude.{◌≡◌, ◌⊎◌, inl, inr, ℕ, zero, suc, ◌+◌, ◌<◌, ◌≤◌, Bool, true, false, cond, not, List, [], ◌∷◌, None, length, nat_lt, replicate, refl, sym, ap, ◌∙◌, arith, ◌↔◌, ◌&&◌, ◌||◌, is_some, AllByRecursion, cases_Bool, cases_eq, cases_lt, le-ltb, ltb-false, not-false, or_parts, set_past, true≢false, Op, Lower, Device, Description, device_len, IsSound, state_past, AreLosing, Due, HasError, IsLosing, IsLostIn, due, write, has_place, number_in, State, Taken, lost, put, taken_at, with_chunk, request_step, sector_step, any_error, can_take, copies, count_of, first_of, is_error, is_settled, read, row, take_chunk, Step, keep, steps, BlockUnit, Fails}
+use Rattle.dm_map.proofs.Prelude.{inl, inr, ℕ, zero, suc, Bool, true, false, cond, not, List, [], None, length, nat_lt, replicate, refl, sym, ap, ◌∙◌, arith, is_some, AllByRecursion, cases_Bool, cases_eq, cases_lt, le-ltb, ltb-false, not-false, or_parts, set_past, true≢false, Op, Lower, Device, Description, device_len, IsSound, state_past, AreLosing, Due, HasError, IsLosing, IsLostIn, due, write, has_place, number_in, State, Taken, lost, put, taken_at, with_chunk, request_step, sector_step, any_error, can_take, copies, count_of, first_of, is_error, is_settled, read, row, take_chunk, Step, keep, steps, BlockUnit, Fails}
 use Rattle.dm_table.specs.declared.requests.request.Op.TheVariants as ops
 use Rattle.dm_stack.specs.declared.checks.graph.TheConstants.{MOST_DEPTH}
 use Rattle.dm_map.proofs.own.DueChunks.{IsDue, all_due, all_taken, due_taken, write_leaves}
 use Rattle.dm_map.proofs.state.ResolvedLines.{snapshot_sound}
 use Rattle.dm_map.proofs.walk.ChunkTaking.{Settled, Took, Lost, ChunkOutcome, chunk_outcome, none_of, not_settled, taken_other, taken_same}
 use Rattle.dm_map.proofs.walk.Settled.{take_chunk_keeps}
+use Rattle.std.specs.Prelude.{◌≡◌, ◌⊎◌, ◌+◌, ◌<◌, ◌≤◌, ◌∷◌, ◌↔◌, ◌&&◌, ◌||◌}
 
 -- A sector of a row that is an error
 

@@ -1,5 +1,5 @@
 -- Where no line is an `error` line and each store has room for all chunks of its snapshot, no snapshot is lost and no read is an error.
-use Rattle.dm_map.proofs.Prelude.{◌≡◌, inl, inr, ℕ, ◌+◌, ◌-◌, ◌*◌, ◌/◌, ◌<◌, ◌≤◌, Bool, true, false, List, [], ◌∷◌, ◌++◌, Option, Some, None, length, nat_eq, refl, sym, ap, subst, ◌∙◌, arith, ◌||◌, AllByRecursion, IsDistinct, list_any, le-div_iff_mul-le, cases_eq, eqb-true, le-leb, true_from_ne_false, length-append, length-le_from_distinct_below, true≢false, none-some, Op, Line, Target, Lower, Device, ResolvedLine, ResolvedSnapshot, ResolvedTarget, all_append, IsSnapshotSound, found_at, resolved_target, holds, line_of, place_count, IsTidy, IsTop, Description, device_len, lines_at, lower_len, HasGoodChunk, IsSound, device_sound, found, lines_there, of_device, there, AreOwnChunks, AreExact, IsAmple, IsAmpleTarget, IsIntact, TookOwn, chunk_count, Stays, Values, content, played, sector_past, value_read, AtError, AtLost, EndsHere, halted_state, halted_units, state_past, Due, HasError, IsLosing, AreOwn, Rows, first_rows, rows_played, IsFitting, number_in, State, Taken, lost, put, start_state, taken_at, with_chunk, snapshot_at, request_step, read, take_chunk, Step, BlockUnit, Fails}
+use Rattle.dm_map.proofs.Prelude.{inl, inr, ℕ, Bool, true, false, List, [], Option, Some, None, length, nat_eq, refl, sym, ap, subst, ◌∙◌, arith, AllByRecursion, IsDistinct, list_any, le-div_iff_mul-le, cases_eq, eqb-true, le-leb, true_from_ne_false, length-append, length-le_from_distinct_below, true≢false, none-some, Op, Line, Target, Lower, Device, ResolvedLine, ResolvedSnapshot, ResolvedTarget, all_append, IsSnapshotSound, found_at, resolved_target, holds, line_of, place_count, IsTidy, IsTop, Description, device_len, lines_at, lower_len, HasGoodChunk, IsSound, device_sound, found, lines_there, of_device, there, AreOwnChunks, AreExact, IsAmple, IsAmpleTarget, IsIntact, TookOwn, chunk_count, Stays, Values, content, played, sector_past, value_read, AtError, AtLost, EndsHere, halted_state, halted_units, state_past, Due, HasError, IsLosing, AreOwn, Rows, first_rows, rows_played, IsFitting, number_in, State, Taken, lost, put, start_state, taken_at, with_chunk, snapshot_at, request_step, read, take_chunk, Step, BlockUnit, Fails}
 use Rattle.dm_table.specs.declared.tables.table.Target.TheVariants as targets
 use Rattle.dm_stack.specs.declared.checks.graph.TheConstants.{MOST_DEPTH}
 use Rattle.dm_stack.specs.declared.lines.resolved_line.ResolvedTarget.TheVariants as founds
@@ -17,6 +17,7 @@ use Rattle.dm_map.proofs.own.OwnWrites.{start_fits}
 use Rattle.dm_map.proofs.state.ResolvedLines.{first_line, line_sound, snapshot_sound, some_line}
 use Rattle.dm_map.proofs.state.Numbers.{distinct_more}
 use Rattle.dm_map.proofs.walk.ChunkTaking.{Settled, Took, Lost, ChunkOutcome, chunk_outcome, taken_other, taken_same, none_at}
+use Rattle.std.specs.Prelude.{◌≡◌, ◌+◌, ◌-◌, ◌*◌, ◌/◌, ◌<◌, ◌≤◌, ◌∷◌, ◌++◌, ◌||◌}
 
 -- What the premise says of the line of a sector
 

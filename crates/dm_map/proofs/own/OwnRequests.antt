@@ -1,11 +1,12 @@
 -- Where no claims meet, each top device has what it would have alone, or errors, after any request of a top device.
-use Rattle.dm_map.proofs.Prelude.{◌≡◌, ◌⊎◌, inl, inr, ℕ, zero, suc, ◌+◌, ◌<◌, Bool, true, false, cond, List, [], ◌∷◌, ◌++◌, append_assoc, length, take, drop, Some, nat_lt, replicate, refl, sym, ap, ◌∙◌, arith, AllByRecursion, cases_eq, append-nil, length-append, take-append-drop, take-append-le, Op, Device, IsTidy, IsTop, Description, device_len, IsSound, Values, answers, played, played_unit, sector_after, sector_past, stored, value_read, Home, request_step, sector_step, IsOwnWrite, write, AreOwn, Rows, first_rows, row_unit, rows_played, read, State, start_state, Step, keep, steps, BlockUnit, ReadOf, WriteOf, Fails, CopyOf, FillOf, past-append, all_front}
+use Rattle.dm_map.proofs.Prelude.{inl, inr, ℕ, zero, suc, Bool, true, false, cond, List, [], append_assoc, length, take, drop, Some, nat_lt, replicate, refl, sym, ap, ◌∙◌, arith, AllByRecursion, cases_eq, append-nil, length-append, take-append-drop, take-append-le, Op, Device, IsTidy, IsTop, Description, device_len, IsSound, Values, answers, played, played_unit, sector_after, sector_past, stored, value_read, Home, request_step, sector_step, IsOwnWrite, write, AreOwn, Rows, first_rows, row_unit, rows_played, read, State, start_state, Step, keep, steps, BlockUnit, ReadOf, WriteOf, Fails, CopyOf, FillOf, past-append, all_front}
 use Rattle.dm_table.specs.declared.requests.request.Op.TheVariants as ops
 use Rattle.dm_stack.specs.declared.checks.graph.TheConstants.{MOST_DEPTH}
 use Rattle.dm_map.proofs.own.Losses.{stays_as, stays_on}
 use Rattle.dm_map.proofs.own.ChunkOutcomes.{IsRead, Sector, Nothing, Fault, is_read}
 use Rattle.dm_map.proofs.own.OwnWrites.{own_write, start_fits}
 use Rattle.dm_map.proofs.own.Plays.{after_false, played_on, stored_other, stored_same}
+use Rattle.std.specs.Prelude.{◌≡◌, ◌⊎◌, ◌+◌, ◌<◌, ◌∷◌, ◌++◌}
 
 -- Units before the one that answers
 

@@ -1,5 +1,5 @@
 -- Where no claims meet, no top device sees another's writes.
-use Rattle.dm_map.proofs.Prelude.{◌≡◌, ℕ, ◌<◌, length, refl, ap, arith, length-replicate, Device, IsTidy, IsTop, Description, IsSound, IsFitting, IsOwnWrite, write, State, none_taken, start_state, Node, node, Touches, take_chunks, all_front}
+use Rattle.dm_map.proofs.Prelude.{ℕ, length, refl, ap, arith, length-replicate, Device, IsTidy, IsTop, Description, IsSound, IsFitting, IsOwnWrite, write, State, none_taken, start_state, Node, node, Touches, take_chunks, all_front}
 use Rattle.dm_map.proofs.own.UniqueSteps.{no_step_to_top, top_root, top_unserved}
 use Rattle.dm_map.proofs.walk.ReadSteps.{read_step}
 use Rattle.dm_map.proofs.own.Losses.{stays_as}
@@ -7,6 +7,7 @@ use Rattle.dm_map.proofs.own.TakenInARow.{IsFresh, all_moves, fresh_stays, grown
 use Rattle.dm_map.proofs.own.WayLemmas.{Here, Before, back, read_touches}
 use Rattle.dm_map.proofs.own.Written.{written}
 use Rattle.dm_map.proofs.walk.ChunkTaking.{none_at}
+use Rattle.std.specs.Prelude.{◌≡◌, ◌<◌}
 
 -- nothing but itself leads to a sector of a top device
 top_touched : (stack : Description) (state : State) (a : Node) (top sector : ℕ) → IsSound stack → IsTop stack top → Touches stack state a (node (Device top) sector) → a ≡ node (Device top) sector

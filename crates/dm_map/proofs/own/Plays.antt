@@ -1,5 +1,6 @@
 -- The play of units: of copies in a row, and of units after others.
-use Rattle.dm_map.proofs.Prelude.{◌≡◌, inl, inr, ℕ, zero, suc, ◌+◌, ◌<◌, ◌≤◌, Bool, true, false, cond, ◌&&◌, List, [], ◌∷◌, ◌++◌, Some, refl, arith, ◌==◌, AllByRecursion, and_parts, eqb-true, eq-eqb, cases_lt, Values, answers, played, played_unit, sector_after, stored, value_read, Home, copy_to, row, BlockUnit, ReadOf, Zeros}
+use Rattle.dm_map.proofs.Prelude.{inl, inr, ℕ, zero, suc, Bool, true, false, cond, List, [], Some, refl, arith, AllByRecursion, and_parts, eqb-true, eq-eqb, cases_lt, Values, answers, played, played_unit, sector_after, stored, value_read, Home, copy_to, row, BlockUnit, ReadOf, Zeros}
+use Rattle.std.specs.Prelude.{◌≡◌, ◌+◌, ◌<◌, ◌≤◌, ◌&&◌, ◌∷◌, ◌++◌, ◌==◌}
 
 abbrev pub home_at : (disk sector : ℕ) → Home
 home_at disk sector = record { disk = disk; sector = sector }

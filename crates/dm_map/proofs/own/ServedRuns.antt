@@ -1,6 +1,7 @@
 -- Snapshots that are served, as chunks taken one after the other.
-use Rattle.dm_map.proofs.Prelude.{◌≡◌, ℕ, ◌/◌, List, [], ◌∷◌, ◌++◌, refl, sym, ◌∙◌, AllByRecursion, ResolvedOver, Description, IsOfSnapshot, take_chunks, Due, due_over, IsOver, serve, take_chunk, State, and_then}
+use Rattle.dm_map.proofs.Prelude.{ℕ, List, [], refl, sym, ◌∙◌, AllByRecursion, ResolvedOver, Description, IsOfSnapshot, take_chunks, Due, due_over, IsOver, serve, take_chunk, State, and_then}
 use Rattle.dm_map.proofs.walk.Rows.{and_then_at, step_assoc}
+use Rattle.std.specs.Prelude.{◌≡◌, ◌/◌, ◌∷◌, ◌++◌}
 
 pub serve_takes : (stack : Description) (over : List ResolvedOver) (sector : ℕ) (state : State) → serve stack over sector state ≡ take_chunks stack (due_over over sector) state
 unfolding serve take_chunks

@@ -1,10 +1,11 @@
 -- Each step of a read goes by a claim: through a span of a line whose target has no state, through the store or the origin of a snapshot, or through the line of an origin.
-use Rattle.dm_map.proofs.Prelude.{◌≡◌, ℕ, ◌+◌, ◌-◌, ◌<◌, [], ◌∷◌, Some, length, refl, sym, ap, ◌∙◌, arith, slice_get, DevRef, Line, Target, Use, Own, Reading, Serving, ResolvedLine, ResolvedOrigin, ResolvedSnapshot, Lower, target_spans, whole_span, IsTargetSound, Lies, below_plain, found_at, resolved_line, resolved_target, holds, line_of, Description, lines_at, lower_len, lower_of, origin_over, resolved_snapshot, IsSound, IsNamed, IsVia, origin_at, snapshot_at}
+use Rattle.dm_map.proofs.Prelude.{ℕ, [], Some, length, refl, sym, ap, ◌∙◌, arith, slice_get, DevRef, Line, Target, Use, Own, Reading, Serving, ResolvedLine, ResolvedOrigin, ResolvedSnapshot, Lower, target_spans, whole_span, IsTargetSound, Lies, below_plain, found_at, resolved_line, resolved_target, holds, line_of, Description, lines_at, lower_len, lower_of, origin_over, resolved_snapshot, IsSound, IsNamed, IsVia, origin_at, snapshot_at}
 use Rattle.dm_table.specs.declared.tables.table.Target.TheVariants as targets
 use Rattle.dm_stack.specs.declared.lines.resolved_line.ResolvedTarget.TheVariants as founds
 use Rattle.dm_stack.proofs.Parts.{found_place}
 use Rattle.dm_map.proofs.state.ResolvedLines.{first_line, first_origin, line_sound, origin_sound, snapshot_sound, some_line}
 use Rattle.dm_map.proofs.walk.Spans.{IsPlainStep, plain_before, plain_span, span_distance, span_index}
+use Rattle.std.specs.Prelude.{◌≡◌, ◌+◌, ◌-◌, ◌<◌, ◌∷◌}
 
 -- Through a line whose target has no state
 

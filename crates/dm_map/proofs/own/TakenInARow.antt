@@ -1,5 +1,5 @@
 -- Chunks taken one after the other: what roots have stays, or is an error, and what is played on the way is touched by no root in the state before.
-use Rattle.dm_map.proofs.Prelude.{◌≡◌, inl, inr, ℕ, zero, suc, ◌+◌, ◌/◌, ◌<◌, ◌≤◌, false, List, [], ◌∷◌, ◌++◌, length-append, Some, length, refl, ap, ◌∙◌, arith, AllByRecursion, cases_eq, ResolvedSnapshot, Lower, Disk, IsTidy, Description, lower_len, IsSound, IsOfSnapshot, take_chunks, Due, Values, Stays, answers, content, played, played_unit, sector_after, value_read, IsFitting, Home, store_sector, copy_to, count_of, first_of, home_in_store, read, take_chunk, row, lost, put, with_chunk, State, Taken, taken_at, Step, BlockUnit, ReadOf, Node, node, Touches, all_append}
+use Rattle.dm_map.proofs.Prelude.{inl, inr, ℕ, zero, suc, false, List, [], length-append, Some, length, refl, ap, ◌∙◌, arith, AllByRecursion, cases_eq, ResolvedSnapshot, Lower, Disk, IsTidy, Description, lower_len, IsSound, IsOfSnapshot, take_chunks, Due, Values, Stays, answers, content, played, played_unit, sector_after, value_read, IsFitting, Home, store_sector, copy_to, count_of, first_of, home_in_store, read, take_chunk, row, lost, put, with_chunk, State, Taken, taken_at, Step, BlockUnit, ReadOf, Node, node, Touches, all_append}
 use Rattle.dm_map.proofs.own.UniqueSteps.{IsRoot}
 use Rattle.dm_map.proofs.state.ResolvedLines.{snapshot_sound}
 use Rattle.dm_map.proofs.own.HomeLemmas.{fresh_apart, home_node}
@@ -11,6 +11,7 @@ use Rattle.dm_map.proofs.walk.ChunkTaking.{taken_other, taken_same}
 use Rattle.dm_map.proofs.state.TableLemmas.{number_within}
 use Rattle.dm_map.proofs.own.Takes.{IsTake, chunk_copies, new_number, take_keeps}
 use Rattle.dm_map.proofs.own.WayLemmas.{read_touches}
+use Rattle.std.specs.Prelude.{◌≡◌, ◌+◌, ◌/◌, ◌<◌, ◌≤◌, ◌∷◌, ◌++◌}
 
 -- A unit that copies or fills
 

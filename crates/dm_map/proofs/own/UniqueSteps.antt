@@ -1,5 +1,5 @@
 -- Where no claims meet, at most one step of a read leads to a sector of a column, a store or an origin, and none to a top device.
-use Rattle.dm_map.proofs.Prelude.{◌≡◌, ℕ, ◌-◌, ◌/◌, ◌<◌, true, false, Option, Some, None, refl, sym, ap, ◌∙◌, arith, leb-true, true≢false, Line, Use, Own, Reading, Serving, ResolvedLine, ResolvedOrigin, ResolvedSnapshot, ResolvedTarget, Lower, Device, Lies, below_line, found_at, resolved_line, resolved_target, has_state, IsTidy, IsTop, Description, device_len, lower_len, snapshots_over, IsSound, IsVia, IsNamed, one_via, top_named, plain_inside, IsFitting, read_below, AreSettled, is_settled, store_sector, number_in, read_over, State, Taken, taken_at, origin_at, snapshot_at}
+use Rattle.dm_map.proofs.Prelude.{ℕ, true, false, Option, Some, None, refl, sym, ap, ◌∙◌, arith, leb-true, true≢false, Line, Use, Own, Reading, Serving, ResolvedLine, ResolvedOrigin, ResolvedSnapshot, ResolvedTarget, Lower, Device, Lies, below_line, found_at, resolved_line, resolved_target, has_state, IsTidy, IsTop, Description, device_len, lower_len, snapshots_over, IsSound, IsVia, IsNamed, one_via, top_named, plain_inside, IsFitting, read_below, AreSettled, is_settled, store_sector, number_in, read_over, State, Taken, taken_at, origin_at, snapshot_at}
 use Rattle.dm_stack.specs.declared.lines.resolved_line.ResolvedTarget.TheVariants as founds
 use Rattle.dm_map.proofs.state.ResolvedLines.{line_sound, origin_sound, snapshot_sound}
 use Rattle.dm_map.proofs.walk.ReadSteps.{ReadStep, ByLine, ByStore, ByRead, ByServe}
@@ -8,6 +8,7 @@ use Rattle.dm_map.proofs.state.Numbers.{store_sector_inside}
 use Rattle.dm_map.proofs.walk.Overs.{settled_over}
 use Rattle.dm_map.proofs.state.TableLemmas.{number_within}
 use Rattle.dm_map.proofs.own.StepClaims.{IsLineVia, IsSnapshotVia, via_line, via_origin, via_snapshot}
+use Rattle.std.specs.Prelude.{◌≡◌, ◌-◌, ◌/◌, ◌<◌}
 
 -- A line has one target
 

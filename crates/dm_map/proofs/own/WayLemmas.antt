@@ -1,6 +1,7 @@
 -- Ways of reads: they go on, come from somewhere, go to what is less deep, and end where the read does.
-use Rattle.dm_map.proofs.Prelude.{◌≡◌, ℕ, ◌<◌, ◌≤◌, List, [], ◌∷◌, ◌++◌, refl, sym, ap, ◌∙◌, arith, Lower, Device, Disk, Below, Lies, Description, lower_depth, IsSound, by_below, read_below, read, State, ReadOf, Zeros, Fails, Node, node, Leads, IsWay, Touches}
+use Rattle.dm_map.proofs.Prelude.{ℕ, List, [], refl, sym, ap, ◌∙◌, arith, Lower, Device, Disk, Below, Lies, Description, lower_depth, IsSound, by_below, read_below, read, State, ReadOf, Zeros, Fails, Node, node, Leads, IsWay, Touches}
 use Rattle.dm_map.proofs.walk.OneLevel.{by_depth, next_depth, read_disk, read_down}
+use Rattle.std.specs.Prelude.{◌≡◌, ◌<◌, ◌≤◌, ◌∷◌, ◌++◌}
 
 pub touch_self : (stack : Description) (state : State) (a : Node) → Touches stack state a a
 touch_self stack state a = record { between = []; way = refl }

@@ -1,5 +1,5 @@
 -- Chunks that are due, and stacks that can lose nothing, worked by hand: the definitions are checked against them.
-use Rattle.dm_map.proofs.Prelude.{◌≡◌, ℕ, inl, Bool, true, false, List, [], ◌∷◌, refl, arith, Target, Device, Disk, ResolvedSnapshot, DeviceSpec, Line, Description, all_over, copied, origin_over, IsAmple, chunk_count, Due, IsLosing, due, due_in, State, none_taken, serve}
+use Rattle.dm_map.proofs.Prelude.{ℕ, inl, Bool, true, false, List, [], refl, arith, Target, Device, Disk, ResolvedSnapshot, DeviceSpec, Line, Description, all_over, copied, origin_over, IsAmple, chunk_count, Due, IsLosing, due, due_in, State, none_taken, serve}
 use Rattle.dm_table.specs.declared.tables.table.DevRef.TheVariants as refs
 use Rattle.dm_table.specs.declared.load.place.Place.{Place}
 use Rattle.dm_table.specs.declared.tables.table.StoreKind.{StoreKind}
@@ -7,6 +7,7 @@ use Rattle.dm_table.specs.declared.tables.table.StoreKind.TheVariants.{Keeping, 
 use Rattle.dm_table.specs.declared.tables.table.Target.TheVariants as targets
 use Rattle.dm_table.specs.declared.tables.disk.Disk as disks
 use Rattle.dm_table.specs.declared.load.place.Part.TheVariants as parts
+use Rattle.std.specs.Prelude.{◌≡◌, ◌∷◌}
 
 abbrev pub at : Place
 at = record { part = parts.Source; number = 1 }

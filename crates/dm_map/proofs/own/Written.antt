@@ -1,5 +1,5 @@
 -- The write of a sector: chunks are taken, then one unit follows; what is read then, and by whom.
-use Rattle.dm_map.proofs.Prelude.{◌≡◌, ◌⊎◌, inl, inr, ℕ, ◌-◌, ◌/◌, ◌<◌, Bool, true, false, cond, List, [], ◌∷◌, ◌++◌, Option, Some, None, length, refl, sym, ap, ◌∙◌, arith, AllByRecursion, append-nil, same_Some, ResolvedLine, ResolvedOrigin, ResolvedSnapshot, ResolvedTarget, Lower, Device, Disk, Below, Lies, IsZero, IsError, below, below_plain, found_at, has_state, IsTidy, Description, is_ro_at, lower_len, lower_depth, IsSound, answers, IsOfSnapshot, take_chunks, Due, due_over, IsFitting, write_line, write_step, write_target, by_below, read_below, IsOver, serve, served_step, store_sector, number_in, read_over, home_in_store, is_refused, read, take_chunk, unit_in_store, write_numbered, State, Taken, taken_at, Step, keep, and_then, origin_at, snapshot_at, BlockUnit, ReadOf, WriteOf, Drops, Fails, Node, node, Touches, all_append}
+use Rattle.dm_map.proofs.Prelude.{inl, inr, ℕ, Bool, true, false, cond, List, [], Option, Some, None, length, refl, sym, ap, ◌∙◌, arith, AllByRecursion, append-nil, same_Some, ResolvedLine, ResolvedOrigin, ResolvedSnapshot, ResolvedTarget, Lower, Device, Disk, Below, Lies, IsZero, IsError, below, below_plain, found_at, has_state, IsTidy, Description, is_ro_at, lower_len, lower_depth, IsSound, answers, IsOfSnapshot, take_chunks, Due, due_over, IsFitting, write_line, write_step, write_target, by_below, read_below, IsOver, serve, served_step, store_sector, number_in, read_over, home_in_store, is_refused, read, take_chunk, unit_in_store, write_numbered, State, Taken, taken_at, Step, keep, and_then, origin_at, snapshot_at, BlockUnit, ReadOf, WriteOf, Drops, Fails, Node, node, Touches, all_append}
 use Rattle.dm_stack.specs.declared.lines.resolved_line.ResolvedTarget.TheVariants as founds
 use Rattle.dm_stack.specs.declared.checks.graph.TheConstants.{MOST_DEPTH}
 use Rattle.dm_map.proofs.own.UniqueSteps.{IsRoot, IsUnserved, only_by_origin, only_by_store, fits, goes_on_inside}
@@ -19,6 +19,7 @@ use Rattle.dm_map.proofs.walk.Settled.{write_keeps_settled}
 use Rattle.dm_map.proofs.walk.Stores.{store_read}
 use Rattle.dm_map.proofs.own.Takes.{snapshot_next}
 use Rattle.dm_map.proofs.own.WayLemmas.{Here, Before, back}
+use Rattle.std.specs.Prelude.{◌≡◌, ◌⊎◌, ◌-◌, ◌/◌, ◌<◌, ◌∷◌, ◌++◌}
 
 pub record Written (stack : Description) (state : State) (lower : Lower) (sector : ℕ) (step : Step) : Type 0 where
   pub dues : List Due

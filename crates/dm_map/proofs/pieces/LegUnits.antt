@@ -1,6 +1,7 @@
 -- Rows of legs on disks: their units leg by leg, and a sink that takes them.
-use Rattle.dm_map.proofs.Prelude.{◌≡◌, ℕ, zero, suc, ◌+◌, ◌-◌, ◌<◌, ◌≤◌, List, [], ◌∷◌, ◌++◌, append_assoc, refl, sym, ap, ◌∙◌, arith, Result, Ok, Err, IsErr, Op, Disk, ResolvedTarget, Leg, Description, Lies, below_plain, after_leg, AreOnDisks, LegsView, legs_after, IsDiskLeg, AreHanded, IsHanded, IsLawful, SinkPast, BlockUnit, below_unit, disk_unit, legs_units, line_units, next_unit, units_in}
+use Rattle.dm_map.proofs.Prelude.{ℕ, zero, suc, List, [], append_assoc, refl, sym, ap, ◌∙◌, arith, Result, Ok, Err, IsErr, Op, Disk, ResolvedTarget, Leg, Description, Lies, below_plain, after_leg, AreOnDisks, LegsView, legs_after, IsDiskLeg, AreHanded, IsHanded, IsLawful, SinkPast, BlockUnit, below_unit, disk_unit, legs_units, line_units, next_unit, units_in}
 use Rattle.dm_table.specs.declared.requests.request.Op.TheVariants as ops
+use Rattle.std.specs.Prelude.{◌≡◌, ◌+◌, ◌-◌, ◌<◌, ◌≤◌, ◌∷◌, ◌++◌}
 
 -- Units
 

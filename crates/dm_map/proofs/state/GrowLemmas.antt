@@ -1,8 +1,9 @@
 -- What runs become when one more chunk is taken: one is longer, or there is a new one.
-use Rattle.dm_map.proofs.Prelude.{◌≡◌, ℕ, suc, ◌+◌, ◌-◌, ◌<◌, ◌≤◌, Bool, true, false, List, [], ◌∷◌, ◌++◌, Option, Some, None, length, get_or, set, nat_eq, refl, ◌∙◌, inl, inr, arith, get_or-set_same, get_or-set_other, if◌then◌else◌, IsDistinct, insert, cases_eq, cases_lt, cases_order, eq-eqb, ne_eqb, get_or_append_left, get_or_push, length-set, length_push, get_or-insert_above, get_or-insert_at, get_or-insert_below, length-insert, Run, AreBegunBy, AreRuns, GoesOn, IsRun, begins, no_run, run_at, run_count, runs_after, number_in}
+use Rattle.dm_map.proofs.Prelude.{ℕ, suc, Bool, true, false, List, [], Option, Some, None, length, get_or, set, nat_eq, refl, ◌∙◌, inl, inr, arith, get_or-set_same, get_or-set_other, IsDistinct, insert, cases_eq, cases_lt, cases_order, eq-eqb, ne_eqb, get_or_append_left, get_or_push, length-set, length_push, get_or-insert_above, get_or-insert_at, get_or-insert_below, length-insert, Run, AreBegunBy, AreRuns, GoesOn, IsRun, begins, no_run, run_at, run_count, runs_after, number_in}
 use Rattle.dm_map.specs.state.Runs.{end_of}
 use Rattle.dm_map.proofs.state.Numbers.{number_distinct, number_other}
 use Rattle.dm_map.proofs.state.RunLemmas.{begins_after, ended_before, ends_before, number_in_run}
+use Rattle.std.specs.Prelude.{◌≡◌, ◌+◌, ◌-◌, ◌<◌, ◌≤◌, ◌∷◌, ◌++◌, if◌then◌else◌}
 
 -- Whether a chunk begins a run
 

@@ -1,5 +1,6 @@
 -- The numbers of chunks in a list, and their places in a store.
-use Rattle.dm_map.proofs.Prelude.{◌≡◌, ℕ, zero, suc, ◌+◌, ◌-◌, ◌*◌, ◌/◌, ◌%◌, ◌<◌, ◌≤◌, Bool, true, false, cond, List, [], ◌∷◌, ◌++◌, Option, Some, None, length, get_or, take, nat_eq, refl, sym, ap, ◌∙◌, arith, IsDistinct, ◌==◌, option_map, eq-eqb, eqb-true, ne_eqb, take_more, apart_from_distinct, div-add-mod', same_from_place, ResolvedSnapshot, place, place_one, store_sector, number_in, all_append}
+use Rattle.dm_map.proofs.Prelude.{ℕ, zero, suc, Bool, true, false, cond, List, [], Option, Some, None, length, get_or, take, nat_eq, refl, sym, ap, ◌∙◌, arith, IsDistinct, option_map, eq-eqb, eqb-true, ne_eqb, take_more, apart_from_distinct, div-add-mod', same_from_place, ResolvedSnapshot, place, place_one, store_sector, number_in, all_append}
+use Rattle.std.specs.Prelude.{◌≡◌, ◌+◌, ◌-◌, ◌*◌, ◌/◌, ◌%◌, ◌<◌, ◌≤◌, ◌∷◌, ◌++◌, ◌==◌}
 
 none_parts : (b : Bool) (o : Option ℕ) → cond b (Some 0) (option_map suc o) ≡ None → (b ≡ false) × (o ≡ None)
 none_parts false None e = (refl, refl)

@@ -1,8 +1,9 @@
 -- What a sound stack says of the line that was found for a sector.
-use Rattle.dm_map.proofs.Prelude.{◌≡◌, ℕ, ◌+◌, ◌<◌, ◌≤◌, inl, inr, Bool, true, false, cond, List, [], ◌∷◌, Option, Some, None, length, refl, sym, ap, ◌∙◌, arith, option_and_then, option_map, nat_le, nat_lt, and_parts, cases_lt, ltb-true, slice_get_past, Line, ResolvedLine, ResolvedOrigin, ResolvedSnapshot, ResolvedTarget, found_at, resolved_line, holds, line_of, IsOriginSound, IsSnapshotSound, Description, device_len, IsSound, same_found, HoldsSoundly, device_sound, lines_there, sector_found, there, origin_at, origin_of, snapshot_at, snapshot_of}
+use Rattle.dm_map.proofs.Prelude.{ℕ, inl, inr, Bool, true, false, cond, List, [], Option, Some, None, length, refl, sym, ap, ◌∙◌, arith, option_and_then, option_map, nat_le, nat_lt, and_parts, cases_lt, ltb-true, slice_get_past, Line, ResolvedLine, ResolvedOrigin, ResolvedSnapshot, ResolvedTarget, found_at, resolved_line, holds, line_of, IsOriginSound, IsSnapshotSound, Description, device_len, IsSound, same_found, HoldsSoundly, device_sound, lines_there, sector_found, there, origin_at, origin_of, snapshot_at, snapshot_of}
 use Rattle.dm_stack.specs.Prelude.{end_of}
 use Rattle.dm_stack.specs.declared.lines.resolved_line.ResolvedTarget.TheVariants as founds
 use Rattle.dm_stack.proofs.LayoutLemmas.{AreInRow}
+use Rattle.std.specs.Prelude.{◌≡◌, ◌+◌, ◌<◌, ◌≤◌, ◌∷◌}
 
 -- A sector that has a line is before its device's end
 

@@ -1,7 +1,8 @@
 -- The number of a chunk, by the runs before and after it.
-use Rattle.dm_map.proofs.Prelude.{◌≡◌, ℕ, ◌+◌, ◌-◌, ◌<◌, ◌≤◌, List, Some, None, length, get_or, nat_eq, ◌∙◌, inl, inr, arith, IsDistinct, cases_lt, Run, AreBegunBy, AreRuns, IsRun, run_at, number_in}
+use Rattle.dm_map.proofs.Prelude.{ℕ, List, Some, None, length, get_or, nat_eq, ◌∙◌, inl, inr, arith, IsDistinct, cases_lt, Run, AreBegunBy, AreRuns, IsRun, run_at, number_in}
 use Rattle.dm_map.specs.state.Runs.{end_of}
 use Rattle.dm_map.proofs.state.Numbers.{number_distinct}
+use Rattle.std.specs.Prelude.{◌≡◌, ◌+◌, ◌-◌, ◌<◌, ◌≤◌}
 
 -- a chunk of a run has the number that the run says
 pub number_in_run : (chunks : List ℕ) (run : Run) (chunk : ℕ) → IsRun chunks run → IsDistinct nat_eq chunks → run.first ≤ chunk → chunk < end_of run → number_in chunk chunks ≡ Some (run.number + (chunk - run.first))

@@ -1,5 +1,5 @@
 -- The state of tables, and the places that are left in them.
-use Rattle.dm_map.proofs.Prelude.{◌≡◌, ◌↔◌, ℕ, zero, suc, ◌+◌, ◌*◌, ◌<◌, ◌≤◌, Bool, true, false, cond, not, List, [], ◌∷◌, ◌++◌, Option, Some, None, length, get_or, set, drop, drop-cons, replicate, nat_eq, nat_lt, refl, sym, ap, subst, ◌∙◌, arith, option_and_then, ◌==◌, find, is_none, option_map, slice_get, IfSome, All, AllByRecursion, list_any, position_or_len, range_with_len, eq-eqb, eqb-true, false_from_ne_true, leb-true, le-leb, ne_eqb, lt-ltb, le-ltb, ltb-true, ltb_from_iff, or_parts, nat_tests, All-filter, All-from_get_or, All-get_or, find_at, list_any_at, get_or-range_with_len, length-range_with_len, get_or-replicate, length-set, map-append, map-set, set-get_or, get_or_from_slice_get, slice_get-map, slice_get_read, slice_get_within, DevRef, Line, Target, Reading, ResolvedLine, ResolvedSnapshot, ResolvedTarget, target_spans, whole_span, found_at, resolved_line, resolved_target, holds, line_of, Description, device_id, disk_id, is_same, lines_at, lower_len, lower_of, has_snapshot, is_snapshot, snapshots, place, resolved_snapshot, IsSound, all_lines, is_unknown, is_unknown_ref, faults_by_none, passes_all, device_some, disk_some, found, of_device, there, number_in, lost, put, with_chunk, none_taken, taken_at, AreTables, has_room, snapshot_at, snapshot_of, state_of}
+use Rattle.dm_map.proofs.Prelude.{ℕ, zero, suc, Bool, true, false, cond, not, List, [], Option, Some, None, length, get_or, set, drop, drop-cons, replicate, nat_eq, nat_lt, refl, sym, ap, subst, ◌∙◌, arith, option_and_then, find, is_none, option_map, slice_get, IfSome, All, AllByRecursion, list_any, position_or_len, range_with_len, eq-eqb, eqb-true, false_from_ne_true, leb-true, le-leb, ne_eqb, lt-ltb, le-ltb, ltb-true, ltb_from_iff, or_parts, nat_tests, All-filter, All-from_get_or, All-get_or, find_at, list_any_at, get_or-range_with_len, length-range_with_len, get_or-replicate, length-set, map-append, map-set, set-get_or, get_or_from_slice_get, slice_get-map, slice_get_read, slice_get_within, DevRef, Line, Target, Reading, ResolvedLine, ResolvedSnapshot, ResolvedTarget, target_spans, whole_span, found_at, resolved_line, resolved_target, holds, line_of, Description, device_id, disk_id, is_same, lines_at, lower_len, lower_of, has_snapshot, is_snapshot, snapshots, place, resolved_snapshot, IsSound, all_lines, is_unknown, is_unknown_ref, faults_by_none, passes_all, device_some, disk_some, found, of_device, there, number_in, lost, put, with_chunk, none_taken, taken_at, AreTables, has_room, snapshot_at, snapshot_of, state_of}
 use Rattle.std.proofs.lemmas.Map.Views.{any-filter_same}
 use Rattle.dm_table.specs.declared.load.load_fault.LoadKind.TheVariants.{Unknown}
 use Rattle.dm_table.specs.declared.tables.table.DevRef.TheVariants as refs
@@ -7,6 +7,7 @@ use Rattle.dm_table.specs.declared.tables.table.Target.TheVariants as targets
 use Rattle.dm_stack.specs.declared.lines.resolved_line.ResolvedTarget.TheVariants as founds
 use Rattle.dm_map.proofs.state.Numbers.{number_is}
 use Rattle.dm_map.proofs.state.ResolvedLines.{line_there, some_line}
+use Rattle.std.specs.Prelude.{◌≡◌, ◌↔◌, ◌+◌, ◌*◌, ◌<◌, ◌≤◌, ◌∷◌, ◌++◌, ◌==◌}
 
 -- One table
 

@@ -1,10 +1,11 @@
 -- The ways of a trie of taken chunks.
-use Rattle.dm_map.proofs.Prelude.{◌≡◌, ℕ, Bool, zero, suc, ◌+◌, ◌-◌, ◌%◌, ◌^◌, ◌<◌, ◌≤◌, true, false, List, [], ◌∷◌, ◌++◌, Some, None, cond, length, get_or, replicate, set, nat_eq, refl, sym, ap, subst, ◌∙◌, inl, inr, arith, w64, bit_at, trailing_zeros, bit_xor, AllByRecursion, IsDistinct, list_any, ∥∥₁_elim, cases_eq, cases_lt, eq-eqb, eqb-true, false_from_ne_true, le-ltb, leb-true, lt-ltb, ne_eqb, or_cases, or_parts, get_or_append_left, get_or_push, get_or_read, get_or-replicate, get_or-set_other, get_or-set_same, length-replicate, length-set, length_push, ◌⊎◌, nat_le, nat_lt, IsDistinct-cons, length-le_from_distinct_below, and_le_r, xor_lt, bit_at-lt, bit_at-trailing_zeros, bit_at-zero, bit_at_xor, same_from_bits, number_in, Empty, Number, Fork, Agree, AreInOwnSlots, Fits, HasMarks, IsFork, IsNumber, IsSide, IsTrie, Marks, chunk_at, end_of, is_fork, next_at, node_at, slot_of, way}
+use Rattle.dm_map.proofs.Prelude.{ℕ, Bool, zero, suc, true, false, List, [], Some, None, cond, length, get_or, replicate, set, nat_eq, refl, sym, ap, subst, ◌∙◌, inl, inr, arith, w64, bit_at, trailing_zeros, bit_xor, AllByRecursion, IsDistinct, list_any, ∥∥₁_elim, cases_eq, cases_lt, eq-eqb, eqb-true, false_from_ne_true, le-ltb, leb-true, lt-ltb, ne_eqb, or_cases, or_parts, get_or_append_left, get_or_push, get_or_read, get_or-replicate, get_or-set_other, get_or-set_same, length-replicate, length-set, length_push, nat_le, nat_lt, IsDistinct-cons, length-le_from_distinct_below, and_le_r, xor_lt, bit_at-lt, bit_at-trailing_zeros, bit_at-zero, bit_at_xor, same_from_bits, number_in, Empty, Number, Fork, Agree, AreInOwnSlots, Fits, HasMarks, IsFork, IsNumber, IsSide, IsTrie, Marks, chunk_at, end_of, is_fork, next_at, node_at, slot_of, way}
 use Rattle.std.proofs.Props.{props}
 use Rattle.dm_map.proofs.state.Numbers.{number_distinct}
 use Rattle.dm_map.specs.declared.state.trie_taken.link.Node.{Node}
 use Rattle.dm_map.specs.declared.state.trie_taken.TrieTaken.{TrieTaken}
 use Rattle.dm_map.specs.declared.state.trie_taken.slots.Slots.{Slots}
+use Rattle.std.specs.Prelude.{◌≡◌, ◌+◌, ◌-◌, ◌%◌, ◌^◌, ◌<◌, ◌≤◌, ◌∷◌, ◌++◌, ◌⊎◌}
 
 -- Steps
 

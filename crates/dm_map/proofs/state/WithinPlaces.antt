@@ -1,8 +1,9 @@
 -- Tables take no more chunks than the stores of their snapshots have places.
-use Rattle.dm_map.proofs.Prelude.{◌≡◌, ℕ, zero, suc, ◌<◌, ◌≤◌, Bool, true, List, Some, length, sym, ◌∙◌, arith, slice_get, lt-ltb, length-map, ResolvedSnapshot, Description, lower_len, place_count, IsSound, there, IsFitting, IsWithinPlaces, AreTables, has_room, snapshot_at, state_of}
+use Rattle.dm_map.proofs.Prelude.{ℕ, zero, suc, Bool, true, List, Some, length, sym, ◌∙◌, arith, slice_get, lt-ltb, length-map, ResolvedSnapshot, Description, lower_len, place_count, IsSound, there, IsFitting, IsWithinPlaces, AreTables, has_room, snapshot_at, state_of}
 use Rattle.dm_stack.proofs.StoreLayoutLemmas.{has_place}
 use Rattle.dm_map.proofs.state.TableLemmas.{room_place, state_at}
 use Rattle.dm_map.proofs.state.ResolvedLines.{snapshot_sound}
+use Rattle.std.specs.Prelude.{◌≡◌, ◌<◌, ◌≤◌}
 
 -- a count is within another where each number below it is
 most_within : (count most : ℕ) → ((number : ℕ) → number < count → number < most) → count ≤ most

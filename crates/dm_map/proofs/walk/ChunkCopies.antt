@@ -1,10 +1,11 @@
 -- The sectors of a chunk in a store, their copies and their writes.
-use Rattle.dm_map.proofs.Prelude.{◌≡◌, ℕ, ◌+◌, ◌-◌, ◌%◌, ◌<◌, ◌≤◌, false, refl, sym, ap, subst, ◌∙◌, arith, Read, ResolvedSnapshot, Lower, HomeStretch, Ground, Stretch, AreAdded, GoOn, IsFirstHomes, home, store_sector, any_error, copy_to, home_in_store, is_error, read, reads_all, row, write_to, keep, ground_unit, IsFirstOf, IsGroundInStack, SinkPast, BlockUnit, WriteOf, units_in, StackState, WalkerView, stack_state, range_step}
+use Rattle.dm_map.proofs.Prelude.{ℕ, false, refl, sym, ap, subst, ◌∙◌, arith, Read, ResolvedSnapshot, Lower, HomeStretch, Ground, Stretch, AreAdded, GoOn, IsFirstHomes, home, store_sector, any_error, copy_to, home_in_store, is_error, read, reads_all, row, write_to, keep, ground_unit, IsFirstOf, IsGroundInStack, SinkPast, BlockUnit, WriteOf, units_in, StackState, WalkerView, stack_state, range_step}
 use Rattle.dm_stack.specs.declared.checks.graph.TheConstants.{MOST_DEPTH}
 use Rattle.dm_map.specs.declared.walk.stretch.Ground.TheVariants as grounds
 use Rattle.dm_map.proofs.walk.Chunks.{store_sector_on}
 use Rattle.dm_map.proofs.walk.Rows.{none_added}
 use Rattle.dm_map.proofs.walk.UnitRows.{copy_row, errors_on, first_reads, row_front, write_row}
+use Rattle.std.specs.Prelude.{◌≡◌, ◌+◌, ◌-◌, ◌%◌, ◌<◌, ◌≤◌}
 
 -- between pieces, a sink and a walk are where they were, but for the units that the sink took and what was looked up
 pub record IsGoingOn {S : Type 0} (past : SinkPast S) (old new : S) (before after : WalkerView) : Type 0 where

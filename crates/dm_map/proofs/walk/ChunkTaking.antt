@@ -1,7 +1,8 @@
 -- A chunk that was to be taken is settled, and stays so: the sectors of a chunk are written as one step, or all of them fail.
-use Rattle.dm_map.proofs.Prelude.{replicate, ◌≡◌, ℕ, zero, suc, ◌+◌, ◌/◌, ◌<◌, Bool, true, false, cond, not, List, [], ◌∷◌, Option, Some, None, length, refl, ap, ◌∙◌, arith, ◌&&◌, is_some, or_parts, or_right, not-false, get_or-set_same, get_or-set_other, ResolvedSnapshot, Description, number_in, has_place, put, with_chunk, lost, Taken, State, none_taken, taken_at, is_keeping, is_refused, is_settled, take_chunk, row, unit_in_store, write_snapshot, copies, first_of, count_of, can_take, Step, keep, and_then, steps, BlockUnit, Fails, units_in}
+use Rattle.dm_map.proofs.Prelude.{replicate, ℕ, zero, suc, Bool, true, false, cond, not, List, [], Option, Some, None, length, refl, ap, ◌∙◌, arith, is_some, or_parts, or_right, not-false, get_or-set_same, get_or-set_other, ResolvedSnapshot, Description, number_in, has_place, put, with_chunk, lost, Taken, State, none_taken, taken_at, is_keeping, is_refused, is_settled, take_chunk, row, unit_in_store, write_snapshot, copies, first_of, count_of, can_take, Step, keep, and_then, steps, BlockUnit, Fails, units_in}
 use Rattle.dm_map.proofs.state.Numbers.{number_new}
 use Rattle.dm_map.proofs.walk.Rows.{and_then_at, step_assoc, steps_still}
+use Rattle.std.specs.Prelude.{◌≡◌, ◌+◌, ◌/◌, ◌<◌, ◌∷◌, ◌&&◌}
 
 pub none_at : (count device : ℕ) → taken_at (replicate count none_taken) device ≡ none_taken
 none_at zero device = refl

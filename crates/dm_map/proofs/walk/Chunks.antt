@@ -1,10 +1,11 @@
 -- The sectors of one chunk of a snapshot: where they are read, and that they are written there once the chunk is settled.
-use Rattle.dm_map.proofs.Prelude.{◌≡◌, ℕ, zero, suc, ◌+◌, ◌-◌, ◌*◌, ◌/◌, ◌%◌, ◌<◌, ◌≤◌, true, false, inl, inr, List, [], ◌∷◌, ◌++◌, Option, Some, None, length, append_assoc, refl, sym, ap, subst, ◌∙◌, arith, min, cases_lt, div-add-mod', mod-mul-add, ResolvedSnapshot, ResolvedLine, Snapshot, Lies, found_at, IsLine, IsSnapshotSound, Description, lower_len, place, ReadAt, HomeStretch, home, number_in, store_sector, read_numbered, read_over, first_of, home_in_store, is_refused, is_settled, take_chunk, row, store_writes, unit_in_store, write_snapshot, write_to, State, Taken, taken_at, keep, and_then, steps, has_room, BlockUnit, WriteOf, Fails, units_in, sector_step, OfBeginning, line_step, range_step, target_step, AreInChunk, AreInSnapshot, AreReadAt, IsTakenAs, device_there, in_chunk}
+use Rattle.dm_map.proofs.Prelude.{ℕ, zero, suc, true, false, inl, inr, List, [], Option, Some, None, length, append_assoc, refl, sym, ap, subst, ◌∙◌, arith, min, cases_lt, div-add-mod', mod-mul-add, ResolvedSnapshot, ResolvedLine, Snapshot, Lies, found_at, IsLine, IsSnapshotSound, Description, lower_len, place, ReadAt, HomeStretch, home, number_in, store_sector, read_numbered, read_over, first_of, home_in_store, is_refused, is_settled, take_chunk, row, store_writes, unit_in_store, write_snapshot, write_to, State, Taken, taken_at, keep, and_then, steps, has_room, BlockUnit, WriteOf, Fails, units_in, sector_step, OfBeginning, line_step, range_step, target_step, AreInChunk, AreInSnapshot, AreReadAt, IsTakenAs, device_there, in_chunk}
 use Rattle.dm_table.specs.declared.requests.request.Op.TheVariants as ops
 use Rattle.dm_map.proofs.state.TableLemmas.{room_place}
 use Rattle.dm_map.proofs.walk.ChunkTaking.{chunk_part, refused_part, settled_part, write_is}
 use Rattle.dm_map.proofs.walk.Rows.{left_more, steps_read, steps_same, steps_still}
 use Rattle.dm_map.proofs.walk.UnitRows.{row_same, write_row}
+use Rattle.std.specs.Prelude.{◌≡◌, ◌+◌, ◌-◌, ◌*◌, ◌/◌, ◌%◌, ◌<◌, ◌≤◌, ◌∷◌, ◌++◌}
 
 -- A line's sectors as those of a snapshot, and of one chunk
 

@@ -1,8 +1,9 @@
 -- What lies below a line is less deep than its device.
-use Rattle.dm_map.proofs.Prelude.{◌≡◌, ℕ, zero, suc, ◌+◌, ◌-◌, ◌<◌, ◌≤◌, List, [], ◌∷◌, Option, Some, None, length, map, refl, ap, subst, ◌∙◌, arith, option_map, slice_get, AllByRecursion, range_with_len, get_or_from_slice_get, slice_get-map, Line, ResolvedLine, ResolvedSnapshot, Lower, Device, Disk, Below, Lies, below_target, found_at, resolved_line, holds, line_of, Description, device_links, lines_at, links, depth_to, greatest, links_of, lower_depth, stack_depth, IsSound, depth_of, line_links, shallow_device, found, lines_there, there, read_over, State, taken_at}
+use Rattle.dm_map.proofs.Prelude.{ℕ, zero, suc, List, [], Option, Some, None, length, map, refl, ap, subst, ◌∙◌, arith, option_map, slice_get, AllByRecursion, range_with_len, get_or_from_slice_get, slice_get-map, Line, ResolvedLine, ResolvedSnapshot, Lower, Device, Disk, Below, Lies, below_target, found_at, resolved_line, holds, line_of, Description, device_links, lines_at, links, depth_to, greatest, links_of, lower_depth, stack_depth, IsSound, depth_of, line_links, shallow_device, found, lines_there, there, read_over, State, taken_at}
 use Rattle.dm_stack.proofs.DepthLemmas.{depth_to-deeper}
 use Rattle.dm_map.proofs.state.ResolvedLines.{line_there}
 use Rattle.dm_map.proofs.walk.LevelLemmas.{GoesOn, OnBelow, OnLower, on_lines, on_target, over_read}
+use Rattle.std.specs.Prelude.{◌≡◌, ◌+◌, ◌-◌, ◌<◌, ◌≤◌, ◌∷◌}
 
 -- what one of some lines, found by a sector, has below it
 on_found : (over : ResolvedSnapshot → ℕ → Below) (stack : Description) (P : ℕ → Type 0) (lines : List Line) (sector distance : ℕ) (held : Option Line) (line : ResolvedLine) → GoesOn over P → AllByRecursion (λ l. AllByRecursion P (line_links stack l)) lines

@@ -1,9 +1,10 @@
 -- A striped line whose columns are all on disks: a sink takes its legs in one go.
-use Rattle.dm_map.proofs.Prelude.{◌≡◌, ℕ, zero, suc, ◌+◌, ◌≤◌, true, false, [], ◌∷◌, refl, sym, ap, ◌∙◌, arith, Result, on_ok_weaker, Op, Disk, ResolvedLine, ResolvedTarget, on_ok, Description, Below, Lies, below_plain, has_state, IsLine, has_disk_columns, AreOnDisks, LegsView, sector_on_disk, IsOnADisk, AreHanded, SinkPast, below_unit, legs_units, line_units, State, WalkerView, IsMapped, target_mapping, write_step, below_step, line_step, target_step, read_unit, Step, keep, steps}
+use Rattle.dm_map.proofs.Prelude.{ℕ, zero, suc, true, false, [], refl, sym, ap, ◌∙◌, arith, Result, on_ok_weaker, Op, Disk, ResolvedLine, ResolvedTarget, on_ok, Description, Below, Lies, below_plain, has_state, IsLine, has_disk_columns, AreOnDisks, LegsView, sector_on_disk, IsOnADisk, AreHanded, SinkPast, below_unit, legs_units, line_units, State, WalkerView, IsMapped, target_mapping, write_step, below_step, line_step, target_step, read_unit, Step, keep, steps}
 use Rattle.dm_table.specs.declared.requests.request.Op.TheVariants as ops
 use Rattle.dm_stack.specs.declared.lines.resolved_line.ResolvedTarget.TheVariants as found
 use Rattle.dm_map.proofs.walk.Ranges.{plain_step}
 use Rattle.dm_map.proofs.walk.Rows.{none_added, walked_as}
+use Rattle.std.specs.Prelude.{◌≡◌, ◌+◌, ◌≤◌, ◌∷◌}
 
 -- its sectors that are left lie on disks
 pub legs_on_disks : (stack other : Description) (device : ℕ) (line : ResolvedLine) (legs : LegsView) (distance len : ℕ) → other ≡ stack → IsLine stack device line → distance + len ≤ line.len → has_disk_columns line.target ≡ true → legs ≡ record { target = line.target; distance = distance; left = len }

@@ -1,5 +1,5 @@
 -- Where the levels are at least a device's depth, their number plays no part.
-use Rattle.dm_map.proofs.Prelude.{◌≡◌, ℕ, zero, suc, ◌+◌, ◌-◌, ◌/◌, ◌<◌, ◌≤◌, Bool, true, false, cond, List, [], ◌∷◌, Option, Some, None, length, map, refl, ap, subst, ◌∙◌, arith, option_map, slice_get, nat_lt, AllByRecursion, flat_map, ltb-false, get_or_from_slice_get, slice_get-map, DevRef, Target, Reading, Line, DeviceSpec, Lower, Device, Disk, ResolvedLine, ResolvedTarget, ResolvedSnapshot, Span, target_spans, whole_span, Description, lower_of, ref_link, device_links, links, lines_or_none, links_of, greatest, depth_to, Below, Lies, IsZero, IsError, below, below_line, below_plain, below_target, resolved_line, resolved_target, found_at, holds, line_of, resolved_snapshot, IsSound, depth_of, line_links, passes_all, found, none_at, Zeros, Drops, Fails, serve, number_in, read_numbered, read_over, State, Taken, taken_at, Step, keep, by_below, read_below, read_unit, AreHomesFreeOfLevels, home_to, nowhere, write_line, write_target, write_step, IsFreeOfLevels, all_parts, at_index}
+use Rattle.dm_map.proofs.Prelude.{ℕ, zero, suc, Bool, true, false, cond, List, [], Option, Some, None, length, map, refl, ap, subst, ◌∙◌, arith, option_map, slice_get, nat_lt, AllByRecursion, flat_map, ltb-false, get_or_from_slice_get, slice_get-map, DevRef, Target, Reading, Line, DeviceSpec, Lower, Device, Disk, ResolvedLine, ResolvedTarget, ResolvedSnapshot, Span, target_spans, whole_span, Description, lower_of, ref_link, device_links, links, lines_or_none, links_of, greatest, depth_to, Below, Lies, IsZero, IsError, below, below_line, below_plain, below_target, resolved_line, resolved_target, found_at, holds, line_of, resolved_snapshot, IsSound, depth_of, line_links, passes_all, found, none_at, Zeros, Drops, Fails, serve, number_in, read_numbered, read_over, State, Taken, taken_at, Step, keep, by_below, read_below, read_unit, AreHomesFreeOfLevels, home_to, nowhere, write_line, write_target, write_step, IsFreeOfLevels, all_parts, at_index}
 use Rattle.dm_table.specs.declared.tables.table.DevRef.TheVariants as refs
 use Rattle.dm_table.specs.declared.tables.table.Target.TheVariants as targets
 use Rattle.dm_table.specs.declared.requests.request.Op.TheVariants as ops
@@ -7,6 +7,7 @@ use Rattle.dm_stack.specs.declared.checks.graph.TheConstants.{MOST_DEPTH}
 use Rattle.dm_stack.specs.declared.lines.resolved_line.ResolvedTarget.TheVariants as founds
 use Rattle.dm_map.proofs.walk.Rows.{and_then_at}
 use Rattle.dm_map.proofs.walk.Spans.{plain_span, span_index}
+use Rattle.std.specs.Prelude.{◌≡◌, ◌+◌, ◌-◌, ◌/◌, ◌<◌, ◌≤◌, ◌∷◌}
 
 -- What lies below a device is among what it names
 

@@ -1,5 +1,6 @@
 -- The legs of a line.
-use Rattle.dm_map.proofs.Prelude.{◌≡◌, ℕ, ◌+◌, ◌≤◌, arith, ResolvedLine, ResolvedTarget, Leg, IsLine, IsTargetSound, Description, AreInside, HasSectors, IsLeg, IsSound, leg_lies_inside, IsLegOf}
+use Rattle.dm_map.proofs.Prelude.{ℕ, arith, ResolvedLine, ResolvedTarget, Leg, IsLine, IsTargetSound, Description, AreInside, HasSectors, IsLeg, IsSound, leg_lies_inside, IsLegOf}
+use Rattle.std.specs.Prelude.{◌≡◌, ◌+◌, ◌≤◌}
 
 -- a line has its sectors
 pub line_sectors : (stack : Description) (device distance len : ℕ) (line : ResolvedLine) → IsSound stack → IsLine stack device line → distance + len ≤ line.len → HasSectors line.target distance len

@@ -1,10 +1,11 @@
 -- A part of the sectors of an origin's device as one walk: its snapshots are served, and then the sectors of the origin are written.
-use Rattle.dm_map.proofs.Prelude.{◌≡◌, ℕ, zero, suc, ◌+◌, ◌<◌, ◌≤◌, List, ◌++◌, append_assoc, sym, arith, All, Result, Ok, Err, All-from_recursion, ResolvedOrigin, ResolvedOver, Description, lower_len, snapshots_over, IsSound, sector_step, AreSettled, IsOver, serve, IsLawful, SinkPast, State, steps, WalkerView, IsMapped, origin_mapping, range_mapping, IsWalked, range_step, served_sector}
+use Rattle.dm_map.proofs.Prelude.{ℕ, zero, suc, List, append_assoc, sym, arith, All, Result, Ok, Err, All-from_recursion, ResolvedOrigin, ResolvedOver, Description, lower_len, snapshots_over, IsSound, sector_step, AreSettled, IsOver, serve, IsLawful, SinkPast, State, steps, WalkerView, IsMapped, origin_mapping, range_mapping, IsWalked, range_step, served_sector}
 use Rattle.dm_table.specs.declared.requests.request.Op.TheVariants as ops
 use Rattle.dm_map.proofs.walk.Overs.{overs}
 use Rattle.dm_map.proofs.walk.Rows.{left_more, walked_as, walked_then}
 use Rattle.dm_map.proofs.walk.Served.{StepsKeep, part}
 use Rattle.dm_map.proofs.walk.Settled.{write_keeps_settled}
+use Rattle.std.specs.Prelude.{◌≡◌, ◌+◌, ◌<◌, ◌≤◌, ◌++◌}
 
 -- the snapshots of an origin, as a line has them, have its sectors
 pub line_overs : (stack before : Description) (origin : ResolvedOrigin) (over : List ResolvedOver) (sector len end : ℕ) → IsSound stack → before ≡ stack → over ≡ origin.over → origin.over ≡ snapshots_over stack origin.to → sector + len ≤ lower_len stack origin.to → end ≤ sector + len → All (IsOver before end) over

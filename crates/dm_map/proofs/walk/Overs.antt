@@ -1,7 +1,8 @@
 -- The snapshots of an origin, as those that its line has.
-use Rattle.dm_map.proofs.Prelude.{◌≡◌, ℕ, ◌/◌, ◌≤◌, true, List, Some, refl, ap, arith, AllByRecursion, Contains, All-contains, All-contains_itself, All-from_recursion, recursion_from_All, ResolvedOver, ResolvedSnapshot, Lower, found_at, Description, lower_len, snapshots_over, IsSound, AreSettled, IsOver, is_settled, State, taken_at, snapshot_at}
+use Rattle.dm_map.proofs.Prelude.{ℕ, true, List, Some, refl, ap, arith, AllByRecursion, Contains, All-contains, All-contains_itself, All-from_recursion, recursion_from_All, ResolvedOver, ResolvedSnapshot, Lower, found_at, Description, lower_len, snapshots_over, IsSound, AreSettled, IsOver, is_settled, State, taken_at, snapshot_at}
 use Rattle.dm_stack.proofs.OverLemmas.{over_all, over_sound}
 use Rattle.dm_map.proofs.state.ResolvedLines.{first_line, snapshot_sound}
+use Rattle.std.specs.Prelude.{◌≡◌, ◌/◌, ◌≤◌}
 
 all_members : {X : Type 0} (P : X → Type 0) (xs : List X) → ((x : X) → Contains xs x → P x) → AllByRecursion P xs
 all_members P xs each = recursion_from_All P xs (λ k d below. each _ (All-contains_itself xs k d below))

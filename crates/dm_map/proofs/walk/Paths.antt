@@ -1,5 +1,6 @@
 -- Stretches of paths: where they are the same, and how those of two ranges add up.
-use Rattle.dm_map.proofs.Prelude.{◌≡◌, ℕ, zero, suc, ◌+◌, ◌-◌, ◌*◌, ◌<◌, ◌≤◌, Bool, true, false, cond, List, ◌∷◌, Option, refl, sym, ap, arith, ◌==◌, and_parts, eq-eqb, mul-le-mul, mul-le-mul_left, is_same_chunk, PathStep, changes, is_same_path, is_same_step, stretches}
+use Rattle.dm_map.proofs.Prelude.{ℕ, zero, suc, Bool, true, false, cond, List, Option, refl, sym, ap, arith, and_parts, eq-eqb, mul-le-mul, mul-le-mul_left, is_same_chunk, PathStep, changes, is_same_path, is_same_step, stretches}
+use Rattle.std.specs.Prelude.{◌≡◌, ◌+◌, ◌-◌, ◌*◌, ◌<◌, ◌≤◌, ◌∷◌, ◌==◌}
 
 -- Steps
 

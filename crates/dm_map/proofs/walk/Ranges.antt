@@ -1,9 +1,10 @@
 -- The steps of ranges and of lines, by what lies below their sectors.
-use Rattle.dm_map.proofs.Prelude.{◌≡◌, ℕ, zero, suc, ◌+◌, ◌-◌, ◌<◌, ◌≤◌, true, false, [], ◌∷◌, Some, refl, ap, ◌∙◌, arith, Op, Lower, Device, Disk, ResolvedLine, ResolvedOrigin, ResolvedTarget, Beneath, Description, Below, Lies, IsZero, IsError, below_plain, found_at, has_state, IsBeneath, State, keep, Zeros, Fails, disk_unit, next_unit, units_in, by_below, read_unit, sector_step, write_step, zero_unit, below_step, refuses, range_step, target_step, line_step, origin_step, served_sector}
+use Rattle.dm_map.proofs.Prelude.{ℕ, zero, suc, true, false, [], Some, refl, ap, ◌∙◌, arith, Op, Lower, Device, Disk, ResolvedLine, ResolvedOrigin, ResolvedTarget, Beneath, Description, Below, Lies, IsZero, IsError, below_plain, found_at, has_state, IsBeneath, State, keep, Zeros, Fails, disk_unit, next_unit, units_in, by_below, read_unit, sector_step, write_step, zero_unit, below_step, refuses, range_step, target_step, line_step, origin_step, served_sector}
 use Rattle.dm_table.specs.declared.requests.request.Op.TheVariants as ops
 use Rattle.dm_stack.specs.Prelude.{GoesOn}
 use Rattle.dm_stack.specs.declared.lines.resolved_line.ResolvedTarget.TheVariants as found
 use Rattle.dm_map.proofs.walk.Rows.{steps_same, steps_still}
+use Rattle.std.specs.Prelude.{◌≡◌, ◌+◌, ◌-◌, ◌<◌, ◌≤◌, ◌∷◌}
 
 still_zeros : (op : Op) → next_unit (zero_unit op) ≡ zero_unit op
 still_zeros ops.Read = refl

@@ -1,8 +1,9 @@
 -- How a read goes on from a sector of a device: by a line whose target has no state, by a snapshot's store or origin, or by an origin's line.
-use Rattle.dm_map.proofs.Prelude.{◌≡◌, ℕ, ◌-◌, ◌/◌, Bool, true, false, cond, Option, Some, None, refl, sym, ◌∙◌, arith, Lower, ResolvedLine, ResolvedOrigin, ResolvedSnapshot, ResolvedTarget, Lies, IsError, below, below_line, below_target, found_at, has_state, Description, IsSound, read_below, store_sector, number_in, read_numbered, read_over, State, taken_at, origin_at, snapshot_at}
+use Rattle.dm_map.proofs.Prelude.{ℕ, Bool, true, false, cond, Option, Some, None, refl, sym, ◌∙◌, arith, Lower, ResolvedLine, ResolvedOrigin, ResolvedSnapshot, ResolvedTarget, Lies, IsError, below, below_line, below_target, found_at, has_state, Description, IsSound, read_below, store_sector, number_in, read_numbered, read_over, State, taken_at, origin_at, snapshot_at}
 use Rattle.dm_stack.specs.declared.lines.resolved_line.ResolvedTarget.TheVariants as founds
 use Rattle.dm_map.proofs.state.ResolvedLines.{line_origin, line_snapshot}
 use Rattle.dm_map.proofs.walk.Spans.{IsPlainStep, below_is, sector_is}
+use Rattle.std.specs.Prelude.{◌≡◌, ◌-◌, ◌/◌}
 
 pub data ReadStep (stack : Description) (state : State) (device sector : ℕ) (lower : Lower) (at : ℕ) : Type 0 where
   ByLine : (line : ResolvedLine) → found_at stack device sector ≡ Some line → IsPlainStep line.target (sector - line.start) lower at → ReadStep stack state device sector lower at

@@ -1,5 +1,6 @@
 -- The steps of sectors in a row, and what a sink took and left of their units.
-use Rattle.dm_map.proofs.Prelude.{◌≡◌, ℕ, zero, suc, ◌+◌, ◌<◌, List, [], ◌∷◌, ◌++◌, append_assoc, refl, sym, ap, ◌∙◌, arith, append-nil, IsErr, nat_lt, true, ◌≤◌, replicate, Result, Ok, Err, on_err_weaker, on_ok_weaker, Op, on_ok, Description, device_len, AreAdded, Counts, BlockUnit, Fails, next_unit, units_in, IsHanded, IsLawful, OfBeginning, SinkPast, State, Step, keep, and_then, steps, request_step, WalkerView, IsWalked}
+use Rattle.dm_map.proofs.Prelude.{ℕ, zero, suc, List, [], append_assoc, refl, sym, ap, ◌∙◌, arith, append-nil, IsErr, nat_lt, true, replicate, Result, Ok, Err, on_err_weaker, on_ok_weaker, Op, on_ok, Description, device_len, AreAdded, Counts, BlockUnit, Fails, next_unit, units_in, IsHanded, IsLawful, OfBeginning, SinkPast, State, Step, keep, and_then, steps, request_step, WalkerView, IsWalked}
+use Rattle.std.specs.Prelude.{◌≡◌, ◌+◌, ◌<◌, ◌∷◌, ◌++◌, ◌≤◌}
 
 -- Counts that only searches were added to
 

@@ -1,11 +1,12 @@
 -- The snapshots of an origin, served: what that settles, and how far a range of the origin's sectors needs no more of it. No claim plays a part here.
-use Rattle.dm_map.proofs.Prelude.{◌≡◌, inl, inr, ℕ, zero, suc, ◌+◌, ◌-◌, ◌/◌, ◌%◌, ◌<◌, true, List, [], ◌∷◌, ◌++◌, ◌≤◌, length, get_or, take, drop, refl, sym, ap, ◌∙◌, arith, All, AllByRecursion, Result, Err, IsErr, cases_lt, append-nil, take-append-drop, take_more, All-get_or, ResolvedSnapshot, ResolvedOver, IsSnapshotSound, Description, device_len, IsSound, AreSettled, IsOver, serve, served_step, first_of, is_settled, take_chunk, State, Taken, taken_at, Step, keep, and_then, steps, IsLawful, SinkPast, WalkerView, IsWalked, AreInSnapshot, device_there}
+use Rattle.dm_map.proofs.Prelude.{inl, inr, ℕ, zero, suc, true, List, [], length, get_or, take, drop, refl, sym, ap, ◌∙◌, arith, All, AllByRecursion, Result, Err, IsErr, cases_lt, append-nil, take-append-drop, take_more, All-get_or, ResolvedSnapshot, ResolvedOver, IsSnapshotSound, Description, device_len, IsSound, AreSettled, IsOver, serve, served_step, first_of, is_settled, take_chunk, State, Taken, taken_at, Step, keep, and_then, steps, IsLawful, SinkPast, WalkerView, IsWalked, AreInSnapshot, device_there}
 use Rattle.dm_map.proofs.walk.Chunks.{first_there, same_chunk}
 use Rattle.dm_map.proofs.state.ResolvedLines.{snapshot_sound}
 use Rattle.dm_map.proofs.walk.ChunkTaking.{chunk_outcome, take_chunk_again, take_chunk_settles}
 use Rattle.dm_map.proofs.walk.Rows.{and_then_at, left_more, step_assoc, walked_as, walked_cut, walked_then}
 use Rattle.dm_map.proofs.walk.Settled.{KeepsSettled, take_chunk_keeps, serve_keeps}
 use Rattle.dm_map.proofs.walk.WalkedOn.{going_on}
+use Rattle.std.specs.Prelude.{◌≡◌, ◌+◌, ◌-◌, ◌/◌, ◌%◌, ◌<◌, ◌∷◌, ◌++◌, ◌≤◌}
 
 abbrev take_chunk_one : Description → ResolvedOver → (sector : ℕ) → State → Step
 take_chunk_one stack one sector state = take_chunk stack one.snapshot one.device (sector / one.snapshot.chunk) state

@@ -1,8 +1,9 @@
 -- What is settled stays so, whatever is written.
-use Rattle.dm_map.proofs.Prelude.{◌≡◌, inl, inr, ℕ, zero, suc, ◌-◌, ◌/◌, Bool, true, false, cond, not, List, [], ◌∷◌, ◌++◌, Option, Some, None, length, refl, ap, ◌∙◌, ◌||◌, is_some, cases_eq, cases_lt, length-set, set_past, Lower, Device, Disk, ResolvedLine, ResolvedOver, ResolvedSnapshot, ResolvedTarget, Below, Lies, below_plain, found_at, Description, is_ro_at, write_line, write_step, write_target, by_below, serve, number_in, is_refused, is_settled, take_chunk, unit_in_store, lost, put, with_chunk, State, Taken, taken_at, Step, keep, and_then, Drops, Fails}
+use Rattle.dm_map.proofs.Prelude.{inl, inr, ℕ, zero, suc, Bool, true, false, cond, not, List, [], Option, Some, None, length, refl, ap, ◌∙◌, is_some, cases_eq, cases_lt, length-set, set_past, Lower, Device, Disk, ResolvedLine, ResolvedOver, ResolvedSnapshot, ResolvedTarget, Below, Lies, below_plain, found_at, Description, is_ro_at, write_line, write_step, write_target, by_below, serve, number_in, is_refused, is_settled, take_chunk, unit_in_store, lost, put, with_chunk, State, Taken, taken_at, Step, keep, and_then, Drops, Fails}
 use Rattle.dm_stack.specs.declared.lines.resolved_line.ResolvedTarget.TheVariants as founds
 use Rattle.dm_map.proofs.state.Numbers.{number_kept}
 use Rattle.dm_map.proofs.walk.ChunkTaking.{ChunkOutcome, Settled, Took, Lost, chunk_outcome, taken_other, taken_same}
+use Rattle.std.specs.Prelude.{◌≡◌, ◌-◌, ◌/◌, ◌∷◌, ◌++◌, ◌||◌}
 
 -- as many tables, and what was settled in the one is settled in the other
 pub record KeepsSettled (old new : State) : Type 0 where

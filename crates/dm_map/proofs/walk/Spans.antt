@@ -1,9 +1,10 @@
 -- What lies below a sector of a line whose target has no state is a sector of one of the line's spans. Stripes have a span for each column, any other such target at most one.
-use Rattle.dm_map.proofs.Prelude.{◌≡◌, ℕ, ◌+◌, ◌/◌, ◌%◌, ◌<◌, false, List, Option, Some, None, length, refl, sym, ap, ◌∙◌, arith, map, option_map, slice_get, length-map, slice_get-map, mul-div_cancel_left, Target, Own, ResolvedColumn, ResolvedSnapshot, ResolvedTarget, Lower, Span, column_span, target_spans, Below, Lies, AreStripes, IsTargetSound, below_column, below_plain, below_target, column_of, resolved_columns, resolved_target, has_state, in_column, span_end, Description, lower_len, lower_of, in_column_room}
+use Rattle.dm_map.proofs.Prelude.{ℕ, false, List, Option, Some, None, length, refl, sym, ap, ◌∙◌, arith, map, option_map, slice_get, length-map, slice_get-map, mul-div_cancel_left, Target, Own, ResolvedColumn, ResolvedSnapshot, ResolvedTarget, Lower, Span, column_span, target_spans, Below, Lies, AreStripes, IsTargetSound, below_column, below_plain, below_target, column_of, resolved_columns, resolved_target, has_state, in_column, span_end, Description, lower_len, lower_of, in_column_room}
 use Rattle.dm_table.specs.declared.tables.table.Column.{Column}
 use Rattle.dm_table.specs.declared.tables.table.Target.TheVariants as targets
 use Rattle.dm_stack.specs.declared.lines.resolved_line.ResolvedTarget.TheVariants as founds
 use Rattle.dm_map.proofs.state.Numbers.{stripe_back}
+use Rattle.std.specs.Prelude.{◌≡◌, ◌+◌, ◌/◌, ◌%◌, ◌<◌}
 
 -- A target without a state
 

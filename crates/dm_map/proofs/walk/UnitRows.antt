@@ -1,8 +1,9 @@
 -- Units in a row, and the stretches on which they go on.
-use Rattle.dm_map.proofs.Prelude.{◌≡◌, ℕ, zero, suc, ◌+◌, ◌-◌, ◌<◌, ◌≤◌, Bool, true, false, List, [], ◌∷◌, ◌++◌, refl, sym, ap, ◌∙◌, arith, ◌||◌, Lower, Description, Home, GoOn, read_unit, IsLawful, OfBeginning, SinkPast, row, read, is_error, any_error, copy_to, write_to, State, Step, keep, Ground, ground_unit, unit_at, BlockUnit, ReadOf, WriteOf, Zeros, Fails, next_unit, units_in, range_step}
+use Rattle.dm_map.proofs.Prelude.{ℕ, zero, suc, Bool, true, false, List, [], refl, sym, ap, ◌∙◌, arith, Lower, Description, Home, GoOn, read_unit, IsLawful, OfBeginning, SinkPast, row, read, is_error, any_error, copy_to, write_to, State, Step, keep, Ground, ground_unit, unit_at, BlockUnit, ReadOf, WriteOf, Zeros, Fails, next_unit, units_in, range_step}
 use Rattle.dm_table.specs.declared.requests.request.Op.TheVariants as ops
 use Rattle.dm_stack.specs.declared.checks.graph.TheConstants.{MOST_DEPTH}
 use Rattle.dm_map.specs.declared.walk.stretch.Ground.TheVariants as grounds
+use Rattle.std.specs.Prelude.{◌≡◌, ◌+◌, ◌-◌, ◌<◌, ◌≤◌, ◌∷◌, ◌++◌, ◌||◌}
 
 -- Rows
 

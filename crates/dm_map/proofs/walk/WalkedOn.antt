@@ -1,7 +1,8 @@
 -- A row of sectors that is walked part by part.
-use Rattle.dm_map.proofs.Prelude.{◌≡◌, ℕ, zero, suc, ◌+◌, ◌-◌, ◌*◌, ◌<◌, ◌≤◌, false, List, [], ◌++◌, append_assoc, refl, sym, ap, subst, ◌∙◌, arith, IsErr, Result, Ok, Err, Op, Read, ResolvedTarget, Lower, Description, IsSound, AreAdded, IsHanded, IsLawful, OfBeginning, SinkPast, State, IsMapped, Mapping, range_mapping, target_mapping, is_same_path, stretches, Step, keep, steps, BlockUnit, StackState, WalkerView, stack_state, IsWalked}
+use Rattle.dm_map.proofs.Prelude.{ℕ, zero, suc, false, List, [], append_assoc, refl, sym, ap, subst, ◌∙◌, arith, IsErr, Result, Ok, Err, Op, Read, ResolvedTarget, Lower, Description, IsSound, AreAdded, IsHanded, IsLawful, OfBeginning, SinkPast, State, IsMapped, Mapping, range_mapping, target_mapping, is_same_path, stretches, Step, keep, steps, BlockUnit, StackState, WalkerView, stack_state, IsWalked}
 use Rattle.dm_map.proofs.walk.Paths.{searches_more, searches_on}
 use Rattle.dm_map.proofs.walk.Rows.{added_then, none_added, steps-append, walked_as, walked_piece}
+use Rattle.std.specs.Prelude.{◌≡◌, ◌+◌, ◌-◌, ◌*◌, ◌<◌, ◌≤◌, ◌++◌}
 
 -- a walk so far, in which the sink did not fail
 abbrev pub going_on : Result (Unit {0}) (Unit {0})

@@ -1,7 +1,8 @@
 -- Laws of what units make of disks, and of the sectors that they answer.
-use Rattle.dm_map.specs.Base.{◌≡◌, ℕ, ◌&&◌, List, [], ◌∷◌, ◌++◌, ◌==◌, cond, refl, ap, ◌∙◌}
+use Rattle.dm_map.specs.Base.{ℕ, List, [], cond, refl, ap, ◌∙◌}
 use Rattle.dm_map.specs.own.Contents.{Values, played, played_unit, sector_after, sector_past, stored}
 use Rattle.dm_map.specs.pieces.Units.{BlockUnit, WriteOf, CopyOf, FillOf}
+use Rattle.std.specs.Prelude.{◌≡◌, ◌&&◌, ◌∷◌, ◌++◌, ◌==◌}
 
 -- the sectors that units answer, and then others
 pub past-append : (units more : List BlockUnit) (sector : ℕ) → sector_past (units ++ more) sector ≡ sector_past more (sector_past units sector)

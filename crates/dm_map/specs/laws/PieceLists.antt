@@ -1,8 +1,9 @@
 -- The laws of a sink, for a list of pieces. They are among the specs since its impl cites them.
-use Rattle.dm_map.specs.Base.{List, [], ◌++◌, append_assoc, sym, ap, ◌∙◌, append-nil}
+use Rattle.dm_map.specs.Base.{List, [], append_assoc, sym, ap, ◌∙◌, append-nil}
 use Rattle.dm_map.specs.pieces.Units.{BlockUnit}
 use Rattle.dm_map.specs.pieces.Sink.{OfBeginning}
 use Rattle.dm_map.specs.pieces.PieceList.{PieceListView, Appends, units_of_all}
+use Rattle.std.specs.Prelude.{◌++◌}
 
 pub appends_nothing : (a : PieceListView) → Appends a [] a
 appends_nothing a = record { appended = sym (append-nil (units_of_all a.pieces)) }

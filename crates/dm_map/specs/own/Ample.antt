@@ -1,5 +1,5 @@
 -- Stacks that can lose nothing: no line is an `error` line, and each store has room for all chunks of its snapshot.
-use Rattle.dm_map.specs.Base.{◌≡◌, ℕ, ◌+◌, ◌-◌, ◌/◌, ◌<◌, ◌≤◌, nat_eq, true, Some, List, AllByRecursion, IsDistinct, Op, Device, ResolvedSnapshot, IsTidy, IsTop, place_count, Description, device_len, lower_len, lower_of, all_lines}
+use Rattle.dm_map.specs.Base.{ℕ, nat_eq, true, Some, List, AllByRecursion, IsDistinct, Op, Device, ResolvedSnapshot, IsTidy, IsTop, place_count, Description, device_len, lower_len, lower_of, all_lines}
 use Rattle.dm_table.specs.declared.tables.table.Target.{Target}
 use Rattle.dm_table.specs.declared.tables.table.Target.TheVariants as targets
 use Rattle.dm_map.specs.own.Contents.{Values, content, played}
@@ -11,6 +11,7 @@ use Rattle.dm_map.specs.state.Tables.{snapshot_at}
 use Rattle.dm_map.specs.walk.Mapping.{request_step}
 use Rattle.dm_map.specs.walk.SnapshotWrites.{read}
 use Rattle.dm_map.specs.pieces.Units.{Fails}
+use Rattle.std.specs.Prelude.{◌≡◌, ◌+◌, ◌-◌, ◌/◌, ◌<◌, ◌≤◌}
 
 -- The premise
 

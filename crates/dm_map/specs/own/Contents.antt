@@ -1,8 +1,9 @@
 -- What disks hold, for values of any type: what units make of it, and what a sector of a device has.
-use Rattle.dm_map.specs.Base.{◌≡◌, ◌⊎◌, ℕ, suc, Bool, true, false, ◌&&◌, ◌==◌, List, [], ◌∷◌, Option, Some, None, if◌then◌else◌, Lower, Description}
+use Rattle.dm_map.specs.Base.{ℕ, suc, Bool, true, false, List, [], Option, Some, None, Lower, Description}
 use Rattle.dm_map.specs.walk.SnapshotWrites.{read}
 use Rattle.dm_map.specs.state.State.{State}
 use Rattle.dm_map.specs.pieces.Units.{BlockUnit, ReadOf, WriteOf, Zeros, Drops, CopyOf, FillOf}
+use Rattle.std.specs.Prelude.{◌≡◌, ◌⊎◌, ◌&&◌, ◌==◌, ◌∷◌, if◌then◌else◌}
 
 -- the values of the sectors of disks
 abbrev pub Values : Type 0 → Type 0

@@ -1,5 +1,5 @@
 -- What a power cut may leave: what lies outside of data plays no part, and chunks may be copied and listed before the writes that take them, as a kernel does (its dm-snap: copies, then entries of lists, then the write).
-use Rattle.dm_map.specs.Base.{◌≡◌, ℕ, ◌/◌, ◌<◌, List, [], ◌∷◌, Some, length, AllByRecursion, ResolvedSnapshot, IsTidy, Description, lower_len, place}
+use Rattle.dm_map.specs.Base.{ℕ, List, [], Some, length, AllByRecursion, ResolvedSnapshot, IsTidy, Description, lower_len, place}
 use Rattle.dm_map.specs.own.Contents.{Values, played}
 use Rattle.dm_map.specs.own.Lists.{IsListSector}
 use Rattle.dm_map.specs.own.Losses.{Due}
@@ -9,6 +9,7 @@ use Rattle.dm_map.specs.state.Tables.{snapshot_at}
 use Rattle.dm_map.specs.walk.Homes.{home}
 use Rattle.dm_map.specs.walk.SnapshotWrites.{take_chunk}
 use Rattle.dm_map.specs.walk.Steps.{Step, keep, and_then}
+use Rattle.std.specs.Prelude.{◌≡◌, ◌/◌, ◌<◌, ◌∷◌}
 
 -- Sectors without data
 

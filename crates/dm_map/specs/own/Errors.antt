@@ -1,5 +1,5 @@
 -- The law of errors: where a read is an error, and when a snapshot is lost.
-use Rattle.dm_map.specs.Base.{◌≡◌, ◌↔◌, ℕ, ◌<◌, true, false, Some, Op, Lower, Device, ResolvedLine, ResolvedSnapshot, found_at, Description, device_len}
+use Rattle.dm_map.specs.Base.{ℕ, true, false, Some, Op, Lower, Device, ResolvedLine, ResolvedSnapshot, found_at, Description, device_len}
 use Rattle.dm_stack.specs.declared.lines.resolved_line.ResolvedTarget.TheVariants as found
 use Rattle.dm_map.specs.own.Halts.{state_past}
 use Rattle.dm_map.specs.own.Losses.{AreLosing, IsLostIn, due}
@@ -11,6 +11,7 @@ use Rattle.dm_map.specs.walk.SnapshotWrites.{read}
 use Rattle.dm_map.specs.state.State.{State, taken_at}
 use Rattle.dm_map.specs.state.Tables.{snapshot_at}
 use Rattle.dm_map.specs.pieces.Units.{Fails}
+use Rattle.std.specs.Prelude.{◌≡◌, ◌↔◌, ◌<◌}
 
 -- a read that comes to this sector of a device ends there, as an error: its line is an `error` line, or the device a snapshot that is lost
 pub data EndsHere (stack : Description) (state : State) (device sector : ℕ) : Type 0 where

@@ -1,11 +1,12 @@
 -- A request of which only the first units are played: those, and the state that it leaves.
-use Rattle.dm_map.specs.Base.{ℕ, ◌+◌, List, nat_lt, take, if◌then◌else◌, Op, Device, Description, device_len}
+use Rattle.dm_map.specs.Base.{ℕ, List, nat_lt, take, Op, Device, Description, device_len}
 use Rattle.dm_stack.specs.declared.checks.graph.TheConstants.{MOST_DEPTH}
 use Rattle.dm_map.specs.own.Contents.{sector_past}
 use Rattle.dm_map.specs.walk.Mapping.{request_step, sector_step}
 use Rattle.dm_map.specs.state.State.{State}
 use Rattle.dm_map.specs.walk.Steps.{steps}
 use Rattle.dm_map.specs.pieces.Units.{BlockUnit}
+use Rattle.std.specs.Prelude.{◌+◌, if◌then◌else◌}
 
 -- the state after the first sectors of a request: one that passes the device's end changes nothing
 abbrev pub state_past : Description → Op → (device start len sectors : ℕ) → State → State

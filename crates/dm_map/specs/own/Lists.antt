@@ -1,5 +1,5 @@
 -- Where stores keep their lists, and that no request of a top device writes or reads there.
-use Rattle.dm_map.specs.Base.{◌≡◌, ℕ, ◌/◌, ◌<◌, true, Some, Op, Device, ResolvedSnapshot, IsTidy, IsTop, Description, lower_len, is_metadata}
+use Rattle.dm_map.specs.Base.{ℕ, true, Some, Op, Device, ResolvedSnapshot, IsTidy, IsTop, Description, lower_len, is_metadata}
 use Rattle.dm_map.specs.own.Contents.{Values, played}
 use Rattle.dm_map.specs.own.Halts.{halted_units}
 use Rattle.dm_map.specs.pieces.Units.{ReadOf}
@@ -9,6 +9,7 @@ use Rattle.dm_map.specs.state.Tables.{snapshot_at}
 use Rattle.dm_map.specs.walk.Homes.{home}
 use Rattle.dm_map.specs.walk.Mapping.{request_step}
 use Rattle.dm_map.specs.walk.SnapshotWrites.{read}
+use Rattle.std.specs.Prelude.{◌≡◌, ◌/◌, ◌<◌}
 
 -- a sector of a disk where the store of a snapshot keeps its list: in its header, or in an area
 pub record IsListSector (stack : Description) (disk sector : ℕ) : Type 0 where

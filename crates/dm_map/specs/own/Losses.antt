@@ -1,5 +1,5 @@
 -- Which writes lose a snapshot: those that have to take a chunk and can't (the kernel's admin guide, device-mapper/snapshot).
-use Rattle.dm_map.specs.Base.{◌≡◌, ◌⊎◌, ℕ, zero, suc, ◌+◌, ◌-◌, ◌/◌, ◌<◌, ◌≤◌, true, false, List, [], ◌∷◌, ◌++◌, None, Option, Some, length, map, if◌then◌else◌, Op, Write, Lower, Device, Disk, ResolvedLine, ResolvedOver, ResolvedSnapshot, ResolvedTarget, Description, device_len, is_ro_at, below_plain, found_at}
+use Rattle.dm_map.specs.Base.{ℕ, zero, suc, true, false, List, [], None, Option, Some, length, map, Op, Write, Lower, Device, Disk, ResolvedLine, ResolvedOver, ResolvedSnapshot, ResolvedTarget, Description, device_len, is_ro_at, below_plain, found_at}
 use Rattle.dm_stack.specs.declared.checks.graph.TheConstants.{MOST_DEPTH}
 use Rattle.dm_stack.specs.declared.lines.resolved_line.ResolvedTarget.TheVariants as found
 use Rattle.dm_map.specs.own.Halts.{state_past}
@@ -9,6 +9,7 @@ use Rattle.dm_map.specs.state.Snapshots.{has_place, number_in}
 use Rattle.dm_map.specs.walk.SnapshotWrites.{count_of, first_of, is_refused, read, take_chunk}
 use Rattle.dm_map.specs.state.State.{State, taken_at}
 use Rattle.dm_map.specs.pieces.Units.{Fails}
+use Rattle.std.specs.Prelude.{◌≡◌, ◌⊎◌, ◌+◌, ◌-◌, ◌/◌, ◌<◌, ◌≤◌, ◌∷◌, ◌++◌, if◌then◌else◌}
 
 -- Chunks that are due: a write takes them before it goes on, unless there is nothing left to do for them
 

@@ -1,10 +1,11 @@
 -- Requests of top devices, as all top devices see them.
-use Rattle.dm_map.specs.Base.{ℕ, ◌≤◌, Op, IsTidy, IsTop, Description}
+use Rattle.dm_map.specs.Base.{ℕ, Op, IsTidy, IsTop, Description}
 use Rattle.dm_map.specs.own.Contents.{Values, played, sector_past}
 use Rattle.dm_map.specs.own.Halts.{halted_state, halted_units}
 use Rattle.dm_map.specs.own.Rows.{AreOwn, Rows, first_rows, rows_played}
 use Rattle.dm_map.specs.state.State.{State, start_state}
 use Rattle.dm_map.specs.walk.Mapping.{request_step}
+use Rattle.std.specs.Prelude.{◌≤◌}
 
 -- each top device has its row, or errors, whatever is asked of top devices, where no claims meet: at the start, after a request, and after the first units of one, of which no more sectors are whole than it has
 pub record AreAlone (V : Type 0) (stack : Description) : Type 0 where

@@ -1,9 +1,10 @@
 -- What each device would have if it were alone on a disk of its own: a row that only its own writes change.
-use Rattle.dm_map.specs.Base.{ℕ, List, [], ◌∷◌, Option, Some, Device, IsTop, Description}
+use Rattle.dm_map.specs.Base.{ℕ, List, [], Option, Some, Device, IsTop, Description}
 use Rattle.dm_map.specs.own.Contents.{Values, Stays, content, sector_after, stored}
 use Rattle.dm_map.specs.state.Fitting.{IsFitting}
 use Rattle.dm_map.specs.state.State.{State, start_state}
 use Rattle.dm_map.specs.pieces.Units.{BlockUnit, WriteOf}
+use Rattle.std.specs.Prelude.{◌∷◌}
 
 -- what each sector of each device has, none where that is an error
 abbrev pub Rows : Type 0 → Type 0

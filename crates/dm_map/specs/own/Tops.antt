@@ -1,5 +1,5 @@
 -- A write of a sector of a top device, as all top devices see it.
-use Rattle.dm_map.specs.Base.{◌≡◌, ℕ, true, false, List, [], ◌∷◌, ◌++◌, AllByRecursion, Lower, Device, IsTop, Description}
+use Rattle.dm_map.specs.Base.{ℕ, true, false, List, [], AllByRecursion, Lower, Device, IsTop, Description}
 use Rattle.dm_stack.specs.declared.checks.graph.TheConstants.{MOST_DEPTH}
 use Rattle.dm_map.specs.own.Contents.{Values, Stays, answers, content, played}
 use Rattle.dm_map.specs.state.Fitting.{IsFitting}
@@ -8,6 +8,7 @@ use Rattle.dm_map.specs.walk.SnapshotWrites.{read}
 use Rattle.dm_map.specs.state.State.{State}
 use Rattle.dm_map.specs.walk.Steps.{Step}
 use Rattle.dm_map.specs.pieces.Units.{BlockUnit, ReadOf, WriteOf}
+use Rattle.std.specs.Prelude.{◌≡◌, ◌∷◌, ◌++◌}
 
 -- the write of a sector, whatever the depth
 abbrev pub write : Description → State → Lower → (sector : ℕ) → Step

@@ -1,7 +1,8 @@
 -- Ways: where the read of a sector passes on its way down to a disk.
-use Rattle.dm_map.specs.Base.{ℕ, ◌≡◌, List, [], ◌∷◌, Lower, Device, Lies, Description}
+use Rattle.dm_map.specs.Base.{ℕ, List, [], Lower, Device, Lies, Description}
 use Rattle.dm_map.specs.walk.Reads.{read_below}
 use Rattle.dm_map.specs.state.State.{State}
+use Rattle.std.specs.Prelude.{◌≡◌, ◌∷◌}
 
 -- a sector of a device or of a disk
 pub record Node : Type 0 where

@@ -1,6 +1,7 @@
 -- What a mapper knows of a sink: what it can take, and what relates two states of it.
-use Rattle.dm_map.specs.Base.{ℕ, ◌≡◌, ◌+◌, ◌≤◌, List, [], ◌++◌, Result, OnOk, OnErr, fault_of, Description}
+use Rattle.dm_map.specs.Base.{ℕ, List, [], Result, OnOk, OnErr, fault_of, Description}
 use Rattle.dm_map.specs.pieces.Units.{BlockUnit}
+use Rattle.std.specs.Prelude.{◌≡◌, ◌+◌, ◌≤◌, ◌++◌}
 
 -- the stack on whose disks the pieces lie, the largest number of sectors that a piece without a disk may have, and how many pieces the sink has failed at so far
 pub record SinkView : Type 0 where

@@ -1,7 +1,8 @@
 -- What becomes of one sector of a request, the units of a piece, and where a piece lies.
-use Rattle.dm_map.specs.Base.{ℕ, zero, suc, ◌+◌, ◌<◌, ◌≤◌, List, [], ◌∷◌, length, Op, Device, Disk, ResolvedTarget, Description, disk_len, Below, Lies, below_plain, LegsView, Piece}
+use Rattle.dm_map.specs.Base.{ℕ, zero, suc, List, [], length, Op, Device, Disk, ResolvedTarget, Description, disk_len, Below, Lies, below_plain, LegsView, Piece}
 use Rattle.dm_table.specs.declared.requests.request.Op.TheVariants as ops
 use Rattle.dm_map.specs.declared.pieces.piece.Piece.TheVariants as pieces
+use Rattle.std.specs.Prelude.{◌+◌, ◌<◌, ◌≤◌, ◌∷◌}
 
 -- the unit of one sector: a read or a write of a sector of a disk, zeros, a write thrown away, an error, a copy of a disk's sector to another, or zeros written to a disk's sector
 pub data BlockUnit : Type 0 where

@@ -1,5 +1,6 @@
 -- What a looker counted while something was done with it.
-use Rattle.dm_map.specs.Base.{ℕ, ◌+◌, ◌-◌, ◌*◌, ◌≤◌, Looking}
+use Rattle.dm_map.specs.Base.{ℕ, Looking}
+use Rattle.std.specs.Prelude.{◌+◌, ◌-◌, ◌*◌, ◌≤◌}
 
 -- the counts of a looker: its searches, and their comparisons of a line's start with a sector
 pub record Counts : Type 0 where

@@ -1,8 +1,9 @@
 -- States that a stack can be in.
-use Rattle.dm_map.specs.Base.{ℕ, ◌≡◌, ◌<◌, ◌≤◌, true, Some, length, ResolvedSnapshot, Description, lower_len, place_count}
+use Rattle.dm_map.specs.Base.{ℕ, true, Some, length, ResolvedSnapshot, Description, lower_len, place_count}
 use Rattle.dm_map.specs.state.Snapshots.{has_place}
 use Rattle.dm_map.specs.state.State.{State, taken_at}
 use Rattle.dm_map.specs.state.Tables.{snapshot_at}
+use Rattle.std.specs.Prelude.{◌≡◌, ◌<◌, ◌≤◌}
 
 -- a list of taken chunks for each device, no longer than the store of a snapshot has places
 pub record IsFitting (stack : Description) (state : State) : Type 0 where

@@ -1,5 +1,6 @@
 -- Nodes of a trie in 32 bits.
-use Rattle.dm_map.specs.Base.{ℕ, ◌-◌, ◌/◌, ◌%◌, ◌^◌, ◌==◌, nat_lt, if◌then◌else◌, Node, Empty, Number, Fork}
+use Rattle.dm_map.specs.Base.{ℕ, nat_lt, Node, Empty, Number, Fork}
+use Rattle.std.specs.Prelude.{◌-◌, ◌/◌, ◌%◌, ◌^◌, ◌==◌, if◌then◌else◌}
 
 -- the node that a word of 32 bits stands for
 abbrev pub node_of : (code : ℕ) → Node

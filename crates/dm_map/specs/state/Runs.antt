@@ -1,7 +1,8 @@
 -- Runs of taken chunks: neighbours that were taken one after the other.
-use Rattle.dm_map.specs.Base.{ℕ, ◌≡◌, ◌<◌, ◌≤◌, ◌+◌, ◌-◌, ◌==◌, Bool, true, not, List, [], ◌∷◌, Option, Some, None, length, if◌then◌else◌, slice_index_or}
+use Rattle.dm_map.specs.Base.{ℕ, Bool, true, not, List, [], Option, Some, None, length, slice_index_or}
 use Rattle.dm_map.specs.declared.state.run_taken.run.Run.{Run}
 use Rattle.dm_map.specs.state.Snapshots.{number_in}
+use Rattle.std.specs.Prelude.{◌≡◌, ◌<◌, ◌≤◌, ◌+◌, ◌-◌, ◌==◌, ◌∷◌, if◌then◌else◌}
 
 -- a chunk begins a run unless it comes right after the chunk before it
 abbrev pub begins : (before : Option ℕ) → ℕ → Bool

@@ -1,6 +1,7 @@
 -- Where a snapshot's sectors are read (the kernel's admin guide, device-mapper/snapshot, and its exception store).
-use Rattle.dm_map.specs.Base.{ℕ, suc, Bool, nat_le, ◌+◌, ◌*◌, ◌/◌, ◌%◌, ◌==◌, List, [], ◌∷◌, Option, Some, None, option_map, if◌then◌else◌, ResolvedSnapshot, Description, lower_len, Below, Lies, IsError, place}
+use Rattle.dm_map.specs.Base.{ℕ, suc, Bool, nat_le, List, [], Option, Some, None, option_map, ResolvedSnapshot, Description, lower_len, Below, Lies, IsError, place}
 use Rattle.dm_map.specs.state.State.{Taken}
+use Rattle.std.specs.Prelude.{◌+◌, ◌*◌, ◌/◌, ◌%◌, ◌==◌, ◌∷◌, if◌then◌else◌}
 
 -- the number of a chunk among those that were taken
 abbrev pub number_in : ℕ → List ℕ → Option ℕ

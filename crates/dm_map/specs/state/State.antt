@@ -1,5 +1,6 @@
 -- The state of a stack: which chunks the store of each snapshot has.
-use Rattle.dm_map.specs.Base.{ℕ, Bool, true, false, List, [], ◌∷◌, ◌++◌, length, replicate, slice_index_or, slice_set, Description}
+use Rattle.dm_map.specs.Base.{ℕ, Bool, true, false, List, [], length, replicate, slice_index_or, slice_set, Description}
+use Rattle.std.specs.Prelude.{◌∷◌, ◌++◌}
 
 -- the chunks that a snapshot's store has, in the order in which they were taken, and whether the snapshot is still valid
 pub record Taken : Type 0 where

@@ -1,8 +1,9 @@
 -- Tables of taken chunks, one for each device of a stack, as a state.
-use Rattle.dm_map.specs.Base.{ℕ, ◌≡◌, ◌+◌, ◌-◌, ◌/◌, Bool, false, List, Option, Some, None, length, map, nat_lt, slice_get, option_and_then, ResolvedOrigin, ResolvedSnapshot, ResolvedTarget, Description, device_len, found_at}
+use Rattle.dm_map.specs.Base.{ℕ, Bool, false, List, Option, Some, None, length, map, nat_lt, slice_get, option_and_then, ResolvedOrigin, ResolvedSnapshot, ResolvedTarget, Description, device_len, found_at}
 use Rattle.dm_stack.specs.declared.lines.resolved_line.ResolvedTarget.TheVariants as found
 use Rattle.dm_map.specs.state.Snapshots.{has_place}
 use Rattle.dm_map.specs.state.State.{State}
+use Rattle.std.specs.Prelude.{◌≡◌, ◌+◌, ◌-◌, ◌/◌}
 
 -- the state that tables have
 abbrev pub state_of : {T : Type 0} → (T → List ℕ) → (T → Bool) → List T → State

@@ -1,8 +1,9 @@
 -- A trie of taken chunks: ways that lead from a table, by the slot of a chunk, over forks that test a bit each, to its number.
-use Rattle.dm_map.specs.Base.{ℕ, zero, suc, ◌≡◌, ◌<◌, ◌≤◌, ◌+◌, ◌*◌, ◌/◌, ◌%◌, ◌^◌, Bool, true, false, List, [], ◌∷◌, if◌then◌else◌, length, nat_eq, nat_le, bit_at, bit_xor, list_any, slice_index_or, Node, Empty, Number, Fork}
+use Rattle.dm_map.specs.Base.{ℕ, zero, suc, Bool, true, false, List, [], length, nat_eq, nat_le, bit_at, bit_xor, list_any, slice_index_or, Node, Empty, Number, Fork}
 use Rattle.std.specs.Int.Bits.{bit_and}
 use Rattle.dm_map.specs.declared.state.trie_taken.slots.Slots.{Slots}
 use Rattle.dm_map.specs.declared.state.trie_taken.slots.TheConstants.{SPREAD}
+use Rattle.std.specs.Prelude.{◌≡◌, ◌<◌, ◌≤◌, ◌+◌, ◌*◌, ◌/◌, ◌%◌, ◌^◌, ◌∷◌, if◌then◌else◌}
 
 -- the node with this index: an empty one where there is none
 abbrev pub node_at : List Node → (at : ℕ) → Node

@@ -1,5 +1,5 @@
 -- How sectors are mapped, and a bound on the searches of a read, by the stretches of what is read.
-use Rattle.dm_map.specs.Base.{ℕ, ◌≡◌, ◌+◌, ◌-◌, ◌*◌, ◌≤◌, List, [], ◌∷◌, Result, Op, Read, ResolvedOrigin, ResolvedTarget, Lower, Device, below_target, chunk_at, lower_depth, Description, IsSound, depth_of}
+use Rattle.dm_map.specs.Base.{ℕ, List, [], Result, Op, Read, ResolvedOrigin, ResolvedTarget, Lower, Device, below_target, chunk_at, lower_depth, Description, IsSound, depth_of}
 use Rattle.dm_map.specs.pieces.Sink.{SinkPast}
 use Rattle.dm_map.specs.state.Snapshots.{read_over}
 use Rattle.dm_map.specs.state.State.{State, taken_at}
@@ -9,6 +9,7 @@ use Rattle.dm_map.specs.walk.Path.{PathStep, path, stretches}
 use Rattle.dm_map.specs.walk.Range.{IsWalked, served_sector, target_step}
 use Rattle.dm_map.specs.walk.Reads.{by_below}
 use Rattle.dm_map.specs.walk.Steps.{Step, steps}
+use Rattle.std.specs.Prelude.{◌≡◌, ◌+◌, ◌-◌, ◌*◌, ◌≤◌, ◌∷◌}
 
 -- how sectors are mapped: for which operation, by which step and along which path each of them, over how many levels of devices at most, and how many searches were made before
 pub record Mapping : Type 0 where

@@ -1,11 +1,12 @@
 -- Sectors of one chunk of a snapshot, where they are read, and where they lie once it is taken.
-use Rattle.dm_map.specs.Base.{ℕ, ◌≡◌, ◌+◌, ◌%◌, ◌<◌, ◌≤◌, true, Some, ResolvedSnapshot, Description, device_len, lower_len, Lies, IsSnapshotSound, HomeStretch}
+use Rattle.dm_map.specs.Base.{ℕ, true, Some, ResolvedSnapshot, Description, device_len, lower_len, Lies, IsSnapshotSound, HomeStretch}
 use Rattle.dm_map.specs.declared.walk.chunk.ReadAt.{ReadAt}
 use Rattle.dm_map.specs.state.Snapshots.{has_place, number_in, read_over, store_sector}
 use Rattle.dm_map.specs.state.State.{State, taken_at}
 use Rattle.dm_map.specs.state.Tables.{snapshot_at}
 use Rattle.dm_map.specs.walk.Homes.{IsFirstHomes}
 use Rattle.dm_map.specs.walk.SnapshotWrites.{count_of, first_of}
+use Rattle.std.specs.Prelude.{◌≡◌, ◌+◌, ◌%◌, ◌<◌, ◌≤◌}
 
 -- a device is this snapshot, and has len sectors from this one on
 pub record AreInSnapshot (stack : Description) (device : ℕ) (snapshot : ResolvedSnapshot) (sector len : ℕ) : Type 0 where

@@ -1,8 +1,9 @@
 -- Where all sectors of a request lie, if they lie in a row on a disk: then they are not handed over, and this is returned.
-use Rattle.dm_map.specs.Base.{ℕ, ◌≡◌, List, Option, None, Some, Result, Ok, Err, Op, Description}
+use Rattle.dm_map.specs.Base.{ℕ, List, Option, None, Some, Result, Ok, Err, Op, Description}
 use Rattle.dm_map.specs.declared.walk.home.Home.{Home}
 use Rattle.dm_map.specs.pieces.Sink.{SinkPast}
 use Rattle.dm_map.specs.pieces.Units.{BlockUnit, IsOnDisk, disk_unit, units_in}
+use Rattle.std.specs.Prelude.{◌≡◌}
 
 -- units are those of len sectors of a disk from its home on, and the disk has these sectors
 pub record IsHome (stack : Description) (op : Op) (len : ℕ) (home : Home) (of : List BlockUnit) : Type 0 where

@@ -1,8 +1,9 @@
 -- Where a sector of a store lies on a disk.
-use Rattle.dm_map.specs.Base.{◌≡◌, ℕ, zero, suc, ◌+◌, ◌<◌, ◌≤◌, length, Lower, Device, Disk, IsError, below, Description, depth_of, HomeStretch}
+use Rattle.dm_map.specs.Base.{ℕ, zero, suc, length, Lower, Device, Disk, IsError, below, Description, depth_of, HomeStretch}
 use Rattle.dm_stack.specs.declared.checks.graph.TheConstants.{MOST_DEPTH}
 use Rattle.dm_map.specs.walk.Reads.{by_below}
 use Rattle.dm_map.specs.pieces.Units.{IsOnDisk}
+use Rattle.std.specs.Prelude.{◌≡◌, ◌+◌, ◌<◌, ◌≤◌}
 
 -- a sector of a disk
 pub record Home : Type 0 where

@@ -1,5 +1,5 @@
 -- What becomes of each sector of a request (the kernel's admin guide, device-mapper/linear, striped, zero and snapshot).
-use Rattle.dm_map.specs.Base.{ℕ, zero, suc, ◌+◌, ◌-◌, ◌≡◌, ◌≤◌, ◌<◌, [], ◌∷◌, Option, Some, None, length, nat_lt, replicate, if◌then◌else◌, Op, Request, Lower, Device, Disk, ResolvedLine, ResolvedTarget, Description, device_len, is_ro_at, below_plain, found_at, depth_of}
+use Rattle.dm_map.specs.Base.{ℕ, zero, suc, [], Option, Some, None, length, nat_lt, replicate, Op, Request, Lower, Device, Disk, ResolvedLine, ResolvedTarget, Description, device_len, is_ro_at, below_plain, found_at, depth_of}
 use Rattle.dm_table.specs.declared.requests.request.Op.TheVariants as ops
 use Rattle.dm_stack.specs.declared.lines.resolved_line.ResolvedTarget.TheVariants as found
 use Rattle.dm_stack.specs.declared.checks.graph.TheConstants.{MOST_DEPTH}
@@ -9,6 +9,7 @@ use Rattle.dm_map.specs.walk.SnapshotWrites.{write_snapshot}
 use Rattle.dm_map.specs.state.State.{State}
 use Rattle.dm_map.specs.walk.Steps.{Step, keep, steps}
 use Rattle.dm_map.specs.pieces.Units.{WriteOf, Drops, Fails}
+use Rattle.std.specs.Prelude.{◌+◌, ◌-◌, ◌≡◌, ◌≤◌, ◌<◌, ◌∷◌, if◌then◌else◌}
 
 -- the write of a sector at a distance from the start of a line of this target, by that of a lower one: zeros throw it away, and the snapshots of an origin are served first
 abbrev pub write_target : Description → State → (device : ℕ) → ResolvedTarget → (distance : ℕ) → (Lower → State → ℕ → Step) → Step

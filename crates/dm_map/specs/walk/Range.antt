@@ -1,5 +1,5 @@
 -- What a walk down a stack hands over: the steps of ranges and of lines.
-use Rattle.dm_map.specs.Base.{ℕ, ◌≡◌, ◌+◌, ◌≤◌, Bool, false, [], ◌∷◌, Result, OnOk, OnErr, Op, Lower, ResolvedLine, ResolvedOrigin, ResolvedSnapshot, ResolvedTarget, fault_of, Description, is_ro_at, lower_len, Below, below_target, IsLine, IsLineOf, AreInside, IsBeneath, snapshots_over}
+use Rattle.dm_map.specs.Base.{ℕ, Bool, false, [], Result, OnOk, OnErr, Op, Lower, ResolvedLine, ResolvedOrigin, ResolvedSnapshot, ResolvedTarget, fault_of, Description, is_ro_at, lower_len, Below, below_target, IsLine, IsLineOf, AreInside, IsBeneath, snapshots_over}
 use Rattle.dm_stack.specs.declared.lines.leg.Leg.{Leg}
 use Rattle.dm_table.specs.declared.requests.request.Op.TheVariants as ops
 use Rattle.dm_stack.specs.declared.checks.limits.TheConstants.{MOST_LENGTH}
@@ -15,6 +15,7 @@ use Rattle.dm_map.specs.walk.Steps.{Step, keep, steps}
 use Rattle.dm_map.specs.state.Walker.{WalkerView}
 use Rattle.dm_map.specs.pieces.Units.{BlockUnit, Zeros, Drops, Fails}
 use Rattle.dm_map.specs.walk.Mapping.{write_step, write_target, sector_step}
+use Rattle.std.specs.Prelude.{◌≡◌, ◌+◌, ◌≤◌, ◌∷◌}
 
 -- what becomes of a sector of a zero target
 abbrev pub zero_unit : Op → BlockUnit

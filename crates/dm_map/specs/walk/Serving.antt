@@ -1,9 +1,10 @@
 -- What a write of an origin's sector does before it: the chunk of that sector is taken in each of its snapshots (the kernel's admin guide, device-mapper/snapshot).
-use Rattle.dm_map.specs.Base.{◌≡◌, ℕ, ◌/◌, ◌<◌, ◌≤◌, true, List, [], ◌∷◌, Some, AllByRecursion, ResolvedOver, Description, device_len}
+use Rattle.dm_map.specs.Base.{ℕ, true, List, [], Some, AllByRecursion, ResolvedOver, Description, device_len}
 use Rattle.dm_map.specs.walk.SnapshotWrites.{is_settled, take_chunk}
 use Rattle.dm_map.specs.state.State.{State, taken_at}
 use Rattle.dm_map.specs.walk.Steps.{Step, keep, and_then}
 use Rattle.dm_map.specs.state.Tables.{snapshot_at}
+use Rattle.std.specs.Prelude.{◌≡◌, ◌/◌, ◌<◌, ◌≤◌, ◌∷◌}
 
 -- the chunk of a sector is taken in each of these snapshots, in their order
 unfoldable pub serve : Description → List ResolvedOver → (sector : ℕ) → State → Step

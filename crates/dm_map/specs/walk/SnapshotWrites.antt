@@ -1,5 +1,5 @@
 -- What a write of a snapshot's sector does (the kernel's admin guide, device-mapper/snapshot): its chunk is taken, and then the sector is written.
-use Rattle.dm_map.specs.Base.{ℕ, zero, suc, ◌-◌, ◌*◌, ◌/◌, Bool, true, false, ◌&&◌, ◌||◌, not, List, [], ◌∷◌, length, Option, Some, None, is_some, min, if◌then◌else◌, Lower, ResolvedSnapshot, Description, device_len}
+use Rattle.dm_map.specs.Base.{ℕ, zero, suc, Bool, true, false, not, List, [], length, Option, Some, None, is_some, min, Lower, ResolvedSnapshot, Description, device_len}
 use Rattle.dm_table.specs.declared.tables.table.StoreKind.{StoreKind}
 use Rattle.dm_table.specs.declared.tables.table.StoreKind.TheVariants.{Keeping}
 use Rattle.dm_stack.specs.declared.checks.graph.TheConstants.{MOST_DEPTH}
@@ -9,6 +9,7 @@ use Rattle.dm_map.specs.state.Snapshots.{has_place, number_in, store_sector}
 use Rattle.dm_map.specs.state.State.{Taken, State, lost, put, taken_at, with_chunk}
 use Rattle.dm_map.specs.walk.Steps.{Step, keep, and_then}
 use Rattle.dm_map.specs.pieces.Units.{BlockUnit, ReadOf, WriteOf, Fails, CopyOf, FillOf}
+use Rattle.std.specs.Prelude.{◌-◌, ◌*◌, ◌/◌, ◌&&◌, ◌||◌, ◌∷◌, if◌then◌else◌}
 
 -- The sectors of a chunk, as far as the snapshot goes
 

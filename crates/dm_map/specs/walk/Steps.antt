@@ -1,7 +1,8 @@
 -- Steps: units, and the state after them.
-use Rattle.dm_map.specs.Base.{ℕ, zero, suc, List, [], ◌++◌}
+use Rattle.dm_map.specs.Base.{ℕ, zero, suc, List, []}
 use Rattle.dm_map.specs.state.State.{State}
 use Rattle.dm_map.specs.pieces.Units.{BlockUnit}
+use Rattle.std.specs.Prelude.{◌++◌}
 
 -- what becomes of a sector or of some in a row, and the state after it
 pub record Step : Type 0 where

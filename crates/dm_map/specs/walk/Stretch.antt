@@ -1,5 +1,5 @@
 -- What a stretch is read from.
-use Rattle.dm_map.specs.Base.{ℕ, ◌≡◌, ◌+◌, ◌<◌, ◌≤◌, Read, Lower, Description}
+use Rattle.dm_map.specs.Base.{ℕ, Read, Lower, Description}
 use Rattle.dm_stack.specs.declared.checks.limits.TheConstants.{MOST_LENGTH}
 use Rattle.dm_map.specs.declared.walk.stretch.Ground.{Ground}
 use Rattle.dm_map.specs.declared.walk.stretch.Ground.TheVariants as grounds
@@ -11,6 +11,7 @@ use Rattle.dm_map.specs.pieces.Units.{BlockUnit, ReadOf, Zeros, Fails, IsOnDisk,
 use Rattle.dm_map.specs.state.State.{State}
 use Rattle.dm_map.specs.state.Walker.{WalkerView, stack_state}
 use Rattle.dm_map.specs.walk.Range.{range_step}
+use Rattle.std.specs.Prelude.{◌≡◌, ◌+◌, ◌<◌, ◌≤◌}
 
 -- what the first sector of a stretch reads
 abbrev pub ground_unit : Ground → BlockUnit

@@ -1,6 +1,7 @@
 //! Laws of what units make of disks, for values of any type.
 
-ghost use Rattle.dm_map.specs.Prelude.{ℕ, ◌≡◌, ◌++◌, List, false, AllByRecursion, Values, answers, played, BlockUnit};
+ghost use Rattle.dm_map.specs.Prelude.{ℕ, List, false, AllByRecursion, Values, answers, played, BlockUnit};
+ghost use Rattle.std.specs.Prelude.{◌≡◌, ◌++◌};
 
 /// Copies and fills before other units are played first, from values that count sector by sector
 /// alone. It does nothing: its contract is the law.

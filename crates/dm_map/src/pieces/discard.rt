@@ -11,7 +11,7 @@ pub struct Discard<'s> {
 }
 
 impl Sink for Discard<'_> {
-    ghost use Rattle.dm_map.specs.Base.{◌^◌};
+    ghost use Rattle.std.specs.Prelude.{◌^◌};
 
     type Fault = ();
 

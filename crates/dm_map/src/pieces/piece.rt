@@ -4,7 +4,8 @@
 //! kind of piece is a variant here, with arms of `len` and `with_len`, and an arm of each function in
 //! `specs/pieces/Units.antt`.
 
-ghost use Rattle.dm_map.specs.Prelude.{◌≡◌, Description, disk_unit, diskless_len, first_unit, piece_len, units_in, units_of, IsOnDisk, IsOnDisks};
+ghost use Rattle.dm_map.specs.Prelude.{Description, disk_unit, diskless_len, first_unit, piece_len, units_in, units_of, IsOnDisk, IsOnDisks};
+ghost use Rattle.std.specs.Prelude.{◌≡◌};
 
 use dm_stack::DiskId;
 use dm_table::Op;

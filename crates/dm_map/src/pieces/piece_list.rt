@@ -3,7 +3,8 @@
 //! For callers that want all pieces at once, as tests do. It joins nothing, so its pieces are
 //! exactly those that it was given; its relations are the plainest that a sink can have.
 
-ghost use Rattle.dm_map.specs.Prelude.{◌≡◌, []};
+ghost use Rattle.dm_map.specs.Prelude.{[]};
+ghost use Rattle.std.specs.Prelude.{◌≡◌};
 
 use crate::pieces::piece::Piece;
 use crate::pieces::sink::Sink;
@@ -52,10 +53,10 @@ impl<'s> PieceList<'s> {
 }
 
 impl Sink for PieceList<'_> {
-    ghost use Rattle.dm_map.specs.Base.{◌^◌};
     ghost use Rattle.dm_map.specs.pieces.PieceList.{Appends};
     ghost use Rattle.dm_map.specs.pieces.Sink.{OfBeginning};
     ghost use Rattle.dm_map.specs.laws.PieceLists.{appends_nothing, appends_both, appends_beginning};
+    ghost use Rattle.std.specs.Prelude.{◌^◌};
 
     type Fault = AllocError;
 

@@ -3,7 +3,8 @@
 //! A mapper hands over its pieces one by one and keeps none, so requests take no memory. A sink may
 //! join pieces as it likes: its relations speak of units, which are the same however they are cut.
 
-ghost use Rattle.dm_map.specs.Prelude.{◌≤◌, AreOnDisks, AreHanded, IsHanded, IsLawful, SinkPast, legs_units, units_of, piece_len, diskless_len, IsOnDisks};
+ghost use Rattle.dm_map.specs.Prelude.{AreOnDisks, AreHanded, IsHanded, IsLawful, SinkPast, legs_units, units_of, piece_len, diskless_len, IsOnDisks};
+ghost use Rattle.std.specs.Prelude.{◌≤◌};
 
 use crate::pieces::piece::{Piece, disk_piece};
 use dm_stack::Legs;

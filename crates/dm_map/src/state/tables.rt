@@ -2,7 +2,8 @@
 //!
 //! All memory for taken chunks is reserved here, before the first request.
 
-ghost use Rattle.dm_map.specs.Prelude.{◌≡◌, ℕ, ◌+◌, ◌<◌, ◌≤◌, length, nat_lt, replicate, IfOk, IfSome, All, snapshots, none_taken, start_state, AreTables, has_room, snapshot_at, state_of, device_chunks};
+ghost use Rattle.dm_map.specs.Prelude.{ℕ, length, nat_lt, replicate, IfOk, IfSome, All, snapshots, none_taken, start_state, AreTables, has_room, snapshot_at, state_of, device_chunks};
+ghost use Rattle.std.specs.Prelude.{◌≡◌, ◌+◌, ◌<◌, ◌≤◌};
 
 use crate::state::taken::Taken;
 use crate::state::walker::lower_len;

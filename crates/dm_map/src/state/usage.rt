@@ -1,6 +1,7 @@
 //! Usage: how much of a snapshot's store is used.
 
-ghost use Rattle.dm_map.specs.Prelude.{◌≡◌, ◌+◌, ◌<◌, ◌≤◌, ◌^◌, IfSome, IsSnapshot, allocated, metadata, AreAdded, taken_at, snapshot_at, usage_of, stack_state};
+ghost use Rattle.dm_map.specs.Prelude.{IfSome, IsSnapshot, allocated, metadata, AreAdded, taken_at, snapshot_at, usage_of, stack_state};
+ghost use Rattle.std.specs.Prelude.{◌≡◌, ◌+◌, ◌<◌, ◌≤◌, ◌^◌};
 
 use crate::state::taken::Taken;
 use crate::state::walker::Walker;

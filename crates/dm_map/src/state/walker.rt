@@ -4,8 +4,9 @@
 //! that earlier requests left. The state is a table of taken chunks for each device, by its id; the
 //! table of a device that is no snapshot has no place and stays empty.
 
-ghost use Rattle.dm_map.specs.Prelude.{◌≡◌, ℕ, ◌+◌, ◌<◌, ◌≤◌, true, not, None, Some, IfSome, is_none, length, if◌then◌else◌, IsLineOf, device_len, is_ro_at, lower_len, IsSound, counts_of, AreAdded, IsFitting, IsWithinPlaces, lost, put, with_chunk, taken_at, number_in, AreTables, has_room, state_of, stack_state};
+ghost use Rattle.dm_map.specs.Prelude.{ℕ, true, not, None, Some, IfSome, is_none, length, IsLineOf, device_len, is_ro_at, lower_len, IsSound, counts_of, AreAdded, IsFitting, IsWithinPlaces, lost, put, with_chunk, taken_at, number_in, AreTables, has_room, state_of, stack_state};
 ghost use Rattle.dm_stack.specs.declared.checks.limits.TheConstants.{MOST_LENGTH};
+ghost use Rattle.std.specs.Prelude.{◌≡◌, ◌+◌, ◌<◌, ◌≤◌, if◌then◌else◌};
 
 use crate::state::taken::Taken;
 use dm_stack::{DeviceId, Found, Looker, Lower};

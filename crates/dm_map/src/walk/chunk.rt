@@ -1,7 +1,8 @@
 //! Chunks of a snapshot: how a range is cut at them, and where their sectors are read.
 
-ghost use Rattle.dm_map.specs.Prelude.{◌≡◌, ◌↔◌, ◌+◌, ◌-◌, ◌*◌, ◌%◌, ◌<◌, ◌≤◌, false, true, length, min, IfNone, IfSome, place, store_sector, taken_at, AreInChunk, AreReadAt};
+ghost use Rattle.dm_map.specs.Prelude.{false, true, length, min, IfNone, IfSome, place, store_sector, taken_at, AreInChunk, AreReadAt};
 ghost use Rattle.dm_stack.specs.declared.checks.limits.TheConstants.{MOST_LENGTH};
+ghost use Rattle.std.specs.Prelude.{◌≡◌, ◌↔◌, ◌+◌, ◌-◌, ◌*◌, ◌%◌, ◌<◌, ◌≤◌};
 
 use crate::state::taken::Taken;
 use crate::state::walker::Walker;

@@ -6,8 +6,9 @@
 //! lies on one disk is returned and written at once*. It rests on `ResolvedTarget::leg`, as the walk does: a line on a
 //! disk has one leg. Change it only if you measure small requests, and first writes, before and after.
 
-ghost use Rattle.dm_map.specs.Prelude.{◌≡◌, ◌+◌, ◌-◌, ◌≤◌, IfSome, Disk, IsLineOf, handed, IsLegOf};
+ghost use Rattle.dm_map.specs.Prelude.{IfSome, Disk, IsLineOf, handed, IsLegOf};
 ghost use Rattle.dm_stack.specs.declared.lines.leg.Beneath.TheVariants.{Lies};
+ghost use Rattle.std.specs.Prelude.{◌≡◌, ◌+◌, ◌-◌, ◌≤◌};
 
 use crate::state::taken::Taken;
 use crate::state::walker::Walker;

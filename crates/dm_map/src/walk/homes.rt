@@ -2,7 +2,8 @@
 //!
 //! A store is linear and striped lines alone, down to disks, so its sectors have a home whatever the state is.
 
-ghost use Rattle.dm_map.specs.Prelude.{◌≡◌, ◌+◌, ◌≤◌, lower_len, IsStore, AreAdded, stack_state, IsFirstHomes};
+ghost use Rattle.dm_map.specs.Prelude.{lower_len, IsStore, AreAdded, stack_state, IsFirstHomes};
+ghost use Rattle.std.specs.Prelude.{◌≡◌, ◌+◌, ◌≤◌};
 
 use crate::state::taken::Taken;
 use crate::state::walker::Walker;

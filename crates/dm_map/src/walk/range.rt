@@ -8,9 +8,10 @@
 //! over, which state it leaves, and, of a read, how often it searches: at most once a level for each
 //! stretch of sectors with one path (`specs/walk/Path`).
 
-ghost use Rattle.dm_map.specs.Prelude.{◌≡◌, ◌+◌, ◌<◌, ◌≤◌, true, length, Read, Write, Device, is_striped, IsLine, Description, found_mapping, origin_mapping, range_mapping, target_mapping, IsMapped, diskless_len, piece_len, units_in, units_of, Fails, IsOnDisks, or_home, zero_unit, refuses, AreAsked, AreAskedOfOrigin, AreAskedOfSnapshot, IsHanded, HasRoomFor, IsAtLine, IsLegOf};
+ghost use Rattle.dm_map.specs.Prelude.{true, length, Read, Write, Device, is_striped, IsLine, Description, found_mapping, origin_mapping, range_mapping, target_mapping, IsMapped, diskless_len, piece_len, units_in, units_of, Fails, IsOnDisks, or_home, zero_unit, refuses, AreAsked, AreAskedOfOrigin, AreAskedOfSnapshot, IsHanded, HasRoomFor, IsAtLine, IsLegOf};
 ghost use Rattle.dm_stack.specs.declared.lines.resolved_line.ResolvedTarget.TheVariants.{Snapshot};
 ghost use Rattle.dm_stack.specs.declared.checks.graph.TheConstants.{MOST_DEPTH};
+ghost use Rattle.std.specs.Prelude.{◌≡◌, ◌+◌, ◌<◌, ◌≤◌};
 
 use crate::pieces::piece::{Piece, disk_piece};
 use crate::pieces::sink::Sink;

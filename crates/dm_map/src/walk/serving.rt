@@ -4,8 +4,9 @@
 //! Then as many sectors are written as need no more of it: a range is cut where a snapshot has
 //! something left to do, and not wherever a chunk ends.
 
-ghost use Rattle.dm_map.specs.Prelude.{◌≡◌, ◌+◌, ◌/◌, ◌≤◌, OnOk, true, All, serve, AreSettled, IsLongest, IsOver, is_settled, taken_at, HasRoomFor, IsWalked};
+ghost use Rattle.dm_map.specs.Prelude.{OnOk, true, All, serve, AreSettled, IsLongest, IsOver, is_settled, taken_at, HasRoomFor, IsWalked};
 ghost use Rattle.dm_stack.specs.declared.checks.limits.TheConstants.{MOST_LENGTH};
+ghost use Rattle.std.specs.Prelude.{◌≡◌, ◌+◌, ◌/◌, ◌≤◌};
 
 use crate::pieces::sink::Sink;
 use crate::state::taken::Taken;

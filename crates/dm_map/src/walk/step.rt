@@ -2,7 +2,8 @@
 //!
 //! The walk and the search for a stretch go by the same steps, so neither needs the other.
 
-ghost use Rattle.dm_map.specs.Prelude.{◌≡◌, ◌-◌, ◌<◌, min};
+ghost use Rattle.dm_map.specs.Prelude.{min};
+ghost use Rattle.std.specs.Prelude.{◌≡◌, ◌-◌, ◌<◌};
 
 use dm_stack::ResolvedLine;
 

@@ -4,7 +4,8 @@
 //! no sink and no loop over sectors, at the cost of one look-up for each level. It serves copies, which
 //! need the origin's side and the store's side at once.
 
-ghost use Rattle.dm_map.specs.Prelude.{◌≡◌, ◌+◌, ◌≤◌, Read, IsLine, lower_len, Device, AreAdded, stack_state, IsFirst, IsFirstOf, IsFirstRead, IsGroundNear, line_step};
+ghost use Rattle.dm_map.specs.Prelude.{Read, IsLine, lower_len, Device, AreAdded, stack_state, IsFirst, IsFirstOf, IsFirstRead, IsGroundNear, line_step};
+ghost use Rattle.std.specs.Prelude.{◌≡◌, ◌+◌, ◌≤◌};
 
 use crate::state::taken::Taken;
 use crate::state::walker::Walker;

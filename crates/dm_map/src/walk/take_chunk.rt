@@ -7,9 +7,10 @@
 //! store's sectors lie do not depend on the depth at which the snapshot was reached, so each is looked
 //! up through all levels.
 
-ghost use Rattle.dm_map.specs.Prelude.{◌≡◌, ◌≢◌, ◌+◌, ◌*◌, ◌%◌, ◌<◌, ◌≤◌, Some, IfNone, IfOk, IfSome, is_some, length, false, true, Description, lower_len, IsStore, AreAdded, IsFirstHomes, AreInSnapshot, IsTakenAs, can_take, copies, copy_to, first_of, is_settled, reads_all, take_chunk, has_place, store_sector, taken_at, keep, ground_unit, IsFirstOf, IsGroundInStack, diskless_len, piece_len, units_in, units_of, IsOnDisk, IsOnDisks, stack_state, HasRoomFor, IsWalked};
+ghost use Rattle.dm_map.specs.Prelude.{Some, IfNone, IfOk, IfSome, is_some, length, false, true, Description, lower_len, IsStore, AreAdded, IsFirstHomes, AreInSnapshot, IsTakenAs, can_take, copies, copy_to, first_of, is_settled, reads_all, take_chunk, has_place, store_sector, taken_at, keep, ground_unit, IsFirstOf, IsGroundInStack, diskless_len, piece_len, units_in, units_of, IsOnDisk, IsOnDisks, stack_state, HasRoomFor, IsWalked};
 ghost use Rattle.dm_stack.specs.declared.checks.graph.TheConstants.{MOST_DEPTH};
 ghost use Rattle.dm_map.specs.declared.walk.stretch.Ground.TheVariants.{Fails};
+ghost use Rattle.std.specs.Prelude.{◌≡◌, ◌≢◌, ◌+◌, ◌*◌, ◌%◌, ◌<◌, ◌≤◌};
 
 use crate::pieces::piece::Piece;
 use crate::pieces::sink::Sink;

@@ -3,7 +3,8 @@
 //! Both are proved to be what the definitions say; these rows show that they also cut alike, so a
 //! copy goes on as long as a read does, but for chunks of a snapshot that are read in a row.
 
-ghost use Rattle.dm_map.specs.Prelude.{◌≡◌, ◌+◌, ◌≤◌, lower_len};
+ghost use Rattle.dm_map.specs.Prelude.{lower_len};
+ghost use Rattle.std.specs.Prelude.{◌≡◌, ◌+◌, ◌≤◌};
 
 use crate::fixtures::stack_of;
 use crate::mapper::Mapper;

@@ -4,7 +4,8 @@
 //! The number under which a chunk was taken says where its sectors are in the store. Where a new chunk lies
 //! on a disk is known from its copies, so that it is not looked up again for the write.
 
-ghost use Rattle.dm_map.specs.Prelude.{◌≡◌, ◌+◌, ◌/◌, ◌<◌, ◌≤◌, ◌&&◌, true, None, Some, length, not, lower_len, IsStore, has_place, number_in, taken_at, snapshot_at, AreAskedOfChunk, AreAskedOfSnapshot, HasRoomFor, IsSnapshotWritten, IsWalked, is_keeping, store_writes, keep};
+ghost use Rattle.dm_map.specs.Prelude.{true, None, Some, length, not, lower_len, IsStore, has_place, number_in, taken_at, snapshot_at, AreAskedOfChunk, AreAskedOfSnapshot, HasRoomFor, IsSnapshotWritten, IsWalked, is_keeping, store_writes, keep};
+ghost use Rattle.std.specs.Prelude.{◌≡◌, ◌+◌, ◌/◌, ◌<◌, ◌≤◌, ◌&&◌};
 
 use crate::pieces::piece::Piece;
 use crate::pieces::sink::Sink;

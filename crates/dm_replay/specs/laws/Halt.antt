@@ -1,5 +1,5 @@
 -- The laws of a sink, for a halting player. They are here because its impl cites them.
-use Rattle.dm_replay.specs.Base.{◌≡◌, ℕ, ◌+◌, List, [], ◌++◌, length, take, refl, sym, ap, subst, ◌∙◌, length-append, Description, BlockUnit}
+use Rattle.dm_replay.specs.Base.{ℕ, List, [], length, take, refl, sym, ap, subst, ◌∙◌, length-append, Description, BlockUnit}
 use Rattle.std.proofs.Common.{arith}
 use Rattle.std.proofs.Math.Seq.{take-append-add}
 use Rattle.dm_replay.specs.declared.halting.Halting.{Halting}
@@ -8,6 +8,7 @@ use Rattle.dm_replay.specs.laws.OfDisks.{units_of-append}
 use Rattle.dm_replay.specs.OfDisks.{AreUnitsOf}
 use Rattle.dm_replay.specs.laws.Play.{played_both, played_nothing}
 use Rattle.dm_replay.specs.Player.{HasPlayed}
+use Rattle.std.specs.Prelude.{◌≡◌, ◌+◌, ◌++◌}
 
 pub taken_nothing : (a : Halting) → HasTaken a [] a
 taken_nothing a = record {

@@ -1,5 +1,5 @@
 -- Laws of play: in parts, and on values that are the same. They are here because a sink's impl cites them.
-use Rattle.dm_replay.specs.Base.{◌≡◌, ℕ, List, [], ◌∷◌, ◌++◌, append_assoc, refl, sym, ap, ◌∙◌, append-nil, sector_after, sector_past, BlockUnit, ReadOf, past-append, unit_cong, Value}
+use Rattle.dm_replay.specs.Base.{ℕ, List, [], append_assoc, refl, sym, ap, ◌∙◌, append-nil, sector_after, sector_past, BlockUnit, ReadOf, past-append, unit_cong, Value}
 use Rattle.dm_map.specs.own.Contents.{played as contents_played}
 use Rattle.dm_map.specs.laws.Contents.{played_cong as values_cong}
 use Rattle.dm_replay.specs.declared.playing.Playing.{Playing}
@@ -8,6 +8,7 @@ use Rattle.dm_replay.specs.Stored.{values_of}
 use Rattle.dm_replay.specs.Player.{HasPlayed}
 use Rattle.dm_replay.specs.Runs.{flat}
 use Rattle.dm_replay.specs.Values.{Answer, Gives, Values, played_unit, unit_answers, played, played_answers}
+use Rattle.std.specs.Prelude.{◌≡◌, ◌∷◌, ◌++◌}
 
 -- values that are the same, sector by sector
 abbrev pub AreSame : Values → Values → Type 0

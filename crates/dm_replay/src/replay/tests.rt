@@ -3,7 +3,8 @@
 //! More rows of what is answered are tested on the built program (`tests/outside`). The answers were
 //! worked out sector by sector, by a plain program over the rules.
 
-ghost use Rattle.dm_replay.specs.Prelude.{◌≡◌, start_state};
+ghost use Rattle.dm_replay.specs.Prelude.{start_state};
+ghost use Rattle.std.specs.Prelude.{◌≡◌};
 
 use super::*;
 use crate::run_text::write_runs;

@@ -1,8 +1,9 @@
 -- What one walk over the lines notes is what each check finds first.
-use Rattle.dm_stack.proofs.Prelude.{◌≡◌, ℕ, ◌+◌, ◌==◌, Bool, true, false, cond, not, List, [], ◌∷◌, ◌++◌, Option, Some, None, arith, refl, ap, ◌∙◌, length, nat_lt, ne_eqb, flat_map, DeviceSpec, Line, LoadFault, LoadKind, Empty, Gap, Overlap, Unknown, Stripe, Range, Snapshot, either, fault, faults_by, first_or, Description, bad_snapshots_in, empty_in, has_bad_stripes, is_bad_snapshot, is_unknown, misplaced_in, without_lines, AreFirst, no_bad_lines, noted_device, noted_devices, noted_line, noted_lines, or_bad, passes_end}
+use Rattle.dm_stack.proofs.Prelude.{ℕ, Bool, true, false, cond, not, List, [], Option, Some, None, arith, refl, ap, ◌∙◌, length, nat_lt, ne_eqb, flat_map, DeviceSpec, Line, LoadFault, LoadKind, Empty, Gap, Overlap, Unknown, Stripe, Range, Snapshot, either, fault, faults_by, first_or, Description, bad_snapshots_in, empty_in, has_bad_stripes, is_bad_snapshot, is_unknown, misplaced_in, without_lines, AreFirst, no_bad_lines, noted_device, noted_devices, noted_line, noted_lines, or_bad, passes_end}
 use Rattle.dm_stack.specs.declared.checks.lines.BadLines.{BadLines}
 use Rattle.dm_stack.proofs.checks.LayoutLemmas.{misplaced_from, misplaced_rows}
 use Rattle.dm_stack.proofs.checks.PlacedLemmas.{first_devices}
+use Rattle.std.specs.Prelude.{◌≡◌, ◌+◌, ◌==◌, ◌∷◌, ◌++◌}
 
 -- The first fault so far, and the next ones
 

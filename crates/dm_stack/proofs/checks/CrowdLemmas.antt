@@ -1,8 +1,9 @@
 -- The places of all stores, counted line by line.
-use Rattle.dm_stack.proofs.Prelude.{◌≡◌, ℕ, ◌+◌, ◌<◌, ◌≤◌, Bool, false, nat_lt, List, [], ◌∷◌, None, arith, refl, sym, ap, ◌∙◌, zero-add, map, ◌++◌, drop, get_or, length, sum_by, le-ltb, ltb-false, sum_by-cons, Place, Line, Target, LoadKind, Limit, LoadFault, fault, faults_by, first_or, Description, all_places, places_of, resolved_target, HasGoodChunk, IsSound, WithBefore, all_lines, checks_after, target_places, with_before, first_fault-none, cond_none}
+use Rattle.dm_stack.proofs.Prelude.{ℕ, Bool, false, nat_lt, List, [], None, arith, refl, sym, ap, ◌∙◌, zero-add, map, drop, get_or, length, sum_by, le-ltb, ltb-false, sum_by-cons, Place, Line, Target, LoadKind, Limit, LoadFault, fault, faults_by, first_or, Description, all_places, places_of, resolved_target, HasGoodChunk, IsSound, WithBefore, all_lines, checks_after, target_places, with_before, first_fault-none, cond_none}
 use Rattle.dm_table.specs.declared.tables.table.Target.TheVariants as targets
 use Rattle.dm_stack.proofs.checks.PlacedLemmas.{next_before}
 use Rattle.dm_stack.proofs.checks.WithBefore.{further_on}
+use Rattle.std.specs.Prelude.{◌≡◌, ◌+◌, ◌<◌, ◌≤◌, ◌∷◌, ◌++◌}
 
 -- Faults at elements that are made of others, or by a test that agrees
 

@@ -1,6 +1,7 @@
 -- Depths: what is named is less deep, a depth below its bound is final, and what reaches itself has none.
-use Rattle.dm_stack.proofs.Prelude.{◌≡◌, ℕ, zero, suc, ◌<◌, ◌≤◌, List, [], ◌∷◌, length, get_or, map, refl, ap, sym, ◌∙◌, arith, Contains, links_of, Names, Reaches, greatest, depth_to}
+use Rattle.dm_stack.proofs.Prelude.{ℕ, zero, suc, List, [], length, get_or, map, refl, ap, sym, ◌∙◌, arith, Contains, links_of, Names, Reaches, greatest, depth_to}
 use Rattle.dm_stack.proofs.checks.PathLemmas.{Reaches-turned}
+use Rattle.std.specs.Prelude.{◌≡◌, ◌<◌, ◌≤◌, ◌∷◌}
 
 -- the greatest of a list
 

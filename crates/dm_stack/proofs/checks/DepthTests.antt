@@ -1,6 +1,7 @@
 -- Checks that test each device by its id.
-use Rattle.dm_stack.proofs.Prelude.{◌≡◌, ℕ, suc, ◌+◌, ◌<◌, Bool, List, [], ◌∷◌, arith, refl, ◌∙◌, get_or, length, nat_lt, length-map, LoadKind, Deep, DeviceSpec, Description, device_links, links, depths_to, deep, depth_of, faults_by_id}
+use Rattle.dm_stack.proofs.Prelude.{ℕ, suc, Bool, List, [], arith, refl, ◌∙◌, get_or, length, nat_lt, length-map, LoadKind, Deep, DeviceSpec, Description, device_links, links, depths_to, deep, depth_of, faults_by_id}
 use Rattle.dm_stack.proofs.checks.RoundLemmas.{depths_to-at, depths_to-length}
+use Rattle.std.specs.Prelude.{◌≡◌, ◌+◌, ◌<◌, ◌∷◌}
 
 -- tests that agree on the ids of these devices
 same_tests : (kind : LoadKind) (p q : ℕ → Bool) (i : ℕ) (devices : List DeviceSpec) → ((id : ℕ) → id < i + length devices → p id ≡ q id) → faults_by_id kind p i devices ≡ faults_by_id kind q i devices

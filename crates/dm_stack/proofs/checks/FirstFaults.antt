@@ -1,5 +1,6 @@
 -- The first fault of a check, by the element at which it is found.
-use Rattle.dm_stack.proofs.Prelude.{◌≡◌, inl, inr, ℕ, zero, suc, ◌+◌, ◌-◌, ◌<◌, ◌≤◌, Bool, List, [], ◌∷◌, ◌++◌, Option, Some, None, refl, ◌∙◌, arith, length, get_or, drop, slice_get, cases_Bool, drop_more, Place, Line, DeviceSpec, LoadKind, Limit, LoadFault, fault, faults_by, first_or, first_or-passed, first_or-found, Description, end_of, past, all_lines, too_many}
+use Rattle.dm_stack.proofs.Prelude.{inl, inr, ℕ, zero, suc, Bool, List, [], Option, Some, None, refl, ◌∙◌, arith, length, get_or, drop, slice_get, cases_Bool, drop_more, Place, Line, DeviceSpec, LoadKind, Limit, LoadFault, fault, faults_by, first_or, first_or-passed, first_or-found, Description, end_of, past, all_lines, too_many}
+use Rattle.std.specs.Prelude.{◌≡◌, ◌+◌, ◌-◌, ◌<◌, ◌≤◌, ◌∷◌, ◌++◌}
 
 -- the fault at an element that was found, or else a later one
 abbrev pub at_found : {X : Type 0} → LoadKind → (X → Place) → Option X → Option LoadFault → Option LoadFault

@@ -1,6 +1,7 @@
 -- Lines that start where the one before ends.
-use Rattle.dm_stack.proofs.Prelude.{◌≡◌, ℕ, ◌+◌, Bool, true, false, cond, not, nat_lt, inl, inr, List, [], ◌∷◌, ◌++◌, refl, sym, ap, ◌∙◌, ◌==◌, append_assoc, append-nil, cases_Bool, filter, map, eqb-true, not-false, LoadFault, Gap, Overlap, Line, fault, cond_none, end_of, WithBefore, is_misplaced, misplaced_in, misplaced_kind, with_before}
+use Rattle.dm_stack.proofs.Prelude.{ℕ, Bool, true, false, cond, not, nat_lt, inl, inr, List, [], refl, sym, ap, ◌∙◌, append_assoc, append-nil, cases_Bool, filter, map, eqb-true, not-false, LoadFault, Gap, Overlap, Line, fault, cond_none, end_of, WithBefore, is_misplaced, misplaced_in, misplaced_kind, with_before}
 use Rattle.dm_stack.proofs.checks.WithBefore.{further_on}
+use Rattle.std.specs.Prelude.{◌≡◌, ◌+◌, ◌∷◌, ◌++◌, ◌==◌}
 
 pub end_of-more : (lines : List Line) (line : Line) → end_of (lines ++ line ∷ []) ≡ line.start + line.len
 end_of-more (first ∷ next ∷ lines) line = end_of-more (next ∷ lines) line

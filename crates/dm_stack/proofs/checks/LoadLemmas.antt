@@ -1,9 +1,10 @@
 -- Checks in a row, what is named among devices that are there, and the first ring.
-use Rattle.dm_stack.proofs.Prelude.{◌≡◌, ◌≢◌, ◌⊎◌, ℕ, zero, suc, ◌+◌, ◌<◌, false, inl, inr, List, [], ◌∷◌, Option, Some, None, Result, Ok, Err, Vec, Global, arith, refl, sym, ap, ◌∙◌, drop, get_or, length, map, take, IfErr, IfOk, IfSome, IfNone, OnOk, IsErrAnd, result_err, AllByRecursion, flat_map, list_any, leb-false, or_parts, drop_more, length-map, length-take-le, take-append-drop, All-from_recursion, err_from_is_err_and, DevRef, DeviceSpec, LoadKind, Cycle, Memory, Unknown, LoadFault, Source, IsMemoryFault, fault, first_or, first_fault, Span, spans, Description, device_links, is_same, links, ref_link, IsClosed, IsFirstRing, Reaches, depths_to, greatest, links_in, links_of, stack_depth, Early, HasNoCycle, IsFirstCycle, IsRefusedBy, IsSound, Late, all_lines, checks_after, checks_before, crowded, is_unknown, is_unknown_ref, unknown, line_links, first_or-found, first_or-none, first_or-passed, all_append, all_parts}
+use Rattle.dm_stack.proofs.Prelude.{ℕ, zero, suc, false, inl, inr, List, [], Option, Some, None, Result, Ok, Err, Vec, Global, arith, refl, sym, ap, ◌∙◌, drop, get_or, length, map, take, IfErr, IfOk, IfSome, IfNone, OnOk, IsErrAnd, result_err, AllByRecursion, flat_map, list_any, leb-false, or_parts, drop_more, length-map, length-take-le, take-append-drop, All-from_recursion, err_from_is_err_and, DevRef, DeviceSpec, LoadKind, Cycle, Memory, Unknown, LoadFault, Source, IsMemoryFault, fault, first_or, first_fault, Span, spans, Description, device_links, is_same, links, ref_link, IsClosed, IsFirstRing, Reaches, depths_to, greatest, links_in, links_of, stack_depth, Early, HasNoCycle, IsFirstCycle, IsRefusedBy, IsSound, Late, all_lines, checks_after, checks_before, crowded, is_unknown, is_unknown_ref, unknown, line_links, first_or-found, first_or-none, first_or-passed, all_append, all_parts}
 use Rattle.dm_table.specs.declared.tables.table.DevRef.TheVariants as refs
 use Rattle.dm_stack.proofs.checks.HandedOn.{each_in, refused_not_memory}
 use Rattle.dm_stack.proofs.checks.Passes.{faults_by_none}
 use Rattle.dm_stack.proofs.lines.SpanLemmas.{none_past}
+use Rattle.std.specs.Prelude.{◌≡◌, ◌≢◌, ◌⊎◌, ◌+◌, ◌<◌, ◌∷◌}
 
 -- Checks in a row
 

@@ -1,5 +1,6 @@
 -- A description is sound, or one fault refuses it, and never both.
-use Rattle.dm_stack.proofs.Prelude.{◌≡◌, ℕ, ◌<◌, ◌∷◌, Option, Some, None, arith, sym, ap, ◌∙◌, get_or, length, get_or-append_seam, length-append, LoadFault, Description, Early, HasNoCycle, IsFirstCycle, IsRefusedBy, IsSound, Late, OnCycle}
+use Rattle.dm_stack.proofs.Prelude.{ℕ, Option, Some, None, arith, sym, ap, ◌∙◌, get_or, length, get_or-append_seam, length-append, LoadFault, Description, Early, HasNoCycle, IsFirstCycle, IsRefusedBy, IsSound, Late, OnCycle}
+use Rattle.std.specs.Prelude.{◌≡◌, ◌<◌, ◌∷◌}
 
 ring_within : (stack : Description) (found : LoadFault) (ring : IsFirstCycle stack found) → length ring.before < length stack.devices
 ring_within stack found ring = omega (arith, ap length ring.split, length-append ring.before (ring.device ∷ ring.after))

@@ -1,5 +1,6 @@
 -- What it says that a check finds nothing.
-use Rattle.dm_stack.proofs.Prelude.{◌≡◌, Bool, false, List, [], ◌∷◌, ◌++◌, map, refl, filter, AllByRecursion, Place, LoadKind, faults_by, first_fault-none, cond_none, Description, too_many, too_large, empty, misplaced, unknown, deep, stripe, range, snapshot, store, checks_before, checks_after, IsSound}
+use Rattle.dm_stack.proofs.Prelude.{Bool, false, List, [], map, refl, filter, AllByRecursion, Place, LoadKind, faults_by, first_fault-none, cond_none, Description, too_many, too_large, empty, misplaced, unknown, deep, stripe, range, snapshot, store, checks_before, checks_after, IsSound}
+use Rattle.std.specs.Prelude.{◌≡◌, ◌∷◌, ◌++◌}
 
 -- a check of each element passes them all
 pub faults_by_none : {X : Type 0} (kind : LoadKind) (place : X → Place) (bad : X → Bool) (xs : List X) → faults_by kind place bad xs ≡ [] → AllByRecursion (λ x. bad x ≡ false) xs

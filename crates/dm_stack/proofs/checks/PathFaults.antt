@@ -1,6 +1,7 @@
 -- The faults of a list of paths: a name that stands twice, and then one of no disk.
-use Rattle.dm_stack.proofs.Prelude.{◌≡◌, ◌≢◌, ℕ, List, Bool, true, false, Option, None, Some, Result, Ok, Err, OnOk, IfErr, sym, ap, ◌∙◌, is_none, is_some, not, result_err, Source, Place, Memory, Unknown, LoadFault, IsMemoryFault, faults_by, first_or, first_or-passed}
+use Rattle.dm_stack.proofs.Prelude.{ℕ, List, Bool, true, false, Option, None, Some, Result, Ok, Err, OnOk, IfErr, sym, ap, ◌∙◌, is_none, is_some, not, result_err, Source, Place, Memory, Unknown, LoadFault, IsMemoryFault, faults_by, first_or, first_or-passed}
 use Rattle.dm_stack.proofs.checks.HandedOn.{by_not_memory, first_not_memory}
+use Rattle.std.specs.Prelude.{◌≡◌, ◌≢◌}
 
 -- no name stands twice, and the second check ran
 pub known_passed : (first later : List LoadFault) (result : Result (Unit {0}) LoadFault) → first_or first None ≡ None → result_err result ≡ first_or later None → OnOk result (first_or first (first_or later None) ≡ None)

@@ -1,6 +1,7 @@
 -- Paths go on at their ends, and a device that reaches itself names one that does.
-use Rattle.dm_stack.proofs.Prelude.{◌≡◌, ℕ, ◌<◌, List, [], ◌∷◌, ◌++◌, length, get_or, Vec, get_or-map, links_in, links_of, Names, IsPath, Reaches}
+use Rattle.dm_stack.proofs.Prelude.{ℕ, List, [], length, get_or, Vec, get_or-map, links_in, links_of, Names, IsPath, Reaches}
 use Rattle.std.specs.Global.{Global}
+use Rattle.std.specs.Prelude.{◌≡◌, ◌<◌, ◌∷◌, ◌++◌}
 
 -- what a device names, where its own list is at hand
 pub links_of-at : (links : List (Vec ℕ Global)) (d : ℕ) (named : Vec ℕ Global) → d < length links → named ≡ get_or links d named → links_of (links_in links) d ≡ named.items

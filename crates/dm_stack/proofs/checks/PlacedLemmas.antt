@@ -1,6 +1,7 @@
 -- A walk over a list by what a test says of its next element.
-use Rattle.dm_stack.proofs.Prelude.{◌≡◌, ℕ, ◌+◌, ◌<◌, Bool, true, false, List, [], ◌∷◌, ◌++◌, Some, None, refl, sym, ap, drop, get_or, length, flat_map, drop_more, LoadFault, LoadKind, Place, DeviceSpec, Line, fault, faults_by, first_or, Description, all_lines, device_faults, line_faults}
+use Rattle.dm_stack.proofs.Prelude.{ℕ, Bool, true, false, List, [], Some, None, refl, sym, ap, drop, get_or, length, flat_map, drop_more, LoadFault, LoadKind, Place, DeviceSpec, Line, fault, faults_by, first_or, Description, all_lines, device_faults, line_faults}
 use Rattle.dm_stack.proofs.checks.FirstFaults.{by_append}
+use Rattle.std.specs.Prelude.{◌≡◌, ◌+◌, ◌<◌, ◌∷◌, ◌++◌}
 
 pub next_of : {X : Type 0} (xs : List X) (i : ℕ) (x : X) → i < length xs → x ≡ get_or xs i x → drop i xs ≡ x ∷ drop (i + 1) xs
 next_of {X} xs i x within is = rw is (drop_more xs i x within)

@@ -1,8 +1,9 @@
 -- A round over the depths of n levels gives those of one level more, and rounds that change nothing are the last.
-use Rattle.dm_stack.proofs.Prelude.{◌≡◌, ℕ, zero, suc, ◌+◌, ◌-◌, ◌<◌, ◌≤◌, List, [], ◌∷◌, length, get_or, map, replicate, Vec, refl, ap, ◌∙◌, arith, Contains, All, range_with_len, get_or-map, get_or-replicate, length-map, length-replicate, All-map, All-same, Contains-get_or, get_or-map-range_with_len, length-map-range_with_len, fill_by_all, links_in, links_of, Names, IsClosed, Reaches, greatest, depth_to, depths_to, depth_over}
+use Rattle.dm_stack.proofs.Prelude.{ℕ, zero, suc, List, [], length, get_or, map, replicate, Vec, refl, ap, ◌∙◌, arith, Contains, All, range_with_len, get_or-map, get_or-replicate, length-map, length-replicate, All-map, All-same, Contains-get_or, get_or-map-range_with_len, length-map-range_with_len, fill_by_all, links_in, links_of, Names, IsClosed, Reaches, greatest, depth_to, depths_to, depth_over}
 use Rattle.std.specs.Global.{Global}
 use Rattle.dm_stack.proofs.checks.PathLemmas.{links_of-at}
 use Rattle.dm_stack.proofs.checks.DepthLemmas.{depth_to-le, depth_to-no_cycle}
+use Rattle.std.specs.Prelude.{◌≡◌, ◌+◌, ◌-◌, ◌<◌, ◌≤◌, ◌∷◌}
 
 greatest-same : (f h : ℕ → ℕ) (xs : List ℕ) → ((x : ℕ) → Contains xs x → f x ≡ h x) → greatest (map f xs) ≡ greatest (map h xs)
 greatest-same f h [] same = refl

@@ -1,7 +1,8 @@
 -- A search: what is visited is reached, and all that is reached is visited once nothing waits.
-use Rattle.dm_stack.proofs.Prelude.{◌≡◌, ◌⊎◌, inl, inr, ℕ, zero, suc, ◌+◌, ◌<◌, Bool, true, false, not, cond, List, [], ◌∷◌, ◌++◌, length, get_or, set, take, drop, replicate, Vec, sym, ap, ◌∙◌, true≢false, arith, get_or-set_other, get_or-set_same, Contains, cases_eq, take_more, take_all, take-append-le, length_push, length-map, length-replicate, Contains-append_left, Contains-push, Contains-push_cases, sum_by-set, links_in, links_of, Names, IsClosed, IsPath, Reaches, IsVisited, unvisited, Visits}
+use Rattle.dm_stack.proofs.Prelude.{inl, inr, ℕ, zero, suc, Bool, true, false, not, cond, List, [], length, get_or, set, take, drop, replicate, Vec, sym, ap, ◌∙◌, true≢false, arith, get_or-set_other, get_or-set_same, Contains, cases_eq, take_more, take_all, take-append-le, length_push, length-map, length-replicate, Contains-append_left, Contains-push, Contains-push_cases, sum_by-set, links_in, links_of, Names, IsClosed, IsPath, Reaches, IsVisited, unvisited, Visits}
 use Rattle.std.specs.Global.{Global}
 use Rattle.dm_stack.proofs.checks.PathLemmas.{links_of-at, Reaches-named, Reaches-more}
+use Rattle.std.specs.Prelude.{◌≡◌, ◌⊎◌, ◌+◌, ◌<◌, ◌∷◌, ◌++◌}
 
 -- marks
 

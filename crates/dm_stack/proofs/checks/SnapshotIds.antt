@@ -1,5 +1,6 @@
 -- The ids of snapshots, device by device.
-use Rattle.dm_stack.proofs.Prelude.{◌≡◌, ℕ, ◌+◌, ◌<◌, Bool, cond, List, [], ◌∷◌, ◌++◌, Some, arith, refl, sym, ap, ◌∙◌, get_or, length, filter, slice_get, range_with_len, filter-append, map-range_with_len_more, slice_get_read, map-id, DeviceSpec, lines_at, lines_or_none, has_snapshot}
+use Rattle.dm_stack.proofs.Prelude.{ℕ, Bool, cond, List, [], Some, arith, refl, sym, ap, ◌∙◌, get_or, length, filter, slice_get, range_with_len, filter-append, map-range_with_len_more, slice_get_read, map-id, DeviceSpec, lines_at, lines_or_none, has_snapshot}
+use Rattle.std.specs.Prelude.{◌≡◌, ◌+◌, ◌<◌, ◌∷◌, ◌++◌}
 
 pub range_more : (n : ℕ) → range_with_len 0 (n + 1) ≡ range_with_len 0 n ++ n ∷ []
 range_more n =

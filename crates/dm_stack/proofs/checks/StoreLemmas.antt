@@ -1,9 +1,10 @@
 -- A device is a store exactly where its depth is within the limit, once those that no store may be made of name themselves.
-use Rattle.dm_stack.proofs.Prelude.{◌≡◌, ℕ, zero, suc, ◌+◌, ◌<◌, ◌≤◌, Bool, true, false, cond, not, nat_le, List, [], ◌∷◌, ◌++◌, arith, inl, inr, ◌⊎◌, refl, sym, ap, ◌∙◌, get_or, length, map, Some, Vec, Global, ◌&&◌, slice_get, Contains, flat_map, list_all, range_with_len, and-false, and-true, and_assoc, leb-suc-suc, fun_ext, cases_lt, le-leb, lt-leb, append-nil, get_or_past, length-map, map-append, Contains-append_cases, slice_get_past, slice_get_read, list_all-append, get_or-map-range_with_len, length-map-range_with_len, map-range_with_len_more, DevRef, DeviceSpec, Line, Target, Span, spans, Lower, Device, Disk, Description, device_links, is_ro_at, lines_at, lines_or_none, links, lower_of, ref_link, IsClosed, depth_to, depths_to, greatest, links_in, links_of, resolved_target, has_bad_store, has_deep_store, is_plain, is_shallow, is_store_to, may_store, store_links, store_links_at, store_links_of, line_links}
+use Rattle.dm_stack.proofs.Prelude.{ℕ, zero, suc, Bool, true, false, cond, not, nat_le, List, [], arith, inl, inr, refl, sym, ap, ◌∙◌, get_or, length, map, Some, Vec, Global, slice_get, Contains, flat_map, list_all, range_with_len, and-false, and-true, and_assoc, leb-suc-suc, fun_ext, cases_lt, le-leb, lt-leb, append-nil, get_or_past, length-map, map-append, Contains-append_cases, slice_get_past, slice_get_read, list_all-append, get_or-map-range_with_len, length-map-range_with_len, map-range_with_len_more, DevRef, DeviceSpec, Line, Target, Span, spans, Lower, Device, Disk, Description, device_links, is_ro_at, lines_at, lines_or_none, links, lower_of, ref_link, IsClosed, depth_to, depths_to, greatest, links_in, links_of, resolved_target, has_bad_store, has_deep_store, is_plain, is_shallow, is_store_to, may_store, store_links, store_links_at, store_links_of, line_links}
 use Rattle.dm_table.specs.declared.tables.table.DevRef.TheVariants as refs
 use Rattle.dm_table.specs.declared.tables.table.Target.TheVariants as targets
 use Rattle.dm_stack.proofs.checks.PathLemmas.{links_of-at}
 use Rattle.dm_stack.proofs.checks.RoundLemmas.{depths_to-at, depths_to-length}
+use Rattle.std.specs.Prelude.{◌≡◌, ◌+◌, ◌<◌, ◌≤◌, ◌∷◌, ◌++◌, ◌⊎◌, ◌&&◌}
 
 -- Tests of all elements
 

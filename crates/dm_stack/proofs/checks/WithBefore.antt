@@ -1,5 +1,6 @@
 -- The elements of a list with those before them, one by one.
-use Rattle.dm_stack.proofs.Prelude.{◌≡◌, ℕ, zero, suc, ◌+◌, ◌<◌, ◌≤◌, List, [], ◌∷◌, arith, refl, sym, ap, ◌∙◌, drop, get_or, length, take, drop_all, drop_more, get_or-map, length-map, WithBefore, with_before}
+use Rattle.dm_stack.proofs.Prelude.{ℕ, zero, suc, List, [], arith, refl, sym, ap, ◌∙◌, drop, get_or, length, take, drop_all, drop_more, get_or-map, length-map, WithBefore, with_before}
+use Rattle.std.specs.Prelude.{◌≡◌, ◌+◌, ◌<◌, ◌≤◌, ◌∷◌}
 
 -- an element further on
 abbrev pub further_on : {X : Type 0} → X → WithBefore X → WithBefore X

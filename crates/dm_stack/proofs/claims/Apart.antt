@@ -1,8 +1,9 @@
 -- Where no claims meet, two that may not share a sector are one column of one line.
-use Rattle.dm_stack.proofs.Prelude.{◌≡◌, ℕ, ◌<◌, ◌≤◌, false, Some, length, sym, ap, subst, ◌∙◌, option_map, slice_get, range_with_len, get_or_from_slice_get, slice_get-map, slice_get_within, Line, Use, Span, spans, Claim, Lower, Device, NeverMeet, HasSector, IsTidy, IsTop, claims, device_claims, may_share, span_claim, span_end, Description, lines_at, lower_len, lower_of}
+use Rattle.dm_stack.proofs.Prelude.{ℕ, false, Some, length, sym, ap, subst, ◌∙◌, option_map, slice_get, range_with_len, get_or_from_slice_get, slice_get-map, slice_get_within, Line, Use, Span, spans, Claim, Lower, Device, NeverMeet, HasSector, IsTidy, IsTop, claims, device_claims, may_share, span_claim, span_end, Description, lines_at, lower_len, lower_of}
 use Rattle.dm_stack.specs.claims.Claims.{line_claims}
 use Rattle.dm_stack.proofs.claims.MeetLemmas.{share_turn}
 use Rattle.dm_stack.proofs.claims.Parts.{PairsAt, number_at, pairs_at, pairs_part, part_there, same_part, same_place}
+use Rattle.std.specs.Prelude.{◌≡◌, ◌<◌, ◌≤◌}
 
 -- a column of a line of a device, which names this lower one
 pub record IsNamed (stack : Description) (device place column : ℕ) (line : Line) (lower : Lower) : Type 0 where

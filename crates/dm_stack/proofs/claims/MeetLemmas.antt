@@ -1,5 +1,6 @@
 -- That two claims meet, as it is computed and as it is defined.
-use Rattle.dm_stack.proofs.Prelude.{◌≡◌, inl, inr, ℕ, true, false, not, refl, sym, ap, ◌∙◌, arith, max, min, nat_lt, and_comm, and_from, and_parts, cases_Bool, eq-eqb, eqb-true, lt-ltb, ltb-true, not-true, true≢false, Use, Own, Reading, Serving, Claim, Lower, Device, Disk, Numbered, NeverMeet, MeetAt, may_share, is_same_lower, meets, rivals}
+use Rattle.dm_stack.proofs.Prelude.{inl, inr, ℕ, true, false, not, refl, sym, ap, ◌∙◌, arith, max, min, nat_lt, and_comm, and_from, and_parts, cases_Bool, eq-eqb, eqb-true, lt-ltb, ltb-true, not-true, true≢false, Use, Own, Reading, Serving, Claim, Lower, Device, Disk, Numbered, NeverMeet, MeetAt, may_share, is_same_lower, meets, rivals}
+use Rattle.std.specs.Prelude.{◌≡◌}
 
 pub same_is : (one other : Lower) → is_same_lower one other ≡ true → one ≡ other
 same_is (Device one) (Device other) e = rw (eqb-true one other e)

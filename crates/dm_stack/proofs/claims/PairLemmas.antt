@@ -1,5 +1,6 @@
 -- Lists in which a test passes for no two elements, in whichever order they stand.
-use Rattle.dm_stack.proofs.Prelude.{◌≡◌, ◌⊎◌, inl, inr, ℕ, zero, suc, ◌<◌, Bool, true, false, cond, List, [], ◌∷◌, ◌++◌, refl, sym, ap, subst, ◌∙◌, arith, get_or, length, ◌==◌, AllPairs, list_any, swap, IsPermutation, eqb-true, eqb-false, or_parts, append-nil, append_assoc, get_or_append_left, length-append, get_or-append_seam, length-swap, swapped_from_swap, list_any_none, all_pairs_push, IsPermutation-keeps, has_pair}
+use Rattle.dm_stack.proofs.Prelude.{inl, inr, ℕ, zero, suc, Bool, true, false, cond, List, [], refl, sym, ap, subst, ◌∙◌, arith, get_or, length, AllPairs, list_any, swap, IsPermutation, eqb-true, eqb-false, or_parts, append-nil, append_assoc, get_or_append_left, length-append, get_or-append_seam, length-swap, swapped_from_swap, list_any_none, all_pairs_push, IsPermutation-keeps, has_pair}
+use Rattle.std.specs.Prelude.{◌≡◌, ◌⊎◌, ◌<◌, ◌∷◌, ◌++◌, ◌==◌}
 
 -- at any two places
 pub record HasNoPair {X : Type 0} (test : X → X → Bool) (xs : List X) : Type 0 where

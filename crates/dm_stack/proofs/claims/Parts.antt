@@ -1,6 +1,7 @@
 -- What holds of each two elements of a list, where the list is made of parts: two elements of which it does not hold stand at one place.
-use Rattle.dm_stack.proofs.Prelude.{◌≡◌, ℕ, zero, suc, ◌+◌, ◌<◌, inl, inr, Bool, List, [], ◌∷◌, ◌++◌, Some, length, refl, sym, ap, ◌∙◌, arith, find, slice_get, AllPairs, flat_map, position_or_len, range_with_len, cases_order, find_at, get_or-range_with_len, length-range_with_len, get_or_from_slice_get, slice_get-get_or, slice_get_within}
+use Rattle.dm_stack.proofs.Prelude.{ℕ, zero, suc, inl, inr, Bool, List, [], Some, length, refl, sym, ap, ◌∙◌, arith, find, slice_get, AllPairs, flat_map, position_or_len, range_with_len, cases_order, find_at, get_or-range_with_len, length-range_with_len, get_or_from_slice_get, slice_get-get_or, slice_get_within}
 use Rattle.dm_stack.proofs.checks.FirstFaults.{get_after, get_front}
+use Rattle.std.specs.Prelude.{◌≡◌, ◌+◌, ◌<◌, ◌∷◌, ◌++◌}
 
 -- what holds of each two, by their places
 abbrev pub PairsAt : {X : Type 0} → (X → X → Type 0) → List X → Type 0

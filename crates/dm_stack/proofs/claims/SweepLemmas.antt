@@ -1,6 +1,7 @@
 -- What a claim meets of those before it, in the order of their starts, is told by how far they reach.
-use Rattle.dm_stack.proofs.Prelude.{◌≡◌, ℕ, suc, ◌+◌, ◌<◌, ◌≤◌, Bool, true, false, cond, not, List, [], ◌∷◌, ◌++◌, refl, sym, ap, ◌∙◌, arith, get_or, length, take, drop, ◌||◌, ◌&&◌, fold, max, min, nat_lt, AllByRecursion, list_any, IsNonDecreasingBy, and-false, or-false, drop-cons, le-ltb, lt-ltb, get_or-take, get_or_default, length-take, take_more, recursion_from_All, fold-append, Use, Own, Reading, Serving, Lower, Numbered, may_share, is_same_lower, has_pair, held_end, no_reach, own_end, reach_meets, reach_next, reach_of, reach_with, rival_end, rivals}
+use Rattle.dm_stack.proofs.Prelude.{ℕ, suc, Bool, true, false, cond, not, List, [], refl, sym, ap, ◌∙◌, arith, get_or, length, take, drop, fold, max, min, nat_lt, AllByRecursion, list_any, IsNonDecreasingBy, and-false, or-false, drop-cons, le-ltb, lt-ltb, get_or-take, get_or_default, length-take, take_more, recursion_from_All, fold-append, Use, Own, Reading, Serving, Lower, Numbered, may_share, is_same_lower, has_pair, held_end, no_reach, own_end, reach_meets, reach_next, reach_of, reach_with, rival_end, rivals}
 use Rattle.dm_stack.specs.declared.claims.reach.Reach.{Reach}
+use Rattle.std.specs.Prelude.{◌≡◌, ◌+◌, ◌<◌, ◌≤◌, ◌∷◌, ◌++◌, ◌||◌, ◌&&◌}
 
 -- a claim that starts no earlier meets one of these, or the reach of others, exactly if it meets the reach of all; one with which it may share it never meets
 one_meets : (share : Bool) (start first end last reach : ℕ) → first ≤ start

@@ -1,8 +1,9 @@
 -- Claims in the order of their starts, and in that of their list: the same pairs meet, and so the same claim is the first that meets an earlier one.
-use Rattle.dm_stack.proofs.Prelude.{◌≡◌, ◌⊎◌, inl, inr, ℕ, zero, suc, ◌+◌, ◌<◌, ◌≤◌, Bool, true, false, not, List, [], ◌∷◌, ◌++◌, Option, Some, None, refl, sym, ap, subst, ◌∙◌, arith, get_or, length, take, drop, ◌&&◌, find, nat_lt, option_map, slice_get, All, AllPairs, after_first, position_or_len, IsPermutation, and-false, drop-cons, cases_lt, lt-ltb, ltb-true, not-true, true≢false, drop_all, get_or-take, length-take, take-append-drop, take_more, find_at, fails_before_first, passes_at_first, split_at_first, get_or_from_slice_get, slice_get-get_or, slice_get_within, all_pairs_push, All-permutation, IsPermutation-sym, length_permutation, Claim, Numbered, NeverMeet, IsFirstClash, IsCounted, clash_of, clash_with, has_pair, is_tidy_to, meets, numbered, rivals}
+use Rattle.dm_stack.proofs.Prelude.{inl, inr, ℕ, zero, suc, Bool, true, false, not, List, [], Option, Some, None, refl, sym, ap, subst, ◌∙◌, arith, get_or, length, take, drop, find, nat_lt, option_map, slice_get, All, AllPairs, after_first, position_or_len, IsPermutation, and-false, drop-cons, cases_lt, lt-ltb, ltb-true, not-true, true≢false, drop_all, get_or-take, length-take, take-append-drop, take_more, find_at, fails_before_first, passes_at_first, split_at_first, get_or_from_slice_get, slice_get-get_or, slice_get_within, all_pairs_push, All-permutation, IsPermutation-sym, length_permutation, Claim, Numbered, NeverMeet, IsFirstClash, IsCounted, clash_of, clash_with, has_pair, is_tidy_to, meets, numbered, rivals}
 use Rattle.dm_stack.proofs.claims.MeetLemmas.{never_meet_from, meet_from, none_from, rivals_turn}
 use Rattle.dm_stack.proofs.claims.PairLemmas.{no_pair_from_pairs, no_pair_moved, pairs_from_no_pair, pairs_from_search, search_from_pairs}
 use Rattle.dm_stack.proofs.claims.SweepLemmas.{not_met}
+use Rattle.std.specs.Prelude.{◌≡◌, ◌⊎◌, ◌+◌, ◌<◌, ◌≤◌, ◌∷◌, ◌++◌, ◌&&◌}
 
 -- Numbered claims
 

@@ -1,5 +1,6 @@
 -- What the claims of a stack are on, and which devices none of them are on.
-use Rattle.dm_stack.proofs.Prelude.{◌≡◌, ℕ, zero, suc, ◌+◌, ◌<◌, ◌≤◌, Bool, true, false, not, List, [], ◌∷◌, ◌++◌, Option, Some, None, refl, sym, ap, subst, ◌∙◌, arith, get_or, length, map, ◌↔◌, IfOk, IfSome, IsTrue, is_none, Result, Ok, Err, All, AllByRecursion, AllPairs, flat_map, list_any, position_or_len, range_with_len, get_or-append_seam, eq-eqb, eqb-true, ltb-false, or_parts, true≢false, get_or-map, get_or_append_left, length-append, length-map, fill_by_all, All-from_recursion, All-map, prefix_len-le-length, Any-from_list_any, list_any-append, get_or_from_slice_get, slice_get-get_or, DevRef, DeviceSpec, Line, Span, spans, Claim, Clash, Lower, Device, Disk, AreTops, NeverMeet, IsClash, IsFirstClash, IsLower, IsThere, IsTidy, IsTop, MeetAt, claims, device_claims, span_claim, span_end, Description, is_same, lines_at, lower_len, lower_of, is_device, is_named, line_names, IsReport, report_text, ResolvedDevice, resolved_device, resolved_line, IsSound, passes, IsCounted, passes_end, all_changed}
+use Rattle.dm_stack.proofs.Prelude.{ℕ, zero, suc, Bool, true, false, not, List, [], Option, Some, None, refl, sym, ap, subst, ◌∙◌, arith, get_or, length, map, IfOk, IfSome, IsTrue, is_none, Result, Ok, Err, All, AllByRecursion, AllPairs, flat_map, list_any, position_or_len, range_with_len, get_or-append_seam, eq-eqb, eqb-true, ltb-false, or_parts, true≢false, get_or-map, get_or_append_left, length-append, length-map, fill_by_all, All-from_recursion, All-map, prefix_len-le-length, Any-from_list_any, list_any-append, get_or_from_slice_get, slice_get-get_or, DevRef, DeviceSpec, Line, Span, spans, Claim, Clash, Lower, Device, Disk, AreTops, NeverMeet, IsClash, IsFirstClash, IsLower, IsThere, IsTidy, IsTop, MeetAt, claims, device_claims, span_claim, span_end, Description, is_same, lines_at, lower_len, lower_of, is_device, is_named, line_names, IsReport, report_text, ResolvedDevice, resolved_device, resolved_line, IsSound, passes, IsCounted, passes_end, all_changed}
+use Rattle.std.specs.Prelude.{◌≡◌, ◌+◌, ◌<◌, ◌≤◌, ◌∷◌, ◌++◌, ◌↔◌}
 use Rattle.std.specs.declared.alloc.AllocError.{AllocError}
 use Rattle.dm_table.specs.declared.tables.table.DevRef.TheVariants as refs
 use Rattle.dm_stack.specs.claims.Claims.{line_claims}

@@ -1,6 +1,7 @@
 -- Buckets of sectors, and the line of the first sector of each.
-use Rattle.dm_stack.proofs.Prelude.{◌≡◌, ℕ, zero, suc, ◌+◌, ◌*◌, ◌^◌, ◌<◌, ◌≤◌, ◌⊎◌, List, [], ◌∷◌, ◌++◌, length, get_or, length-append, sym, arith, inl, inr, cases_lt, get_or_append_left, get_or_push, mul-le-mul_right, ResolvedLine, AreFirsts, IsStartOf, StartsAfter, StartsBy}
+use Rattle.dm_stack.proofs.Prelude.{ℕ, zero, suc, List, [], length, get_or, length-append, sym, arith, inl, inr, cases_lt, get_or_append_left, get_or_push, mul-le-mul_right, ResolvedLine, AreFirsts, IsStartOf, StartsAfter, StartsBy}
 use Rattle.dm_stack.specs.lines.LineSearch.{IsLineOf}
+use Rattle.std.specs.Prelude.{◌≡◌, ◌+◌, ◌*◌, ◌^◌, ◌<◌, ◌≤◌, ◌⊎◌, ◌∷◌, ◌++◌}
 
 -- what starts at a sector or before it does so at a later one, too
 pub starts_by_later : (lines : List ResolvedLine) (index sector later : ℕ) → sector ≤ later → StartsBy lines index sector → StartsBy lines index later

@@ -1,6 +1,7 @@
 -- What is made of the lines of devices, one device after the other.
-use Rattle.dm_stack.proofs.Prelude.{◌≡◌, ℕ, ◌+◌, ◌<◌, List, [], ◌∷◌, ◌++◌, Option, Some, None, arith, refl, sym, ap, ◌∙◌, get_or, length, map, option_map, slice_get, flat_map, range_with_len, flat_map-append, append-nil, get_or-map, slice_get-map, slice_get_read, Line, DeviceSpec, ResolvedLine, ResolvedDevice, Description, lines_at, lines_or_none, resolved_device, resolved_line}
+use Rattle.dm_stack.proofs.Prelude.{ℕ, List, [], Option, Some, None, arith, refl, sym, ap, ◌∙◌, get_or, length, map, option_map, slice_get, flat_map, range_with_len, flat_map-append, append-nil, get_or-map, slice_get-map, slice_get_read, Line, DeviceSpec, ResolvedLine, ResolvedDevice, Description, lines_at, lines_or_none, resolved_device, resolved_line}
 use Rattle.dm_stack.proofs.checks.SnapshotIds.{range_more}
+use Rattle.std.specs.Prelude.{◌≡◌, ◌+◌, ◌<◌, ◌∷◌, ◌++◌}
 
 -- what is made of one more device
 pub lines_next : {X : Type 0} (make : ℕ → Line → List X) (stack : Description) (id : ℕ) (before after : List X) → before ≡ flat_map (λ d. flat_map (make d) (lines_at stack d)) (range_with_len 0 id) → after ≡ before ++ flat_map (make id) (lines_at stack id)

@@ -1,6 +1,7 @@
 -- Sizes of chunks: powers of two within the limit, and their exponents.
-use Rattle.dm_stack.proofs.Prelude.{◌≡◌, ℕ, ◌+◌, ◌-◌, ◌*◌, ◌/◌, ◌%◌, ◌^◌, ◌<◌, ◌≤◌, false, not, count_ones, nat_lt, bit_and, arith, mul_comm, one-le-pow, pow-le-pow_right, eqb-true, not-false, or_parts, and_mask, one_shl, ones_cat, pow-add, pow_below, zero_from_ones, is_power_of_two, ones-ones, is_bad_chunk}
+use Rattle.dm_stack.proofs.Prelude.{ℕ, false, not, count_ones, nat_lt, bit_and, arith, mul_comm, one-le-pow, pow-le-pow_right, eqb-true, not-false, or_parts, and_mask, one_shl, ones_cat, pow-add, pow_below, zero_from_ones, is_power_of_two, ones-ones, is_bad_chunk}
 use Rattle.dm_stack.proofs.checks.ChunkLemmas.{chunk_within}
+use Rattle.std.specs.Prelude.{◌≡◌, ◌+◌, ◌-◌, ◌*◌, ◌/◌, ◌%◌, ◌^◌, ◌<◌, ◌≤◌}
 
 -- a number with one bit set is the greatest power of two up to it
 power_of : (n k : ℕ) → count_ones n ≡ 1 → 2 ^ k ≤ n → n < 2 * 2 ^ k → 2 ^ k ≡ n

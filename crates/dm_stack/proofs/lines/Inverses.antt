@@ -1,5 +1,6 @@
 -- Division by an inverse: the quotient is right, or one too small.
-use Rattle.dm_stack.proofs.Prelude.{◌≡◌, ℕ, ◌+◌, ◌*◌, ◌/◌, ◌%◌, ◌<◌, ◌≤◌, ◌^◌, arith, div-add-mod', div-mul-add, mod-mul-add, mod_below, mul-le-mul_left, mul-le-mul_right, le_of_mul-le-mul_right, lt_of_mul-lt-mul_right}
+use Rattle.dm_stack.proofs.Prelude.{ℕ, arith, div-add-mod', div-mul-add, mod-mul-add, mod_below, mul-le-mul_left, mul-le-mul_right, le_of_mul-le-mul_right, lt_of_mul-lt-mul_right}
+use Rattle.std.specs.Prelude.{◌≡◌, ◌+◌, ◌*◌, ◌/◌, ◌%◌, ◌<◌, ◌≤◌, ◌^◌}
 
 -- a quotient is not too large, and at most one too small
 pub record IsNear (x d q : ℕ) : Type 0 where

@@ -1,9 +1,10 @@
 -- Legs: what a target without a state has below its sectors goes on in a row as far as a leg does, and lies inside what it names.
-use Rattle.dm_stack.proofs.Prelude.{◌≡◌, ℕ, ◌+◌, ◌-◌, ◌^◌, ◌<◌, ◌≤◌, true, false, List, Option, Some, None, length, get_or, inl, inr, refl, sym, ap, subst, ◌∙◌, arith, min, slice_get, AllPass-from_list_all, slice_get_cases, ResolvedColumn, ResolvedTarget, Lower, Device, Disk, Beneath, Leg, StripePosition, Below, Lies, IsZero, IsError, below_column, below_plain, chunk_at, column_of, in_column, has_state, AreStripes, IsTargetSound, Description, disk_len, lower_len, is_disk, after_leg, has_disk_columns, AreInside, AreLeft, AreOnDisks, GoesOn, HasSectors, IsBeneath, IsLeg, LegsView, LiesOnDisk, IsStripePosition}
+use Rattle.dm_stack.proofs.Prelude.{ℕ, true, false, List, Option, Some, None, length, get_or, inl, inr, refl, sym, ap, subst, ◌∙◌, arith, min, slice_get, AllPass-from_list_all, slice_get_cases, ResolvedColumn, ResolvedTarget, Lower, Device, Disk, Beneath, Leg, StripePosition, Below, Lies, IsZero, IsError, below_column, below_plain, chunk_at, column_of, in_column, has_state, AreStripes, IsTargetSound, Description, disk_len, lower_len, is_disk, after_leg, has_disk_columns, AreInside, AreLeft, AreOnDisks, GoesOn, HasSectors, IsBeneath, IsLeg, LegsView, LiesOnDisk, IsStripePosition}
 use Rattle.dm_stack.specs.declared.lines.resolved_line.ResolvedTarget.TheVariants as found
 use Rattle.dm_stack.specs.declared.lines.leg.Beneath.TheVariants as beneath
 use Rattle.dm_stack.proofs.InStack.{disk_there, lower_small}
 use Rattle.dm_stack.proofs.lines.StripeLemmas.{below_chunk, column_got, column_inside, in_chunk, other_chunk}
+use Rattle.std.specs.Prelude.{◌≡◌, ◌+◌, ◌-◌, ◌^◌, ◌<◌, ◌≤◌}
 
 -- Sectors that a line has
 

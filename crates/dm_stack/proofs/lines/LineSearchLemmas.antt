@@ -1,11 +1,12 @@
 -- Counts of comparisons against binary digits, and the line of a sector by the starts of lines in a row.
-use Rattle.dm_stack.proofs.Prelude.{◌≡◌, ◌⊎◌, inl, inr, ℕ, zero, suc, ◌+◌, ◌*◌, ◌/◌, ◌^◌, ◌<◌, ◌≤◌, true, false, List, [], ◌∷◌, ◌++◌, Some, drop, length, length-append, get_or, map, refl, sym, ap, subst, add-one, arith, ◌==◌, option_map, slice_get, AllByRecursion, pow_pos, length-drop, All-from_recursion, All-map, All-weaker, slice_get-get_or, mul-le-mul_left, pow-succ', Limit, DeviceSpec, Line, faults_by, ResolvedLine, found_at, resolved_line, resolved_lines, line_of, Description, device_len, end_of, lines_at, EndsAreSmall, EndsAt, IsLast, StartsAfter, StartsBy, binary_digits, digits_to, IsSound, all_lines, is_large, past, append-nil_both}
+use Rattle.dm_stack.proofs.Prelude.{inl, inr, ℕ, zero, suc, true, false, List, [], Some, drop, length, length-append, get_or, map, refl, sym, ap, subst, add-one, arith, option_map, slice_get, AllByRecursion, pow_pos, length-drop, All-from_recursion, All-map, All-weaker, slice_get-get_or, mul-le-mul_left, pow-succ', Limit, DeviceSpec, Line, faults_by, ResolvedLine, found_at, resolved_line, resolved_lines, line_of, Description, device_len, end_of, lines_at, EndsAreSmall, EndsAt, IsLast, StartsAfter, StartsBy, binary_digits, digits_to, IsSound, all_lines, is_large, past, append-nil_both}
 use Rattle.dm_stack.specs.declared.lines.line_search.LastLine.{LastLine}
 use Rattle.dm_stack.proofs.checks.HandedOn.{line_within}
 use Rattle.dm_stack.proofs.checks.LayoutLemmas.{AreInRow}
 use Rattle.dm_stack.proofs.checks.Passes.{passes_all}
 use Rattle.dm_stack.proofs.lines.SameLine.{holds_none}
 use Rattle.dm_stack.proofs.SoundLines.{holds_from, device_small, device_sound, lines_filled, lines_there, positive, there}
+use Rattle.std.specs.Prelude.{◌≡◌, ◌⊎◌, ◌+◌, ◌*◌, ◌/◌, ◌^◌, ◌<◌, ◌≤◌, ◌∷◌, ◌++◌, ◌==◌}
 
 -- Binary digits
 

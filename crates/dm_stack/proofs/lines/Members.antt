@@ -1,5 +1,6 @@
 -- The elements of a list that is filtered, and of lists that are put together.
-use Rattle.dm_stack.proofs.Prelude.{◌≡◌, ℕ, zero, suc, ◌<◌, Bool, true, false, cond, inl, inr, List, [], ◌∷◌, Some, arith, refl, sym, ap, ◌∙◌, filter, find, not, Contains, flat_map, list_any, position_or_len, range_with_len, All-contains, All-contains_itself, All-filter, Contains-append_cases, Contains-append_left, Contains-append_right, filter_passes, not-false, prefix_len_stops, find_at, list_any-from_Any, get_or_from_slice_get, slice_get_within, get_or-range_with_len, length-range_with_len}
+use Rattle.dm_stack.proofs.Prelude.{ℕ, zero, suc, Bool, true, false, cond, inl, inr, List, [], Some, arith, refl, sym, ap, ◌∙◌, filter, find, not, Contains, flat_map, list_any, position_or_len, range_with_len, All-contains, All-contains_itself, All-filter, Contains-append_cases, Contains-append_left, Contains-append_right, filter_passes, not-false, prefix_len_stops, find_at, list_any-from_Any, get_or_from_slice_get, slice_get_within, get_or-range_with_len, length-range_with_len}
+use Rattle.std.specs.Prelude.{◌≡◌, ◌<◌, ◌∷◌}
 
 pub only : {X : Type 0} (x y : X) → Contains (y ∷ []) x → y ≡ x
 only x y (zero, below, is) = is

@@ -1,10 +1,11 @@
 -- The snapshots of an origin: each of them is all of its device, and has that origin; and each such snapshot is among them.
-use Rattle.dm_stack.proofs.Prelude.{◌≡◌, ℕ, ◌<◌, Bool, true, false, cond, List, [], Some, refl, sym, ◌∙◌, length, ap, filter, find, option_map, Contains, flat_map, list_any, range_with_len, append-nil, DevRef, Line, Target, ResolvedLine, ResolvedOver, ResolvedSnapshot, Lower, found_at, resolved_line, resolved_target, holds, Description, device_len, is_same_lower, lines_at, lower_of, has_snapshot, is_snapshot, all_over, copied, device_over, has_crowd, origin_over, over_of, resolved_snapshot, snapshots_over, IsSound, mapped}
+use Rattle.dm_stack.proofs.Prelude.{ℕ, Bool, true, false, cond, List, [], Some, refl, sym, ◌∙◌, length, ap, filter, find, option_map, Contains, flat_map, list_any, range_with_len, append-nil, DevRef, Line, Target, ResolvedLine, ResolvedOver, ResolvedSnapshot, Lower, found_at, resolved_line, resolved_target, holds, Description, device_len, is_same_lower, lines_at, lower_of, has_snapshot, is_snapshot, all_over, copied, device_over, has_crowd, origin_over, over_of, resolved_snapshot, snapshots_over, IsSound, mapped}
 use Rattle.dm_table.specs.declared.tables.table.Target.TheVariants as targets
 use Rattle.dm_stack.specs.declared.lines.resolved_line.ResolvedTarget.TheVariants as found
 use Rattle.dm_stack.proofs.claims.MeetLemmas.{same_is, self_same}
 use Rattle.dm_stack.proofs.lines.Members.{any_there, flat_part, flat_there, found_there, in_range, kept, kept_parts, none_there, only, only_there, range_within}
 use Rattle.dm_stack.proofs.SnapshotRule.{any_found, lines_within, snapshot_line}
+use Rattle.std.specs.Prelude.{◌≡◌, ◌<◌}
 
 -- What the lists are
 

@@ -1,10 +1,11 @@
 -- What was collected of the snapshot that a device is, is what the device's only line says.
-use Rattle.dm_stack.proofs.Prelude.{◌≡◌, ℕ, Bool, true, false, cond, not, List, [], ◌∷◌, Some, ap, arith, refl, sym, ◌∙◌, length, ◌==◌, slice_get, All, Contains, flat_map, list_any, range_with_len, and_from, eqb-true, not_from_false, true_from_ne_false, All-cons, All-nil, get_or_from_slice_get, slice_get_within, DeviceSpec, Line, Target, ResolvedOver, ResolvedSnapshot, Description, lines_at, is_snapshot, resolved_target, IsSnapshotOf, all_over, copied, device_over, has_crowd, is_whole, over_of}
+use Rattle.dm_stack.proofs.Prelude.{ℕ, Bool, true, false, cond, not, List, [], Some, ap, arith, refl, sym, ◌∙◌, length, slice_get, All, Contains, flat_map, list_any, range_with_len, and_from, eqb-true, not_from_false, true_from_ne_false, All-cons, All-nil, get_or_from_slice_get, slice_get_within, DeviceSpec, Line, Target, ResolvedOver, ResolvedSnapshot, Description, lines_at, is_snapshot, resolved_target, IsSnapshotOf, all_over, copied, device_over, has_crowd, is_whole, over_of}
 use Rattle.dm_table.specs.declared.tables.table.Target.TheVariants as targets
 use Rattle.dm_stack.specs.declared.lines.resolved_line.ResolvedTarget.TheVariants as found
 use Rattle.dm_stack.proofs.SoundLines.{lines_there, there}
 use Rattle.dm_stack.proofs.lines.Members.{any_there, flat_part, none_there, only, range_within}
 use Rattle.dm_stack.proofs.lines.OverLemmas.{all_is, copied_is, target_one}
+use Rattle.std.specs.Prelude.{◌≡◌, ◌∷◌, ◌==◌}
 
 whole : (target : Target) → is_snapshot target ≡ true → is_whole target ≡ true
 whole (targets.Snapshot origin store kind chunk) is = refl

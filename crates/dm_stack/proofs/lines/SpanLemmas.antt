@@ -1,5 +1,5 @@
 -- The spans of a line by ids, one by one; they are those by names, with ids for these.
-use Rattle.dm_stack.proofs.Prelude.{◌≡◌, ℕ, zero, suc, ◌+◌, Bool, true, false, cond, not, List, [], ◌∷◌, Some, None, arith, refl, ap, ◌∙◌, drop, length, map, find, is_none, nat_le, slice_get, flat_map, list_any, position_or_len, length-map, flat_map-map, map-map, leb-suc-suc, leb-suc-zero, DevRef, Line, Target, ResolvedLine, Description, device_links, is_same, lower_of, ref_link, resolved_device, is_unknown, is_unknown_ref, resolved_columns, resolved_line, resolved_target, is_missing, line_claims, lower_link, names_missing, target_spans}
+use Rattle.dm_stack.proofs.Prelude.{ℕ, zero, suc, Bool, true, false, cond, not, List, [], Some, None, arith, refl, ap, ◌∙◌, drop, length, map, find, is_none, nat_le, slice_get, flat_map, list_any, position_or_len, length-map, flat_map-map, map-map, leb-suc-suc, leb-suc-zero, DevRef, Line, Target, ResolvedLine, Description, device_links, is_same, lower_of, ref_link, resolved_device, is_unknown, is_unknown_ref, resolved_columns, resolved_line, resolved_target, is_missing, line_claims, lower_link, names_missing, target_spans}
 use Rattle.dm_table.specs.declared.tables.table.DevRef.TheVariants as refs
 use Rattle.dm_table.specs.declared.tables.table.Target.TheVariants as targets
 use Rattle.dm_table.specs.tables.Span as named
@@ -9,6 +9,7 @@ use Rattle.dm_stack.specs.declared.lines.span.Spans.{Spans}
 use Rattle.dm_stack.specs.Description as by_names
 use Rattle.dm_stack.specs.checks.Soundness as soundness
 use Rattle.dm_stack.specs.claims.Claims as claims
+use Rattle.std.specs.Prelude.{◌≡◌, ◌+◌, ◌∷◌}
 
 pub drop_at : {X : Type 0} (xs : List X) (i : ℕ) (x : X) → Some x ≡ slice_get xs i → drop i xs ≡ x ∷ drop (i + 1) xs
 drop_at [] i x e = absurd cc

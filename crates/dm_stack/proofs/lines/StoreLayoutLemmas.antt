@@ -1,6 +1,7 @@
 -- The layout of a store, of each kind: which places it has, that they are apart, and how far it is used.
-use Rattle.dm_stack.proofs.Prelude.{◌≡◌, ℕ, zero, suc, ◌+◌, ◌-◌, ◌*◌, ◌/◌, ◌%◌, ◌<◌, ◌≤◌, false, arith, refl, inl, inr, ◌↔◌, div-add-mod', mod-mul-add, mod-lt, mul-le-mul_left, mul-le-mul_right, le-div_iff_mul-le, cases_lt, cases_order, StoreKind, allocated, is_metadata, metadata, place, place_count, places_in}
+use Rattle.dm_stack.proofs.Prelude.{ℕ, zero, suc, false, arith, refl, inl, inr, div-add-mod', mod-mul-add, mod-lt, mul-le-mul_left, mul-le-mul_right, le-div_iff_mul-le, cases_lt, cases_order, StoreKind, allocated, is_metadata, metadata, place, place_count, places_in}
 use Rattle.dm_table.specs.declared.tables.table.StoreKind.TheVariants.{Persistent, Transient}
+use Rattle.std.specs.Prelude.{◌≡◌, ◌+◌, ◌-◌, ◌*◌, ◌/◌, ◌%◌, ◌<◌, ◌≤◌, ◌↔◌}
 
 -- the chunks of data and of areas up to that of a number, and the numbers below that
 within : (most rest number q a r b : ℕ) → r < most → b < most + 1 → q * most + r ≡ number → a * (most + 1) + b ≡ rest → number < rest - a → number + q < rest

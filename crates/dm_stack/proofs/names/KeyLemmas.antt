@@ -1,5 +1,6 @@
 -- Keys of names: what is kept of sixteen bytes, and that a key is of one name.
-use Rattle.dm_stack.proofs.Prelude.{◌≡◌, ℕ, zero, suc, ◌+◌, ◌-◌, ◌<◌, not, cond, Bool, true, List, [], ◌∷◌, ◌++◌, Some, get_or, length, take, drop, replicate, refl, sym, ap, ◌∙◌, arith, bit_and, All, list_any, slice_get, slice_range, take-append_seam, not-true, drop_more, take-append-drop, All-drop, All-same, All-take, All-weaker, and_le_r, and_mask, ArePlaces, IsKeyOf, IsPlaceOf}
+use Rattle.dm_stack.proofs.Prelude.{ℕ, zero, suc, not, cond, Bool, true, List, [], Some, get_or, length, take, drop, replicate, refl, sym, ap, ◌∙◌, arith, bit_and, All, list_any, slice_get, slice_range, take-append_seam, not-true, drop_more, take-append-drop, All-drop, All-same, All-take, All-weaker, and_le_r, and_mask, ArePlaces, IsKeyOf, IsPlaceOf}
+use Rattle.std.specs.Prelude.{◌≡◌, ◌+◌, ◌-◌, ◌<◌, ◌∷◌, ◌++◌}
 use lib.Lanes.{zip2}
 use Rattle.dm_stack.specs.declared.names.name_index.Place.{Place}
 use Rattle.dm_stack.specs.declared.names.name_key.NameKey.{NameKey}

@@ -1,10 +1,11 @@
 -- Names by their places: how a set of names tests them, and which stand twice.
-use Rattle.dm_stack.proofs.Prelude.{◌≡◌, ◌≢◌, ℕ, zero, suc, ◌+◌, ◌<◌, ◌≤◌, Bool, true, false, List, [], ◌∷◌, ◌++◌, Option, Some, None, Err, String, arith, refl, sym, ap, ◌∙◌, cond, drop, get_or, length, map, take, nat_lt, position, slice_get, string_bytes, unwrap_or, IsDistinct, list_any, position_or_len, length-map, map-append, take_more, fun_ext, lt-ltb, IsDistinct-head, IsDistinct-tail, slice_get-map, slice_get_within, prefix_len-le-length, bytes_eq-Decides, Place, LoadFault, Memory, Twice, fault, faults_by, IsMemoryFault, first_or, unless, is_same, is_repeated, with_before, at_index, mapped}
+use Rattle.dm_stack.proofs.Prelude.{ℕ, zero, suc, Bool, true, false, List, [], Option, Some, None, Err, String, arith, refl, sym, ap, ◌∙◌, cond, drop, get_or, length, map, take, nat_lt, position, slice_get, string_bytes, unwrap_or, IsDistinct, list_any, position_or_len, length-map, map-append, take_more, fun_ext, lt-ltb, IsDistinct-head, IsDistinct-tail, slice_get-map, slice_get_within, prefix_len-le-length, bytes_eq-Decides, Place, LoadFault, Memory, Twice, fault, faults_by, IsMemoryFault, first_or, unless, is_same, is_repeated, with_before, at_index, mapped}
 use Rattle.std.proofs.lemmas.Cmp.{nat_list_eq_equiv}
 use Rattle.dm_table.specs.declared.load.place.Part.{Part}
 use Rattle.dm_stack.proofs.lines.SpanLemmas.{any_map}
 use Rattle.dm_stack.proofs.SoundLines.{position-map}
 use Rattle.dm_stack.proofs.checks.WithBefore.{drop-with_before, none-with_before}
+use Rattle.std.specs.Prelude.{◌≡◌, ◌≢◌, ◌+◌, ◌<◌, ◌≤◌, ◌∷◌, ◌++◌}
 
 pub is_same-sym : (a b : List ℕ) → is_same a b ≡ is_same b a
 is_same-sym a b = nat_list_eq_equiv.symm a b

@@ -1,8 +1,9 @@
 -- The first fault of each check of lines, as one walk over all lines notes them.
-use Rattle.dm_stack.specs.Base.{◌≡◌, ℕ, ◌+◌, ◌==◌, Bool, not, List, [], ◌∷◌, Option, Some, None, length, nat_lt, if◌then◌else◌, flat_map, DeviceSpec, Line, Place, LoadFault, LoadKind, Empty, Gap, Overlap, Unknown, Stripe, Range, Snapshot, either, fault, first_or}
+use Rattle.dm_stack.specs.Base.{ℕ, Bool, not, List, [], Option, Some, None, length, nat_lt, flat_map, DeviceSpec, Line, Place, LoadFault, LoadKind, Empty, Gap, Overlap, Unknown, Stripe, Range, Snapshot, either, fault, first_or}
 use Rattle.dm_stack.specs.declared.checks.lines.BadLines.{BadLines}
 use Rattle.dm_stack.specs.Description.{Description}
 use Rattle.dm_stack.specs.checks.Soundness.{empty_in, has_bad_stripes, is_bad_snapshot, is_unknown, misplaced, passes_end, range, snapshot, stripe, unknown}
+use Rattle.std.specs.Prelude.{◌≡◌, ◌+◌, ◌==◌, ◌∷◌, if◌then◌else◌}
 
 -- the first fault of a check so far, or else that of an element that is bad
 abbrev pub or_bad : Option LoadFault → LoadKind → Place → (bad : Bool) → Option LoadFault

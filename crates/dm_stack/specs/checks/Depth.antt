@@ -1,10 +1,11 @@
 -- How deep a stack is.
-use Rattle.dm_stack.specs.Base.{◌≡◌, ℕ, suc, ◌<◌, List, length, map, flat_map, range_with_len, spans}
+use Rattle.dm_stack.specs.Base.{ℕ, suc, List, length, map, flat_map, range_with_len, spans}
 use Rattle.dm_stack.specs.declared.id.Lower.{Lower}
 use Rattle.dm_stack.specs.declared.id.Lower.TheVariants as lowers
 use Rattle.dm_stack.specs.Description.{Description, lines_at, lower_of}
 use Rattle.dm_stack.specs.checks.Graph.{greatest}
 use Rattle.dm_stack.specs.checks.Soundness.{depth_of}
+use Rattle.std.specs.Prelude.{◌≡◌, ◌<◌}
 
 -- the greatest depth of a device; 0 without devices
 abbrev pub stack_depth : Description → ℕ

@@ -1,6 +1,7 @@
 -- Devices that name one another, by their indexes: paths, what is reached, depths.
-use Rattle.dm_stack.specs.Base.{◌≡◌, ◌⊎◌, ◌↔◌, ℕ, zero, suc, ◌+◌, ◌<◌, max, Bool, true, false, not, List, [], ◌∷◌, Option, Some, None, length, map, Contains, count_by, range_with_len, slice_index_or}
+use Rattle.dm_stack.specs.Base.{ℕ, zero, suc, max, Bool, true, false, not, List, [], Option, Some, None, length, map, Contains, count_by, range_with_len, slice_index_or}
 use Rattle.std.specs.Global.{Vec}
+use Rattle.std.specs.Prelude.{◌≡◌, ◌⊎◌, ◌↔◌, ◌+◌, ◌<◌, ◌∷◌}
 
 -- Which devices name which
 

@@ -1,8 +1,9 @@
 -- The checks of a list of paths against a stack.
-use Rattle.dm_stack.specs.Base.{Bool, List, [], ◌∷◌, is_none, position, LoadFault, Unknown, faults_by}
+use Rattle.dm_stack.specs.Base.{Bool, List, [], is_none, position, LoadFault, Unknown, faults_by}
 use Rattle.dm_table.specs.declared.tables.disk_path.DiskPath.{DiskPath}
 use Rattle.dm_stack.specs.Description.{Description, is_same}
 use Rattle.dm_stack.specs.checks.Soundness.{twice_in}
+use Rattle.std.specs.Prelude.{◌∷◌}
 
 -- a path of a disk that the stack doesn't have
 abbrev pub is_unknown_path : Description → DiskPath → Bool

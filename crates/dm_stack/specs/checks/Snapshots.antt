@@ -1,11 +1,12 @@
 -- Which devices are snapshots.
-use Rattle.dm_stack.specs.Base.{◌≡◌, ℕ, ◌<◌, Bool, true, false, List, Some, filter, length, All, Contains, list_any, range_with_len, Line, Target}
+use Rattle.dm_stack.specs.Base.{ℕ, Bool, true, false, List, Some, filter, length, All, Contains, list_any, range_with_len, Line, Target}
 use Rattle.dm_table.specs.declared.tables.table.Target.TheVariants as targets
 use Rattle.dm_stack.specs.declared.lines.resolved_line.ResolvedLine.{ResolvedLine}
 use Rattle.dm_stack.specs.declared.lines.resolved_line.ResolvedSnapshot.{ResolvedSnapshot}
 use Rattle.dm_stack.specs.declared.lines.resolved_line.ResolvedTarget.TheVariants as found
 use Rattle.dm_stack.specs.Description.{Description, device_len, lines_at}
 use Rattle.dm_stack.specs.lines.Below.{found_at}
+use Rattle.std.specs.Prelude.{◌≡◌, ◌<◌}
 
 -- a device that has a snapshot's line
 abbrev pub is_snapshot : Target → Bool

@@ -1,5 +1,5 @@
 -- The checks of a load, over the devices and the disks that it is handed.
-use Rattle.dm_stack.specs.Base.{◌≡◌, ℕ, suc, ◌+◌, ◌/◌, ◌%◌, ◌≤◌, ◌<◌, Bool, true, false, not, ◌||◌, ◌==◌, List, [], ◌∷◌, ◌++◌, Option, Some, None, drop, filter, find, length, map, is_none, nat_lt, if◌then◌else◌, is_power_of_two, All, flat_map, list_any, sum_by, DevRef, Target, Line, DeviceSpec, Place, LoadKind, Limit, Twice, Empty, Gap, Overlap, Unknown, Cycle, Deep, Stripe, Range, Snapshot, Store, LoadFault, fault, faults_by, first_fault, Span, spans}
+use Rattle.dm_stack.specs.Base.{ℕ, suc, Bool, true, false, not, List, [], Option, Some, None, drop, filter, find, length, map, is_none, nat_lt, is_power_of_two, All, flat_map, list_any, sum_by, DevRef, Target, Line, DeviceSpec, Place, LoadKind, Limit, Twice, Empty, Gap, Overlap, Unknown, Cycle, Deep, Stripe, Range, Snapshot, Store, LoadFault, fault, faults_by, first_fault, Span, spans}
 use Rattle.dm_table.specs.declared.tables.table.DevRef.TheVariants as refs
 use Rattle.dm_table.specs.declared.tables.table.Target.TheVariants as targets
 use Rattle.dm_stack.specs.Description.{Description, is_same, end_of, lower_of, lower_len, links}
@@ -8,6 +8,7 @@ use Rattle.dm_stack.specs.lines.StoreLayout.{place_count}
 use Rattle.dm_stack.specs.checks.Store.{is_store_to}
 use Rattle.dm_stack.specs.declared.checks.graph.TheConstants.{MOST_DEPTH}
 use Rattle.dm_stack.specs.declared.checks.limits.TheConstants.{MOST_DEVICES, MOST_DISKS, MOST_LINES, MOST_LENGTH, MOST_STRIPES, MOST_CHUNK, MOST_SNAPSHOT_CHUNK, MOST_PLACES}
+use Rattle.std.specs.Prelude.{◌≡◌, ◌+◌, ◌/◌, ◌%◌, ◌≤◌, ◌<◌, ◌||◌, ◌==◌, ◌∷◌, ◌++◌, if◌then◌else◌}
 
 -- the lines of all devices
 abbrev pub all_lines : List DeviceSpec → List Line

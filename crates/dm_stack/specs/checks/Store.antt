@@ -1,5 +1,5 @@
 -- What the store of a snapshot may be: a disk, or what linear and striped lines of writable devices make of disks.
-use Rattle.dm_stack.specs.Base.{◌≡◌, ℕ, zero, suc, ◌&&◌, Bool, true, false, not, List, [], ◌∷◌, ◌++◌, length, map, nat_le, if◌then◌else◌, list_all, range_with_len, slice_index_or, Line, Target, spans}
+use Rattle.dm_stack.specs.Base.{ℕ, zero, suc, Bool, true, false, not, List, [], length, map, nat_le, list_all, range_with_len, slice_index_or, Line, Target, spans}
 use Rattle.dm_table.specs.declared.tables.table.Target.TheVariants as targets
 use Rattle.dm_stack.specs.declared.checks.graph.TheConstants.{MOST_DEPTH}
 use Rattle.dm_stack.specs.declared.id.Lower.{Lower}
@@ -8,6 +8,7 @@ use Rattle.dm_stack.specs.declared.lines.resolved_line.ResolvedTarget.{ResolvedT
 use Rattle.dm_stack.specs.declared.lines.resolved_line.ResolvedTarget.TheVariants as found
 use Rattle.dm_stack.specs.Description.{Description, is_ro_at, lines_at, links, lower_of}
 use Rattle.dm_stack.specs.checks.Graph.{links_of}
+use Rattle.std.specs.Prelude.{◌≡◌, ◌&&◌, ◌∷◌, ◌++◌, if◌then◌else◌}
 
 -- each sector of the line is one of what it names; on a target without a clause, no store may lie
 abbrev pub is_plain : Target → Bool

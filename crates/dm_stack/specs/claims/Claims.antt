@@ -1,10 +1,11 @@
 -- Claims: which sectors below each line of a stack relies on, and where two lines get in each other's way.
-use Rattle.dm_stack.specs.Base.{◌≡◌, ◌↔◌, ℕ, ◌+◌, ◌≤◌, ◌<◌, Bool, true, false, IsTrue, List, ◌∷◌, ◌++◌, Option, Some, None, length, map, All, AllPairs, flat_map, range_with_len, slice_index_or, Line, Use, Reading, Serving, Span, spans}
+use Rattle.dm_stack.specs.Base.{ℕ, Bool, true, false, IsTrue, List, Option, Some, None, length, map, All, AllPairs, flat_map, range_with_len, slice_index_or, Line, Use, Reading, Serving, Span, spans}
 use Rattle.dm_stack.specs.declared.claims.claim.Claim.{Claim}
 use Rattle.dm_stack.specs.declared.claims.clash.Clash.{Clash}
 use Rattle.dm_stack.specs.declared.id.Lower.{Lower}
 use Rattle.dm_stack.specs.declared.id.Lower.TheVariants.{Device, Disk}
 use Rattle.dm_stack.specs.Description.{Description, lines_at, lower_len, lower_of}
+use Rattle.std.specs.Prelude.{◌≡◌, ◌↔◌, ◌+◌, ◌≤◌, ◌<◌, ◌∷◌, ◌++◌}
 
 -- where a span ends: what is named whole is claimed to its end
 abbrev pub span_end : (whole offset : ℕ) → Option ℕ → ℕ

@@ -1,11 +1,12 @@
 -- Which lines name a device, as the code looks for it.
-use Rattle.dm_stack.specs.Base.{ℕ, Bool, false, ◌==◌, map, list_any}
+use Rattle.dm_stack.specs.Base.{ℕ, Bool, false, map, list_any}
 use Rattle.dm_stack.specs.declared.lines.resolved_line.ResolvedLine.{ResolvedLine}
 use Rattle.dm_stack.specs.declared.id.Lower.{Lower}
 use Rattle.dm_stack.specs.declared.id.Lower.TheVariants.{Device, Disk}
 use Rattle.dm_stack.specs.Description.{Description}
 use Rattle.dm_stack.specs.Stack.{resolved_device}
 use Rattle.dm_stack.specs.lines.Span.{spans}
+use Rattle.std.specs.Prelude.{◌==◌}
 
 -- what is named is this device
 abbrev pub is_device : ℕ → Lower → Bool

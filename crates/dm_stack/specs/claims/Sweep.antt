@@ -1,5 +1,5 @@
 -- A clash as it is looked for: the claims in the order of their starts, and how far those before reach.
-use Rattle.dm_stack.specs.Base.{ℕ, suc, Bool, false, not, ◌&&◌, ◌||◌, ◌<◌, List, [], ◌∷◌, ◌++◌, Option, max, min, nat_lt, fold, find, option_map, slice_index_or, if◌then◌else◌, list_any, Use, Own, Reading, Serving}
+use Rattle.dm_stack.specs.Base.{ℕ, suc, Bool, false, not, List, [], Option, max, min, nat_lt, fold, find, option_map, slice_index_or, list_any, Use, Own, Reading, Serving}
 use Rattle.dm_stack.specs.declared.claims.claim.Claim.{Claim}
 use Rattle.dm_stack.specs.declared.claims.clash.Clash.{Clash}
 use Rattle.dm_stack.specs.declared.id.Lower.{Lower}
@@ -9,6 +9,7 @@ use Rattle.dm_stack.specs.declared.claims.reach.Reaches.{Reaches}
 use Rattle.dm_stack.specs.declared.claims.tidy.Numbered.{Numbered}
 use Rattle.dm_stack.specs.claims.Claims.{may_share}
 use Rattle.dm_stack.specs.Description.{is_same_lower}
+use Rattle.std.specs.Prelude.{◌&&◌, ◌||◌, ◌<◌, ◌∷◌, ◌++◌, if◌then◌else◌}
 
 -- whether two claims meet at any sector
 abbrev pub meets : Claim → Claim → Bool

@@ -1,5 +1,5 @@
 -- The line of a sector, and what lies below it (the kernel's admin guide, device-mapper/linear and striped).
-use Rattle.dm_stack.specs.Base.{ℕ, ◌+◌, ◌-◌, ◌*◌, ◌/◌, ◌%◌, ◌&&◌, ◌==◌, ◌≡◌, ◌≤◌, ◌<◌, Bool, true, false, List, Option, Some, None, find, length, map, nat_le, nat_lt, option_map, slice_get, AllByRecursion, Target, Line}
+use Rattle.dm_stack.specs.Base.{ℕ, Bool, true, false, List, Option, Some, None, find, length, map, nat_le, nat_lt, option_map, slice_get, AllByRecursion, Target, Line}
 use Rattle.dm_table.specs.declared.tables.table.Column.{Column}
 use Rattle.dm_table.specs.declared.tables.table.Target.TheVariants as targets
 use Rattle.dm_stack.specs.declared.id.Lower.{Lower}
@@ -13,6 +13,7 @@ use Rattle.dm_stack.specs.declared.checks.limits.TheConstants.{MOST_CHUNK, MOST_
 use Rattle.dm_stack.specs.Description.{Description, device_len, lower_of, lower_len, lines_at}
 use Rattle.dm_stack.specs.lines.Over.{origin_over, resolved_snapshot, snapshots_over}
 use Rattle.dm_stack.specs.checks.Store.{IsStore}
+use Rattle.std.specs.Prelude.{◌+◌, ◌-◌, ◌*◌, ◌/◌, ◌%◌, ◌&&◌, ◌==◌, ◌≡◌, ◌≤◌, ◌<◌}
 
 -- a line has the sectors from its start to before its end
 abbrev pub holds : ℕ → Line → Bool

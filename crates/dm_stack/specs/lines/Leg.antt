@@ -1,5 +1,5 @@
 -- Legs: where the first sectors of a line lie, and how many go on like that.
-use Rattle.dm_stack.specs.Base.{ℕ, ◌≡◌, ◌+◌, ◌-◌, ◌≤◌, ◌<◌, Bool, false, true, List, length, StripePosition}
+use Rattle.dm_stack.specs.Base.{ℕ, Bool, false, true, List, length, StripePosition}
 use Rattle.dm_stack.specs.declared.lines.resolved_columns.ResolvedColumn.{ResolvedColumn}
 use Rattle.dm_stack.specs.declared.id.Lower.TheVariants.{Disk}
 use Rattle.dm_stack.specs.declared.lines.resolved_line.ResolvedTarget.{ResolvedTarget}
@@ -13,6 +13,7 @@ use Rattle.dm_stack.specs.Description.{Description, lower_len}
 use Rattle.dm_stack.specs.lines.ResolvedColumns.{are_on_disks}
 use Rattle.dm_stack.specs.checks.Soundness.{IsSound}
 use Rattle.dm_stack.specs.lines.StripePosition.{IsStripePosition}
+use Rattle.std.specs.Prelude.{◌≡◌, ◌+◌, ◌-◌, ◌≤◌, ◌<◌}
 
 -- a line with this target could stand in a stack without a fault, and has len sectors from a distance from its start on
 pub record HasSectors (target : ResolvedTarget) (distance len : ℕ) : Type 0 where

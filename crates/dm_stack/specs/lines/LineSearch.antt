@@ -1,10 +1,11 @@
 -- The line of a sector, found by the starts of lines.
-use Rattle.dm_stack.specs.Base.{◌≡◌, ℕ, zero, suc, ◌+◌, ◌*◌, ◌/◌, ◌^◌, ◌==◌, ◌≤◌, ◌<◌, ⊤, List, MatchOption, get_or, length, slice_get, if◌then◌else◌, All}
+use Rattle.dm_stack.specs.Base.{ℕ, zero, suc, ⊤, List, MatchOption, get_or, length, slice_get, All}
 use Rattle.dm_stack.specs.declared.lines.resolved_line.ResolvedLine.{ResolvedLine}
 use Rattle.dm_stack.specs.declared.checks.limits.TheConstants.{MOST_LENGTH}
 use Rattle.dm_stack.specs.declared.lines.line_search.LastLine.{LastLine}
 use Rattle.dm_stack.specs.lines.Below.{resolved_lines}
 use Rattle.dm_stack.specs.Description.{Description}
+use Rattle.std.specs.Prelude.{◌≡◌, ◌+◌, ◌*◌, ◌/◌, ◌^◌, ◌==◌, ◌≤◌, ◌<◌, if◌then◌else◌}
 
 -- there is a line at an index, and it starts at a sector or before it
 abbrev pub StartsBy : List ResolvedLine → (index sector : ℕ) → Type 0

@@ -1,11 +1,12 @@
 -- The snapshots of an origin (the kernel's admin guide, device-mapper/snapshot).
-use Rattle.dm_stack.specs.Base.{◌≡◌, ℕ, ◌==◌, ◌&&◌, Bool, true, false, List, [], ◌∷◌, filter, length, not, if◌then◌else◌, flat_map, list_any, range_with_len, DevRef, DeviceSpec, StoreKind, Target}
+use Rattle.dm_stack.specs.Base.{ℕ, Bool, true, false, List, [], filter, length, not, flat_map, list_any, range_with_len, DevRef, DeviceSpec, StoreKind, Target}
 use Rattle.dm_table.specs.declared.tables.table.Target.TheVariants as targets
 use Rattle.dm_stack.specs.declared.lines.resolved_line.ResolvedOver.{ResolvedOver}
 use Rattle.dm_stack.specs.declared.lines.resolved_line.ResolvedSnapshot.{ResolvedSnapshot}
 use Rattle.dm_stack.specs.declared.id.Lower.{Lower}
 use Rattle.dm_stack.specs.Description.{Description, is_same_lower, lines_at, lower_of}
 use Rattle.dm_stack.specs.checks.Soundness.{is_bad_chunk}
+use Rattle.std.specs.Prelude.{◌≡◌, ◌==◌, ◌&&◌, ◌∷◌, if◌then◌else◌}
 
 -- a chunk that is within its limits; 1 for any other, which a load refuses
 abbrev pub fit_chunk : ℕ → ℕ

@@ -1,5 +1,5 @@
 -- What a line by ids names below, and where: what its spans by names say, with ids for names.
-use Rattle.dm_stack.specs.Base.{ℕ, ◌/◌, Bool, List, [], ◌∷◌, Some, None, length, map, nat_le, flat_map, list_any, Use, Own, Reading, Serving}
+use Rattle.dm_stack.specs.Base.{ℕ, Bool, List, [], Some, None, length, map, nat_le, flat_map, list_any, Use, Own, Reading, Serving}
 use Rattle.dm_stack.specs.declared.claims.claim.Claim.{Claim}
 use Rattle.dm_stack.specs.declared.id.Lower.{Lower}
 use Rattle.dm_stack.specs.declared.id.Lower.TheVariants.{Device, Disk}
@@ -11,6 +11,7 @@ use Rattle.dm_stack.specs.declared.lines.span.Span.{Span}
 use Rattle.dm_stack.specs.Description.{Description, lower_len}
 use Rattle.dm_stack.specs.checks.Soundness.{passes}
 use Rattle.dm_stack.specs.claims.Claims.{span_end}
+use Rattle.std.specs.Prelude.{◌/◌, ◌∷◌}
 
 -- a column has its share of the line's length
 abbrev pub column_span : ℕ → ResolvedColumn → Span

@@ -1,6 +1,7 @@
 -- How a store is laid out, by its kind: where it keeps the chunks that a snapshot took, for how many it has places, and how much of it is used (the exception stores of the kernel's admin guide, device-mapper/snapshot).
-use Rattle.dm_stack.specs.Base.{ℕ, ◌+◌, ◌-◌, ◌*◌, ◌/◌, ◌%◌, ◌==◌, ◌||◌, Bool, false, StoreKind}
+use Rattle.dm_stack.specs.Base.{ℕ, Bool, false, StoreKind}
 use Rattle.dm_table.specs.declared.tables.table.StoreKind.TheVariants.{Transient}
+use Rattle.std.specs.Prelude.{◌+◌, ◌-◌, ◌*◌, ◌/◌, ◌%◌, ◌==◌, ◌||◌}
 
 -- the chunk of a store that the taken chunk of a number has: a transient store has nothing else; in others a header and an area of numbers come first, and an area after every 32 * chunk chunks
 abbrev pub place : StoreKind → (chunk number : ℕ) → ℕ

@@ -1,6 +1,7 @@
 -- Where the sectors of a striped line lie in its columns.
-use Rattle.dm_stack.specs.Base.{ℕ, ◌≡◌, ◌*◌, ◌/◌, ◌%◌, StripePosition}
+use Rattle.dm_stack.specs.Base.{ℕ, StripePosition}
 use Rattle.dm_stack.specs.lines.Below.{column_of}
+use Rattle.std.specs.Prelude.{◌≡◌, ◌*◌, ◌/◌, ◌%◌}
 
 -- the position in stripes of a sector at a distance from the line's start
 pub record IsStripePosition (chunk_size count distance : ℕ) (position : StripePosition) : Type 0 where

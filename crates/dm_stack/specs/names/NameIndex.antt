@@ -1,11 +1,12 @@
 -- Names that are indexed.
-use Rattle.dm_stack.specs.Base.{◌≡◌, ℕ, ◌-◌, ◌<◌, ◌++◌, List, Some, String, length, map, replicate, slice_get, string_bytes, to_le_bytes, w64, All, IsDistinct}
+use Rattle.dm_stack.specs.Base.{ℕ, List, Some, String, length, map, replicate, slice_get, string_bytes, to_le_bytes, w64, All, IsDistinct}
 use Rattle.indexmap.specs.IndexSet.{IndexSet}
 use Rattle.dm_stack.specs.Description.{Description, is_same}
 use Rattle.dm_stack.specs.checks.Soundness.{HaveSmallEnds}
 use Rattle.dm_stack.specs.declared.names.name_index.Place.{Place}
 use Rattle.dm_stack.specs.declared.names.name_key.NameKey.{NameKey}
 use Rattle.dm_stack.specs.declared.names.name_key.TheConstants.{KEY_BYTES}
+use Rattle.std.specs.Prelude.{◌≡◌, ◌-◌, ◌<◌, ◌++◌}
 
 -- the names of an index, in the order in which they were added
 abbrev pub names_in : {A S : Type 0} → IndexSet (String A) S → List (List ℕ)

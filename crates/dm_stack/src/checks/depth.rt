@@ -3,7 +3,8 @@
 //! The depths come from `graph`, which says what a depth is and follows none further than one above
 //! the limit. Both functions here walk them once.
 
-ghost use Rattle.dm_stack.specs.Prelude.{◌≡◌, None, length, nat_lt, slice_index_or, result_err, Deep, first_or, greatest, faults_by_id};
+ghost use Rattle.dm_stack.specs.Prelude.{None, length, nat_lt, slice_index_or, result_err, Deep, first_or, greatest, faults_by_id};
+ghost use Rattle.std.specs.Prelude.{◌≡◌};
 
 use crate::checks::graph::MOST_DEPTH;
 use dm_table::{DeviceSpec, LoadFault, LoadKind};

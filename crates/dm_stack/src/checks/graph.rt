@@ -3,8 +3,9 @@
 //! Depths come first, by rounds that are linear in the links, since only a device that is too deep
 //! can reach itself; what a device reaches is then searched for few devices or none.
 
-ghost use Rattle.dm_stack.specs.Prelude.{◌≡◌, ◌≤◌, ◌<◌, ℕ, length, map, IfOk, IfSome, IfNone, OnOk, IsTrue, false, All, Contains, IsClosed, Names, Reaches, Visits, depth_over, depths_to, links_in};
+ghost use Rattle.dm_stack.specs.Prelude.{ℕ, length, map, IfOk, IfSome, IfNone, OnOk, IsTrue, false, All, Contains, IsClosed, Names, Reaches, Visits, depth_over, depths_to, links_in};
 ghost use Rattle.dm_stack.specs.declared.checks.graph.TheConstants.{FOLLOWED_LEVELS};
+ghost use Rattle.std.specs.Prelude.{◌≡◌, ◌≤◌, ◌<◌};
 
 use std::alloc::{AllocError, Global};
 

@@ -3,7 +3,8 @@
 //! A table starts at sector 0, and each line starts where the one before ends (dmsetup(8)); `lines` checks that.
 //! So a device ends where its last line does; change that here and in `end_of` of the specs.
 
-ghost use Rattle.dm_stack.specs.Prelude.{◌≡◌, None, flat_map, result_err, first_or, end_of, HaveSmallEnds, empty, empty_in};
+ghost use Rattle.dm_stack.specs.Prelude.{None, flat_map, result_err, first_or, end_of, HaveSmallEnds, empty, empty_in};
+ghost use Rattle.std.specs.Prelude.{◌≡◌};
 
 use crate::checks::faults::{check_each, refuse};
 use crate::lines::resolved::Resolved;

@@ -3,9 +3,10 @@
 //! Sums of two numbers within the limits fit 64 bits, so every later check adds freely. The
 //! definitions name these constants, so a limit that changes here changes for them too.
 
-ghost use Rattle.dm_stack.specs.Prelude.{◌≡◌, [], None, nat_lt, option_copied, slice_get, list_any, result_err, Limit, first_or, all_lines, is_far, is_large, line_faults, past, too_large, too_many, described};
+ghost use Rattle.dm_stack.specs.Prelude.{[], None, nat_lt, option_copied, slice_get, list_any, result_err, Limit, first_or, all_lines, is_far, is_large, line_faults, past, too_large, too_many, described};
 ghost use Rattle.dm_table.specs.Prelude.{spans};
 ghost use Rattle.dm_stack.specs.declared.checks.limits.TheConstants.{MOST_LENGTH};
+ghost use Rattle.std.specs.Prelude.{◌≡◌};
 
 use crate::checks::faults::{Placed, check_each};
 use dm_table::{Column, DeviceSpec, Disk, Line, LoadFault, LoadKind, Target};

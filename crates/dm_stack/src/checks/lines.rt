@@ -4,8 +4,9 @@
 //! don't fit a cache, so each is looked at once: the first fault of each check is noted, and `load` asks for
 //! them in the order of the checks. A new check of lines is a field here and in `specs/checks/BadLines.antt`.
 
-ghost use Rattle.dm_stack.specs.Prelude.{◌≡◌, ◌+◌, ◌≤◌, All, if◌then◌else◌, map, nat_lt, Gap, Overlap, HaveSmallEnds, resolved_line, AreFirst, noted_device, noted_line, or_bad};
+ghost use Rattle.dm_stack.specs.Prelude.{All, map, nat_lt, Gap, Overlap, HaveSmallEnds, resolved_line, AreFirst, noted_device, noted_line, or_bad};
 ghost use Rattle.dm_stack.specs.declared.checks.limits.TheConstants.{MOST_LENGTH};
+ghost use Rattle.std.specs.Prelude.{◌≡◌, ◌+◌, ◌≤◌, if◌then◌else◌};
 
 use crate::checks::faults::Placed;
 use crate::checks::ranges::{names_missing, passes_end};

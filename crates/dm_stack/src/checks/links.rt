@@ -1,7 +1,8 @@
 //! Which devices name which, by their ids.
 
-ghost use Rattle.dm_stack.specs.Prelude.{◌≡◌, ◌++◌, IfOk, OnOk, flat_map, links, lower_link, links_in};
+ghost use Rattle.dm_stack.specs.Prelude.{IfOk, OnOk, flat_map, links, lower_link, links_in};
 ghost use Rattle.dm_stack.specs.lines.Span.{line_links};
+ghost use Rattle.std.specs.Prelude.{◌≡◌, ◌++◌};
 
 use crate::id::Lower;
 use crate::lines::resolved::Resolved;

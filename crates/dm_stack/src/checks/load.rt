@@ -3,8 +3,9 @@
 //! Each check fails with its first fault, and none runs after one that fails, so later checks may
 //! rely on what earlier ones passed. A new check takes its place here and in `specs/checks/Soundness.antt`.
 
-ghost use Rattle.dm_stack.specs.Prelude.{◌≡◌, ◌⊎◌, IfErr, IfOk, None, OnOk, map, take, Source, IsMemoryFault, first_fault, described, links, IsClosed, IsFirstRing, depths_to, IsLoaded, stack_depth, HasNoCycle, IsFirstCycle, IsRefusedBy, IsSound, checks_before, store_links, AreFirst};
+ghost use Rattle.dm_stack.specs.Prelude.{IfErr, IfOk, None, OnOk, map, take, Source, IsMemoryFault, first_fault, described, links, IsClosed, IsFirstRing, depths_to, IsLoaded, stack_depth, HasNoCycle, IsFirstCycle, IsRefusedBy, IsSound, checks_before, store_links, AreFirst};
 ghost use Rattle.dm_stack.specs.declared.checks.graph.TheConstants.{FOLLOWED_LEVELS};
+ghost use Rattle.std.specs.Prelude.{◌≡◌, ◌⊎◌};
 
 use crate::checks::depth::{check_depths, deepest};
 use crate::checks::faults::{or_out_of_memory, refuse};

@@ -1,6 +1,7 @@
 //! The names in a list of paths: each is that of a disk of the stack, and stands there once.
 
-ghost use Rattle.dm_stack.specs.Prelude.{◌≡◌, ◌≢◌, IfErr, None, OnOk, Some, result_err, Memory, Unknown, Source, IsMemoryFault, faults_by, first_fault, first_or, is_unknown_path, path_faults};
+ghost use Rattle.dm_stack.specs.Prelude.{IfErr, None, OnOk, Some, result_err, Memory, Unknown, Source, IsMemoryFault, faults_by, first_fault, first_or, is_unknown_path, path_faults};
+ghost use Rattle.std.specs.Prelude.{◌≡◌, ◌≢◌};
 
 use crate::checks::faults::check_each;
 use crate::checks::names::index_of;

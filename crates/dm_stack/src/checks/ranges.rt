@@ -4,8 +4,9 @@
 //! A device ends where its last line does, so that the length of what is named takes one look-up
 //! and no walk. The spans of a line say what it names, and how much of it.
 
-ghost use Rattle.dm_stack.specs.Prelude.{◌≡◌, is_past, names_missing};
+ghost use Rattle.dm_stack.specs.Prelude.{is_past, names_missing};
 ghost use Rattle.dm_stack.specs.lines.Span.{passes_end};
+ghost use Rattle.std.specs.Prelude.{◌≡◌};
 
 use crate::lines::resolved::Resolved;
 use crate::lines::resolved_line::ResolvedLine;

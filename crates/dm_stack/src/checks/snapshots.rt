@@ -4,7 +4,8 @@
 //! Each is a whole device: its line stands alone in its table and is as long as the origin that it
 //! names. Mapping relies on it, and shifts where it would divide by a chunk, so that no rule here may be let go.
 
-ghost use Rattle.dm_stack.specs.Prelude.{◌≡◌, ◌∷◌, ◌++◌, [], IfOk, OnOk, if◌then◌else◌, described, resolved_target, has_snapshot, snapshots, is_bad_snapshot};
+ghost use Rattle.dm_stack.specs.Prelude.{[], IfOk, OnOk, described, resolved_target, has_snapshot, snapshots, is_bad_snapshot};
+ghost use Rattle.std.specs.Prelude.{◌≡◌, ◌∷◌, ◌++◌, if◌then◌else◌};
 
 use crate::id::DeviceId;
 use crate::lines::chunk_size::is_bad_chunk;

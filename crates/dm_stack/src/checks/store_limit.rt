@@ -1,6 +1,7 @@
 //! The limit on the places for chunks that all stores have together.
 
-ghost use Rattle.dm_stack.specs.Prelude.{◌≡◌, None, All, result_err, first_or, HaveGoodChunks, crowded, places_of};
+ghost use Rattle.dm_stack.specs.Prelude.{None, All, result_err, first_or, HaveGoodChunks, crowded, places_of};
+ghost use Rattle.std.specs.Prelude.{◌≡◌};
 
 use crate::checks::limits::MOST_PLACES;
 use crate::lines::resolved::Resolved;

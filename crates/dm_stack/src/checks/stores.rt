@@ -4,8 +4,9 @@
 //! rounds that find depths find this for all devices at once: among the links here each device of
 //! another kind names itself, so that it and all above it are too deep, as what reaches a ring is.
 
-ghost use Rattle.dm_stack.specs.Prelude.{◌≡◌, IfOk, None, list_all, result_err, first_or, links, IsClosed, depths_to, links_in, store, has_deep_store, is_plain, is_shallow, may_store, store_links, store_links_of};
+ghost use Rattle.dm_stack.specs.Prelude.{IfOk, None, list_all, result_err, first_or, links, IsClosed, depths_to, links_in, store, has_deep_store, is_plain, is_shallow, may_store, store_links, store_links_of};
 ghost use Rattle.dm_stack.specs.declared.checks.graph.TheConstants.{FOLLOWED_LEVELS};
+ghost use Rattle.std.specs.Prelude.{◌≡◌};
 
 use crate::checks::faults::check_by_ids;
 use crate::checks::graph::{MOST_DEPTH, depths};

@@ -4,7 +4,8 @@
 //! columns share the length alike, each in whole chunks. Mapping divides by the number of columns
 //! and by the chunk, so neither may be 0; change a rule here and in `is_bad_stripe` of the specs.
 
-ghost use Rattle.dm_stack.specs.Prelude.{◌≡◌, Description, has_bad_stripes, is_bad_stripe, resolved_target};
+ghost use Rattle.dm_stack.specs.Prelude.{Description, has_bad_stripes, is_bad_stripe, resolved_target};
+ghost use Rattle.std.specs.Prelude.{◌≡◌};
 
 use crate::checks::limits::{MOST_CHUNK, MOST_STRIPES};
 use crate::lines::resolved_line::ResolvedTarget;

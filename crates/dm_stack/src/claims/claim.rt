@@ -4,8 +4,9 @@
 //! to share what it names in another way is a variant of `Use` (`dm_table`), and arms in `may_share`
 //! here and in `reach`.
 
-ghost use Rattle.dm_stack.specs.Prelude.{◌≡◌, ◌<◌, ◌∷◌, ◌++◌, ◌&&◌, [], ℕ, IfOk, OnOk, false, length, map, not, All, flat_map, list_any, slice_index_or, resolved_device, claims, may_share, is_device, is_named, line_names, is_past, line_claims};
+ghost use Rattle.dm_stack.specs.Prelude.{[], ℕ, IfOk, OnOk, false, length, map, not, All, flat_map, list_any, slice_index_or, resolved_device, claims, may_share, is_device, is_named, line_names, is_past, line_claims};
 ghost use Rattle.dm_stack.specs.lines.Span.{passes_end, span_claim};
+ghost use Rattle.std.specs.Prelude.{◌≡◌, ◌<◌, ◌∷◌, ◌++◌, ◌&&◌};
 
 use crate::id::{DeviceId, Lower};
 use crate::lines::resolved::Resolved;

@@ -3,7 +3,8 @@
 //! Whoever goes over claims in the order of their starts needs no more of those that came before:
 //! one that starts below their greatest end meets some of them.
 
-ghost use Rattle.dm_stack.specs.Prelude.{◌≡◌, IfOk, length, if◌then◌else◌, is_same_lower, IsCounted, no_reach, reach_at, reach_meets, reach_with, Lower};
+ghost use Rattle.dm_stack.specs.Prelude.{IfOk, length, is_same_lower, IsCounted, no_reach, reach_at, reach_meets, reach_with, Lower};
+ghost use Rattle.std.specs.Prelude.{◌≡◌, if◌then◌else◌};
 
 use crate::claims::claim::Claim;
 use crate::id::Lower;

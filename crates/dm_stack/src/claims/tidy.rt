@@ -4,7 +4,8 @@
 //! list meet is then a walk in that order, and halving finds the greatest index up to which none
 //! do: the claim there is the first that meets an earlier one.
 
-ghost use Rattle.dm_stack.specs.Prelude.{◌≡◌, ◌+◌, ◌<◌, IfOk, Some, false, length, slice_get, take, true, All, IsNonDecreasingBy, IsPermutation, IsFirstClash, is_same_lower, Claim, IsCounted, clash_with, is_tidy_to, meets, numbered};
+ghost use Rattle.dm_stack.specs.Prelude.{IfOk, Some, false, length, slice_get, take, true, All, IsNonDecreasingBy, IsPermutation, IsFirstClash, is_same_lower, Claim, IsCounted, clash_with, is_tidy_to, meets, numbered};
+ghost use Rattle.std.specs.Prelude.{◌≡◌, ◌+◌, ◌<◌};
 
 use crate::claims::claim::{Claim, may_share};
 use crate::claims::clash::Clash;

@@ -5,8 +5,9 @@
 //! This is here for speed alone: RESULTS.md has its gain as *chunk sizes by their exponent*. It rests on sizes that
 //! are powers of two, which a load checks. Change it only if you measure random first writes before and after.
 
-ghost use Rattle.dm_stack.specs.Prelude.{◌≡◌, ◌*◌, ◌/◌, ◌%◌, ◌<◌, ◌≤◌, is_bad_chunk, fit_chunk};
+ghost use Rattle.dm_stack.specs.Prelude.{is_bad_chunk, fit_chunk};
 ghost use Rattle.dm_stack.specs.declared.checks.limits.TheConstants.{MOST_SNAPSHOT_CHUNK};
+ghost use Rattle.std.specs.Prelude.{◌≡◌, ◌*◌, ◌/◌, ◌%◌, ◌<◌, ◌≤◌};
 
 use crate::checks::limits::MOST_SNAPSHOT_CHUNK;
 use std::marker::Model;
@@ -19,7 +20,8 @@ pub struct ChunkSize {
 }
 
 impl Model for ChunkSize {
-    ghost use Rattle.dm_stack.specs.Base.{◌≤◌, ◌-◌, ◌^◌, ℕ, count_ones, ones-ones};
+    ghost use Rattle.dm_stack.specs.Base.{ℕ, count_ones, ones-ones};
+    ghost use Rattle.std.specs.Prelude.{◌≤◌, ◌-◌, ◌^◌};
 
     ghost Value = { ℕ };
 

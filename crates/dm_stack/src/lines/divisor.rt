@@ -7,7 +7,7 @@
 //! rests on an inverse that is at most one too small, so the quotient is, too, and is put right once. Change it
 //! only if you measure these requests before and after.
 
-ghost use Rattle.dm_stack.specs.Prelude.{◌≡◌, ◌+◌, ◌*◌, ◌^◌, ◌/◌, ◌%◌, ◌<◌, ◌≤◌};
+ghost use Rattle.std.specs.Prelude.{◌≡◌, ◌+◌, ◌*◌, ◌^◌, ◌/◌, ◌%◌, ◌<◌, ◌≤◌};
 
 use std::marker::Model;
 
@@ -20,7 +20,8 @@ pub struct Divisor {
 }
 
 impl Model for Divisor {
-    ghost use Rattle.dm_stack.specs.Base.{◌≤◌, ◌<◌, ◌+◌, ◌*◌, ◌^◌, ℕ};
+    ghost use Rattle.dm_stack.specs.Base.{ℕ};
+    ghost use Rattle.std.specs.Prelude.{◌≤◌, ◌<◌, ◌+◌, ◌*◌, ◌^◌};
 
     ghost Value = { ℕ };
 

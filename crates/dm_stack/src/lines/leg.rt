@@ -4,7 +4,8 @@
 //! more than one leg, in `legs`: a walk goes down leg by leg, and goes by what lies beneath a leg, not by
 //! the target. A new target is an arm of `leg`.
 
-ghost use Rattle.dm_stack.specs.Prelude.{ℕ, ◌≡◌, ◌+◌, ◌≤◌, IsTargetSound, Description, AreInside, HasSectors, IsLeg, LiesOnDisk};
+ghost use Rattle.dm_stack.specs.Prelude.{ℕ, IsTargetSound, Description, AreInside, HasSectors, IsLeg, LiesOnDisk};
+ghost use Rattle.std.specs.Prelude.{◌≡◌, ◌+◌, ◌≤◌};
 
 use crate::id::{DiskId, Lower};
 use crate::lines::resolved_line::{ResolvedOrigin, ResolvedSnapshot, ResolvedTarget};

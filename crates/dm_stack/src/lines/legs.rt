@@ -8,7 +8,8 @@
 //! legs* and *legs on disks in one go*. It rests on `next_stripe_chunk`, which goes on from a position as `position_at`
 //! finds the next one. Change it only if you measure large requests over 16 columns before and after.
 
-ghost use Rattle.dm_stack.specs.Prelude.{◌≡◌, true, IfNone, IfSome, is_striped, after_leg, has_disk_columns, HasSectors, IsLeg};
+ghost use Rattle.dm_stack.specs.Prelude.{true, IfNone, IfSome, is_striped, after_leg, has_disk_columns, HasSectors, IsLeg};
+ghost use Rattle.std.specs.Prelude.{◌≡◌};
 
 use crate::lines::leg::{Beneath, Leg};
 use crate::lines::resolved_columns::ResolvedColumn;

@@ -12,7 +12,8 @@
 //! its end, which lies past every device where there is none. Change these only if you measure such requests, and
 //! random ones on 65,536 lines, before and after.
 
-ghost use Rattle.dm_stack.specs.Prelude.{◌≡◌, ◌⊎◌, ◌<◌, ◌≤◌, ◌+◌, ◌^◌, length, nat_le, EndsAt, Finds, EndsAreSmall, StartsAfter, StartsBy};
+ghost use Rattle.dm_stack.specs.Prelude.{length, nat_le, EndsAt, Finds, EndsAreSmall, StartsAfter, StartsBy};
+ghost use Rattle.std.specs.Prelude.{◌≡◌, ◌⊎◌, ◌<◌, ◌≤◌, ◌+◌, ◌^◌};
 
 use crate::id::DeviceId;
 use crate::lines::resolved_line::ResolvedLine;

@@ -3,7 +3,8 @@
 //! All snapshots of a stack are collected once a load. Each line of an origin has a copy of its own, so that a write
 //! to one neither goes over the devices nor searches their lines; the line of a snapshot has what was collected of it.
 
-ghost use Rattle.dm_stack.specs.Prelude.{◌≡◌, ◌++◌, IfOk, IfSome, OnOk, filter, Contains, flat_map, list_any, is_same_lower, all_over, copied, has_crowd, is_whole, over_of, resolved_snapshot};
+ghost use Rattle.dm_stack.specs.Prelude.{IfOk, IfSome, OnOk, filter, Contains, flat_map, list_any, is_same_lower, all_over, copied, has_crowd, is_whole, over_of, resolved_snapshot};
+ghost use Rattle.std.specs.Prelude.{◌≡◌, ◌++◌};
 
 use crate::id::{DeviceId, Lower};
 use crate::lines::chunk_size::ChunkSize;

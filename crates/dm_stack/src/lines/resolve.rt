@@ -4,7 +4,8 @@
 //! there has an id past the last, which `check_references` finds. The checks from there on look no name up. A new
 //! target is an arm of `target` here and of `resolved_target` in the specs.
 
-ghost use Rattle.dm_stack.specs.Prelude.{◌≡◌, IfOk, IfSome, map, All, resolved_columns, resolved_line, resolved_target, resolved_device, IsSnapshotOf, copied};
+ghost use Rattle.dm_stack.specs.Prelude.{IfOk, IfSome, map, All, resolved_columns, resolved_line, resolved_target, resolved_device, IsSnapshotOf, copied};
+ghost use Rattle.std.specs.Prelude.{◌≡◌};
 
 use crate::checks::layout::end_of;
 use crate::id::DeviceId;

@@ -3,7 +3,8 @@
 //!
 //! A clause sees the description alone; the invariant says that the lines by ids are its lines.
 
-ghost use Rattle.dm_stack.specs.Prelude.{◌≡◌, map, described, lower_len, resolved_device, is_missing};
+ghost use Rattle.dm_stack.specs.Prelude.{map, described, lower_len, resolved_device, is_missing};
+ghost use Rattle.std.specs.Prelude.{◌≡◌};
 
 use crate::id::Lower;
 use crate::lines::resolved_table::ResolvedDevice;
@@ -19,9 +20,10 @@ pub(crate) struct Resolved<'a> {
 }
 
 impl<'a> Model for Resolved<'a> {
-    ghost use Rattle.dm_stack.specs.Base.{◌≡◌, map};
+    ghost use Rattle.dm_stack.specs.Base.{map};
     ghost use Rattle.dm_stack.specs.Description.{Description, described};
     ghost use Rattle.dm_stack.specs.Stack.{resolved_device};
+    ghost use Rattle.std.specs.Prelude.{◌≡◌};
 
     ghost Value = { Description };
 

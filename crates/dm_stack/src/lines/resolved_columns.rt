@@ -2,7 +2,8 @@
 //!
 //! They are boxed, so that a line without columns takes no room for them.
 
-ghost use Rattle.dm_stack.specs.Prelude.{◌≡◌, IfOk, length, are_on_disks};
+ghost use Rattle.dm_stack.specs.Prelude.{IfOk, length, are_on_disks};
+ghost use Rattle.std.specs.Prelude.{◌≡◌};
 
 use crate::id::Lower;
 use crate::lines::divisor::Divisor;
@@ -32,9 +33,10 @@ struct CountedColumns {
 }
 
 impl Model for ResolvedColumns {
-    ghost use Rattle.dm_stack.specs.Base.{◌≡◌, List, length};
+    ghost use Rattle.dm_stack.specs.Base.{List, length};
     ghost use Rattle.dm_stack.specs.declared.lines.resolved_columns.ResolvedColumn.{ResolvedColumn};
     ghost use Rattle.dm_stack.specs.lines.ResolvedColumns.{are_on_disks};
+    ghost use Rattle.std.specs.Prelude.{◌≡◌};
 
     ghost Value = { List ResolvedColumn };
 

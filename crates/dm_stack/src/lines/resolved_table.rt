@@ -11,7 +11,8 @@
 //! lines read ahead*. Buckets rest on `AreFirsts`; without any, all lines are searched. Change them only if you
 //! measure random requests on 65,536 lines, and their load, before and after.
 
-ghost use Rattle.dm_stack.specs.Prelude.{◌≡◌, ◌+◌, ◌^◌, ◌<◌, ◌≤◌, IfOk, length, AreFirsts, IsStartOf, StartsAfter, StartsBy};
+ghost use Rattle.dm_stack.specs.Prelude.{IfOk, length, AreFirsts, IsStartOf, StartsAfter, StartsBy};
+ghost use Rattle.std.specs.Prelude.{◌≡◌, ◌+◌, ◌^◌, ◌<◌, ◌≤◌};
 
 use crate::checks::limits::{MOST_LENGTH, MOST_LINES};
 use crate::lines::resolved_line::{ResolvedLine, ResolvedTarget};

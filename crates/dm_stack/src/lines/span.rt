@@ -4,7 +4,8 @@
 //! target: a new target says what it names here, in `span_at`, and in `target_spans`
 //! (`specs/lines/Span`, and by names `specs/tables/Span` of `dm_table`). No memory is taken.
 
-ghost use Rattle.dm_stack.specs.Prelude.{◌≡◌, ◌+◌, ◌/◌, ◌<◌, ◌^◌, IfSome, drop, length, map, slice_get, YieldsFirst, item_count, column_span, spans, whole_span};
+ghost use Rattle.dm_stack.specs.Prelude.{IfSome, drop, length, map, slice_get, YieldsFirst, item_count, column_span, spans, whole_span};
+ghost use Rattle.std.specs.Prelude.{◌≡◌, ◌+◌, ◌/◌, ◌<◌, ◌^◌};
 
 use crate::id::Lower;
 use crate::lines::resolved_columns::ResolvedColumn;

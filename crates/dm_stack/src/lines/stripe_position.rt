@@ -4,7 +4,8 @@
 //! so a row of chunks costs the divisions of the first one. The rule that assigns chunks to columns
 //! is in this file alone.
 
-ghost use Rattle.dm_stack.specs.Prelude.{◌≡◌, ◌+◌, ◌-◌, ◌<◌, ◌^◌, ℕ, IsStripePosition};
+ghost use Rattle.dm_stack.specs.Prelude.{ℕ, IsStripePosition};
+ghost use Rattle.std.specs.Prelude.{◌≡◌, ◌+◌, ◌-◌, ◌<◌, ◌^◌};
 
 use crate::lines::divisor::Divisor;
 

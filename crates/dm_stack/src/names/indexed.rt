@@ -3,7 +3,8 @@
 //! What makes lines by ids looks names up here, and no check does. A clause sees the description alone; the
 //! invariant says that the indexes are those of its names.
 
-ghost use Rattle.dm_stack.specs.Prelude.{◌≡◌, map, All, described, lower_of, HaveSmallEnds};
+ghost use Rattle.dm_stack.specs.Prelude.{map, All, described, lower_of, HaveSmallEnds};
+ghost use Rattle.std.specs.Prelude.{◌≡◌};
 
 use crate::id::{DeviceId, DiskId, Lower};
 use crate::names::name_index::NameIndex;

@@ -11,8 +11,9 @@
 //! name's number tried before its hash* and *requests read where they stand*. Measure small requests, and loads of
 //! many lines, before and after a change.
 
-ghost use Rattle.dm_stack.specs.Prelude.{◌≡◌, ◌+◌, ◌++◌, ◌∷◌, ◌<◌, ◌≤◌, [], IfOk, IfSome, List, ℕ, Some, drop, get_or, if◌then◌else◌, length, not, position, take, list_any, code, is_same, ArePlaces, IsKeyOf, IsPlaceOf};
+ghost use Rattle.dm_stack.specs.Prelude.{[], IfOk, IfSome, List, ℕ, Some, drop, get_or, length, not, position, take, list_any, code, is_same, ArePlaces, IsKeyOf, IsPlaceOf};
 ghost use Rattle.dm_stack.specs.declared.names.name_key.TheConstants.{KEY_BYTES};
+ghost use Rattle.std.specs.Prelude.{◌≡◌, ◌+◌, ◌++◌, ◌∷◌, ◌<◌, ◌≤◌, if◌then◌else◌};
 
 use crate::names::name_key::{KEY_BYTES, NameKey, first_space};
 use dm_table::are_same;

@@ -7,8 +7,9 @@
 //! They are here for speed alone: RESULTS.md has the gain as *short names compared at once*. Measure small requests
 //! before and after a change.
 
-ghost use Rattle.dm_stack.specs.Prelude.{◌≡◌, ◌-◌, ◌<◌, ◌≤◌, ◌++◌, ◌↔◌, IfSome, IsTrue, get_or, length, replicate, take, to_le_bytes, w64, code, IsKeyOf};
+ghost use Rattle.dm_stack.specs.Prelude.{IfSome, IsTrue, get_or, length, replicate, take, to_le_bytes, w64, code, IsKeyOf};
 ghost use Rattle.dm_stack.specs.declared.names.name_key.TheConstants.{KEY_BYTES};
+ghost use Rattle.std.specs.Prelude.{◌≡◌, ◌-◌, ◌<◌, ◌≤◌, ◌++◌, ◌↔◌};
 
 use dm_table::{as_array, put_bytes};
 use std::simd::prelude::*;

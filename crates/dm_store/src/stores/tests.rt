@@ -1,6 +1,6 @@
 //! Stores in memory, and what is read of them. What each word is for is tested on the built program.
 
-ghost use Rattle.dm_store.specs.Prelude.{◌≡◌};
+ghost use Rattle.std.specs.Prelude.{◌≡◌};
 
 use super::*;
 use crate::image_list::listed_images;

@@ -1,6 +1,7 @@
 -- The fewest pieces are pieces of their units and apart, no other pieces are, and none are fewer.
-use Rattle.dm_stream.proofs.Prelude.{◌≡◌, ℕ, zero, suc, ◌<◌, ◌≤◌, Bool, true, false, cond, List, [], ◌∷◌, ◌++◌, length, refl, sym, ap, ◌∙◌, arith, flat_map, AllByRecursion, append-nil, BlockUnit, next_unit, units_in, onto_begins, UnitRun, piece_units, joins, is_after, onto, fewest, ArePiecesOf, NoneContinues, AreFewest}
+use Rattle.dm_stream.proofs.Prelude.{ℕ, zero, suc, Bool, true, false, cond, List, [], length, refl, sym, ap, ◌∙◌, arith, flat_map, AllByRecursion, append-nil, BlockUnit, next_unit, units_in, onto_begins, UnitRun, piece_units, joins, is_after, onto, fewest, ArePiecesOf, NoneContinues, AreFewest}
 use Rattle.dm_stream.proofs.pieces.PieceLemmas.{joins-next, joined_next, is_after-one, is_after-more, onto-joined, fewest-apart, fewest-run}
+use Rattle.std.specs.Prelude.{◌≡◌, ◌<◌, ◌≤◌, ◌∷◌, ◌++◌}
 
 -- a unit before pieces: the units, the lengths and the number of the pieces that come of it
 record AddsUnit (unit : BlockUnit) (old new : List UnitRun) : Type 0 where

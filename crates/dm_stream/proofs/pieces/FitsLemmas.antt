@@ -1,7 +1,8 @@
 -- What fits on the disks of a stack is few sectors.
-use Rattle.dm_stream.proofs.Prelude.{◌<◌, ◌^◌, ℕ, arith, Description, IsSound, BlockUnit, CopyOf, FillOf, ReadOf, WriteOf, IsOnDisk, Fits}
+use Rattle.dm_stream.proofs.Prelude.{ℕ, arith, Description, IsSound, BlockUnit, CopyOf, FillOf, ReadOf, WriteOf, IsOnDisk, Fits}
 use Rattle.dm_stack.specs.declared.id.Lower.TheVariants as lowers
 use Rattle.dm_stack.proofs.InStack.{lower_small}
+use Rattle.std.specs.Prelude.{◌<◌, ◌^◌}
 
 -- what a disk has is few sectors
 few : (stack : Description) (disk sector len : ℕ) → IsSound stack → IsOnDisk stack disk sector len → len < 2 ^ 64

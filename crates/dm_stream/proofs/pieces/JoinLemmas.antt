@@ -1,8 +1,9 @@
 -- What a join took and left at one piece.
-use Rattle.dm_stream.proofs.Prelude.{◌≡◌, ℕ, zero, suc, ◌+◌, ◌≤◌, Bool, true, false, List, [], ◌∷◌, ◌++◌, Option, Some, None, refl, sym, ap, subst, ◌∙◌, append_assoc, arith, append-nil, flat_map-append, since, Description, BlockUnit, first_unit, next_unit, piece_len, units_in, units_of, Pending, AreApart, HoldsNoRange, IsHeld, IsNoRange, goes_on, held_of, held_units, piece_of, piece_view, range_piece, DiskRange, HasUnits, HasLeft, HasTaken, last_of_units, some_before, beginning-before, fewest, is_after, all_but_last, piece_text, pieces_text, since-same, IsBeginning, IsCutShort}
+use Rattle.dm_stream.proofs.Prelude.{ℕ, zero, suc, Bool, true, false, List, [], Option, Some, None, refl, sym, ap, subst, ◌∙◌, append_assoc, arith, append-nil, flat_map-append, since, Description, BlockUnit, first_unit, next_unit, piece_len, units_in, units_of, Pending, AreApart, HoldsNoRange, IsHeld, IsNoRange, goes_on, held_of, held_units, piece_of, piece_view, range_piece, DiskRange, HasUnits, HasLeft, HasTaken, last_of_units, some_before, beginning-before, fewest, is_after, all_but_last, piece_text, pieces_text, since-same, IsBeginning, IsCutShort}
 use Rattle.dm_map.specs.declared.pieces.piece.Piece as coded
 use Rattle.dm_map.specs.declared.pieces.piece.Piece.TheVariants as kinds
 use Rattle.dm_stream.proofs.pieces.PieceLemmas.{fewest-apart, fewest-run, units_joined}
+use Rattle.std.specs.Prelude.{◌≡◌, ◌+◌, ◌≤◌, ◌∷◌, ◌++◌}
 
 -- where a piece does not go on from another, that one is whole
 pub fewest-whole : (first after : BlockUnit) (len more : ℕ) (rest : List BlockUnit) → 1 ≤ len → 1 ≤ more → is_after first len after ≡ false → fewest (units_in first len ++ units_in after more ++ rest) ≡ fewest (units_in first len) ++ fewest (units_in after more ++ rest)

@@ -1,5 +1,6 @@
 -- The text of a number of which only the last digit is new.
-use Rattle.dm_stream.proofs.Prelude.{◌≡◌, ℕ, zero, suc, ◌+◌, ◌-◌, ◌<◌, ◌^◌, ◌/◌, ◌%◌, ◌++◌, List, [], ◌∷◌, ◌≤◌, length, take, set, decimal, refl, ap, arith, append_assoc, length-append, length-take-le, inl, inr, div-eq_of_lt, mod-eq_of_lt, set-append_seam, take-set-lt, cases_lt, decimal_digit, decimal_step, number_prefix}
+use Rattle.dm_stream.proofs.Prelude.{ℕ, zero, suc, List, [], length, take, set, decimal, refl, ap, arith, append_assoc, length-append, length-take-le, inl, inr, div-eq_of_lt, mod-eq_of_lt, set-append_seam, take-set-lt, cases_lt, decimal_digit, decimal_step, number_prefix}
+use Rattle.std.specs.Prelude.{◌≡◌, ◌+◌, ◌-◌, ◌<◌, ◌^◌, ◌/◌, ◌%◌, ◌++◌, ◌∷◌, ◌≤◌}
 
 -- the digits before the last one, by the tens
 abbrev tens_text : ℕ → List ℕ

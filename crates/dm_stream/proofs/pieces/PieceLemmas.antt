@@ -1,5 +1,6 @@
 -- How the fewest pieces of units in a row come about one unit at a time.
-use Rattle.dm_stream.proofs.Prelude.{◌≡◌, ℕ, zero, suc, ◌+◌, true, false, eqb, List, [], ◌∷◌, ◌++◌, refl, sym, ap, ◌∙◌, arith, ◌&&◌, and_parts, and_from, eqb-true, eq-eqb, BlockUnit, ReadOf, WriteOf, Zeros, Drops, Fails, CopyOf, FillOf, next_unit, units_in, onto_begins, UnitRun, is_unit, joins, further, is_after, onto, fewest}
+use Rattle.dm_stream.proofs.Prelude.{ℕ, zero, suc, true, false, eqb, List, [], refl, sym, ap, ◌∙◌, arith, and_parts, and_from, eqb-true, eq-eqb, BlockUnit, ReadOf, WriteOf, Zeros, Drops, Fails, CopyOf, FillOf, next_unit, units_in, onto_begins, UnitRun, is_unit, joins, further, is_after, onto, fewest}
+use Rattle.std.specs.Prelude.{◌≡◌, ◌+◌, ◌∷◌, ◌++◌, ◌&&◌}
 
 -- two numbers that equal two others make the same unit, and numbers equal themselves
 same_two : (unit : ℕ → ℕ → BlockUnit) (disk sector other_disk other_sector : ℕ) → (eqb disk other_disk && eqb sector other_sector) ≡ true → unit disk sector ≡ unit other_disk other_sector

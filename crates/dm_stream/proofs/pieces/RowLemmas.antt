@@ -1,10 +1,11 @@
 -- A join that takes a row of legs: the range between two of them is at hand, and it is as if that were held.
-use Rattle.dm_stream.proofs.Prelude.{◌≡◌, ℕ, ◌≤◌, true, false, Bool, List, Some, refl, arith, Ok, Err, Op, OutputPast, HasWritten, IsSameReference, Description, AreOnDisks, IsLeg, LegsView, LiesOnDisk, leg_lies_on, leg_on_disk, IsDiskLeg, IsHanded, BlockUnit, IsOnDisk, disk_unit, diskless_len, units_in, units_of, DiskRange, HasLeft, HasTaken, join_past, IsHeld, held_diskless, holding, piece_of, range_piece}
+use Rattle.dm_stream.proofs.Prelude.{ℕ, true, false, Bool, List, Some, refl, arith, Ok, Err, Op, OutputPast, HasWritten, IsSameReference, Description, AreOnDisks, IsLeg, LegsView, LiesOnDisk, leg_lies_on, leg_on_disk, IsDiskLeg, IsHanded, BlockUnit, IsOnDisk, disk_unit, diskless_len, units_in, units_of, DiskRange, HasLeft, HasTaken, join_past, IsHeld, held_diskless, holding, piece_of, range_piece}
 use Rattle.dm_stack.specs.declared.id.Lower.TheVariants.{Disk}
 use Rattle.dm_stack.specs.declared.lines.leg.Beneath.{Beneath}
 use Rattle.dm_stack.specs.declared.lines.leg.Beneath.TheVariants as beneath
 use Rattle.dm_stack.specs.declared.lines.leg.Leg.{Leg}
 use Rattle.dm_stream.specs.declared.pieces.join.Join.{Join}
+use Rattle.std.specs.Prelude.{◌≡◌, ◌≤◌}
 
 -- the join as it would be if it held a range
 abbrev pub at_hand : {W : Type 0} → Join W → DiskRange → Join W

@@ -1,10 +1,11 @@
 -- One turn over the lines: a request that is handed on, or the end.
-use Rattle.dm_stream.proofs.Prelude.{◌≡◌, ◌≤◌, ◌==◌, cond, true, false, Bool, ltb, ℕ, suc, ◌+◌, List, [], ◌∷◌, ◌++◌, length, drop, sym, ap, ◌∙◌, refl, append_assoc, add-one, arith, onto_first, ltb-false, append-nil, Clean, InputPast, Stand, delivery, since, stand_of, Answer, ALine, ALong, line_parts, next_answer, rest_answer, HasGrown, MetNothing, since-same, HasMet, IsAmong, NumberedRequest, Requests, after_requests, line_requests, next_requests, requests_from, requests_of, since_more}
+use Rattle.dm_stream.proofs.Prelude.{cond, true, false, Bool, ltb, ℕ, suc, List, [], length, drop, sym, ap, ◌∙◌, refl, append_assoc, add-one, arith, onto_first, ltb-false, append-nil, Clean, InputPast, Stand, delivery, since, stand_of, Answer, ALine, ALong, line_parts, next_answer, rest_answer, HasGrown, MetNothing, since-same, HasMet, IsAmong, NumberedRequest, Requests, after_requests, line_requests, next_requests, requests_from, requests_of, since_more}
 use Rattle.dm_stream.specs.requests.Requests.{ends as only_ends}
 use Rattle.dm_stream.specs.declared.requests.lines.TheConstants.{MOST_LINE_BYTES}
 use Rattle.dm_stream.specs.declared.runs.ending.Ending as ending
 use Rattle.dm_stream.specs.declared.runs.ending.RequestWord as word
 use Rattle.dm_stream.proofs.requests.LineParts.{some_part, next_line}
+use Rattle.std.specs.Prelude.{◌≡◌, ◌≤◌, ◌==◌, ◌+◌, ◌∷◌, ◌++◌}
 
 -- The first part
 

@@ -1,5 +1,6 @@
 -- Ranges of a buffer: what is held after a read, and after a line is gone.
-use Rattle.dm_stream.proofs.Prelude.{◌≡◌, ℕ, ◌+◌, ◌-◌, ◌<◌, ◌≤◌, ◌++◌, List, length, take, drop, slice_range, ap, ◌∙◌, arith, length-take, length-take-le, take-add, take-take, drop-drop, drop-take, since, since_is}
+use Rattle.dm_stream.proofs.Prelude.{ℕ, List, length, take, drop, slice_range, ap, ◌∙◌, arith, length-take, length-take-le, take-add, take-take, drop-drop, drop-take, since, since_is}
+use Rattle.std.specs.Prelude.{◌≡◌, ◌+◌, ◌-◌, ◌<◌, ◌≤◌, ◌++◌}
 
 -- a range keeps its bytes where all before its end keep theirs
 pub same_range : (new old held : List ℕ) (start len : ℕ) → take (start + len) new ≡ take (start + len) old → slice_range old start (start + len) ≡ held → slice_range new start (start + len) ≡ held

@@ -1,9 +1,10 @@
 -- What is written for a request: its units were taken, or a part of them was left; and what it adds to the outcome.
-use Rattle.dm_stream.proofs.Prelude.{◌≡◌, ℕ, ◌++◌, List, [], ◌∷◌, Option, None, Some, Result, Ok, Err, OnOk, refl, ◌∙◌, append_assoc, subst, decimal, flat_map-append, append-nil, OutputPast, since, written_since, Description, OnSinkFault, Op, BlockUnit, HasTakenOrIsHome, IsHome, Pending, held_units, HasTaken, HasLeft, HasUnits, onto_begins, some_before, MapperView, HasStopped, device_of, request_answer, NumberedRequest, State, UnitRun, fewest, all_but_last, piece_text, pieces_text, unit_text, IsBeginning, IsCutShort, and_then, HasWritten, Wrote}
+use Rattle.dm_stream.proofs.Prelude.{ℕ, List, [], Option, None, Some, Result, Ok, Err, OnOk, refl, ◌∙◌, append_assoc, subst, decimal, flat_map-append, append-nil, OutputPast, since, written_since, Description, OnSinkFault, Op, BlockUnit, HasTakenOrIsHome, IsHome, Pending, held_units, HasTaken, HasLeft, HasUnits, onto_begins, some_before, MapperView, HasStopped, device_of, request_answer, NumberedRequest, State, UnitRun, fewest, all_but_last, piece_text, pieces_text, unit_text, IsBeginning, IsCutShort, and_then, HasWritten, Wrote}
 use Rattle.dm_map.specs.declared.walk.home.Home.{Home}
 use Rattle.dm_map.specs.declared.mapper.MapFault.{MapFault}
 use Rattle.dm_map.specs.declared.mapper.MapFault.TheVariants as faults
 use Rattle.dm_stream.specs.declared.runs.ending.NotMapped.TheVariants as causes
+use Rattle.std.specs.Prelude.{◌≡◌, ◌++◌, ◌∷◌}
 
 pub on_sink : {R F : Type 0} (r : Result R (MapFault F)) (fault : F) (P : Type 0) → r ≡ Err (faults.Sink fault) → OnSinkFault r P → P
 on_sink {R} {F} r fault P e h = rw e at h

@@ -1,9 +1,10 @@
 -- What the requests mapped so far say of the outcome of a run.
-use Rattle.dm_stream.proofs.Prelude.{◌≡◌, ◌≢◌, ◌<◌, ap, arith, ℕ, Bool, List, [], ◌++◌, Option, Some, Result, Ok, Err, IsErr, OnErr, OnOk, ◌∙◌, refl, append-nil, Delivery, InputPast, OutputPast, since, written_since, Description, MapperView, HasAnswered, HasStopped, Outcome, if_done, outcome_from, requests_outcome, with_status, HasWritten, IsClosedAfter, MetNothing, Wrote, closed_as, status_text, HasMet, IsAmong, NumberedRequest, requests_of, HasRun, IsMapped, ending_for, write_faults, State}
+use Rattle.dm_stream.proofs.Prelude.{ap, arith, ℕ, Bool, List, [], Option, Some, Result, Ok, Err, IsErr, OnErr, OnOk, ◌∙◌, refl, append-nil, Delivery, InputPast, OutputPast, since, written_since, Description, MapperView, HasAnswered, HasStopped, Outcome, if_done, outcome_from, requests_outcome, with_status, HasWritten, IsClosedAfter, MetNothing, Wrote, closed_as, status_text, HasMet, IsAmong, NumberedRequest, requests_of, HasRun, IsMapped, ending_for, write_faults, State}
 use Rattle.dm_stream.proofs.runs.RequestMapped.{cut_of_more}
 use Rattle.dm_stream.specs.declared.runs.ending.Ending as ending
 use Rattle.dm_stream.specs.declared.runs.ending.NotMapped.{NotMapped}
 use Rattle.dm_stream.specs.declared.runs.ending.NotMapped.TheVariants as causes
+use Rattle.std.specs.Prelude.{◌≡◌, ◌≢◌, ◌<◌, ◌++◌}
 
 -- all requests were answered, and they end by themselves
 pub all_mapped : (stack : Description) (old new : State) (delivered : Delivery) (w0 w1 : List ℕ) (e : ending.Ending) → HasAnswered stack old new (requests_of delivered).all w0 w1 → (requests_of delivered).ending ≡ Some e → e ≢ ending.TheVariants.WriteFault

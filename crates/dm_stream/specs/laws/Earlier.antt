@@ -1,8 +1,9 @@
 -- The laws of a player of earlier requests as a handler: what it played, and then played or stopped at, is one.
-use Rattle.dm_stream.specs.Base.{ℕ, List, [], ◌++◌, refl, ap, ◌∙◌, append_assoc, Description, State}
+use Rattle.dm_stream.specs.Base.{ℕ, List, [], refl, ap, ◌∙◌, append_assoc, Description, State}
 use Rattle.dm_stream.specs.runs.Earlier.{HasMoved, HasStoppedAt}
 use Rattle.dm_stream.specs.runs.Outcome.{outcome_from}
 use Rattle.dm_stream.specs.requests.Requests.{NumberedRequest}
+use Rattle.std.specs.Prelude.{◌++◌}
 
 pub moved_none : (stack : Description) (state : State) → HasMoved stack state state []
 moved_none stack state = record { told = λ rest e. record { state = refl; ending = refl } }

@@ -1,10 +1,11 @@
 -- The laws of a join as a sink: what it took, and then took or left, is one. They are here since an `impl` cites them.
-use Rattle.dm_stream.specs.Base.{◌≡◌, ℕ, suc, Bool, true, false, cond, List, [], ◌∷◌, ◌++◌, refl, sym, ap, subst, ◌∙◌, append_assoc, append-nil, OutputPast, since, since_more, written_to_more, written_to_none, Description, IsLawful, BlockUnit, all_but_last, since-same, IsBeginning}
+use Rattle.dm_stream.specs.Base.{ℕ, suc, Bool, true, false, cond, List, [], refl, sym, ap, subst, ◌∙◌, append_assoc, append-nil, OutputPast, since, since_more, written_to_more, written_to_none, Description, IsLawful, BlockUnit, all_but_last, since-same, IsBeginning}
 use Rattle.std.proofs.lemmas.Grind.{flat_map-append}
 use Rattle.dm_stream.specs.pieces.Pending.{Pending, held_units}
 use Rattle.dm_stream.specs.pieces.Join.{HasUnits, HasTaken, HasLeft, join_past}
 use Rattle.dm_stream.specs.pieces.Pieces.{UnitRun, fewest, joins, onto}
 use Rattle.dm_stream.specs.pieces.PieceText.{piece_text, pieces_text}
+use Rattle.std.specs.Prelude.{◌≡◌, ◌∷◌, ◌++◌}
 
 -- the first of the fewest pieces begins with the first unit
 pub record BeginsWith (unit : BlockUnit) (pieces : List UnitRun) : Type 0 where

@@ -1,11 +1,12 @@
 -- The laws of a request mapper as a handler: what it answered, and then answered or stopped at, is one.
-use Rattle.dm_stream.specs.Base.{◌≡◌, ℕ, List, [], ◌∷◌, ◌++◌, Option, Some, sym, ap, ◌∙◌, append_assoc, since, since_more, Description, MapperView, State, since-same, NotMapped}
+use Rattle.dm_stream.specs.Base.{ℕ, List, [], Option, Some, sym, ap, ◌∙◌, append_assoc, since, since_more, Description, MapperView, State, since-same, NotMapped}
 use Rattle.dm_stream.specs.runs.Mapped.{HasAnswered, HasStopped}
 use Rattle.dm_stream.specs.runs.Outcome.{Outcome, after_text, outcome_from}
 use Rattle.dm_stream.specs.requests.Requests.{NumberedRequest}
 use Rattle.dm_stream.specs.declared.runs.ending.Ending as ending
 use Rattle.dm_stream.specs.declared.runs.ending.NotMapped.TheVariants as causes
 use Rattle.dm_stream.specs.declared.runs.ending.RequestWord as word
+use Rattle.std.specs.Prelude.{◌≡◌, ◌∷◌, ◌++◌}
 
 pub answered_none : (stack : Description) (state : State) (w : List ℕ) → HasAnswered stack state state [] w w
 answered_none stack state w = record {

@@ -1,5 +1,6 @@
 -- The name of a disk as lines have it.
-use Rattle.dm_stream.specs.Base.{◌≡◌, ℕ, ◌+◌, Bool, true, false, List, [], ◌∷◌, ◌++◌, get_or, length, take, code}
+use Rattle.dm_stream.specs.Base.{ℕ, Bool, true, false, List, [], get_or, length, take, code}
+use Rattle.std.specs.Prelude.{◌≡◌, ◌+◌, ◌∷◌, ◌++◌}
 
 -- the name of a disk as lines have it: with a space after it
 abbrev pub disk_text : List ℕ → List ℕ

@@ -1,9 +1,10 @@
 -- What a join took, and what it left, by what is held and what was written.
-use Rattle.dm_stream.specs.Base.{◌≡◌, ℕ, ◌-◌, ◌^◌, List, [], ◌∷◌, ◌++◌, None, OutputPast, since, HasWrittenTo, SinkPast, BlockUnit, all_but_last, IsBeginning}
+use Rattle.dm_stream.specs.Base.{ℕ, List, [], None, OutputPast, since, HasWrittenTo, SinkPast, BlockUnit, all_but_last, IsBeginning}
 use Rattle.dm_stream.specs.declared.pieces.join.Join.{Join}
 use Rattle.dm_stream.specs.pieces.Pending.{Pending, held_diskless, held_units}
 use Rattle.dm_stream.specs.pieces.Pieces.{UnitRun, fewest}
 use Rattle.dm_stream.specs.pieces.PieceText.{pieces_text}
+use Rattle.std.specs.Prelude.{◌≡◌, ◌-◌, ◌^◌, ◌∷◌, ◌++◌}
 
 -- whatever units follow, some pieces are settled, and what is held stands for the others; the settled ones were written
 pub record HasTaken (old new : Pending) (units : List BlockUnit) (before after : List ℕ) : Type 0 where

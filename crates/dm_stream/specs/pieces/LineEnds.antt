@@ -1,5 +1,6 @@
 -- The ends of lines, as they are kept.
-use Rattle.dm_stream.specs.Base.{◌≡◌, ◌<◌, ◌≤◌, ℕ, List, [], ◌∷◌, ◌++◌, get_or, length, take, decimal, code}
+use Rattle.dm_stream.specs.Base.{ℕ, List, [], get_or, length, take, decimal, code}
+use Rattle.std.specs.Prelude.{◌≡◌, ◌<◌, ◌≤◌, ◌∷◌, ◌++◌}
 
 -- a length and a newline
 abbrev pub line_end : ℕ → List ℕ

@@ -1,5 +1,6 @@
 -- What each line of a request begins with.
-use Rattle.dm_stream.specs.Base.{ℕ, List, [], ◌∷◌, ◌++◌, decimal, code}
+use Rattle.dm_stream.specs.Base.{ℕ, List, [], decimal, code}
+use Rattle.std.specs.Prelude.{◌∷◌, ◌++◌}
 
 -- the request's number and a space
 abbrev pub number_prefix : ℕ → List ℕ

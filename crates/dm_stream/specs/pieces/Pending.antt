@@ -1,9 +1,10 @@
 -- What is held of a request: the piece that is still to be written.
-use Rattle.dm_stream.specs.Base.{ℕ, ◌<◌, ◌≤◌, ◌^◌, Bool, true, false, List, [], Option, Some, None, Description, BlockUnit, ReadOf, WriteOf, Zeros, Drops, Fails, CopyOf, FillOf, units_of, first_unit, piece_len, diskless_len, IsOnDisk, IsOnDisks}
+use Rattle.dm_stream.specs.Base.{ℕ, Bool, true, false, List, [], Option, Some, None, Description, BlockUnit, ReadOf, WriteOf, Zeros, Drops, Fails, CopyOf, FillOf, units_of, first_unit, piece_len, diskless_len, IsOnDisk, IsOnDisks}
 use Rattle.dm_map.specs.declared.pieces.piece.Piece.{Piece}
 use Rattle.dm_map.specs.declared.pieces.piece.Piece.TheVariants as coded
 use Rattle.dm_stream.specs.pieces.Pieces as pieces
 use Rattle.dm_stream.specs.declared.pieces.disk_range.DiskRange.{DiskRange}
+use Rattle.std.specs.Prelude.{◌<◌, ◌≤◌, ◌^◌}
 
 -- the stack whose names are written, the request's number, and the piece that is held, if any
 pub record Pending : Type 0 where

@@ -1,7 +1,8 @@
 -- How pieces are written: a line each, under the number of their request.
-use Rattle.dm_stream.specs.Base.{ℕ, List, [], ◌∷◌, ◌++◌, codes, decimal, flat_map, code, Description, disk_name_at, BlockUnit, ReadOf, WriteOf, Zeros, Drops, Fails, CopyOf, FillOf}
+use Rattle.dm_stream.specs.Base.{ℕ, List, [], codes, decimal, flat_map, code, Description, disk_name_at, BlockUnit, ReadOf, WriteOf, Zeros, Drops, Fails, CopyOf, FillOf}
 use Rattle.dm_map.specs.declared.pieces.piece.Piece as coded
 use Rattle.dm_stream.specs.pieces.Pieces.{UnitRun}
+use Rattle.std.specs.Prelude.{◌∷◌, ◌++◌}
 
 -- a place on a disk: its name and a sector
 abbrev pub sector_text : Description → ℕ → ℕ → List ℕ

@@ -1,5 +1,6 @@
 -- Pieces of units: consecutive units as one, and the fewest of them.
-use Rattle.dm_stream.specs.Base.{◌≡◌, ℕ, suc, ◌+◌, ◌<◌, ◌≤◌, Bool, true, false, ◌&&◌, ◌==◌, List, [], ◌∷◌, length, if◌then◌else◌, flat_map, AllByRecursion, BlockUnit, ReadOf, WriteOf, Zeros, Drops, Fails, CopyOf, FillOf, next_unit, units_in}
+use Rattle.dm_stream.specs.Base.{ℕ, suc, Bool, true, false, List, [], length, flat_map, AllByRecursion, BlockUnit, ReadOf, WriteOf, Zeros, Drops, Fails, CopyOf, FillOf, next_unit, units_in}
+use Rattle.std.specs.Prelude.{◌≡◌, ◌+◌, ◌<◌, ◌≤◌, ◌&&◌, ◌==◌, ◌∷◌, if◌then◌else◌}
 
 -- a unit, and how many consecutive ones begin with it
 pub record UnitRun : Type 0 where

@@ -1,5 +1,6 @@
 -- The range that a line ends with.
-use Rattle.dm_stream.specs.Base.{◌≡◌, ◌<◌, ℕ, List, [], ◌∷◌, ◌++◌, length, decimal, code}
+use Rattle.dm_stream.specs.Base.{ℕ, List, [], length, decimal, code}
+use Rattle.std.specs.Prelude.{◌≡◌, ◌<◌, ◌∷◌, ◌++◌}
 
 -- the text of a range: its start, its length and a newline
 abbrev pub range_text : ℕ → ℕ → List ℕ

@@ -1,10 +1,11 @@
 -- Requests at the front of held bytes that are answered together.
-use Rattle.dm_stream.specs.Base.{◌≡◌, ℕ, ◌+◌, ◌≤◌, List, ◌++◌, Result, Ok, Err, drop, length, map, Stand}
+use Rattle.dm_stream.specs.Base.{ℕ, List, Result, Ok, Err, drop, length, map, Stand}
 use Rattle.dm_stream.specs.requests.Lines.{line_parts}
 use Rattle.dm_stream.specs.requests.Requests.{IsAmong, NumberedRequest, after_requests, numbered, requests_from}
 use Rattle.dm_stream.specs.declared.requests.batch.Answered.{Answered}
 use Rattle.dm_stream.specs.declared.requests.front.Front.{Front}
 use Rattle.dm_stream.specs.declared.requests.handling.TheConstants.{MOST_REQUESTS}
+use Rattle.std.specs.Prelude.{◌≡◌, ◌+◌, ◌≤◌, ◌++◌}
 
 -- whatever comes after the bytes, their requests from line n on are these, and then those of a rest from line k on
 abbrev pub AreFirst : (n : ℕ) (bytes : List ℕ) → List NumberedRequest → (k : ℕ) (rest : List ℕ) → Type 0

@@ -1,7 +1,8 @@
 -- The lines of the bytes that an input delivered.
-use Rattle.dm_stream.specs.Base.{ℕ, ◌+◌, List, [], ◌∷◌, length, drop, nat_lt, if◌then◌else◌, parts_at, Stand, Clean, Failed, Open, code}
+use Rattle.dm_stream.specs.Base.{ℕ, List, [], length, drop, nat_lt, parts_at, Stand, Clean, Failed, Open, code}
 use Rattle.dm_stream.specs.declared.requests.lines.TheConstants.{MOST_LINE_BYTES}
 use Rattle.dm_stream.specs.declared.requests.lines.Next as next
+use Rattle.std.specs.Prelude.{◌+◌, ◌∷◌, if◌then◌else◌}
 
 -- what stands between newlines: each part but the last is a line, and the last is the rest
 abbrev pub line_parts : List ℕ → List (List ℕ)

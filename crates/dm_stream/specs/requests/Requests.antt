@@ -1,5 +1,5 @@
 -- The requests that an input delivered, and how they end.
-use Rattle.dm_stream.specs.Base.{◌≡◌, ◌<◌, ◌≤◌, ℕ, ◌+◌, List, [], ◌∷◌, ◌++◌, Option, None, Some, Result, Ok, Err, nat_lt, if◌then◌else◌, Delivery, InputPast, Stand, MetNothing, RequestValues, values_of, request_reading}
+use Rattle.dm_stream.specs.Base.{ℕ, List, [], Option, None, Some, Result, Ok, Err, nat_lt, Delivery, InputPast, Stand, MetNothing, RequestValues, values_of, request_reading}
 use Rattle.dm_table.specs.declared.requests.request.Request.{Request}
 use Rattle.dm_table.specs.declared.requests.request.RequestFault.{RequestFault}
 use Rattle.dm_table.specs.declared.requests.request.RequestFault.TheVariants as faults
@@ -7,6 +7,7 @@ use Rattle.dm_stream.specs.requests.Lines.{Answer, ALine, AnEnd, AnUnended, ALon
 use Rattle.dm_stream.specs.declared.runs.ending.Ending as ending
 use Rattle.dm_stream.specs.declared.runs.ending.RequestWord as word
 use Rattle.dm_stream.specs.declared.requests.handling.TheConstants.{MOST_REQUESTS}
+use Rattle.std.specs.Prelude.{◌≡◌, ◌<◌, ◌≤◌, ◌+◌, ◌∷◌, ◌++◌, if◌then◌else◌}
 
 -- a request, and the number of its line
 pub record NumberedRequest : Type 0 where

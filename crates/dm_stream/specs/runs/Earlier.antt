@@ -1,10 +1,11 @@
 -- What playing earlier requests leaves: requests that were carried out before a run, whose answers nobody waits for.
-use Rattle.dm_stream.specs.Base.{◌≡◌, ℕ, List, ◌++◌, Option, Some, Result, Ok, Err, IfErr, OnOk, Description, State, EarlierFault}
+use Rattle.dm_stream.specs.Base.{ℕ, List, Option, Some, Result, Ok, Err, IfErr, OnOk, Description, State, EarlierFault}
 use Rattle.dm_stream.specs.runs.Outcome.{Outcome, outcome_from}
 use Rattle.dm_stream.specs.requests.Requests.{NumberedRequest}
 use Rattle.dm_stream.specs.declared.runs.earlier.EarlierFault.TheVariants as faults
 use Rattle.dm_stream.specs.declared.runs.ending.Ending as ending
 use Rattle.dm_stream.specs.declared.runs.ending.RequestWord as word
+use Rattle.std.specs.Prelude.{◌≡◌, ◌++◌}
 
 -- two outcomes leave the same state, and end alike; what they write is another matter
 pub record LeaveTheSame (a b : Outcome) : Type 0 where

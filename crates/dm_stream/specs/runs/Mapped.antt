@@ -1,5 +1,5 @@
 -- What a request mapper answered to the requests that it was handed, and why it stopped.
-use Rattle.dm_stream.specs.Base.{◌≡◌, ℕ, List, ◌++◌, Option, None, Some, false, since, IsCutShort, Description, MapperView, State, NotMapped}
+use Rattle.dm_stream.specs.Base.{ℕ, List, Option, None, Some, false, since, IsCutShort, Description, MapperView, State, NotMapped}
 use Rattle.dm_stream.specs.pieces.Pending.{Pending}
 use Rattle.dm_stream.specs.runs.Outcome.{after_text, outcome_from}
 use Rattle.dm_stream.specs.requests.Requests.{NumberedRequest}
@@ -7,6 +7,7 @@ use Rattle.dm_stream.specs.runs.Run.{ending_for, write_faults}
 use Rattle.dm_stream.specs.declared.runs.ending.Ending as ending
 use Rattle.dm_stream.specs.declared.runs.ending.NotMapped.TheVariants as causes
 use Rattle.dm_stream.specs.declared.runs.ending.RequestWord as word
+use Rattle.std.specs.Prelude.{◌≡◌, ◌++◌}
 
 -- the mapper and the join are of this stack, and a request can come: the mapper has not failed, and nothing is held
 pub record IsReady (stack : Description) (mapper : MapperView) (held : Pending) : Type 0 where

@@ -1,10 +1,11 @@
 -- The message of each ending, and how a message is told.
-use Rattle.dm_stream.specs.Base.{◌≡◌, ◌≤◌, ℕ, ◌+◌, List, [], ◌++◌, Result, Ok, Err, codes, decimal, OutputPast, written_since, IsBeginning, HasGrown, EarlierFault}
+use Rattle.dm_stream.specs.Base.{ℕ, List, [], Result, Ok, Err, codes, decimal, OutputPast, written_since, IsBeginning, HasGrown, EarlierFault}
 use Rattle.dm_stream.specs.declared.runs.earlier.EarlierFault.TheVariants as earlier
 use Rattle.dm_stream.specs.declared.runs.ending.Ending.{Ending}
 use Rattle.dm_stream.specs.declared.runs.ending.Ending.TheVariants as endings
 use Rattle.dm_stream.specs.declared.runs.ending.RequestWord.{RequestWord}
 use Rattle.dm_stream.specs.declared.runs.ending.RequestWord.TheVariants as words
+use Rattle.std.specs.Prelude.{◌≡◌, ◌≤◌, ◌+◌, ◌++◌}
 
 -- the word of a bad request
 abbrev pub request_word : RequestWord → List ℕ

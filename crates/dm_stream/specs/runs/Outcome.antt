@@ -1,11 +1,12 @@
 -- What a run writes for what its requests delivered, the state that they leave, and how it ends.
-use Rattle.dm_stream.specs.Base.{ℕ, Bool, List, [], ◌∷◌, ◌++◌, Option, None, Some, position, if◌then◌else◌, Delivery, Description, is_same, request_step, State, Step}
+use Rattle.dm_stream.specs.Base.{ℕ, Bool, List, [], Option, None, Some, position, Delivery, Description, is_same, request_step, State, Step}
 use Rattle.dm_stream.specs.pieces.PieceText.{pieces_text}
 use Rattle.dm_stream.specs.pieces.Pieces.{fewest}
 use Rattle.dm_stream.specs.requests.Requests.{NumberedRequest, requests_of}
 use Rattle.dm_stream.specs.runs.StatusLines.{status_text}
 use Rattle.dm_stream.specs.declared.runs.ending.Ending as ending
 use Rattle.dm_stream.specs.declared.runs.ending.RequestWord as word
+use Rattle.std.specs.Prelude.{◌∷◌, ◌++◌, if◌then◌else◌}
 
 -- what is written, the state that is left, and how it ends, where that is settled
 pub record Outcome : Type 0 where

@@ -1,10 +1,11 @@
 -- What a run did, against the outcome of what it was given.
-use Rattle.dm_stream.specs.Base.{◌≡◌, ◌≢◌, ◌<◌, ℕ, List, Some, false, InputPast, OutputPast, delivery, written_since, HasWritten, IsClosedAfter, IsReadOn, IsCutShort, NotMapped, MapperView, State, Description}
+use Rattle.dm_stream.specs.Base.{ℕ, List, Some, false, InputPast, OutputPast, delivery, written_since, HasWritten, IsClosedAfter, IsReadOn, IsCutShort, NotMapped, MapperView, State, Description}
 use Rattle.dm_stream.specs.declared.runs.ending.Ending as ending
 use Rattle.dm_stream.specs.declared.runs.ending.NotMapped.TheVariants as causes
 use Rattle.dm_stream.specs.declared.runs.ending.RequestWord as word
 use Rattle.dm_stream.specs.runs.Outcome.{Outcome, requests_outcome}
 use Rattle.dm_stream.specs.requests.Requests.{HasMet}
+use Rattle.std.specs.Prelude.{◌≡◌, ◌≢◌, ◌<◌}
 
 -- how a run ends where not all was mapped
 abbrev pub ending_for : NotMapped → ending.Ending

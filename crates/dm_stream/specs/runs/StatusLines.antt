@@ -1,7 +1,8 @@
 -- The status lines of snapshots (the kernel's admin guide, device-mapper/snapshot, status; dmsetup(8), the command status).
-use Rattle.dm_stream.specs.Base.{ℕ, List, [], ◌∷◌, ◌++◌, Option, None, Some, codes, decimal, if◌then◌else◌, flat_map, code, Description, device_len, name_at, snapshots, State, taken_at, snapshot_at, usage_of}
+use Rattle.dm_stream.specs.Base.{ℕ, List, [], Option, None, Some, codes, decimal, flat_map, code, Description, device_len, name_at, snapshots, State, taken_at, snapshot_at, usage_of}
 use Rattle.dm_stack.specs.declared.lines.resolved_line.ResolvedSnapshot.{ResolvedSnapshot}
 use Rattle.dm_map.specs.declared.state.usage.Usage.{Usage}
+use Rattle.std.specs.Prelude.{◌∷◌, ◌++◌, if◌then◌else◌}
 
 -- how much of a store is used, in sectors, or that its snapshot is not valid
 abbrev pub usage_text : Usage → List ℕ

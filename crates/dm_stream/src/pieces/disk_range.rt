@@ -2,7 +2,8 @@
 //!
 //! Both kinds go one way: which of them comes next is not foreseen by the processor.
 
-ghost use Rattle.dm_stream.specs.Prelude.{◌≡◌, ◌+◌, ◌≤◌, ◌==◌, Some, MatchOption, Description, IsOnDisk, disk_unit, first_unit, units_in, units_of, Fits, IsHeld, IsNoRange, piece_of, is_after};
+ghost use Rattle.dm_stream.specs.Prelude.{Some, MatchOption, Description, IsOnDisk, disk_unit, first_unit, units_in, units_of, Fits, IsHeld, IsNoRange, piece_of, is_after};
+ghost use Rattle.std.specs.Prelude.{◌≡◌, ◌+◌, ◌≤◌, ◌==◌};
 
 use crate::pieces::disk_texts::DiskTexts;
 use crate::pieces::letter::Letter;

@@ -7,7 +7,8 @@
 //! ready*. It rests on an array that is longer than a short text, and on a block with space after it. Change it only
 //! if you measure small requests, and large ones over 16 columns, before and after.
 
-ghost use Rattle.dm_stream.specs.Prelude.{◌≡◌, ◌∷◌, ◌+◌, ◌≤◌, length, take, IsPut, code, disk_text, line_head};
+ghost use Rattle.dm_stream.specs.Prelude.{length, take, IsPut, code, disk_text, line_head};
+ghost use Rattle.std.specs.Prelude.{◌≡◌, ◌∷◌, ◌+◌, ◌≤◌};
 
 use crate::pieces::letter::Letter;
 use dm_table::{DiskName, put_array, put_bytes};
@@ -32,8 +33,9 @@ pub(crate) struct DiskText {
 }
 
 impl Model for DiskText {
-    ghost use Rattle.dm_stream.specs.Base.{◌≤◌, List, ℕ, take};
+    ghost use Rattle.dm_stream.specs.Base.{List, ℕ, take};
     ghost use Rattle.dm_stream.specs.pieces.DiskText.{AreHeads};
+    ghost use Rattle.std.specs.Prelude.{◌≤◌};
 
     ghost Value = { List ℕ };
 

@@ -3,7 +3,8 @@
 //! Disks are few and lines come by the hundreds of millions, so these texts are made once, before a run. They are
 //! apart from the stack, since only a run writes lines, and from the run, since that takes no memory.
 
-ghost use Rattle.dm_stream.specs.Prelude.{◌≡◌, ◌<◌, IfOk, length, map, disk_name_at, IsSound, disk_text};
+ghost use Rattle.dm_stream.specs.Prelude.{IfOk, length, map, disk_name_at, IsSound, disk_text};
+ghost use Rattle.std.specs.Prelude.{◌≡◌, ◌<◌};
 
 use crate::pieces::disk_text::DiskText;
 use dm_stack::{DiskId, Stack};
@@ -19,8 +20,9 @@ pub struct DiskTexts<'s> {
 }
 
 impl<'s> Model for DiskTexts<'s> {
-    ghost use Rattle.dm_stream.specs.Base.{◌≡◌, map, Description};
+    ghost use Rattle.dm_stream.specs.Base.{map, Description};
     ghost use Rattle.dm_stream.specs.pieces.DiskText.{disk_text};
+    ghost use Rattle.std.specs.Prelude.{◌≡◌};
 
     ghost Value = { Description };
 

@@ -1,7 +1,8 @@
 //! What the lines of pieces without a disk begin with after the number: a word and a space, which are
 //! copied as one array, as *texts kept ready* of RESULTS.md are.
 
-ghost use Rattle.dm_stream.specs.Prelude.{◌≡◌, ◌+◌, ◌≤◌, length, IsPut, first_unit, IsDiskless, diskless_word};
+ghost use Rattle.dm_stream.specs.Prelude.{length, IsPut, first_unit, IsDiskless, diskless_word};
+ghost use Rattle.std.specs.Prelude.{◌≡◌, ◌+◌, ◌≤◌};
 
 use dm_map::Piece;
 use dm_table::put_bytes;
@@ -18,7 +19,8 @@ pub(crate) struct DisklessWord {
 }
 
 impl Model for DisklessWord {
-    ghost use Rattle.dm_stream.specs.Base.{◌≤◌, ℕ, List, take};
+    ghost use Rattle.dm_stream.specs.Base.{ℕ, List, take};
+    ghost use Rattle.std.specs.Prelude.{◌≤◌};
 
     ghost Value = { List ℕ };
 

@@ -8,7 +8,8 @@
 //! at once*. All that rests on `AreApart`: a range and another piece are never held together. Change it only if you
 //! measure small requests, and requests over stripes, before and after.
 
-ghost use Rattle.dm_stream.specs.Prelude.{OnTrue, OnFalse, ◌≡◌, ◌+◌, ◌-◌, ◌≤◌, ◌++◌, ◌^◌, IfOk, List, OnErr, OnOk, Some, None, fault_of, BlockUnit, IsOnDisks, diskless_len, first_unit, piece_len, units_of, HasWritten, Wrote, HasLeft, HasTaken, Fits, HoldsNoRange, IsHeld, IsNoRange, goes_on, held_diskless, held_units, holding, piece_of, pieces_text, fewest, is_after};
+ghost use Rattle.dm_stream.specs.Prelude.{OnTrue, OnFalse, IfOk, List, OnErr, OnOk, Some, None, fault_of, BlockUnit, IsOnDisks, diskless_len, first_unit, piece_len, units_of, HasWritten, Wrote, HasLeft, HasTaken, Fits, HoldsNoRange, IsHeld, IsNoRange, goes_on, held_diskless, held_units, holding, piece_of, pieces_text, fewest, is_after};
+ghost use Rattle.std.specs.Prelude.{◌≡◌, ◌+◌, ◌-◌, ◌≤◌, ◌++◌, ◌^◌};
 
 use crate::pieces::disk_range::{DiskRange, follows};
 use crate::pieces::disk_texts::DiskTexts;

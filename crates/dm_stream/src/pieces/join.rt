@@ -3,9 +3,10 @@
 //! One piece is held while others continue it, so a request takes no memory however long it is. What
 //! a join took is stated in whole pieces, whatever units follow; keep that when you change it.
 
-ghost use Rattle.dm_stream.specs.Prelude.{◌≡◌, ◌-◌, ◌^◌, ◌≤◌, ℕ, List, None, Some, Description, LiesOnDisk, BlockUnit, IsOnDisk, disk_unit, units_in, units_of, HasWrittenTo, IsSameReference, Wrote, IsHeld, held_diskless, held_units, piece_of, join_past, AreFewest, fewest, pieces_text, join_lawful};
+ghost use Rattle.dm_stream.specs.Prelude.{ℕ, List, None, Some, Description, LiesOnDisk, BlockUnit, IsOnDisk, disk_unit, units_in, units_of, HasWrittenTo, IsSameReference, Wrote, IsHeld, held_diskless, held_units, piece_of, join_past, AreFewest, fewest, pieces_text, join_lawful};
 ghost use Rattle.dm_stack.specs.declared.id.Lower.TheVariants.{Disk};
 ghost use Rattle.dm_stack.specs.declared.lines.leg.Beneath.TheVariants.{Lies};
+ghost use Rattle.std.specs.Prelude.{◌≡◌, ◌-◌, ◌^◌, ◌≤◌};
 
 use crate::pieces::disk_range::DiskRange;
 use crate::pieces::disk_texts::DiskTexts;

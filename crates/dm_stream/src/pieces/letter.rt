@@ -3,7 +3,8 @@
 //! They are here for speed alone, as an `Op` says the same: RESULTS.md has the gain as *letter and disk's name in
 //! one array*. Measure small requests before and after a change.
 
-ghost use Rattle.dm_stream.specs.Prelude.{◌≡◌, if◌then◌else◌, not};
+ghost use Rattle.dm_stream.specs.Prelude.{not};
+ghost use Rattle.std.specs.Prelude.{◌≡◌, if◌then◌else◌};
 
 use std::marker::Model;
 
@@ -16,7 +17,8 @@ pub(crate) struct Letter {
 }
 
 impl Model for Letter {
-    ghost use Rattle.dm_stream.specs.Base.{◌≡◌, ◌==◌, if◌then◌else◌, Bool};
+    ghost use Rattle.dm_stream.specs.Base.{Bool};
+    ghost use Rattle.std.specs.Prelude.{◌≡◌, ◌==◌, if◌then◌else◌};
 
     ghost Value = { Bool };
 

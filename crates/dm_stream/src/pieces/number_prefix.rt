@@ -6,7 +6,8 @@
 //! This is here for speed alone: RESULTS.md has its gain as *texts kept ready*. It rests on the array always having
 //! the text of its number. Change it only if you measure small requests before and after.
 
-ghost use Rattle.dm_stream.specs.Prelude.{◌≡◌, ◌+◌, ◌≤◌, length, take, IsPut, number_prefix};
+ghost use Rattle.dm_stream.specs.Prelude.{length, take, IsPut, number_prefix};
+ghost use Rattle.std.specs.Prelude.{◌≡◌, ◌+◌, ◌≤◌};
 
 use dm_table::{put_array, put_bytes, put_digits};
 use std::marker::Model;
@@ -26,8 +27,9 @@ pub(crate) struct NumberPrefix {
 }
 
 impl Model for NumberPrefix {
-    ghost use Rattle.dm_stream.specs.Base.{◌≡◌, ◌+◌, ◌%◌, ◌≤◌, ℕ, take};
+    ghost use Rattle.dm_stream.specs.Base.{ℕ, take};
     ghost use Rattle.dm_stream.specs.pieces.NumberPrefix.{number_prefix};
+    ghost use Rattle.std.specs.Prelude.{◌≡◌, ◌+◌, ◌%◌, ◌≤◌};
 
     ghost Value = { ℕ };
 

@@ -8,7 +8,8 @@
 //! It rests on no line being longer than `TEXT_ROOM`. Change it only if you measure small requests, and large ones
 //! over 16 columns, before and after.
 
-ghost use Rattle.dm_stream.specs.Prelude.{◌≡◌, ◌++◌, ◌+◌, ◌<◌, ◌≤◌, ◌∷◌, [], length, decimal, IsPut, disk_name_at, CopyOf, FillOf, IsOnDisks, first_unit, piece_len, Wrote, code, disk_text, IsNoRange, piece_of, piece_view, IsOther, piece_text, sector_text, unit_text, IsKept};
+ghost use Rattle.dm_stream.specs.Prelude.{[], length, decimal, IsPut, disk_name_at, CopyOf, FillOf, IsOnDisks, first_unit, piece_len, Wrote, code, disk_text, IsNoRange, piece_of, piece_view, IsOther, piece_text, sector_text, unit_text, IsKept};
+ghost use Rattle.std.specs.Prelude.{◌≡◌, ◌++◌, ◌+◌, ◌<◌, ◌≤◌, ◌∷◌};
 
 use crate::pieces::disk_range::DiskRange;
 use crate::pieces::disk_texts::DiskTexts;
@@ -32,10 +33,11 @@ struct RangeLine<'a> {
 }
 
 impl<'a> Model for RangeLine<'a> {
-    ghost use Rattle.dm_stream.specs.Base.{ℕ, List, ◌<◌, length};
+    ghost use Rattle.dm_stream.specs.Base.{ℕ, List, length};
     ghost use Rattle.dm_stream.specs.pieces.DiskText.{letter_for};
     ghost use Rattle.dm_stream.specs.pieces.RangeText.{IsKept};
     ghost use Rattle.dm_stream.specs.pieces.PieceText.{range_line};
+    ghost use Rattle.std.specs.Prelude.{◌<◌};
 
     ghost Value = { List ℕ };
 

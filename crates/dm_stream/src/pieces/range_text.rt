@@ -8,7 +8,8 @@
 //! is called before each line. Change it only if you measure large requests over 16 columns, and others that never
 //! repeat a range, before and after.
 
-ghost use Rattle.dm_stream.specs.Prelude.{◌≡◌, ◌+◌, ◌≤◌, ℕ, length, IsPut, range_text, IsKept};
+ghost use Rattle.dm_stream.specs.Prelude.{ℕ, length, IsPut, range_text, IsKept};
+ghost use Rattle.std.specs.Prelude.{◌≡◌, ◌+◌, ◌≤◌};
 
 use crate::pieces::line_ends::LineEnds;
 use dm_table::{put_array, put_bytes, put_digits};
@@ -30,8 +31,9 @@ pub(crate) struct RangeText {
 }
 
 impl Model for RangeText {
-    ghost use Rattle.dm_stream.specs.Base.{◌≡◌, ◌<◌, ◌≤◌, ℕ, List, take};
+    ghost use Rattle.dm_stream.specs.Base.{ℕ, List, take};
     ghost use Rattle.dm_stream.specs.pieces.RangeText.{range_text};
+    ghost use Rattle.std.specs.Prelude.{◌≡◌, ◌<◌, ◌≤◌};
 
     ghost Value = { List ℕ };
 

@@ -8,8 +8,9 @@
 //! `Handler::prefetch` answering nothing. Change it only if you measure random requests on 65,536 lines, random
 //! first writes, and requests in a row, before and after.
 
-ghost use Rattle.dm_stream.specs.Prelude.{◌≡◌, ◌+◌, ◌≤◌, [], length, drop, IfErr, OnOk, Some, All, AnswersFronts, AreFirst, front_requests, device_of, IsAmong};
+ghost use Rattle.dm_stream.specs.Prelude.{[], length, drop, IfErr, OnOk, Some, All, AnswersFronts, AreFirst, front_requests, device_of, IsAmong};
 ghost use Rattle.dm_stream.specs.declared.requests.handling.TheConstants.{MOST_REQUESTS};
+ghost use Rattle.std.specs.Prelude.{◌≡◌, ◌+◌, ◌≤◌};
 
 use crate::requests::front::{Front, front_of};
 use crate::requests::handler::Handler;

@@ -4,7 +4,8 @@
 //! keeps an answer back, and each read requires that. Code that is generic over the requests has no other way to
 //! read them.
 
-ghost use Rattle.dm_stream.specs.Base.{◌≡◌, ◌≤◌, length, IfOk, InputPast, after_read};
+ghost use Rattle.dm_stream.specs.Base.{length, IfOk, InputPast, after_read};
+ghost use Rattle.std.specs.Prelude.{◌≡◌, ◌≤◌};
 
 use dm_table::{InFault, Input, Output};
 

@@ -4,9 +4,10 @@
 //! stand*. It rests on `FRONT_ROOM` bytes being held, and gives up on every line of which it isn't sure. Change it
 //! only if you measure small requests before and after.
 
-ghost use Rattle.dm_stream.specs.Prelude.{◌≡◌, ◌+◌, ◌<◌, ◌≤◌, ◌∷◌, [], length, take, drop, IfSome, Some, line_parts, device_of, Requests, after_requests, line_requests, numbered};
+ghost use Rattle.dm_stream.specs.Prelude.{[], length, take, drop, IfSome, Some, line_parts, device_of, Requests, after_requests, line_requests, numbered};
 ghost use Rattle.dm_stream.specs.declared.requests.lines.TheConstants.{MOST_LINE_BYTES};
 ghost use Rattle.dm_stream.specs.declared.requests.handling.TheConstants.{MOST_REQUESTS};
+ghost use Rattle.std.specs.Prelude.{◌≡◌, ◌+◌, ◌<◌, ◌≤◌, ◌∷◌};
 
 use crate::requests::handling::MOST_REQUESTS;
 use dm_stack::{DeviceId, Stack};

@@ -3,7 +3,8 @@
 //! What is handed on depends on the bytes and ends that the input delivered, and on nothing else. A
 //! new check of a line goes into `request_of`, in the order in which `specs/requests/Requests.antt` has it.
 
-ghost use Rattle.dm_stream.specs.Prelude.{◌≡◌, ◌≢◌, ◌+◌, ◌<◌, ◌≤◌, ◌∷◌, [], length, take, drop, Ok, Some, IfOk, IfErr, IfSome, OnErr, OnOk, Description, delivery, IsReadOn, MetNothing, line_parts, HasMet, IsAmong, Requests, after_requests, is_bad, line_requests, numbered, requests_of, word_for};
+ghost use Rattle.dm_stream.specs.Prelude.{[], length, take, drop, Ok, Some, IfOk, IfErr, IfSome, OnErr, OnOk, Description, delivery, IsReadOn, MetNothing, line_parts, HasMet, IsAmong, Requests, after_requests, is_bad, line_requests, numbered, requests_of, word_for};
+ghost use Rattle.std.specs.Prelude.{◌≡◌, ◌≢◌, ◌+◌, ◌<◌, ◌≤◌, ◌∷◌};
 
 use crate::requests::batch::{Answered, answer_in_batches};
 use crate::requests::front::{Front, front_of};

@@ -1,7 +1,8 @@
 //! The slice in which lines are held: where a line ends, room for a read, and the read.
 //! These work on a plain slice and two places in it, so that `lines` deals only with its value.
 //! Held bytes move only when there is too little room after them: a buffer full of short lines stays put.
-ghost use Rattle.dm_stream.specs.Prelude.{◌≡◌, ◌+◌, ◌-◌, ◌<◌, ◌≤◌, ◌∷◌, [], length, take, drop, slice_range, IfOk, MatchOption, given, parts_at, HasRead, code};
+ghost use Rattle.dm_stream.specs.Prelude.{[], length, take, drop, slice_range, IfOk, MatchOption, given, parts_at, HasRead, code};
+ghost use Rattle.std.specs.Prelude.{◌≡◌, ◌+◌, ◌-◌, ◌<◌, ◌≤◌, ◌∷◌};
 
 use crate::requests::handler::ReadsFrom;
 use dm_table::InFault;

@@ -2,8 +2,9 @@
 //! Clauses see only those bytes, so lines depend on the bytes and never on how reads cut them.
 //! No memory is taken, and the search for a newline continues where the last one stopped: each byte is
 //! searched once.
-ghost use Rattle.dm_stream.specs.Prelude.{◌≡◌, ◌+◌, ◌≤◌, ◌++◌, ◌≢◌, [], ◌∷◌, length, take, drop, IfOk, OnErr, OnTrue, OnFalse, sem, delivery, since, HasRead, IsReadOn, MetNothing};
+ghost use Rattle.dm_stream.specs.Prelude.{[], length, take, drop, IfOk, OnErr, OnTrue, OnFalse, sem, delivery, since, HasRead, IsReadOn, MetNothing};
 ghost use Rattle.std.specs.Io.BufRead.{Rests};
+ghost use Rattle.std.specs.Prelude.{◌≡◌, ◌+◌, ◌≤◌, ◌++◌, ◌≢◌, ◌∷◌};
 
 use crate::requests::handler::{ReadsFrom, Unanswered};
 use crate::requests::line_buffer::{line_len, make_room, read_after};
@@ -49,8 +50,9 @@ pub struct Lines {
 }
 
 impl Model for Lines {
-    ghost use Rattle.dm_stream.specs.Base.{◌≤◌, List, ℕ, slice_range};
+    ghost use Rattle.dm_stream.specs.Base.{List, ℕ, slice_range};
     ghost use Rattle.dm_stream.specs.declared.requests.lines.TheConstants.{BUFFER_BYTES};
+    ghost use Rattle.std.specs.Prelude.{◌≤◌};
 
     ghost Value = { List ℕ };
 

@@ -2,7 +2,8 @@
 //!
 //! `run` ends here, and so does every other command of the program that isn't refused.
 
-ghost use Rattle.dm_stream.specs.Prelude.{◌≡◌, ◌+◌, ℕ, List, IsErr, OnErr, OnOk, OutputPast, IsClosedAfter, Wrote, HasTold, told_at_close};
+ghost use Rattle.dm_stream.specs.Prelude.{ℕ, List, IsErr, OnErr, OnOk, OutputPast, IsClosedAfter, Wrote, HasTold, told_at_close};
+ghost use Rattle.std.specs.Prelude.{◌≡◌, ◌+◌};
 
 use crate::runs::ending::Ending;
 use crate::runs::message::{message_of, tell};

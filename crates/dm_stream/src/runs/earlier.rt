@@ -2,8 +2,9 @@
 //!
 //! They are read like the requests of a run, and played through the same mapper, to a sink that does nothing.
 
-ghost use Rattle.dm_stream.specs.Prelude.{◌≡◌, false, refl, ◌∙◌, delivery, HasMoved, HasPlayed, HasStoppedAt, played_ending, requests_outcome, CanMap, IsLeft};
+ghost use Rattle.dm_stream.specs.Prelude.{false, refl, ◌∙◌, delivery, HasMoved, HasPlayed, HasStoppedAt, played_ending, requests_outcome, CanMap, IsLeft};
 ghost use Rattle.dm_stream.specs.laws.Earlier.{moved_more, moved_none, stopped_more};
+ghost use Rattle.std.specs.Prelude.{◌≡◌};
 
 use crate::requests::front::Front;
 use crate::requests::handler::{Handler, HandlesFrom, ReadsFrom};

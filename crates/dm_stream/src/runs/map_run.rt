@@ -3,9 +3,10 @@
 //! What is written depends on the bytes and ends that the requests delivered, and on the mapper's
 //! state: see `specs/runs/Outcome.antt`. `handling` reads the lines, `request_mapper` answers them.
 
-ghost use Rattle.dm_stream.specs.Prelude.{◌≡◌, ◌≢◌, List, OnOk, with_looked, BlockUnit, HasTold, ending_message, Outcome, run_outcome, with_status, AreFewest, fewest, CanMap, HasMappedAll, HasRun, IsLeft, IsMapped, ending_for, write_faults, OutputPast, delivery, written_since, HasWritten, Wrote};
+ghost use Rattle.dm_stream.specs.Prelude.{List, OnOk, with_looked, BlockUnit, HasTold, ending_message, Outcome, run_outcome, with_status, AreFewest, fewest, CanMap, HasMappedAll, HasRun, IsLeft, IsMapped, ending_for, write_faults, OutputPast, delivery, written_since, HasWritten, Wrote};
 ghost use Rattle.dm_stream.specs.declared.requests.lines.TheConstants.{MOST_LINE_BYTES};
 ghost use Rattle.dm_stream.specs.declared.requests.handling.TheConstants.{MOST_REQUESTS};
+ghost use Rattle.std.specs.Prelude.{◌≡◌, ◌≢◌};
 
 use crate::pieces::disk_texts::DiskTexts;
 use crate::pieces::join::Join;

@@ -3,7 +3,8 @@
 //! The words are fixed in `specs/runs/Messages.antt`, since users match on them. A new ending is an arm
 //! here and there.
 
-ghost use Rattle.dm_stream.specs.Prelude.{◌≡◌, ◌≤◌, length, HasTold, earlier_message, ending_message, refused_request, request_word};
+ghost use Rattle.dm_stream.specs.Prelude.{length, HasTold, earlier_message, ending_message, refused_request, request_word};
+ghost use Rattle.std.specs.Prelude.{◌≡◌, ◌≤◌};
 
 use crate::runs::earlier::EarlierFault;
 use crate::runs::ending::{Ending, RequestWord};

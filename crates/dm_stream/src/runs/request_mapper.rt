@@ -3,8 +3,9 @@
 //! It hands the units of a request through a mapper to a join, which writes them. `specs/runs/Outcome.antt` says what is written, and `specs/runs/Mapped.antt` what one
 //! request adds to it.
 
-ghost use Rattle.dm_stream.specs.Prelude.{◌≡◌, ◌<◌, None, false, length, OnOk, HasWrittenTo, IsSameReference, Wrote, written_to_none, written_to_more, refl, ◌∙◌, IsReady, HasAnswered, HasStopped, failed_writes, request_answer, step_of, numbered};
+ghost use Rattle.dm_stream.specs.Prelude.{None, false, length, OnOk, HasWrittenTo, IsSameReference, Wrote, written_to_none, written_to_more, refl, ◌∙◌, IsReady, HasAnswered, HasStopped, failed_writes, request_answer, step_of, numbered};
 ghost use Rattle.dm_stream.specs.laws.Mapped.{answered_none, answered_more, stopped_more};
+ghost use Rattle.std.specs.Prelude.{◌≡◌, ◌<◌};
 
 use crate::pieces::disk_range::DiskRange;
 use crate::pieces::join::Join;

@@ -3,7 +3,8 @@
 //! They come once a run, after its last answer, so each is put together in an array of its own and
 //! written by plain calls. What they say is in `specs/runs/StatusLines.antt`.
 
-ghost use Rattle.dm_stream.specs.Prelude.{◌≡◌, ◌++◌, ◌<◌, ◌≤◌, ◌∷◌, [], length, Wrote, code, device_len, name_at, with_looked, after_name, status_text, usage_text};
+ghost use Rattle.dm_stream.specs.Prelude.{[], length, Wrote, code, device_len, name_at, with_looked, after_name, status_text, usage_text};
+ghost use Rattle.std.specs.Prelude.{◌≡◌, ◌++◌, ◌<◌, ◌≤◌, ◌∷◌};
 
 use arrayvec::ArrayVec;
 use dm_map::{Mapper, Taken, Usage};

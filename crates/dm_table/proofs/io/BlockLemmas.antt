@@ -1,5 +1,6 @@
 -- What a block holds up to the end of what was put into it.
-use Rattle.dm_table.proofs.Prelude.{◌≡◌, ℕ, ◌+◌, ◌-◌, ◌≤◌, ◌++◌, List, length, take, drop, slice_range, sym, append_assoc, arith, take-add, take-append-add, take-append_seam, take-take}
+use Rattle.dm_table.proofs.Prelude.{ℕ, List, length, take, drop, slice_range, sym, append_assoc, arith, take-add, take-append-add, take-append_seam, take-take}
+use Rattle.std.specs.Prelude.{◌≡◌, ◌+◌, ◌-◌, ◌≤◌, ◌++◌}
 
 -- what was put after a front and a part of an array, where that is the next part
 pub next_part : (at end from to : ℕ) (new old front part array : List ℕ) → from ≤ to → take at old ≡ front ++ take from array → take end new ≡ take at old ++ part → part ≡ slice_range array from to → take end new ≡ front ++ take to array

@@ -1,6 +1,7 @@
 -- Lists that only grow, told by what is new.
-use Rattle.dm_table.proofs.Prelude.{Ok, Err, [], ◌∷◌, ◌≡◌, ◌<◌, ◌≤◌, ℕ, ◌+◌, ◌-◌, List, ◌++◌, length, take, drop, sym, ap, ◌∙◌, add-zero, append_assoc, take-append-drop, arith, take-add, take_rest, append-nil, drop-drop, length-drop, OutFault, OutputPast, after_write, since, with_fault, HasWritten, Wrote, IsBeginning, IsCutShort, since_is}
+use Rattle.dm_table.proofs.Prelude.{Ok, Err, [], ℕ, List, length, take, drop, sym, ap, ◌∙◌, add-zero, append_assoc, take-append-drop, arith, take-add, take_rest, append-nil, drop-drop, length-drop, OutFault, OutputPast, after_write, since, with_fault, HasWritten, Wrote, IsBeginning, IsCutShort, since_is}
 use Rattle.dm_table.proofs.io.Portions.{rest_after}
+use Rattle.std.specs.Prelude.{◌∷◌, ◌≡◌, ◌<◌, ◌≤◌, ◌+◌, ◌-◌, ◌++◌}
 
 -- a list after which nothing was added
 pub quiet_since : (old new held : List ℕ) → new ≡ old ++ [] → held ≡ held ++ since old new

@@ -1,5 +1,6 @@
 -- A list that is handed out portion by portion, each copied to the front of a slice.
-use Rattle.dm_table.proofs.Prelude.{◌≡◌, ◌≤◌, ◌+◌, ◌-◌, ◌++◌, ℕ, List, length, take, drop, sym, ap, ◌∙◌, arith, length-take-le, length-drop, take-add, take_at, take_all, take-append-drop, drop-drop}
+use Rattle.dm_table.proofs.Prelude.{ℕ, List, length, take, drop, sym, ap, ◌∙◌, arith, length-take-le, length-drop, take-add, take_at, take_all, take-append-drop, drop-drop}
+use Rattle.std.specs.Prelude.{◌≡◌, ◌≤◌, ◌+◌, ◌-◌, ◌++◌}
 
 -- what is left of some bytes after the first of them, up to a place
 abbrev pub rest_after : List ℕ → ℕ → List ℕ

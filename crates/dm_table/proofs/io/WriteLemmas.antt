@@ -1,6 +1,7 @@
 -- Texts written part by part.
-use Rattle.dm_table.proofs.Prelude.{◌≡◌, ℕ, ◌+◌, ◌-◌, ◌<◌, ◌≤◌, map, arith, List, [], ◌∷◌, ◌++◌, length, take, drop, get_or, Result, Ok, Err, IsErr, IsErrAnd, inl, inr, refl, sym, ◌∙◌, append_assoc, take-append-drop, flat_map, join_with_byte, take-add, flat_map-append, drop_more, append-nil, take_rest, err_from_is_err_and, decimal, OutputPast, after_flush, written_more, IsClosedAfter, Wrote, Line, Target, Striped, column_text, target_text, body_text, target_head, body_head, columns_of, since_more}
+use Rattle.dm_table.proofs.Prelude.{ℕ, map, arith, List, [], length, take, drop, get_or, Result, Ok, Err, IsErr, IsErrAnd, inl, inr, refl, sym, ◌∙◌, append_assoc, take-append-drop, flat_map, join_with_byte, take-add, flat_map-append, drop_more, append-nil, take_rest, err_from_is_err_and, decimal, OutputPast, after_flush, written_more, IsClosedAfter, Wrote, Line, Target, Striped, column_text, target_text, body_text, target_head, body_head, columns_of, since_more}
 use Rattle.dm_table.proofs.tables.BodyRows.{columns_text}
+use Rattle.std.specs.Prelude.{◌≡◌, ◌+◌, ◌-◌, ◌<◌, ◌≤◌, ◌∷◌, ◌++◌}
 
 -- a part with a fault, before the rest of the text
 pub stopped : {E : Type 0} {old new : OutputPast} {fault : E} {text : List ℕ} (first rest : List ℕ) → text ≡ first ++ rest

@@ -1,7 +1,8 @@
 -- A reader that gives the values of a text where its checks find nothing, and else their fault, keeps what is promised of readers.
-use Rattle.dm_table.proofs.Prelude.{◌≡◌, List, None, Result, Ok, Err, refl, sym, ap, subst, ◌∙◌, Part, LoadFault, Answers, first_fault, unless, IsParsed}
+use Rattle.dm_table.proofs.Prelude.{List, None, Result, Ok, Err, refl, sym, ap, subst, ◌∙◌, Part, LoadFault, Answers, first_fault, unless, IsParsed}
 use Rattle.std.specs.Global.{Vec}
 use Rattle.dm_table.proofs.load.FaultLemmas.{unless-ok, unless-err}
+use Rattle.std.specs.Prelude.{◌≡◌}
 
 pub parsed : {X : Type 0} (part : Part) (describes : List X → Type 0) (checks : List (List LoadFault)) (values : List X) (answer : Result (Vec X) LoadFault)
     → (first_fault checks ≡ None → describes values) → ((other : List X) → describes other → (first_fault checks ≡ None) × (values ≡ other))

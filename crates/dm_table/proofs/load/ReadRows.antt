@@ -1,7 +1,8 @@
 -- A row that was read, and those that are left.
-use Rattle.dm_table.proofs.Prelude.{◌≡◌, ◌≢◌, OnOk, ℕ, suc, List, ◌∷◌, Option, Some, None, Result, sym, ap, ◌∙◌, Part, RowFault, FirstFaults, unless, with_rows, Reads, fault_in, noted_at, noted_rows, first_noted}
+use Rattle.dm_table.proofs.Prelude.{OnOk, ℕ, suc, List, Option, Some, None, Result, sym, ap, ◌∙◌, Part, RowFault, FirstFaults, unless, with_rows, Reads, fault_in, noted_at, noted_rows, first_noted}
 use Rattle.dm_table.specs.declared.load.row_faults.RowFault.TheVariants.{Memory}
 use Rattle.dm_table.proofs.load.RowFaultLemmas.{found_read, read_clear}
+use Rattle.std.specs.Prelude.{◌≡◌, ◌≢◌, ◌∷◌}
 
 -- the values, where nothing is wrong so far
 pub values_left : {X : Type 0} (add : List X → ℕ → List (List ℕ) → List X) (part : Part) (rows more : List (List (List ℕ))) (row cut : List (List ℕ)) (n m : ℕ) (read : Result (Unit {0}) RowFault) (seen new : FirstFaults) (old values all : List X)

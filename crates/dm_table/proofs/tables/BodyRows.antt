@@ -1,5 +1,5 @@
 -- The body of a line and its fields: fields that the tests pass are those of a body, and the fields of a body pass them.
-use Rattle.dm_table.proofs.Prelude.{◌≡◌, inl, inr, ℕ, ◌+◌, ◌*◌, ◌^◌, ◌<◌, ◌≤◌, Bool, true, false, eqb, nat_le, nat_lt, nat_eq, ◌&&◌, List, [], ◌∷◌, ◌++◌, length, drop, Option, Some, None, refl, sym, ap, ◌∙◌, append_assoc, arith, decimal, codes, is_some, if◌then◌else◌, pointwise, is_ascii_digit, option_map, flat_map, list_all, join_with_byte, AllByRecursion, and_parts, and_from, lt-ltb, eqb-true, eq-eqb, not-true, cases_Bool, nat_tests, Decides-eqb, length-append, append-nil, starts_is, map, DevRef, Column, Target, StoreKind, Persistent, Transient, Keeping, Linear, Striped, Zero, Error, Origin, Line, Place, is_device_byte, is_device_name, is_disk_byte, names_device, mapper, Spells, number_of, number_in, dev_text, column_text, kind_text, Argument, Lower, Amount, Flag, argument_text, row, column_arguments, target_row, target_fields, is_dev_ref, IsDevRef, IsArgument, IsTarget, IsBody, dev_in, if_both, then_in, nothing_in, lower_in, columns_in, is_count, striped_in, kind_in, arguments_in, target_in, Body, body_in, is_body_row, is_body, has_target_names, has_body_names, line_at, line_in, has_column_names, All-list_all}
+use Rattle.dm_table.proofs.Prelude.{inl, inr, ℕ, Bool, true, false, eqb, nat_le, nat_lt, nat_eq, List, [], length, drop, Option, Some, None, refl, sym, ap, ◌∙◌, append_assoc, arith, decimal, codes, is_some, pointwise, is_ascii_digit, option_map, flat_map, list_all, join_with_byte, AllByRecursion, and_parts, and_from, lt-ltb, eqb-true, eq-eqb, not-true, cases_Bool, nat_tests, Decides-eqb, length-append, append-nil, starts_is, map, DevRef, Column, Target, StoreKind, Persistent, Transient, Keeping, Linear, Striped, Zero, Error, Origin, Line, Place, is_device_byte, is_device_name, is_disk_byte, names_device, mapper, Spells, number_of, number_in, dev_text, column_text, kind_text, Argument, Lower, Amount, Flag, argument_text, row, column_arguments, target_row, target_fields, is_dev_ref, IsDevRef, IsArgument, IsTarget, IsBody, dev_in, if_both, then_in, nothing_in, lower_in, columns_in, is_count, striped_in, kind_in, arguments_in, target_in, Body, body_in, is_body_row, is_body, has_target_names, has_body_names, line_at, line_in, has_column_names, All-list_all}
 use Rattle.dm_table.specs.declared.tables.table.DevRef.TheVariants.{Device, Disk}
 use Rattle.dm_table.specs.declared.tables.table.Target.TheVariants.{Snapshot}
 use Rattle.dm_table.specs.tables.LineBody.{has_name}
@@ -8,6 +8,7 @@ use Rattle.dm_table.proofs.words.ByteLemmas.{list_all-weaker, device_name_parts,
 use Rattle.dm_table.proofs.words.FieldLemmas.{IsClearOf}
 use Rattle.dm_table.proofs.tables.TableGroups.{same_name}
 use Rattle.dm_table.proofs.Lists.{mapped}
+use Rattle.std.specs.Prelude.{◌≡◌, ◌+◌, ◌*◌, ◌^◌, ◌<◌, ◌≤◌, ◌&&◌, ◌∷◌, ◌++◌, if◌then◌else◌}
 
 -- The fields that a body is written with
 

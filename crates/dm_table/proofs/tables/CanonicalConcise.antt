@@ -1,5 +1,6 @@
 -- Concise text that is written of a description describes it, places aside.
-use Rattle.dm_table.proofs.Prelude.{◌≡◌, inl, inr, ℕ, suc, ◌≤◌, Bool, true, false, List, [], ◌∷◌, ◌++◌, length, map, refl, sym, ap, ◌∙◌, append_assoc, arith, codes, if◌then◌else◌, join_with_byte, Line, DeviceSpec, Place, SayEach, body_text, place_of, is_ro, is_flags, SaysLines, SaysDevice, DescribesConcise, ReadsBack, flag_text, concise_device, concise_text, lines_at, as_concise}
+use Rattle.dm_table.proofs.Prelude.{inl, inr, ℕ, suc, Bool, true, false, List, [], length, map, refl, sym, ap, ◌∙◌, append_assoc, arith, codes, join_with_byte, Line, DeviceSpec, Place, SayEach, body_text, place_of, is_ro, is_flags, SaysLines, SaysDevice, DescribesConcise, ReadsBack, flag_text, concise_device, concise_text, lines_at, as_concise}
+use Rattle.std.specs.Prelude.{◌≡◌, ◌≤◌, ◌∷◌, ◌++◌, if◌then◌else◌}
 
 -- Places are not written
 

@@ -1,10 +1,11 @@
 -- Table text that is written of a description describes it, places and flags aside.
-use Rattle.dm_table.proofs.Prelude.{◌≡◌, inl, ℕ, suc, ◌+◌, true, List, [], ◌∷◌, ◌++◌, length, map, refl, sym, ap, ◌∙◌, arith, flat_map, AllByRecursion, flat_map-append, map-append, Line, DeviceSpec, Place, Source, is_device_name, lines_of, rest_of, SayEach, IsBody, NamedLine, line_text, SaysLine, named_lines, HasPlaceOf, IsDescribed, DifferInName, DescribesTable, ReadsBack, lines_text, table_text, placed_lines, as_table}
+use Rattle.dm_table.proofs.Prelude.{inl, ℕ, suc, true, List, [], length, map, refl, sym, ap, ◌∙◌, arith, flat_map, AllByRecursion, flat_map-append, map-append, Line, DeviceSpec, Place, Source, is_device_name, lines_of, rest_of, SayEach, IsBody, NamedLine, line_text, SaysLine, named_lines, HasPlaceOf, IsDescribed, DifferInName, DescribesTable, ReadsBack, lines_text, table_text, placed_lines, as_table}
 use Rattle.dm_table.proofs.words.ByteLemmas.{is_shown-clear}
 use Rattle.dm_table.proofs.words.FieldLemmas.{IsClearOf, lines_of-lines, rest_of-lines}
 use Rattle.dm_table.proofs.load.Forms.{each_said}
 use Rattle.dm_table.proofs.tables.TableGroups.{named_of}
 use Rattle.dm_table.proofs.tables.TableRows.{text_written}
+use Rattle.std.specs.Prelude.{◌≡◌, ◌+◌, ◌∷◌, ◌++◌}
 
 -- Places and flags are not written
 

@@ -1,5 +1,5 @@
 -- A text of the concise form in which no check finds anything describes the devices that are read from it, and one that describes devices is read as them.
-use Rattle.dm_table.proofs.Prelude.{◌≡◌, ◌⊎◌, inl, inr, ℕ, ◌≤◌, true, false, not, eqb, List, [], ◌∷◌, ◌++◌, length, take, get_or, ◌-◌, None, Result, Ok, Err, refl, sym, ap, ◌∙◌, arith, join_with_byte, AllByRecursion, and_parts, cases_Bool, not-true, eqb-true, append-nil, length-append, map-id, DeviceSpec, Source, LoadFault, parts_at, all_but_last, last_or, Answers, first_fault, first_or, is_printable, not_text, row_checks, unless, IsParsed, SayEach, SaysDevice, DescribesConcise, lacks, entries, without_newline, parts_of, devices_of, is_device, has_values, has_names, concise_checks, device_in, devices_from, parts_reading, read_concise, All-list_all}
+use Rattle.dm_table.proofs.Prelude.{inl, inr, ℕ, true, false, not, eqb, List, [], length, take, get_or, None, Result, Ok, Err, refl, sym, ap, ◌∙◌, arith, join_with_byte, AllByRecursion, and_parts, cases_Bool, not-true, eqb-true, append-nil, length-append, map-id, DeviceSpec, Source, LoadFault, parts_at, all_but_last, last_or, Answers, first_fault, first_or, is_printable, not_text, row_checks, unless, IsParsed, SayEach, SaysDevice, DescribesConcise, lacks, entries, without_newline, parts_of, devices_of, is_device, has_values, has_names, concise_checks, device_in, devices_from, parts_reading, read_concise, All-list_all}
 use Rattle.std.specs.Global.{Vec}
 use Rattle.dm_table.proofs.words.ByteLemmas.{list_all-weaker}
 use Rattle.dm_table.proofs.load.FaultLemmas.{Answers-refused, unless-passed}
@@ -8,6 +8,7 @@ use Rattle.dm_table.proofs.load.Parsing.{parsed}
 use Rattle.dm_table.proofs.words.FieldLemmas.{IsClearOf, join-parts_at, parts_at-join, all_but_last-push, last_or-push}
 use Rattle.dm_table.proofs.tables.TableFields.{take-all_but_last, get_or-last_or}
 use Rattle.dm_table.proofs.tables.ConciseRows.{is_entry_byte, entry_semicolon, entry_newline, entry_printed, join_passes, device_said, device_bytes, device_some, device_again}
+use Rattle.std.specs.Prelude.{◌≡◌, ◌⊎◌, ◌≤◌, ◌∷◌, ◌++◌, ◌-◌}
 
 -- The newline at the end
 

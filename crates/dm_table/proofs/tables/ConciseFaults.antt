@@ -1,5 +1,6 @@
 -- What is wrong with the parts of a device of the concise form, and with the device.
-use Rattle.dm_table.proofs.Prelude.{◌≡◌, ◌≢◌, OnOk, ℕ, suc, ◌+◌, ◌-◌, ◌<◌, ◌≤◌, Bool, true, false, ◌&&◌, List, [], ◌∷◌, ◌++◌, length, take, drop, get_or, Option, Some, None, Result, Ok, Err, refl, sym, ap, ◌∙◌, arith, slice_index_or, list_all, option_to_list, and_parts, take_rest, drop_more, and-false, Line, DeviceSpec, Place, Source, RowFault, FirstFaults, texts, is_device_name, unless, first_failed, Reads, fault_in, noted_at, first_noted, is_body_row, is_body, has_body_names, line_in, place_of, lacks, is_uuid, is_ro, entries, body_fields, is_device, is_label, has_label_values, has_label_names, has_names, has_values, earlier_of, fault_of_body, fault_of_bodies, fault_of_label, fault_of_entries, fault_of_device, lines_in, device_in, entries_reading, device_reading, bodies_reading, devices_from}
+use Rattle.dm_table.proofs.Prelude.{OnOk, ℕ, suc, Bool, true, false, List, [], length, take, drop, get_or, Option, Some, None, Result, Ok, Err, refl, sym, ap, ◌∙◌, arith, slice_index_or, list_all, option_to_list, and_parts, take_rest, drop_more, and-false, Line, DeviceSpec, Place, Source, RowFault, FirstFaults, texts, is_device_name, unless, first_failed, Reads, fault_in, noted_at, first_noted, is_body_row, is_body, has_body_names, line_in, place_of, lacks, is_uuid, is_ro, entries, body_fields, is_device, is_label, has_label_values, has_label_names, has_names, has_values, earlier_of, fault_of_body, fault_of_bodies, fault_of_label, fault_of_entries, fault_of_device, lines_in, device_in, entries_reading, device_reading, bodies_reading, devices_from}
+use Rattle.std.specs.Prelude.{◌≡◌, ◌≢◌, ◌+◌, ◌-◌, ◌<◌, ◌≤◌, ◌&&◌, ◌∷◌, ◌++◌}
 use denote.Ref.{Bor}
 use Rattle.dm_table.specs.declared.load.row_faults.RowFault.TheVariants.{Syntax, Field, Name, Memory}
 use Rattle.dm_table.proofs.load.FaultLemmas.{unless-ok, unless-err}

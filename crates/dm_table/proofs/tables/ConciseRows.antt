@@ -1,11 +1,12 @@
 -- The text of a body in the concise form and its fields, and the text of a device and its entries.
-use Rattle.dm_table.proofs.Prelude.{◌≡◌, ◌⊎◌, inl, inr, ℕ, ◌≤◌, Bool, true, false, not, eqb, nat_le, nat_lt, ◌&&◌, ◌||◌, List, [], ◌∷◌, ◌++◌, length, drop, Some, refl, sym, ap, ◌∙◌, arith, codes, decimal, list_all, join_with_byte, AllByRecursion, and_parts, and_from, cases_Bool, eqb-true, nat_tests, length-append, Line, DeviceSpec, Place, is_device_byte, is_device_name, number_in, fields, row_fields, without_last_space, body_text, target_fields, IsBody, is_body_row, is_body, has_body_names, line_in, is_uuid, is_minor, is_ro, is_flags, place_of, WritesBody, SaysLines, SaysDevice, lacks, entries, without_first_space, body_fields, is_label, has_label_values, has_label_names, is_device, has_values, has_names, lines_in, device_in, All-list_all}
+use Rattle.dm_table.proofs.Prelude.{inl, inr, ℕ, Bool, true, false, not, eqb, nat_le, nat_lt, List, [], length, drop, Some, refl, sym, ap, ◌∙◌, arith, codes, decimal, list_all, join_with_byte, AllByRecursion, and_parts, and_from, cases_Bool, eqb-true, nat_tests, length-append, Line, DeviceSpec, Place, is_device_byte, is_device_name, number_in, fields, row_fields, without_last_space, body_text, target_fields, IsBody, is_body_row, is_body, has_body_names, line_in, is_uuid, is_minor, is_ro, is_flags, place_of, WritesBody, SaysLines, SaysDevice, lacks, entries, without_first_space, body_fields, is_label, has_label_values, has_label_names, is_device, has_values, has_names, lines_in, device_in, All-list_all}
 use Rattle.dm_table.proofs.words.ByteLemmas.{list_all-weaker, list_all-both}
 use Rattle.dm_table.proofs.words.FieldLemmas.{IsClearOf, parts_at-join, join-parts_at}
 use Rattle.dm_table.proofs.tables.BodyRows.{body_there, body_again, body_said, body_placed, body_inked, body_row_passes, body_passes, body_names_pass, line_again, is_ink, IsInked, name_inked, number_inked, number_spelled, device_ink}
 use Rattle.dm_table.proofs.tables.BodyRows as body
 use Rattle.dm_table.proofs.tables.TableGroups.{same_name}
 use Rattle.dm_table.proofs.tables.TableRows.{space_cases, space_dropped, space_joined, fields_joined, inks, inks_and_space, no_space, row_kept, row_kept_spaced}
+use Rattle.std.specs.Prelude.{◌≡◌, ◌⊎◌, ◌≤◌, ◌&&◌, ◌||◌, ◌∷◌, ◌++◌}
 
 -- Bodies: from their fields
 

@@ -1,7 +1,8 @@
 -- Rows of two fields: the first a disk's name, the second what says a value.
-use Rattle.dm_table.proofs.Prelude.{◌≡◌, ◌≢◌, inl, inr, ℕ, Bool, true, false, List, [], ◌∷◌, length, Option, Some, None, Ok, Err, refl, sym, ap, ◌∙◌, is_some, if◌then◌else◌, option_map, cases_Bool, RowFault, is_disk_name, texts, unless, fault_in, first_failed, row_fault, has_name, is_pair, pair_in, reading_of}
+use Rattle.dm_table.proofs.Prelude.{inl, inr, ℕ, Bool, true, false, List, [], length, Option, Some, None, Ok, Err, refl, sym, ap, ◌∙◌, is_some, option_map, cases_Bool, RowFault, is_disk_name, texts, unless, fault_in, first_failed, row_fault, has_name, is_pair, pair_in, reading_of}
 use Rattle.dm_table.specs.declared.load.row_faults.RowFault.TheVariants.{Syntax}
 use Rattle.dm_table.proofs.tables.TargetRows.{read_parts}
+use Rattle.std.specs.Prelude.{◌≡◌, ◌≢◌, ◌∷◌, if◌then◌else◌}
 use denote.Ref.{Bor}
 
 mapped_some : {V X : Type 0} (f : V → X) (said : Option V) → is_some (option_map f said) ≡ true → (value : V) × (said ≡ Some value)

@@ -1,5 +1,5 @@
 -- Table text keeps the law of forms, and its lines, joined, are its devices.
-use Rattle.dm_table.proofs.Prelude.{◌≡◌, ℕ, List, [], None, Result, refl, ap, ◌∙◌, DeviceSpec, Source, LoadFault, lines_of, row_fields, Answers, first_fault, is_printable, unless, IsParsed, values_from, with_rows, NamedLine, SaysLine, DescribesTable, named_lines, is_row, table_checks, named_in, add_said, joined, rows_of}
+use Rattle.dm_table.proofs.Prelude.{ℕ, List, [], None, Result, refl, ap, ◌∙◌, DeviceSpec, Source, LoadFault, lines_of, row_fields, Answers, first_fault, is_printable, unless, IsParsed, values_from, with_rows, NamedLine, SaysLine, DescribesTable, named_lines, is_row, table_checks, named_in, add_said, joined, rows_of}
 use Rattle.std.specs.Global.{Vec}
 use Rattle.dm_table.specs.tables.TableText.{has_values, has_names}
 use Rattle.dm_table.specs.tables.TableReading.{devices_from}
@@ -9,6 +9,7 @@ use Rattle.dm_table.proofs.load.Parsing.{parsed}
 use Rattle.dm_table.proofs.tables.TableGroups.{lines_of_joined, each_joined, apart_joined, devices_again}
 use Rattle.dm_table.proofs.tables.TableLines.{rows_joined}
 use Rattle.dm_table.proofs.tables.TableRows.{row_said, row_there, line_writes, row_written, text_written, row_passes, line_passes, names_pass, line_again as read_again}
+use Rattle.std.specs.Prelude.{◌≡◌}
 
 abbrev table_form : Form (List (List ℕ)) NamedLine
 table_form = record { part = Source; is_text = is_printable; row_of = row_fields; is_row = is_row; has_values = has_values; has_names = has_names; value_in = named_in; says = SaysLine }

@@ -1,8 +1,9 @@
 -- What the tests of rows say, by places: the last field, and all before it.
-use Rattle.dm_table.proofs.Prelude.{◌≡◌, ℕ, suc, ◌-◌, ◌≤◌, true, false, eqb, List, [], ◌∷◌, length, get_or, take, refl, arith, lt-ltb, ne_eqb, take_rest, inl, inr, Option, Some, None, Ok, Err, ◌&&◌, slice_index_or, drop, unwrap_or, is_some, option_map, cases_Bool, and-false, texts, all_but_last, last_or, without_last_space, ends_empty, Line, Place, Source, RowFault, is_device_name, first_failed, fault_in, is_body_row, Body, body_in, has_target_names, line_at, line_in, reading_of, body_reading, NamedLine, name_in, is_row, named_in, named_reading, has_line_names, table_row_fault, row_reading}
+use Rattle.dm_table.proofs.Prelude.{ℕ, suc, true, false, eqb, List, [], length, get_or, take, refl, arith, lt-ltb, ne_eqb, take_rest, inl, inr, Option, Some, None, Ok, Err, slice_index_or, drop, unwrap_or, is_some, option_map, cases_Bool, and-false, texts, all_but_last, last_or, without_last_space, ends_empty, Line, Place, Source, RowFault, is_device_name, first_failed, fault_in, is_body_row, Body, body_in, has_target_names, line_at, line_in, reading_of, body_reading, NamedLine, name_in, is_row, named_in, named_reading, has_line_names, table_row_fault, row_reading}
 use Rattle.dm_table.specs.tables.TableText.{is_label}
 use Rattle.dm_table.proofs.tables.PairRows.{said_by}
 use Rattle.dm_table.proofs.tables.TargetRows.{made_fault, read_parts}
+use Rattle.std.specs.Prelude.{◌≡◌, ◌-◌, ◌≤◌, ◌∷◌, ◌&&◌}
 use denote.Ref.{Bor}
 
 last_place : {X : Type 0} (x y : X) (xs : List X) → length (x ∷ y ∷ xs) - 1 ≡ suc (length (y ∷ xs) - 1)

@@ -1,8 +1,9 @@
 -- Lines of table text added one after the other: the devices are those of all of them.
-use Rattle.dm_table.proofs.Prelude.{◌≡◌, OnOk, inl, inr, ℕ, zero, suc, ◌+◌, true, false, nat_eq, List, [], ◌∷◌, ◌++◌, length, Option, Some, None, Result, Ok, Err, refl, sym, ap, ◌∙◌, append_assoc, arith, pointwise, slice_index_or, slice_set, cons_option, cases_Bool, append-nil, Line, DeviceSpec, Place, is_device_name, RowFault, Reads, fault_in, unless, values_from, with_rows, body_reading, made_of, with_line, NamedLine, named_in, named_reading, alone, join_line, joined, add_line, add_said, table_row_fault, row_reading}
+use Rattle.dm_table.proofs.Prelude.{OnOk, inl, inr, ℕ, zero, suc, true, false, nat_eq, List, [], length, Option, Some, None, Result, Ok, Err, refl, sym, ap, ◌∙◌, append_assoc, arith, pointwise, slice_index_or, slice_set, cons_option, cases_Bool, append-nil, Line, DeviceSpec, Place, is_device_name, RowFault, Reads, fault_in, unless, values_from, with_rows, body_reading, made_of, with_line, NamedLine, named_in, named_reading, alone, join_line, joined, add_line, add_said, table_row_fault, row_reading}
 use Rattle.dm_table.proofs.tables.TableGroups.{same_name, is_same_name, other_name, is_other_name}
 use Rattle.dm_table.proofs.tables.TableFields.{row_found, row_taken, line_name, line_place, named_fault, named_line}
 use Rattle.dm_table.proofs.tables.TargetRows.{read_ok}
+use Rattle.std.specs.Prelude.{◌≡◌, ◌+◌, ◌∷◌, ◌++◌}
 
 -- What is made of a reading is made of what was read, or is its fault
 

@@ -1,5 +1,5 @@
 -- A line of table text and its row of fields: a row that the tests pass is that of a line, and the row of a line passes them.
-use Rattle.dm_table.proofs.Prelude.{◌≡◌, ◌⊎◌, inl, inr, ℕ, ◌<◌, true, false, eqb, nat_lt, List, [], ◌∷◌, ◌++◌, length, Some, refl, sym, ap, ◌∙◌, append_assoc, arith, list_all, join_with_byte, AllByRecursion, option_map, and_parts, and_from, ltb-true, lt-ltb, eqb-true, eq-eqb, length-append, is_device_name, last_or, fields, row_fields, without_last_space, is_body_row, has_body_names, NamedLine, line_text, Writes, IsSaid, name_in, is_row, line_in, named_in}
+use Rattle.dm_table.proofs.Prelude.{inl, inr, ℕ, true, false, eqb, nat_lt, List, [], length, Some, refl, sym, ap, ◌∙◌, append_assoc, arith, list_all, join_with_byte, AllByRecursion, option_map, and_parts, and_from, ltb-true, lt-ltb, eqb-true, eq-eqb, length-append, is_device_name, last_or, fields, row_fields, without_last_space, is_body_row, has_body_names, NamedLine, line_text, Writes, IsSaid, name_in, is_row, line_in, named_in}
 use Rattle.dm_table.specs.tables.TableText.{is_label, has_values, has_names}
 use Rattle.dm_table.proofs.words.ByteLemmas.{is_shown, list_all-weaker, list_all-both}
 use Rattle.dm_table.proofs.tables.TableFields.{place, with_label}
@@ -7,6 +7,7 @@ use Rattle.dm_table.proofs.words.FieldLemmas.{parts_at-first, parts_at-clear, jo
 use Rattle.dm_table.proofs.tables.BodyRows.{body_fields, body_there, body_again, body_said, body_placed, is_ink, IsInked, ink_clear, ink_text, name_inked, body_inked, body_row_passes, body_passes, body_names_pass}
 use Rattle.dm_table.proofs.tables.BodyRows as body
 use Rattle.dm_table.proofs.Lists.{mapped}
+use Rattle.std.specs.Prelude.{◌≡◌, ◌⊎◌, ◌<◌, ◌∷◌, ◌++◌}
 
 -- The fields that a line is written with
 

@@ -1,6 +1,7 @@
 -- What the tests of bytes say of whole texts.
-use Rattle.dm_table.proofs.Prelude.{◌≡◌, ◌≢◌, ℕ, suc, ◌+◌, ◌<◌, ◌≤◌, ◌⊎◌, inl, inr, Bool, true, false, cond, eqb, nat_le, nat_lt, not, ◌&&◌, ◌||◌, List, [], ◌∷◌, ◌++◌, length, take, take_all, drop, refl, sym, ap, ◌∙◌, arith, is_ascii_digit, list_all, AllByRecursion, prefix_len, join_with_byte, onto_first, and_parts, and_from, not-false, not_from_true, cases_Bool, le-leb, leb-true, false_from_ne_true, eq-eqb, ne_eqb, cases_eq, nat_tests, take-append_seam, drop-append_seam, length-prefix_len, list_all_at, prefix_len-le-length, prefix_len_stops, parts_at, is_printable, All-list_all, is_device_byte, is_device_name, is_disk_byte, is_disk_name, names_device}
+use Rattle.dm_table.proofs.Prelude.{ℕ, suc, inl, inr, Bool, true, false, cond, eqb, nat_le, nat_lt, not, List, [], length, take, take_all, drop, refl, sym, ap, ◌∙◌, arith, is_ascii_digit, list_all, AllByRecursion, prefix_len, join_with_byte, onto_first, and_parts, and_from, not-false, not_from_true, cases_Bool, le-leb, leb-true, false_from_ne_true, eq-eqb, ne_eqb, cases_eq, nat_tests, take-append_seam, drop-append_seam, length-prefix_len, list_all_at, prefix_len-le-length, prefix_len_stops, parts_at, is_printable, All-list_all, is_device_byte, is_device_name, is_disk_byte, is_disk_name, names_device}
 use Rattle.dm_table.proofs.words.FieldLemmas.{IsClearOf, join-parts_at}
+use Rattle.std.specs.Prelude.{◌≡◌, ◌≢◌, ◌+◌, ◌<◌, ◌≤◌, ◌⊎◌, ◌&&◌, ◌||◌, ◌∷◌, ◌++◌}
 
 -- Texts of which each byte passes a test
 

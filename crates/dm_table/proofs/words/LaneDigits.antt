@@ -1,6 +1,7 @@
 -- Digits as lanes, and the numbers that they are of.
-use Rattle.dm_table.proofs.Prelude.{◌≡◌, ℕ, suc, ◌+◌, ◌*◌, ◌%◌, ◌^◌, ◌<◌, ◌≤◌, inl, inr, true, false, not, List, [], ◌∷◌, ◌++◌, get_or, length, map, take, refl, arith, add-mul, mul_assoc, nat_lt, digit_value, is_ascii_digit, number_from_digits, number_from_digits_after, AllBelowBase, list_all, prefix_len, and_from, and_parts, cases_lt, nat_tests, digit_value_digit, pow-succ'}
+use Rattle.dm_table.proofs.Prelude.{ℕ, suc, inl, inr, true, false, not, List, [], get_or, length, map, take, refl, arith, add-mul, mul_assoc, nat_lt, digit_value, is_ascii_digit, number_from_digits, number_from_digits_after, AllBelowBase, list_all, prefix_len, and_from, and_parts, cases_lt, nat_tests, digit_value_digit, pow-succ'}
 use Rattle.dm_table.proofs.words.NumberLemmas.{digit_range}
+use Rattle.std.specs.Prelude.{◌≡◌, ◌+◌, ◌*◌, ◌%◌, ◌^◌, ◌<◌, ◌≤◌, ◌∷◌, ◌++◌}
 use lib.Lanes.{Each1}
 
 -- Lists of digits

@@ -1,5 +1,6 @@
 -- A text spells a number exactly where the number is read off it.
-use Rattle.dm_table.proofs.Prelude.{◌≡◌, ◌≢◌, ℕ, ◌+◌, ◌-◌, ◌*◌, ◌^◌, ◌<◌, ◌≤◌, inl, inr, true, false, eqb, nat_le, not, ◌||◌, List, Option, Some, None, length, get_or, take, take_all, refl, sym, ap, ◌∙◌, arith, rules, decimal, is_some, unwrap_or, digit_value, is_ascii_digit, IsInRange, list_all, prefix_len, and_parts, and_from, or_cases, or_left, or_right, not-true, not_from_false, eqb-true, eqb-false, eq-eqb, ne_eqb, leb-true, le-leb, cases_eq, cond-false, decimal-digits_value, digits_decimal, digits_value-decimal, decimal_nonempty, decimal_digit, length-decimal-le, first_decimal, digits_value_more, nat_tests, common_steps, list_all_more, list_all_at, prefix_len-le-length, prefix_len_stops, digit_value_digit, IsNumeralModel, numerals_by_value, digits_value_short, cond_some, digits_value, IsReadTo, Spells, is_number, number_of}
+use Rattle.dm_table.proofs.Prelude.{ℕ, inl, inr, true, false, eqb, nat_le, not, List, Option, Some, None, length, get_or, take, take_all, refl, sym, ap, ◌∙◌, arith, rules, decimal, is_some, unwrap_or, digit_value, is_ascii_digit, IsInRange, list_all, prefix_len, and_parts, and_from, or_cases, or_left, or_right, not-true, not_from_false, eqb-true, eqb-false, eq-eqb, ne_eqb, leb-true, le-leb, cases_eq, cond-false, decimal-digits_value, digits_decimal, digits_value-decimal, decimal_nonempty, decimal_digit, length-decimal-le, first_decimal, digits_value_more, nat_tests, common_steps, list_all_more, list_all_at, prefix_len-le-length, prefix_len_stops, digit_value_digit, IsNumeralModel, numerals_by_value, digits_value_short, cond_some, digits_value, IsReadTo, Spells, is_number, number_of}
+use Rattle.std.specs.Prelude.{◌≡◌, ◌≢◌, ◌+◌, ◌-◌, ◌*◌, ◌^◌, ◌<◌, ◌≤◌, ◌||◌}
 
 -- std's laws on numerals, for texts of which each byte is a digit
 pub numerals : IsNumeralModel (λ text. list_all is_ascii_digit text ≡ true) (digits_value 10)

@@ -1,5 +1,6 @@
 -- Digits that are read as one word: every second byte gets the value of two, and then the values are added.
-use Rattle.dm_table.proofs.Prelude.{◌≡◌, ℕ, zero, suc, ◌+◌, ◌-◌, ◌*◌, ◌/◌, ◌%◌, ◌^◌, ◌<◌, ◌≤◌, List, [], ◌∷◌, get_or, length, take, ap, ◌∙◌, arith, bit_and, number_from_digits, from_le_bytes, w64, and_block, and_mask, shr_split}
+use Rattle.dm_table.proofs.Prelude.{ℕ, zero, suc, List, [], get_or, length, take, ap, ◌∙◌, arith, bit_and, number_from_digits, from_le_bytes, w64, and_block, and_mask, shr_split}
+use Rattle.std.specs.Prelude.{◌≡◌, ◌+◌, ◌-◌, ◌*◌, ◌/◌, ◌%◌, ◌^◌, ◌<◌, ◌≤◌, ◌∷◌}
 use lib.Lanes.{Each1}
 
 -- eight bytes as a word, the first of them the lowest

@@ -1,5 +1,6 @@
 -- The past of inputs and outputs: what they did so far, what a call adds to it, and what an input delivered in some calls.
-use Rattle.dm_table.specs.Base.{ℕ, ◌+◌, List, [], ◌++◌, length, take, drop, Result, Ok, Err, nat_lt, ◌==◌, ◌&&◌, if◌then◌else◌}
+use Rattle.dm_table.specs.Base.{ℕ, List, [], length, take, drop, Result, Ok, Err, nat_lt}
+use Rattle.std.specs.Prelude.{◌+◌, ◌++◌, ◌==◌, ◌&&◌, if◌then◌else◌}
 
 -- what an input did so far: the bytes that it handed out, how many reads failed, and how many met an end: those into a slice with room that returned 0
 pub record InputPast : Type 0 where

@@ -1,6 +1,7 @@
 -- What an output took that gathers for another one.
-use Rattle.dm_table.specs.Base.{◌≡◌, ◌≤◌, ◌++◌, ◌||◌, ℕ, List, Bool, true, nat_lt}
+use Rattle.dm_table.specs.Base.{ℕ, List, Bool, true, nat_lt}
 use Rattle.dm_table.specs.io.DeviceIo.{OutputPast}
+use Rattle.std.specs.Prelude.{◌≡◌, ◌≤◌, ◌++◌, ◌||◌}
 
 -- the past of the output that is gathered for, what is gathered for it, whether it failed, and the counts of the one that gathers
 pub record Gathering : Type 0 where

@@ -1,7 +1,8 @@
 -- How inputs and outputs moved on, told by their past: each fact once, for every contract that speaks of one.
-use Rattle.dm_table.specs.Base.{◌≡◌, ◌⊎◌, ◌≤◌, ◌<◌, ◌↔◌, ◌+◌, ◌++◌, ℕ, List, [], Result, OnOk, OnErr, MutBor}
+use Rattle.dm_table.specs.Base.{ℕ, List, [], Result, OnOk, OnErr, MutBor}
 use Rattle.dm_table.specs.io.DeviceIo.{InputPast, OutputPast, ends_added, fault_of, since, written_since}
 use Rattle.dm_table.specs.io.WriteAll.{IsCutShort}
+use Rattle.std.specs.Prelude.{◌≡◌, ◌⊎◌, ◌≤◌, ◌<◌, ◌↔◌, ◌+◌, ◌++◌}
 
 -- bytes that only grew: what was there, and what came since
 abbrev pub HasGrown : (old new : List ℕ) → Type 0

@@ -1,5 +1,6 @@
 -- What a write that stops early leaves.
-use Rattle.dm_table.specs.Base.{◌≡◌, List, ℕ, ◌++◌, ◌∷◌}
+use Rattle.dm_table.specs.Base.{List, ℕ}
+use Rattle.std.specs.Prelude.{◌≡◌, ◌++◌, ◌∷◌}
 
 -- the text begins so
 abbrev pub IsBeginning : List ℕ → List ℕ → Type 0

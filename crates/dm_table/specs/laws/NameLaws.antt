@@ -1,11 +1,12 @@
 -- What the tests of bytes say of each byte of a text, and that names are ASCII.
-use Rattle.dm_table.specs.Base.{◌≡◌, ℕ, ◌<◌, Bool, true, nat_le, not, List, [], ◌∷◌, length, All, IsTrue, list_all, AllByRecursion, IsAscii}
+use Rattle.dm_table.specs.Base.{ℕ, Bool, true, nat_le, not, List, [], length, All, IsTrue, list_all, AllByRecursion, IsAscii}
 use Rattle.std.proofs.Common.{arith}
 use Rattle.std.proofs.lemmas.Bool.{and_parts}
 use Rattle.std.proofs.lemmas.Bool.Decides.{nat_tests}
 use Rattle.std.proofs.lemmas.List.Elements.{All-from_recursion}
 use Rattle.std.proofs.lemmas.Str.Ascii.{IsAscii-from_all}
 use Rattle.dm_table.specs.words.Name.{is_device_byte, is_device_name, is_disk_byte, is_disk_name, names_device}
+use Rattle.std.specs.Prelude.{◌≡◌, ◌<◌, ◌∷◌}
 
 -- Texts of which each byte passes a test
 

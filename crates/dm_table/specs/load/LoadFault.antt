@@ -1,7 +1,8 @@
 -- Checks in a fixed order, and the one fault that is returned: the terms in which every check of a load is stated.
-use Rattle.dm_table.specs.Base.{◌≡◌, ◌≢◌, ℕ, suc, ◌+◌, ◌==◌, Bool, not, ◌&&◌, ◌||◌, nat_le, List, [], ◌∷◌, ◌++◌, length, Option, Some, None, Result, Ok, Err, if◌then◌else◌, list_all, Part, Place, LoadKind, Memory, NotText, LoadFault}
+use Rattle.dm_table.specs.Base.{ℕ, suc, Bool, not, nat_le, List, [], length, Option, Some, None, Result, Ok, Err, list_all, Part, Place, LoadKind, Memory, NotText, LoadFault}
 use Rattle.dm_table.specs.declared.load.load_fault.LoadKind.TheVariants.{Syntax, Field, Name}
 use Rattle.dm_table.specs.words.Bytes.{code}
+use Rattle.std.specs.Prelude.{◌≡◌, ◌≢◌, ◌+◌, ◌==◌, ◌&&◌, ◌||◌, ◌∷◌, ◌++◌, if◌then◌else◌}
 
 -- a fault of a kind at a place
 abbrev pub fault : LoadKind → Place → LoadFault

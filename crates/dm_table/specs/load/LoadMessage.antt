@@ -1,6 +1,7 @@
 -- The message of a refused load.
-use Rattle.dm_table.specs.Base.{ℕ, List, ◌++◌, codes, decimal, Part, Source, Disks, Paths, LoadKind, LoadFault}
+use Rattle.dm_table.specs.Base.{ℕ, List, codes, decimal, Part, Source, Disks, Paths, LoadKind, LoadFault}
 use Rattle.dm_table.specs.declared.load.load_fault.LoadKind.TheVariants as kinds
+use Rattle.std.specs.Prelude.{◌++◌}
 
 -- the word of a part
 abbrev pub part_word : Part → List ℕ

@@ -1,7 +1,8 @@
 -- What is promised of a reader of texts, over what a text may describe and the checks that it has to pass.
-use Rattle.dm_table.specs.Base.{◌≡◌, ◌≢◌, List, None, Some, Result, Ok, IfOk, IfErr, OnOk, Part, Memory, LoadFault}
+use Rattle.dm_table.specs.Base.{List, None, Some, Result, Ok, IfOk, IfErr, OnOk, Part, Memory, LoadFault}
 use Rattle.std.specs.Global.{Vec}
 use Rattle.dm_table.specs.load.LoadFault.{Answers, IsMemoryFault, first_fault}
+use Rattle.std.specs.Prelude.{◌≡◌, ◌≢◌}
 
 -- the answer of a reader of a part, where texts describe values in this sense and have to pass these checks in this order
 pub record IsParsed {X : Type 0} (part : Part) (describes : List X → Type 0) (checks : List (List LoadFault)) (answer : Result (Vec X) LoadFault) : Type 0 where

@@ -1,8 +1,9 @@
 -- What a part of a load delivers: a text, or why it was not read.
-use Rattle.dm_table.specs.Base.{ℕ, List, length, nat_lt, if◌then◌else◌, Part, LoadFault, Read, Long}
+use Rattle.dm_table.specs.Base.{ℕ, List, length, nat_lt, Part, LoadFault, Read, Long}
 use Rattle.dm_table.specs.load.LoadFault.{fault_at}
 use Rattle.dm_table.specs.io.DeviceIo.{Stand, Clean, Failed, Open, Delivery}
 use Rattle.dm_table.specs.declared.load.part_input.TheConstants.{MOST_PART_BYTES}
+use Rattle.std.specs.Prelude.{if◌then◌else◌}
 
 -- what reading a part gave: its text, why it is refused, or neither yet
 pub data PartRead : Type 0 where

@@ -1,8 +1,9 @@
 -- What a text says line by line, the checks of its rows, and, for the functions that the public calls stand on, the values of its rows.
-use Rattle.dm_table.specs.Base.{◌≡◌, ℕ, suc, Bool, List, [], ◌∷◌, map, Option, cons_option, Part, LoadFault}
+use Rattle.dm_table.specs.Base.{ℕ, suc, Bool, List, [], map, Option, cons_option, Part, LoadFault}
 use Rattle.dm_table.specs.words.Fields.{parts_at, lines_of, rest_of}
 use Rattle.dm_table.specs.load.LoadFault.{untexts, row_checks}
 use Rattle.dm_table.specs.words.Bytes.{code}
+use Rattle.std.specs.Prelude.{◌≡◌, ◌∷◌}
 
 -- the texts from number n on say these values, each one
 abbrev pub SayEach : {X : Type 0} → (says : ℕ → List ℕ → X → Type 0) → ℕ → (texts : List (List ℕ)) → List X → Type 0

@@ -1,9 +1,10 @@
 -- What is wrong with a row, and the first fault of each kind. Each row is read once, though by definition each check runs over all rows.
-use Rattle.dm_table.specs.Base.{◌≡◌, ◌≢◌, ℕ, suc, Bool, List, [], ◌∷◌, Option, Some, None, Result, Ok, Err, if◌then◌else◌, ok_or, Part, LoadFault, RowFault, Syntax, Field, Name}
+use Rattle.dm_table.specs.Base.{ℕ, suc, Bool, List, [], Option, Some, None, Result, Ok, Err, ok_or, Part, LoadFault, RowFault, Syntax, Field, Name}
 use Rattle.dm_table.specs.declared.load.load_fault.LoadKind.TheVariants as kinds
 use Rattle.dm_table.specs.declared.load.row_faults.RowFault.TheVariants.{Memory}
 use Rattle.dm_table.specs.declared.load.row_faults.FirstFaults.{FirstFaults}
 use Rattle.dm_table.specs.load.LoadFault.{fault_at}
+use Rattle.std.specs.Prelude.{◌≡◌, ◌≢◌, ◌∷◌, if◌then◌else◌}
 
 -- the fault of the first of these three tests to fail, if one does
 abbrev pub first_failed : (is_row has_values has_names : Bool) → Option RowFault

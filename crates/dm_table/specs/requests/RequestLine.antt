@@ -1,5 +1,5 @@
 -- Request lines: R DEV START LEN and W DEV START LEN, without the newline.
-use Rattle.dm_table.specs.Base.{◌≡◌, ℕ, ◌+◌, ◌^◌, ◌<◌, ◌≤◌, ◌==◌, Bool, true, false, ◌&&◌, ◌||◌, List, [], ◌∷◌, ◌++◌, length, take, drop, decimal, Option, Some, None, Result, Ok, Err, nat_le, if◌then◌else◌, nat_eq, codes, pointwise}
+use Rattle.dm_table.specs.Base.{ℕ, Bool, true, false, List, [], length, take, drop, decimal, Option, Some, None, Result, Ok, Err, nat_le, nat_eq, codes, pointwise}
 use Rattle.dm_table.specs.declared.requests.request.TheConstants.{MOST_SECTORS}
 use Rattle.dm_table.specs.declared.requests.request.Op.{Op}
 use Rattle.dm_table.specs.declared.requests.request.Op.TheVariants.{Read, Write}
@@ -11,6 +11,7 @@ use Rattle.dm_table.specs.words.Number.{number_of}
 use Rattle.dm_table.specs.words.Fields.{fields, parts_at}
 use Rattle.dm_table.specs.tables.LineBody.{if_both}
 use Rattle.dm_table.specs.words.Bytes.{code}
+use Rattle.std.specs.Prelude.{◌≡◌, ◌+◌, ◌^◌, ◌<◌, ◌≤◌, ◌==◌, ◌&&◌, ◌||◌, ◌∷◌, ◌++◌, if◌then◌else◌}
 
 -- the four values of a request
 pub record RequestValues : Type 0 where

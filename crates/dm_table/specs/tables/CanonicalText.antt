@@ -1,11 +1,12 @@
 -- The one text that a description is written as, in table text and in concise text (dmsetup(8)).
-use Rattle.dm_table.specs.Base.{◌≡◌, ℕ, suc, Bool, false, length, List, [], ◌∷◌, ◌++◌, map, codes, if◌then◌else◌, ◌+◌, flat_map, join_with_byte, Place, Source}
+use Rattle.dm_table.specs.Base.{ℕ, suc, Bool, false, length, List, [], map, codes, flat_map, join_with_byte, Place, Source}
 use Rattle.dm_table.specs.declared.tables.table.Line.{Line}
 use Rattle.dm_table.specs.declared.tables.table.DeviceSpec.{DeviceSpec}
 use Rattle.dm_table.specs.tables.LineBody.{body_text}
 use Rattle.dm_table.specs.tables.TableText.{line_text}
 use Rattle.dm_table.specs.tables.ConciseText.{place_of}
 use Rattle.dm_table.specs.words.Bytes.{code}
+use Rattle.std.specs.Prelude.{◌≡◌, ◌∷◌, ◌++◌, if◌then◌else◌, ◌+◌}
 
 -- the lines of a device, each with its name and a newline
 abbrev pub lines_text : List ℕ → List Line → List ℕ

@@ -1,5 +1,5 @@
 -- How a device of the concise form is read, for the functions that the public call stands on.
-use Rattle.dm_table.specs.Base.{ℕ, Bool, ◌&&◌, List, [], ◌∷◌, drop, Option, Some, None, Result, filter_map, Place, Source, LoadFault, RowFault, Syntax, Field, Name}
+use Rattle.dm_table.specs.Base.{ℕ, Bool, List, [], drop, Option, Some, None, Result, filter_map, Place, Source, LoadFault, RowFault, Syntax, Field, Name}
 use Rattle.dm_table.specs.declared.tables.table.Line.{Line}
 use Rattle.dm_table.specs.declared.tables.table.DeviceSpec.{DeviceSpec}
 use Rattle.dm_table.specs.load.LoadFault.{first_fault, row_checks, unless}
@@ -8,6 +8,7 @@ use Rattle.dm_table.specs.load.RowFaults.{row_fault, said_unless}
 use Rattle.dm_table.specs.tables.LineBody.{is_body_row, is_body, has_body_names}
 use Rattle.dm_table.specs.tables.LineReading.{line_in}
 use Rattle.dm_table.specs.tables.ConciseText.{place_of, is_ro, entries, body_fields, is_label, has_label_values, has_label_names, is_device, has_values, has_names, devices_of, concise_checks}
+use Rattle.std.specs.Prelude.{◌&&◌, ◌∷◌}
 
 -- of two faults, the one whose check runs first
 abbrev pub earlier_of : Option RowFault → Option RowFault → Option RowFault

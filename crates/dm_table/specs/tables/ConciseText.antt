@@ -1,5 +1,5 @@
 -- The concise form (dmsetup(8)): devices with semicolons between them, each NAME,UUID,MINOR,FLAGS and its lines, with commas between all. The first four label the bodies of the lines.
-use Rattle.dm_table.specs.Base.{◌≡◌, ◌⊎◌, ℕ, ◌≤◌, ◌==◌, Bool, true, false, not, ◌&&◌, ◌||◌, List, [], ◌∷◌, ◌++◌, length, drop, nat_le, nat_eq, codes, is_some, if◌then◌else◌, list_all, join_with_byte, pointwise, Place, Source, LoadFault}
+use Rattle.dm_table.specs.Base.{ℕ, Bool, true, false, not, List, [], length, drop, nat_le, nat_eq, codes, is_some, list_all, join_with_byte, pointwise, Place, Source, LoadFault}
 use Rattle.dm_table.specs.declared.tables.table.Line.{Line}
 use Rattle.dm_table.specs.declared.tables.table.DeviceSpec.{DeviceSpec}
 use Rattle.dm_table.specs.words.Name.{is_device_byte, is_device_name}
@@ -9,6 +9,7 @@ use Rattle.dm_table.specs.load.LoadFault.{not_text, row_checks}
 use Rattle.dm_table.specs.load.Reading.{SayEach}
 use Rattle.dm_table.specs.tables.LineBody.{body_text, IsBody, is_body_row, is_body, has_body_names}
 use Rattle.dm_table.specs.words.Bytes.{code}
+use Rattle.std.specs.Prelude.{◌≡◌, ◌⊎◌, ◌≤◌, ◌==◌, ◌&&◌, ◌||◌, ◌∷◌, ◌++◌, if◌then◌else◌}
 
 -- Labels
 

@@ -1,5 +1,5 @@
 -- Disk lists: a line NAME SECTORS for each disk.
-use Rattle.dm_table.specs.Base.{◌≡◌, ℕ, ◌^◌, ◌<◌, Bool, true, false, ◌&&◌, List, [], ◌∷◌, ◌++◌, length, nat_lt, decimal, is_some, Option, None, Result, Err, if◌then◌else◌, option_map, Disks, LoadFault, RowFault, Syntax}
+use Rattle.dm_table.specs.Base.{ℕ, Bool, true, false, List, [], length, nat_lt, decimal, is_some, Option, None, Result, Err, option_map, Disks, LoadFault, RowFault, Syntax}
 use Rattle.dm_table.specs.declared.tables.disk.Disk.{Disk}
 use Rattle.dm_table.specs.words.Name.{is_disk_name}
 use Rattle.dm_table.specs.words.Number.{number_of}
@@ -8,6 +8,7 @@ use Rattle.dm_table.specs.load.LoadFault.{is_printable}
 use Rattle.dm_table.specs.load.Reading.{LinesSay, line_checks}
 use Rattle.dm_table.specs.tables.LineReading.{reading_of}
 use Rattle.dm_table.specs.words.Bytes.{code}
+use Rattle.std.specs.Prelude.{◌≡◌, ◌^◌, ◌<◌, ◌&&◌, ◌∷◌, ◌++◌, if◌then◌else◌}
 
 -- What a list says
 

@@ -1,5 +1,5 @@
 -- The body of a table's line: a start, a length, and a target with its arguments (dmsetup(8)). How a line is labelled is up to the form.
-use Rattle.dm_table.specs.Base.{◌≡◌, ℕ, ◌+◌, ◌*◌, ◌^◌, ◌<◌, ◌==◌, Bool, true, ◌&&◌, List, [], ◌∷◌, ◌++◌, length, nat_le, nat_lt, nat_eq, codes, decimal, drop, Option, Some, None, is_some, unwrap_or, map, if◌then◌else◌, option_map, flat_map, list_all, join_with_byte, AllByRecursion, pointwise}
+use Rattle.dm_table.specs.Base.{ℕ, Bool, true, List, [], length, nat_le, nat_lt, nat_eq, codes, decimal, drop, Option, Some, None, is_some, unwrap_or, map, option_map, flat_map, list_all, join_with_byte, AllByRecursion, pointwise}
 use Rattle.dm_table.specs.declared.tables.table.DevRef.{DevRef}
 use Rattle.dm_table.specs.declared.tables.table.DevRef.TheVariants.{Device, Disk}
 use Rattle.dm_table.specs.declared.tables.table.Column.{Column}
@@ -11,6 +11,7 @@ use Rattle.dm_table.specs.declared.tables.table.Line.{Line}
 use Rattle.dm_table.specs.words.Name.{is_device_name, is_disk_name, names_device, mapper}
 use Rattle.dm_table.specs.words.Number.{number_of, number_in}
 use Rattle.dm_table.specs.words.Bytes.{code}
+use Rattle.std.specs.Prelude.{◌≡◌, ◌+◌, ◌*◌, ◌^◌, ◌<◌, ◌==◌, ◌&&◌, ◌∷◌, ◌++◌, if◌then◌else◌}
 
 -- What a body says
 

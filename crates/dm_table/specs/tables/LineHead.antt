@@ -1,11 +1,12 @@
 -- The line of a table in two parts: one that has a greatest length, and the columns of a striped line.
-use Rattle.dm_table.specs.Base.{ℕ, List, [], ◌∷◌, ◌++◌, length, codes, decimal}
+use Rattle.dm_table.specs.Base.{ℕ, List, [], length, codes, decimal}
 use Rattle.dm_table.specs.declared.tables.table.Column.{Column}
 use Rattle.dm_table.specs.declared.tables.table.Line.{Line}
 use Rattle.dm_table.specs.declared.tables.table.Target.{Target}
 use Rattle.dm_table.specs.declared.tables.table.Target.TheVariants.{Striped}
 use Rattle.dm_table.specs.tables.LineBody.{target_text}
 use Rattle.dm_table.specs.words.Bytes.{code}
+use Rattle.std.specs.Prelude.{◌∷◌, ◌++◌}
 
 -- a target without its columns
 abbrev pub target_head : Target → List ℕ

@@ -1,5 +1,5 @@
 -- What is read of the fields of a body, a value or a fault, for the functions that read them once.
-use Rattle.dm_table.specs.Base.{ℕ, Bool, List, [], ◌∷◌, ◌++◌, Option, Some, None, is_some, Result, Ok, Err, if◌then◌else◌, option_map, flat_map, list_all, Place, RowFault, Syntax, Field, Name}
+use Rattle.dm_table.specs.Base.{ℕ, Bool, List, [], Option, Some, None, is_some, Result, Ok, Err, option_map, flat_map, list_all, Place, RowFault, Syntax, Field, Name}
 use Rattle.dm_table.specs.declared.tables.table.DevRef.{DevRef}
 use Rattle.dm_table.specs.declared.tables.table.Column.{Column}
 use Rattle.dm_table.specs.declared.tables.table.Target.{Target}
@@ -7,6 +7,7 @@ use Rattle.dm_table.specs.declared.tables.table.Line.{Line}
 use Rattle.dm_table.specs.declared.tables.line_body.BodyHead.{BodyHead}
 use Rattle.dm_table.specs.declared.load.row_faults.RowFault.TheVariants.{Memory}
 use Rattle.dm_table.specs.tables.LineBody.{column_arguments, is_dev_ref, dev_in, columns_in, arguments_in, Body, body_in, has_name, has_target_names}
+use Rattle.std.specs.Prelude.{◌∷◌, ◌++◌, if◌then◌else◌}
 
 -- the line of a body, at a place
 abbrev pub line_at : Place → Body → Line

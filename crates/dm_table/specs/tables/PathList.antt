@@ -1,5 +1,5 @@
 -- Lists of paths: a line DISK PATH for each disk that has an image.
-use Rattle.dm_table.specs.Base.{◌≡◌, ℕ, ◌+◌, ◌-◌, ◌/◌, ◌%◌, ◌<◌, ◌==◌, Bool, true, ◌&&◌, List, [], ◌∷◌, ◌++◌, length, take, drop, get_or, nat_eq, nat_le, is_some, map, codes, Option, None, Some, Result, Err, if◌then◌else◌, is_ascii_digit, ends_with, list_all, is_utf8, digits_value, Paths, LoadFault, RowFault, Syntax}
+use Rattle.dm_table.specs.Base.{ℕ, Bool, true, List, [], length, take, drop, get_or, nat_eq, nat_le, is_some, map, codes, Option, None, Some, Result, Err, is_ascii_digit, ends_with, list_all, is_utf8, digits_value, Paths, LoadFault, RowFault, Syntax}
 use Rattle.dm_table.specs.declared.tables.disk_path.DiskPath.{DiskPath}
 use Rattle.dm_table.specs.load.LoadFault.{first_fault, unless}
 use Rattle.dm_table.specs.load.Reading.{LinesSay, line_checks, values_from}
@@ -9,6 +9,7 @@ use Rattle.dm_table.specs.tables.LineReading.{reading_of}
 use Rattle.dm_table.specs.words.Bytes.{code}
 use Rattle.dm_table.specs.words.Fields.{fields, last_or, lines_of, parts_at}
 use Rattle.dm_table.specs.words.Name.{is_disk_name}
+use Rattle.std.specs.Prelude.{◌≡◌, ◌+◌, ◌-◌, ◌/◌, ◌%◌, ◌<◌, ◌==◌, ◌&&◌, ◌∷◌, ◌++◌, if◌then◌else◌}
 
 -- What a path says
 

@@ -1,5 +1,5 @@
 -- What a line names below, and where.
-use Rattle.dm_table.specs.Base.{ℕ, ◌/◌, List, [], ◌∷◌, Option, Some, None, length, map}
+use Rattle.dm_table.specs.Base.{ℕ, List, [], Option, Some, None, length, map}
 use Rattle.dm_table.specs.declared.tables.table.DevRef.{DevRef}
 use Rattle.dm_table.specs.declared.tables.table.Column.{Column}
 use Rattle.dm_table.specs.declared.tables.table.Target.{Target}
@@ -7,6 +7,7 @@ use Rattle.dm_table.specs.declared.tables.table.Target.TheVariants as targets
 use Rattle.dm_table.specs.declared.tables.table.Line.{Line}
 use Rattle.dm_table.specs.declared.tables.table.Use.{Use}
 use Rattle.dm_table.specs.declared.tables.table.Use.TheVariants.{Own, Reading, Serving}
+use Rattle.std.specs.Prelude.{◌/◌, ◌∷◌}
 
 -- len sectors of a device or a disk from an offset on, or all of it where no length is given, and how a line uses them
 pub record Span : Type 0 where

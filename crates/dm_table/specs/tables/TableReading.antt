@@ -1,5 +1,5 @@
 -- How a row of table text is read, for the functions that the public call stands on.
-use Rattle.dm_table.specs.Base.{ℕ, Bool, false, ◌&&◌, List, [], ◌∷◌, ◌++◌, map, nat_eq, Option, Some, None, Result, Err, if◌then◌else◌, option_map, pointwise, Place, Source, RowFault, Syntax}
+use Rattle.dm_table.specs.Base.{ℕ, Bool, false, List, [], map, nat_eq, Option, Some, None, Result, Err, option_map, pointwise, Place, Source, RowFault, Syntax}
 use Rattle.dm_table.specs.declared.tables.table.DeviceSpec.{DeviceSpec}
 use Rattle.dm_table.specs.words.Fields.{row_fields}
 use Rattle.dm_table.specs.load.Reading.{values_from}
@@ -8,6 +8,7 @@ use Rattle.dm_table.specs.load.RowFaults.{row_fault}
 use Rattle.dm_table.specs.tables.LineBody.{has_target_names}
 use Rattle.dm_table.specs.tables.LineReading.{line_in, reading_of}
 use Rattle.dm_table.specs.tables.TableText.{NamedLine, name_in, is_row, has_values, has_names}
+use Rattle.std.specs.Prelude.{◌&&◌, ◌∷◌, ◌++◌, if◌then◌else◌}
 
 -- the rows of lines
 abbrev pub rows_of : List (List ℕ) → List (List (List ℕ))

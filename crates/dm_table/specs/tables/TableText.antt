@@ -1,5 +1,5 @@
 -- Table text: a line NAME: START LEN TYPE ARGS for each line of a table (dmsetup(8)). The name and its colon label the body of a line.
-use Rattle.dm_table.specs.Base.{◌≡◌, ◌≢◌, ◌⊎◌, ℕ, ◌==◌, Bool, true, false, ◌&&◌, List, [], ◌∷◌, ◌++◌, length, map, nat_lt, flat_map, AllByRecursion, Place, Source, LoadFault}
+use Rattle.dm_table.specs.Base.{ℕ, Bool, true, false, List, [], length, map, nat_lt, flat_map, AllByRecursion, Place, Source, LoadFault}
 use Rattle.dm_table.specs.declared.tables.table.Line.{Line}
 use Rattle.dm_table.specs.declared.tables.table.DeviceSpec.{DeviceSpec}
 use Rattle.dm_table.specs.words.Name.{is_device_name}
@@ -8,6 +8,7 @@ use Rattle.dm_table.specs.load.LoadFault.{is_printable}
 use Rattle.dm_table.specs.load.Reading.{LinesSay, line_checks}
 use Rattle.dm_table.specs.tables.LineBody.{body_text, IsBody, is_body_row, is_body, has_body_names}
 use Rattle.dm_table.specs.words.Bytes.{code}
+use Rattle.std.specs.Prelude.{◌≡◌, ◌≢◌, ◌⊎◌, ◌==◌, ◌&&◌, ◌∷◌, ◌++◌}
 
 -- What a text says
 

@@ -1,6 +1,7 @@
 -- Texts cut at a byte: lines at newlines, fields at spaces.
-use Rattle.dm_table.specs.Base.{ℕ, ◌==◌, Bool, true, false, List, [], ◌∷◌, map, slice_split}
+use Rattle.dm_table.specs.Base.{ℕ, Bool, true, false, List, [], map, slice_split}
 use Rattle.dm_table.specs.words.Bytes.{code}
+use Rattle.std.specs.Prelude.{◌==◌, ◌∷◌}
 use denote.Ref.{Bor}
 
 -- what slices point to

@@ -1,6 +1,7 @@
 -- Names of devices and of disks (dmsetup(8); the bytes that are allowed are this project's profile).
-use Rattle.dm_table.specs.Base.{ℕ, ◌==◌, Bool, ◌&&◌, ◌||◌, not, List, length, nat_le, nat_eq, codes, list_all, starts_with, is_ascii_digit}
+use Rattle.dm_table.specs.Base.{ℕ, Bool, not, List, length, nat_le, nat_eq, codes, list_all, starts_with, is_ascii_digit}
 use Rattle.dm_table.specs.words.Bytes.{code}
+use Rattle.std.specs.Prelude.{◌==◌, ◌&&◌, ◌||◌}
 
 -- an ASCII letter, a digit, or one of # + - . : = @ _
 abbrev pub is_device_byte : ℕ → Bool

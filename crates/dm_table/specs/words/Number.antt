@@ -1,6 +1,7 @@
 -- Numbers as texts: 0, or a digit 1 to 9 followed by at most 18 digits.
-use Rattle.dm_table.specs.Base.{◌≡◌, ℕ, ◌^◌, ◌<◌, ◌≤◌, ◌==◌, Bool, true, ◌&&◌, ◌||◌, not, List, length, take, Option, Some, None, nat_le, slice_index, decimal, unwrap_or, if◌then◌else◌, list_all, is_ascii_digit, digits_value}
+use Rattle.dm_table.specs.Base.{ℕ, Bool, true, not, List, length, take, Option, Some, None, nat_le, slice_index, decimal, unwrap_or, list_all, is_ascii_digit, digits_value}
 use Rattle.dm_table.specs.words.Bytes.{code}
+use Rattle.std.specs.Prelude.{◌≡◌, ◌^◌, ◌<◌, ◌≤◌, ◌==◌, ◌&&◌, ◌||◌, if◌then◌else◌}
 
 -- the text spells the number: its digits without a leading zero, at most 19 of them
 pub record Spells (text : List ℕ) (number : ℕ) : Type 0 where

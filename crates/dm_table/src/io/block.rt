@@ -8,7 +8,8 @@
 //! ready*. They rest on the space after a text that each `requires` asks for, which a block has by `TEXT_ROOM`.
 //! Change them only if you measure small requests, and large ones over 16 columns, before and after.
 
-ghost use Rattle.dm_table.specs.Prelude.{◌≡◌, ◌++◌, ◌+◌, ◌≤◌, length, take, drop, decimal, IsPut};
+ghost use Rattle.dm_table.specs.Prelude.{length, take, drop, decimal, IsPut};
+ghost use Rattle.std.specs.Prelude.{◌≡◌, ◌++◌, ◌+◌, ◌≤◌};
 
 use crate::words::array::as_array;
 use crate::words::number_text::MOST_DIGITS;

@@ -1,7 +1,8 @@
 //! Any reader or writer of std as an input or an output.
 //! std counts no faults and no ends, and knows the bytes of few devices, so a past beside one does.
 //! What a proof knows of a real device is what is noted here: note each result where it is returned.
-ghost use Rattle.dm_table.specs.Prelude.{◌≡◌, ◌+◌, ◌<◌, ◌≤◌, ◌++◌, [], length, IfOk, Keeps, ReadConsumes, WriteAppends, given, fault_of, ends_added, unflushed};
+ghost use Rattle.dm_table.specs.Prelude.{[], length, IfOk, Keeps, ReadConsumes, WriteAppends, given, fault_of, ends_added, unflushed};
+ghost use Rattle.std.specs.Prelude.{◌≡◌, ◌+◌, ◌<◌, ◌≤◌, ◌++◌};
 
 use crate::io::device_io::{InFault, Input, OutFault, Output};
 use crate::io::ghost_list::{GhostList, Tally};

@@ -1,9 +1,10 @@
 //! The traits of what the product reads from and writes to, and their faults.
 //! Each has a ghost member, its past: all that it did so far. So a caller's contract can speak of any
 //! device. A change of a clause here is a change for every reader and writer above: check them all.
-ghost use Rattle.dm_table.specs.Base.{◌≡◌, ◌<◌, ◌≤◌, length, IfOk};
+ghost use Rattle.dm_table.specs.Base.{length, IfOk};
 ghost use Rattle.dm_table.specs.io.DeviceIo.{InputPast, OutputPast, after_flush, after_read, after_write};
 ghost use Rattle.dm_table.specs.io.Progress.{Wrote};
+ghost use Rattle.std.specs.Prelude.{◌≡◌, ◌<◌, ◌≤◌};
 
 use crate::io::text::{TEXT_ROOM, Text};
 use thiserror::Error;

@@ -5,7 +5,8 @@
 //! One test before each text finds that the block is full, or that the other output failed: the
 //! limit is 0 then.
 
-ghost use Rattle.dm_table.specs.Prelude.{◌≡◌, ◌↔◌, ◌+◌, ◌-◌, ◌<◌, ◌≤◌, ◌++◌, [], false, length, slice_range, take, true, IfOk, IsErr, OnOk, nat_lt, after_flush, after_write, with_fault, MindsFaults, past_of, Wrote};
+ghost use Rattle.dm_table.specs.Prelude.{[], false, length, slice_range, take, true, IfOk, IsErr, OnOk, nat_lt, after_flush, after_write, with_fault, MindsFaults, past_of, Wrote};
+ghost use Rattle.std.specs.Prelude.{◌≡◌, ◌↔◌, ◌+◌, ◌-◌, ◌<◌, ◌≤◌, ◌++◌};
 
 use crate::io::block::put_bytes;
 use crate::io::device_io::{OutFault, Output};
@@ -38,9 +39,10 @@ pub struct Gathered<W: Output> {
 }
 
 impl<W: Output> Model for Gathered<W> {
-    ghost use Rattle.dm_table.specs.Base.{◌≤◌, ◌==◌, take};
+    ghost use Rattle.dm_table.specs.Base.{take};
     ghost use Rattle.dm_table.specs.declared.io.gathered.TheConstants.{FULL, BLOCK_BYTES};
     ghost use Rattle.dm_table.specs.io.Gathered.{Gathering};
+    ghost use Rattle.std.specs.Prelude.{◌≤◌, ◌==◌};
 
     ghost Value = { Gathering };
 

@@ -1,7 +1,8 @@
 //! Lists and counts that only proofs read.
 //! What a device did so far has no greatest length or count, so no data of the machine could hold it.
 //! Two proofs by hand set the lists: add a method only where no call of these two does.
-ghost use Rattle.dm_table.specs.Base.{◌≡◌, ◌+◌, ◌++◌, ℕ, List, [], length, ftrue};
+ghost use Rattle.dm_table.specs.Base.{ℕ, List, [], length, ftrue};
+ghost use Rattle.std.specs.Prelude.{◌≡◌, ◌+◌, ◌++◌};
 
 use std::marker::{Model, PhantomData};
 

@@ -1,7 +1,8 @@
 //! All of some bytes to an output, over as many writes as it takes, and the flush after the last of them.
 //! It loops here since an output may take less than it is given, and a byte must never go out twice.
 //! Keep what is left of the bytes as the only thing that a turn changes.
-ghost use Rattle.dm_table.specs.Prelude.{◌≡◌, ◌+◌, ℕ, List, IsErr, OnErr, OnOk, OutputPast, written_since, IsClosedAfter, Wrote, IsBeginning};
+ghost use Rattle.dm_table.specs.Prelude.{ℕ, List, IsErr, OnErr, OnOk, OutputPast, written_since, IsClosedAfter, Wrote, IsBeginning};
+ghost use Rattle.std.specs.Prelude.{◌≡◌, ◌+◌};
 
 use crate::io::device_io::{OutFault, Output};
 

@@ -3,7 +3,8 @@
 //! One type serves all readers and checks, so that a caller tells a user about any of them alike.
 //! A new kind has a word in `LoadKind::word`, and in `kind_word` of `specs/load/LoadMessage.antt`.
 
-ghost use Rattle.dm_table.specs.Prelude.{◌≡◌, ◌+◌, ◌^◌, ◌<◌, ◌≤◌, Some, length, IsMemoryFault, fault_at, kind_word};
+ghost use Rattle.dm_table.specs.Prelude.{Some, length, IsMemoryFault, fault_at, kind_word};
+ghost use Rattle.std.specs.Prelude.{◌≡◌, ◌+◌, ◌^◌, ◌<◌, ◌≤◌};
 
 use crate::load::place::{Part, Place};
 use std::fmt;

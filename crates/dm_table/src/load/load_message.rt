@@ -3,7 +3,8 @@
 //! The words are fixed by `specs/load/LoadMessage.antt`, since users match on them. A new kind of refusal
 //! is an arm there and of `LoadKind::word`.
 
-ghost use Rattle.dm_table.specs.Prelude.{◌≡◌, ◌≤◌, length, load_message, memory_message};
+ghost use Rattle.dm_table.specs.Prelude.{length, load_message, memory_message};
+ghost use Rattle.std.specs.Prelude.{◌≡◌, ◌≤◌};
 
 use crate::load::load_fault::{LoadFault, LoadKind};
 use crate::words::number_text::{append, append_number};

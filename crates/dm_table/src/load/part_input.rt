@@ -4,7 +4,8 @@
 //! first byte over the limit, however much more there is. Every part is read by this one function:
 //! a new one is a variant of `Part` and no change here.
 
-ghost use Rattle.dm_table.specs.Prelude.{◌≡◌, ◌≢◌, IfOk, IfErr, delivery, IsMemoryFault, Refuses, TextOf, part_read, IsReadOn, Memory};
+ghost use Rattle.dm_table.specs.Prelude.{IfOk, IfErr, delivery, IsMemoryFault, Refuses, TextOf, part_read, IsReadOn, Memory};
+ghost use Rattle.std.specs.Prelude.{◌≡◌, ◌≢◌};
 
 use crate::io::device_io::{InFault, Input};
 use crate::load::load_fault::{LoadFault, LoadKind};

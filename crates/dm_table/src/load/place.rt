@@ -3,7 +3,8 @@
 //! Devices, lines and disks keep their place, so that a fault found later still names it.
 //! Add a part here when a load reads one more text.
 
-ghost use Rattle.dm_table.specs.Prelude.{◌≡◌, Some, part_word};
+ghost use Rattle.dm_table.specs.Prelude.{Some, part_word};
+ghost use Rattle.std.specs.Prelude.{◌≡◌};
 
 use std::fmt;
 

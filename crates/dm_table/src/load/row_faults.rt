@@ -4,8 +4,9 @@
 //! once all the same: the first fault of each kind is kept, and at the end the kinds take precedence
 //! in the order of the checks. A kind that is added here is added in `specs/load/RowFaults.antt` first.
 
-ghost use Rattle.dm_table.specs.Prelude.{◌≡◌, ◌≢◌, Some, OnOk, fault_at, no_faults, either, fault_in, noted_at, noted_rest, first_noted};
+ghost use Rattle.dm_table.specs.Prelude.{Some, OnOk, fault_at, no_faults, either, fault_in, noted_at, noted_rest, first_noted};
 ghost use Rattle.dm_table.specs.declared.load.row_faults.RowFault.TheVariants.{Memory};
+ghost use Rattle.std.specs.Prelude.{◌≡◌, ◌≢◌};
 
 use crate::load::load_fault::{LoadFault, LoadKind};
 use crate::load::place::Part;

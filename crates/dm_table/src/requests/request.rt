@@ -3,8 +3,8 @@
 //! A request borrows its device from its line, so that reading one takes no memory. A field that is
 //! added here is one of a line in `request_line`.
 
-ghost use Rattle.dm_table.specs.Base.{◌≤◌};
 ghost use Rattle.dm_table.specs.declared.requests.request.TheConstants.{MOST_SECTORS};
+ghost use Rattle.std.specs.Prelude.{◌≤◌};
 
 use thiserror::Error;
 

@@ -9,8 +9,9 @@
 //! bytes being held for each number, so that nothing asks for the end of the text, and give up on any other line.
 //! Change them only if you measure small requests, in instructions and jumps, before and after.
 
-ghost use Rattle.dm_table.specs.Prelude.{◌≡◌, ◌≢◌, ◌+◌, ◌<◌, ◌≤◌, ℕ, List, [], ◌∷◌, ◌++◌, length, take, drop, Some, Ok, Err, true, false, if◌then◌else◌, IfSome, IfNone, IsOkAnd, IfOk, IfErr, Op, Form, Number, is_device_name, number_of, fields, RequestValues, DescribesRequest, IsFront, AreNumbers, values_of, op_text, has_form, are_two, request_reading, code};
+ghost use Rattle.dm_table.specs.Prelude.{ℕ, List, [], length, take, drop, Some, Ok, Err, true, false, IfSome, IfNone, IsOkAnd, IfOk, IfErr, Op, Form, Number, is_device_name, number_of, fields, RequestValues, DescribesRequest, IsFront, AreNumbers, values_of, op_text, has_form, are_two, request_reading, code};
 ghost use Rattle.dm_table.specs.declared.words.front_digits.TheConstants.{FRONT};
+ghost use Rattle.std.specs.Prelude.{◌≡◌, ◌≢◌, ◌+◌, ◌<◌, ◌≤◌, ◌∷◌, ◌++◌, if◌then◌else◌};
 
 use crate::requests::request::{MOST_SECTORS, Op, Request, RequestFault};
 use crate::words::device_name::leading_name;

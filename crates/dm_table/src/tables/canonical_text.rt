@@ -6,7 +6,8 @@
 //! newline. A new target is an arm in `line_head`; only one whose text has no greatest length, as a
 //! striped line's, is an arm here too.
 
-ghost use Rattle.dm_table.specs.Prelude.{◌≡◌, ◌≤◌, ◌∷◌, ◌++◌, length, map, flat_map, join_with_byte, column_text, body_text, columns_of, DescribesTable, DescribesConcise, ReadsBack, as_table, lines_text, table_text, flag_text, concise_device, concise_text, as_concise, Wrote, code};
+ghost use Rattle.dm_table.specs.Prelude.{length, map, flat_map, join_with_byte, column_text, body_text, columns_of, DescribesTable, DescribesConcise, ReadsBack, as_table, lines_text, table_text, flag_text, concise_device, concise_text, as_concise, Wrote, code};
+ghost use Rattle.std.specs.Prelude.{◌≡◌, ◌≤◌, ◌∷◌, ◌++◌};
 
 use crate::io::device_io::{OutFault, Output};
 use crate::io::writing::write_all;

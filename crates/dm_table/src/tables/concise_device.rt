@@ -4,7 +4,8 @@
 //! A device is cut and read once. Its label and each of its bodies may have a fault; the device's is
 //! the one whose check runs first. Bodies are read by `line_body`, which knows nothing of labels.
 
-ghost use Rattle.dm_table.specs.Prelude.{◌≡◌, ◌++◌, None, OnOk, IfOk, option_to_list, texts, Reads, lacks, is_uuid, is_minor, is_ro, is_flags, without_first_space, body_fields, is_label, has_label_values, has_label_names, line_in, earlier_of, fault_of_body, fault_of_label, bodies_reading, entries_reading, device_reading};
+ghost use Rattle.dm_table.specs.Prelude.{None, OnOk, IfOk, option_to_list, texts, Reads, lacks, is_uuid, is_minor, is_ro, is_flags, without_first_space, body_fields, is_label, has_label_values, has_label_names, line_in, earlier_of, fault_of_body, fault_of_label, bodies_reading, entries_reading, device_reading};
+ghost use Rattle.std.specs.Prelude.{◌≡◌, ◌++◌};
 
 use crate::load::place::{Part, Place};
 use crate::load::row_faults::RowFault;

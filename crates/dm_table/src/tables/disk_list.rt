@@ -5,7 +5,8 @@
 //! `disk_line`, its place in `is_pair`, its value in `disk_in` and, if it is a name, its test in
 //! `has_name` and `disk_reading`.
 
-ghost use Rattle.dm_table.specs.Prelude.{◌++◌, option_to_list, Disks, fields, texts, Reads, IsParsed, DescribesDisks, disk_checks, disk_in, disk_reading, has_name, has_sectors, is_pair};
+ghost use Rattle.dm_table.specs.Prelude.{option_to_list, Disks, fields, texts, Reads, IsParsed, DescribesDisks, disk_checks, disk_in, disk_reading, has_name, has_sectors, is_pair};
+ghost use Rattle.std.specs.Prelude.{◌++◌};
 
 use crate::load::load_fault::LoadFault;
 use crate::load::place::{Part, Place};

@@ -1,6 +1,6 @@
 //! A listed path: where a disk lies.
 
-ghost use Rattle.dm_table.specs.Prelude.{◌≡◌, ◌<◌, ◌^◌};
+ghost use Rattle.std.specs.Prelude.{◌≡◌, ◌<◌, ◌^◌};
 
 use crate::load::place::Place;
 use crate::reserved::ReservedText;
@@ -23,7 +23,8 @@ pub struct FirstSector {
 }
 
 impl Model for FirstSector {
-    ghost use Rattle.dm_table.specs.Base.{◌<◌, ◌^◌, ℕ};
+    ghost use Rattle.dm_table.specs.Base.{ℕ};
+    ghost use Rattle.std.specs.Prelude.{◌<◌, ◌^◌};
 
     ghost Value = { ℕ };
 

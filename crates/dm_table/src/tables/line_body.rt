@@ -5,13 +5,14 @@
 //! `read_target`. In `specs/tables/LineBody.antt` it is an arm in `target_row` and one in `other_in`.
 //! What it names is an arm of `target_spans`, in `specs/tables/Span.antt`.
 
-ghost use Rattle.dm_table.specs.Base.{◌≡◌, ◌++◌, ◌∷◌, ◌&&◌, [], ℕ, Bool, List, Option, Ok, true, false, length, drop, is_some, nat_lt, MatchOption, list_all};
+ghost use Rattle.dm_table.specs.Base.{[], ℕ, Bool, List, Option, Ok, true, false, length, drop, is_some, nat_lt, MatchOption, list_all};
 ghost use Rattle.dm_table.specs.words.Fields.{texts};
 ghost use Rattle.dm_table.specs.words.Name.{names_device, mapper};
 ghost use Rattle.dm_table.specs.words.Number.{number_of};
 ghost use Rattle.dm_table.specs.tables.LineBody.{is_body_row, is_dev_ref, columns_in, is_count, then_in, nothing_in, lower_in, linear_in, striped_in, other_in, has_target_names, kind_in};
 ghost use Rattle.dm_table.specs.tables.LineReading.{dev_reading, reading_of, both_read, has_column_names, columns_reading, fault_before, target_reading, body_reading, line_of, with_line, with_target};
 ghost use Rattle.dm_table.specs.load.RowFaults.{Reads};
+ghost use Rattle.std.specs.Prelude.{◌≡◌, ◌++◌, ◌∷◌, ◌&&◌};
 
 use crate::load::place::Place;
 use crate::load::row_faults::RowFault;

@@ -4,7 +4,8 @@
 //! Such a text has a greatest length, and a striped line has none. A new target is an arm of
 //! `put_target` here; one whose text has no greatest length has arms in `specs/tables/LineHead.antt` too.
 
-ghost use Rattle.dm_table.specs.Prelude.{◌≡◌, ◌++◌, ◌+◌, ◌<◌, ◌≤◌, length, decimal, IsPut, column_text, dev_text, kind_text, body_head, target_head};
+ghost use Rattle.dm_table.specs.Prelude.{length, decimal, IsPut, column_text, dev_text, kind_text, body_head, target_head};
+ghost use Rattle.std.specs.Prelude.{◌≡◌, ◌++◌, ◌+◌, ◌<◌, ◌≤◌};
 
 use crate::io::block::{put_bytes, put_digits};
 use crate::io::text::Text;
@@ -20,8 +21,9 @@ pub(crate) struct LineHead<'a> {
 }
 
 impl<'a> Model for LineHead<'a> {
-    ghost use Rattle.dm_table.specs.Base.{ℕ, List, length, ◌≤◌, ◌++◌};
+    ghost use Rattle.dm_table.specs.Base.{ℕ, List, length};
     ghost use Rattle.dm_table.specs.tables.LineHead.{body_head};
+    ghost use Rattle.std.specs.Prelude.{◌≤◌, ◌++◌};
 
     ghost Value = { List ℕ };
 

@@ -3,7 +3,8 @@
 //! A contract compares lists, but not where a `Vec` lies in memory; so what others own holds this in
 //! place of a `Vec`.
 
-ghost use Rattle.dm_table.specs.Prelude.{◌≡◌, ◌++◌, ◌∷◌, [], OnOk};
+ghost use Rattle.dm_table.specs.Prelude.{[], OnOk};
+ghost use Rattle.std.specs.Prelude.{◌≡◌, ◌++◌, ◌∷◌};
 
 use crate::reserved::Reserved;
 use std::alloc::{AllocError, Global};

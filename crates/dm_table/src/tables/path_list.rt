@@ -3,8 +3,9 @@
 //! A path may have spaces, and may end with the offset at which the disk begins in its file. The lines are
 //! read as those of a disk list are, but their text is UTF-8.
 
-ghost use Rattle.dm_table.specs.Prelude.{◌≡◌, ◌<◌, ◌≤◌, ◌^◌, ◌++◌, ◌∷◌, [], IfSome, length, option_map, option_to_list, Paths, Answers, IsParsed, Reads, has_name, is_pair, DescribesPaths, read_paths, after_equals, has_place, is_path_text, name_and_path, offset_in, path_checks, path_in, path_reading, place_in, texts};
+ghost use Rattle.dm_table.specs.Prelude.{[], IfSome, length, option_map, option_to_list, Paths, Answers, IsParsed, Reads, has_name, is_pair, DescribesPaths, read_paths, after_equals, has_place, is_path_text, name_and_path, offset_in, path_checks, path_in, path_reading, place_in, texts};
 ghost use Rattle.dm_table.specs.tables.PathList.{place_of};
+ghost use Rattle.std.specs.Prelude.{◌≡◌, ◌<◌, ◌≤◌, ◌^◌, ◌++◌, ◌∷◌};
 
 use crate::load::load_fault::LoadFault;
 use crate::load::place::{Part, Place};

@@ -1,7 +1,8 @@
 //! The label of a row of table text, which stands before a line's body.
 
-ghost use Rattle.dm_table.specs.Prelude.{◌≡◌, name_in};
+ghost use Rattle.dm_table.specs.Prelude.{name_in};
 ghost use Rattle.dm_table.specs.tables.TableText.{is_label};
+ghost use Rattle.std.specs.Prelude.{◌≡◌};
 
 /// Whether a field is a name and a colon after it.
 pub(crate) fn is_label(field: &[u8]) -> bool

@@ -1,7 +1,8 @@
 //! Bytes whose number is known, as one value: they are compared, copied or read as a number in an
 //! instruction or two.
 
-ghost use Rattle.dm_table.specs.Prelude.{◌≡◌, length};
+ghost use Rattle.dm_table.specs.Prelude.{length};
+ghost use Rattle.std.specs.Prelude.{◌≡◌};
 
 /// Bytes of a known length, as an array.
 #[inline(always)]

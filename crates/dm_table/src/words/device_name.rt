@@ -2,7 +2,8 @@
 //!
 //! Their rule is this project's profile of what dmsetup(8) takes; change it in `specs/words/Name.antt` first.
 
-ghost use Rattle.dm_table.specs.Prelude.{◌≡◌, IfNone, IfSome, IsTrue, false, take, list_all, prefix_len, is_device_byte, is_device_name, ascii-device_name};
+ghost use Rattle.dm_table.specs.Prelude.{IfNone, IfSome, IsTrue, false, take, list_all, prefix_len, is_device_byte, is_device_name, ascii-device_name};
+ghost use Rattle.std.specs.Prelude.{◌≡◌};
 
 use crate::words::name::{CheckedName, NameRule};
 

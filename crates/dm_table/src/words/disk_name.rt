@@ -3,7 +3,8 @@
 //! Their rule is this project's own, so that no disk is taken for a device; change it in
 //! `specs/words/Name.antt` first.
 
-ghost use Rattle.dm_table.specs.Prelude.{◌≡◌, list_all, is_disk_byte, is_disk_name, names_device, ascii-disk_name};
+ghost use Rattle.dm_table.specs.Prelude.{list_all, is_disk_byte, is_disk_name, names_device, ascii-disk_name};
+ghost use Rattle.std.specs.Prelude.{◌≡◌};
 
 use crate::words::name::{CheckedName, NameRule};
 

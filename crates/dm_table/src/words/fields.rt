@@ -5,7 +5,8 @@
 //!
 //! Short texts are cut by `marks` for speed alone; `cut_searched` would do for all.
 
-ghost use Rattle.dm_table.specs.Prelude.{◌≡◌, ◌++◌, ◌≤◌, IfOk, OnOk, length, ends_empty, parts_at, row_fields, texts, marks_of};
+ghost use Rattle.dm_table.specs.Prelude.{IfOk, OnOk, length, ends_empty, parts_at, row_fields, texts, marks_of};
+ghost use Rattle.std.specs.Prelude.{◌≡◌, ◌++◌, ◌≤◌};
 
 use crate::words::marks::marks;
 use memchr::memchr;

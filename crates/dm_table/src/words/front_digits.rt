@@ -6,8 +6,9 @@
 //! This is here for speed alone, as a part of *requests read where they stand* in RESULTS.md. It rests on sixteen
 //! bytes being there, whatever they are. Change it only if you measure small requests before and after.
 
-ghost use Rattle.dm_table.specs.Prelude.{◌≡◌, ◌+◌, ◌%◌, ◌<◌, ◌≤◌, ◌^◌, IfSome, Some, get_or, length, map, take, number_from_digits, number_of};
+ghost use Rattle.dm_table.specs.Prelude.{IfSome, Some, get_or, length, map, take, number_from_digits, number_of};
 ghost use Rattle.dm_table.specs.declared.words.front_digits.TheConstants.{FRONT};
+ghost use Rattle.std.specs.Prelude.{◌≡◌, ◌+◌, ◌%◌, ◌<◌, ◌≤◌, ◌^◌};
 ghost use lib.Lanes.{Each1};
 
 use crate::words::array::as_array;

@@ -5,7 +5,8 @@
 //! This is here for speed alone: RESULTS.md has its gain as *lines made in place, fields found together*. It rests
 //! on texts of 8 to 64 bytes, a bit for each. Change it only if you measure loads of long tables before and after.
 
-ghost use Rattle.dm_table.specs.Prelude.{◌≡◌, ◌-◌, ◌*◌, ◌<◌, ◌≤◌, ◌||◌, Bool, List, IfNone, IfSome, drop, length, nat_lt, take, true, marks_of};
+ghost use Rattle.dm_table.specs.Prelude.{Bool, List, IfNone, IfSome, drop, length, nat_lt, take, true, marks_of};
+ghost use Rattle.std.specs.Prelude.{◌≡◌, ◌-◌, ◌*◌, ◌<◌, ◌≤◌, ◌||◌};
 ghost use lib.Lanes.{mask_l};
 
 use crate::words::array::as_array;

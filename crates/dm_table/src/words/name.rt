@@ -4,7 +4,8 @@
 //! for all names, and a rule for each kind of them: those of devices in `device_name`, and those of
 //! disks in `disk_name`.
 
-ghost use Rattle.dm_table.specs.Base.{◌≡◌, ◌↔◌, Some, Err, true, false, IsTrue, IfOk, OnOk, List, ℕ, Bool, IsAscii, string_bytes};
+ghost use Rattle.dm_table.specs.Base.{Some, Err, true, false, IsTrue, IfOk, OnOk, List, ℕ, Bool, IsAscii, string_bytes};
+ghost use Rattle.std.specs.Prelude.{◌≡◌, ◌↔◌};
 
 use crate::reserved::ReservedText;
 use std::alloc::{AllocError, Global};
@@ -44,7 +45,8 @@ pub struct CheckedName<R: NameRule> {
 }
 
 impl<R: NameRule> Model for CheckedName<R> {
-    ghost use Rattle.dm_table.specs.Base.{◌≡◌, List, ℕ, true};
+    ghost use Rattle.dm_table.specs.Base.{List, ℕ, true};
+    ghost use Rattle.std.specs.Prelude.{◌≡◌};
 
     ghost Value = { List ℕ };
 

@@ -3,7 +3,8 @@
 //! Texts and requests share this one form, so that what is read is written back byte by byte.
 //! To take more digits, change `specs/words/Number.antt` and see that the value still fits a `u64`.
 
-ghost use Rattle.dm_table.specs.Prelude.{◌≡◌, ◌<◌, ◌≤◌, is_some, length, Some, None, IfSome, IfNone, IsTrue, take, prefix_len, is_ascii_digit, number_of, number_in};
+ghost use Rattle.dm_table.specs.Prelude.{is_some, length, Some, None, IfSome, IfNone, IsTrue, take, prefix_len, is_ascii_digit, number_of, number_in};
+ghost use Rattle.std.specs.Prelude.{◌≡◌, ◌<◌, ◌≤◌};
 
 /// The number that a text spells, or `None` where it spells none. One pass.
 pub(crate) fn number(text: &[u8]) -> Option<u64>

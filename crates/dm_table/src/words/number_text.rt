@@ -3,7 +3,8 @@
 //! Lines and messages have a greatest length by their limits, so a buffer on the stack holds any of
 //! them. A caller shows that there is room: nothing is ever cut off.
 
-ghost use Rattle.dm_table.specs.Prelude.{◌≡◌, ◌++◌, ◌+◌, ◌≤◌, length, decimal};
+ghost use Rattle.dm_table.specs.Prelude.{length, decimal};
+ghost use Rattle.std.specs.Prelude.{◌≡◌, ◌++◌, ◌+◌, ◌≤◌};
 
 use arrayvec::ArrayVec;
 

@@ -7,7 +7,8 @@
 //! compiler, which compares arrays of a known length in an instruction or two. Change it only if you measure small
 //! requests and loads by names before and after.
 
-ghost use Rattle.dm_table.specs.Prelude.{◌≡◌, ◌≢◌, ◌*◌, ◌≤◌, length, OnTrue, OnFalse};
+ghost use Rattle.dm_table.specs.Prelude.{length, OnTrue, OnFalse};
+ghost use Rattle.std.specs.Prelude.{◌≡◌, ◌≢◌, ◌*◌, ◌≤◌};
 
 use crate::words::array::as_array;
 

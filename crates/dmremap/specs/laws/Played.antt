@@ -1,8 +1,9 @@
 -- The laws of a player of requests as a handler: what it answered, and then answered or stopped at, is one.
-use Rattle.dmremap.specs.Base.{◌≡◌, ℕ, List, [], ◌∷◌, ◌++◌, map, sym, ap, subst, ◌∙◌, append_assoc, append-nil, map-append, since, since_more, Description, since-same, State, NumberedRequest, Asked, Exit}
+use Rattle.dmremap.specs.Base.{ℕ, List, [], map, sym, ap, subst, ◌∙◌, append_assoc, append-nil, map-append, since, since_more, Description, since-same, State, NumberedRequest, Asked, Exit}
 use Rattle.dm_stream.specs.declared.runs.ending.Ending.TheVariants as endings
 use Rattle.dmremap.specs.declared.exit.Exit.TheVariants as exits
 use Rattle.dmremap.specs.ReplayOutcome.{AreAnswered, HasPlayed, HasStopped, IsCutReplay, StopsAt, asked_of}
+use Rattle.std.specs.Prelude.{◌≡◌, ◌∷◌, ◌++◌}
 
 pub played_none : (stack : Description) (start : State) (asked : List Asked) (w : List ℕ) → HasPlayed stack start asked asked [] w w
 played_none stack start asked w = record { asked = sym (append-nil asked); told = sym (since-same w) }

@@ -2,7 +2,7 @@
 //!
 //! All else is tested on the built program (`tests/outside`).
 
-ghost use Rattle.dmremap.specs.Prelude.{◌<◌};
+ghost use Rattle.std.specs.Prelude.{◌<◌};
 
 use super::*;
 use crate::job::{Format, TableForm};

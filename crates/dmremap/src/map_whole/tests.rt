@@ -5,7 +5,7 @@
 //! rules, and never taken from a run. Tables are `static`, since rows of an array in a function are
 //! proved one by one.
 
-ghost use Rattle.dmremap.specs.Prelude.{◌<◌};
+ghost use Rattle.std.specs.Prelude.{◌<◌};
 
 use super::*;
 use crate::job::TableForm;

@@ -3,7 +3,8 @@
 //! What is printed of which texts is tested on the built program (`tests/outside`). Here each command is
 //! called with ample memory, and its output and its messages fail after each of their bytes in turn.
 
-ghost use Rattle.dmremap.specs.Prelude.{◌<◌, ◌≡◌, true, job_words, is_other};
+ghost use Rattle.dmremap.specs.Prelude.{true, job_words, is_other};
+ghost use Rattle.std.specs.Prelude.{◌<◌, ◌≡◌};
 
 mod replays;
 

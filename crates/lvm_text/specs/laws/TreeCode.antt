@@ -1,7 +1,8 @@
 -- The code of a tree: a list that gives it back, with a mark where a section is left. Only proofs that
 -- tell two trees apart rest on it.
-use Rattle.lvm_text.specs.Base.{◌≡◌, ◌⊎◌, ℕ, List, [], ◌∷◌, ◌++◌, map, refl, append_assoc, ap, sym, ◌∙◌, inl, inr, append-nil}
+use Rattle.lvm_text.specs.Base.{ℕ, List, [], map, refl, append_assoc, ap, sym, ◌∙◌, inl, inr, append-nil}
 use Rattle.std.specs.Coded.{Coded, code_by, coded×, coded⊎, coded_ℕ, coded_list}
+use Rattle.std.specs.Prelude.{◌≡◌, ◌⊎◌, ◌∷◌, ◌++◌}
 use base.Stored.{coded_unit}
 use Rattle.lvm_text.specs.Tree.{Scalar, Int, Text, Values, Nothing, Section, Single, Several, Tree}
 

@@ -1,9 +1,10 @@
 -- No check of a group finds a fault of memory.
-use Rattle.lvm_volume.proofs.Prelude.{◌≡◌, ◌≢◌, ℕ, Bool, true, false, List, [], ◌∷◌, ◌++◌, length, codes, Option, Some, None, if◌then◌else◌, ◌+◌, is_some, AllByRecursion, flat_map, range_with_len, Tree, Shown, node_of, sections_of, LoadKind, Memory, Name, Unknown, Extents, LoadFault, fault, faults_by, first_or, Check, Fields, Limits, Kind, Physical, Role, Segment, Volume, faults_of_fields, field_faults, fields_faults, group_faults, group_fields, is_asked, is_wrong, load_kind, missing, node_faults, number_at, one_group_faults, physical_fields, sections_at, segment_field, segment_fields, segments_of, source_faults, top_fields, volume_faults, volume_fields, Claim, at_line, claims_of, used_after, used_by, hit, is_misplaced, is_too_long, is_unknown, least_line_of, segment_faults, size_faults, snapshot_faults, source_line, unknown_faults, Group, Keyed, is_bad_snapshot, roles_of, fault_of, device_parts, layers_of, unnamed_layer, unnamed_volume}
+use Rattle.lvm_volume.proofs.Prelude.{ℕ, Bool, true, false, List, [], length, codes, Option, Some, None, is_some, AllByRecursion, flat_map, range_with_len, Tree, Shown, node_of, sections_of, LoadKind, Memory, Name, Unknown, Extents, LoadFault, fault, faults_by, first_or, Check, Fields, Limits, Kind, Physical, Role, Segment, Volume, faults_of_fields, field_faults, fields_faults, group_faults, group_fields, is_asked, is_wrong, load_kind, missing, node_faults, number_at, one_group_faults, physical_fields, sections_at, segment_field, segment_fields, segments_of, source_faults, top_fields, volume_faults, volume_fields, Claim, at_line, claims_of, used_after, used_by, hit, is_misplaced, is_too_long, is_unknown, least_line_of, segment_faults, size_faults, snapshot_faults, source_line, unknown_faults, Group, Keyed, is_bad_snapshot, roles_of, fault_of, device_parts, layers_of, unnamed_layer, unnamed_volume}
 use Rattle.dm_table.specs.declared.load.place.Place.{Place}
 use Rattle.dm_table.specs.declared.load.load_fault.LoadKind.TheVariants as loads
 use Rattle.lvm_volume.specs.fields.Fields.{Field}
 use Rattle.lvm_volume.specs.checks.Extents as extents
+use Rattle.std.specs.Prelude.{◌≡◌, ◌≢◌, ◌∷◌, ◌++◌, if◌then◌else◌, ◌+◌}
 
 abbrev pub NoMemory : List LoadFault → Type 0
 NoMemory = AllByRecursion (λ fault. fault.kind ≢ Memory)

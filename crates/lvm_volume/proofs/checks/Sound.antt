@@ -1,10 +1,11 @@
 -- What no check finds fault with fits 64 bits in sectors, and its stripes are on physical volumes that are there.
-use Rattle.lvm_volume.proofs.Prelude.{◌≡◌, ℕ, suc, zero, ◌+◌, ◌*◌, ◌/◌, ◌%◌, ◌^◌, ◌<◌, ◌≤◌, ◌==◌, Bool, true, false, not, List, [], ◌∷◌, ◌++◌, length, map, Option, Some, None, refl, sym, ap, ◌∙◌, arith, mul-le-mul_right, if◌then◌else◌, nat_lt, codes, AllByRecursion, flat_map, list_any, range_with_len, ltb-false, ltb-true, or_parts, not-false, Tree, Shown, Content, Whole, Int, Text, node_of, sections_of, LoadKind, Extents, Unknown, LoadFault, first_or, first_fault, Fields, Limits, Kind, Always, Physical, Stripe, Segment, Volume, faults_of_fields, field, field_faults, fields_faults, group_faults, group_fields, is_far, most, number_at, number_in, held, one_group_faults, physical_fields, sections_at, segment_field, segment_fields, segments_of, top_fields, volume_faults, volume_fields, Claim, at_line, claims_of, used_after, used_by, extents_at, have_clash, hit, is_misplaced, is_unknown, least_line, least_line_of, lesser, meets, parts_of, segment_faults, size_faults, snapshot_faults, stripes_of, unknown_faults, claims_by, Keyed, device_of, first_section, group_in, physical_of, positions_in, segment_of, volume_of, is_bad_snapshot, roles_of, IsSegmentIn, IsSoundGroup, IsStripeIn, checks_of_parts, extent_faults, physical_at, first_or-none, append-nil_both}
+use Rattle.lvm_volume.proofs.Prelude.{ℕ, suc, zero, Bool, true, false, not, List, [], length, map, Option, Some, None, refl, sym, ap, ◌∙◌, arith, mul-le-mul_right, nat_lt, codes, AllByRecursion, flat_map, list_any, range_with_len, ltb-false, ltb-true, or_parts, not-false, Tree, Shown, Content, Whole, Int, Text, node_of, sections_of, LoadKind, Extents, Unknown, LoadFault, first_or, first_fault, Fields, Limits, Kind, Always, Physical, Stripe, Segment, Volume, faults_of_fields, field, field_faults, fields_faults, group_faults, group_fields, is_far, most, number_at, number_in, held, one_group_faults, physical_fields, sections_at, segment_field, segment_fields, segments_of, top_fields, volume_faults, volume_fields, Claim, at_line, claims_of, used_after, used_by, extents_at, have_clash, hit, is_misplaced, is_unknown, least_line, least_line_of, lesser, meets, parts_of, segment_faults, size_faults, snapshot_faults, stripes_of, unknown_faults, claims_by, Keyed, device_of, first_section, group_in, physical_of, positions_in, segment_of, volume_of, is_bad_snapshot, roles_of, IsSegmentIn, IsSoundGroup, IsStripeIn, checks_of_parts, extent_faults, physical_at, first_or-none, append-nil_both}
 use Rattle.dm_table.specs.declared.load.load_fault.LoadKind.TheVariants as loads
 use Rattle.lvm_volume.specs.declared.group.positions.GroupPositions.{GroupPositions}
 use Rattle.lvm_volume.specs.fields.Kinds as kinds
 use Rattle.lvm_volume.specs.checks.Extents as extents
 use Rattle.lvm_volume.proofs.checks.OriginLemmas.{all_origins}
+use Rattle.std.specs.Prelude.{◌≡◌, ◌+◌, ◌*◌, ◌/◌, ◌%◌, ◌^◌, ◌<◌, ◌≤◌, ◌==◌, ◌∷◌, ◌++◌, if◌then◌else◌}
 
 -- Lists of faults that are empty
 

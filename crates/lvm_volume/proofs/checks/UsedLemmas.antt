@@ -1,5 +1,6 @@
 -- Ranges that are used: what a look-up of the last one before an end tells, and one range more.
-use Rattle.lvm_volume.proofs.Prelude.{◌≡◌, ◌⊎◌, ℕ, ◌<◌, ◌≤◌, Bool, true, false, ◌||◌, List, [], ◌∷◌, Option, Some, None, refl, sym, ap, ◌∙◌, arith, rules, inl, inr, common_steps, IsSome, nat_lt, list_any, AllByRecursion, nat_cmp, BTreeMap, Updates, get, is_at, and_from, and_right, or_right, lt-ltb, ltb-false, ltb-true, le-ltb, cases_order, none-some, HasRanges, reaches}
+use Rattle.lvm_volume.proofs.Prelude.{ℕ, Bool, true, false, List, [], Option, Some, None, refl, sym, ap, ◌∙◌, arith, rules, inl, inr, common_steps, IsSome, nat_lt, list_any, AllByRecursion, nat_cmp, BTreeMap, Updates, get, is_at, and_from, and_right, or_right, lt-ltb, ltb-false, ltb-true, le-ltb, cases_order, none-some, HasRanges, reaches}
+use Rattle.std.specs.Prelude.{◌≡◌, ◌⊎◌, ◌<◌, ◌≤◌, ◌||◌, ◌∷◌}
 
 -- no range of a map reaches, where none that the map finds does
 none_reach : (used : BTreeMap ℕ ℕ) (test : ℕ × ℕ → Bool) → ((a b : ℕ) → get nat_cmp used a ≡ Some b → test (a, b) ≡ false) → (ranges : List (ℕ × ℕ)) → AllByRecursion (λ range. get nat_cmp used range.0 ≡ Some range.1) ranges → list_any test ranges ≡ false

@@ -1,7 +1,8 @@
 -- Steps of a reading, one after the other.
-use Rattle.lvm_volume.proofs.Prelude.{◌≡◌, ◌⊎◌, inl, append_assoc, arith, ℕ, ◌+◌, ◌-◌, ◌<◌, ◌≤◌, drop, get_or, length, map, List, [], ◌∷◌, ◌++◌, Option, Some, None, Result, refl, sym, ap, ◌∙◌, IsErrAnd, result_err, append-nil, drop_more, err_from_is_err_and, flat_map, range_with_len, Source, LoadFault, Field, IsMemoryFault, fault_at, first_or, FieldReader, Check, Fields, Limits, first_of, missing, IsStep, after, or_first, first_or-found}
+use Rattle.lvm_volume.proofs.Prelude.{inl, append_assoc, arith, ℕ, drop, get_or, length, map, List, [], Option, Some, None, Result, refl, sym, ap, ◌∙◌, IsErrAnd, result_err, append-nil, drop_more, err_from_is_err_and, flat_map, range_with_len, Source, LoadFault, Field, IsMemoryFault, fault_at, first_or, FieldReader, Check, Fields, Limits, first_of, missing, IsStep, after, or_first, first_or-found}
 use Rattle.std.proofs.Math.ListN.{drop_of_length-le}
 use Rattle.lvm_volume.proofs.fields.Faults.{first_after, first_here, found_more, range_more}
+use Rattle.std.specs.Prelude.{◌≡◌, ◌⊎◌, ◌+◌, ◌-◌, ◌<◌, ◌≤◌, ◌∷◌, ◌++◌}
 
 or_first_both : (found : Option LoadFault) (xs ys : List LoadFault) → or_first (or_first found xs) ys ≡ or_first found (xs ++ ys)
 or_first_both None [] ys = refl

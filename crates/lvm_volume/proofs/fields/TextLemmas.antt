@@ -1,5 +1,6 @@
 -- Lists of strings.
-use Rattle.lvm_volume.proofs.Prelude.{◌≡◌, List, [], ◌∷◌, true, false, refl, list_all, list_any, Scalar, Int, Text, is_far_scalar, is_text}
+use Rattle.lvm_volume.proofs.Prelude.{List, [], true, false, refl, list_all, list_any, Scalar, Int, Text, is_far_scalar, is_text}
+use Rattle.std.specs.Prelude.{◌≡◌, ◌∷◌}
 
 -- no string is above a limit
 pub none_far : (items : List Scalar) → list_all is_text items ≡ true → list_any is_far_scalar items ≡ false

@@ -1,6 +1,7 @@
 -- Ids as they are compared, and groups with other names of disks.
-use Rattle.lvm_volume.proofs.Prelude.{◌≡◌, ◌⊎◌, inl, inr, ℕ, zero, suc, ◌+◌, ◌*◌, ◌^◌, ◌<◌, ◌≤◌, ◌==◌, List, [], ◌∷◌, Option, None, length, get_or, drop, refl, sym, ap, subst, ◌∙◌, arith, bytes_eq, slice_index_or, AllByRecursion, zip, ne_eqb, drop_more, drop_all, DiskFault, Physical, Segment, Stripe, Volume, stripes_of, Group, Keyed, Owners, all_owned, disk_fault, letters_of, owned_group, section_of, untaken, ids_view, IsSegmentIn, IsSoundGroup, IsStripeIn, physical_at, all_changed}
+use Rattle.lvm_volume.proofs.Prelude.{inl, inr, ℕ, zero, suc, List, [], Option, None, length, get_or, drop, refl, sym, ap, subst, ◌∙◌, arith, bytes_eq, slice_index_or, AllByRecursion, zip, ne_eqb, drop_more, drop_all, DiskFault, Physical, Segment, Stripe, Volume, stripes_of, Group, Keyed, Owners, all_owned, disk_fault, letters_of, owned_group, section_of, untaken, ids_view, IsSegmentIn, IsSoundGroup, IsStripeIn, physical_at, all_changed}
 use Rattle.lvm_volume.specs.group.Owners.{or_later}
+use Rattle.std.specs.Prelude.{◌≡◌, ◌⊎◌, ◌+◌, ◌*◌, ◌^◌, ◌<◌, ◌≤◌, ◌==◌, ◌∷◌}
 use denote.Ref.{Bor}
 
 -- ---- letters

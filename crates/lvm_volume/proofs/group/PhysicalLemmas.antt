@@ -1,7 +1,8 @@
 -- Physical volumes as they are read, one after the other.
-use Rattle.lvm_volume.proofs.Prelude.{◌≡◌, ℕ, ◌+◌, ◌<◌, Bool, true, false, not, List, [], ◌∷◌, length, if◌then◌else◌, get_or, drop, map, Some, None, Ok, Err, refl, sym, drop_more, LoadFault, Name, Source, is_disk_name, first_or, unless, fault_at, Physical, name_faults, PhysicalFields, Keyed, device_of, physical_of, physicals_in, all_named, fields_of, fields_view, devices_in, unless-err, unless-ok}
+use Rattle.lvm_volume.proofs.Prelude.{ℕ, Bool, true, false, not, List, [], length, get_or, drop, map, Some, None, Ok, Err, refl, sym, drop_more, LoadFault, Name, Source, is_disk_name, first_or, unless, fault_at, Physical, name_faults, PhysicalFields, Keyed, device_of, physical_of, physicals_in, all_named, fields_of, fields_view, devices_in, unless-err, unless-ok}
 use Rattle.lvm_volume.specs.group.PhysicalFields as spec
 use Rattle.lvm_volume.specs.group.PhysicalFields.{Fields}
+use Rattle.std.specs.Prelude.{◌≡◌, ◌+◌, ◌<◌, ◌∷◌, if◌then◌else◌}
 
 pub named : (p : Physical) → is_disk_name p.disk ≡ true → unless (first_or (name_faults (p ∷ [])) None) p ≡ Ok p
 named p e = rw e

@@ -1,6 +1,7 @@
 -- Positions of keys: a set of keys that all differ has them in their order.
-use Rattle.lvm_volume.proofs.Prelude.{◌≡◌, ◌≢◌, ◌≤◌, ℕ, Bool, true, false, cond, List, [], ◌∷◌, ◌++◌, length, Option, Some, None, refl, sym, ap, ◌∙◌, arith, bytes_eq, nat_lt, position, unwrap_or, AllByRecursion, AllPairs, IsDistinct, list_any, position_or_len, ltb-false, map_push, prefix_len-le-length, bytes_eq-Decides, Values, Nothing, Section, Single, Several, keys_of, sections_of, keys_in, position_of, texts}
+use Rattle.lvm_volume.proofs.Prelude.{ℕ, Bool, true, false, cond, List, [], length, Option, Some, None, refl, sym, ap, ◌∙◌, arith, bytes_eq, nat_lt, position, unwrap_or, AllByRecursion, AllPairs, IsDistinct, list_any, position_or_len, ltb-false, map_push, prefix_len-le-length, bytes_eq-Decides, Values, Nothing, Section, Single, Several, keys_of, sections_of, keys_in, position_of, texts}
 use Rattle.std.proofs.lemmas.Map.Made.{IsDistinct-from_AllPairs}
+use Rattle.std.specs.Prelude.{◌≡◌, ◌≢◌, ◌≤◌, ◌∷◌, ◌++◌}
 use denote.Ref.{Bor}
 
 -- A key that is none of those before it

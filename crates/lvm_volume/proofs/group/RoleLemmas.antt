@@ -1,5 +1,6 @@
 -- Roles, as they are found one snapshot after the other.
-use Rattle.lvm_volume.proofs.Prelude.{◌≡◌, ◌⊎◌, inl, inr, ℕ, zero, suc, ◌+◌, ◌-◌, ◌<◌, ◌≤◌, ◌==◌, Bool, true, false, cond, List, [], ◌∷◌, length, get_or, set, drop, map, refl, sym, ap, ◌∙◌, arith, if◌then◌else◌, ◌||◌, filter, enumerate_from, list_any, zip, eq-eqb, ne_eqb, drop_more, Record, Role, Volume, changed, with_origin, with_store, recorded, records_of, role_by, role_of, unless_recorded}
+use Rattle.lvm_volume.proofs.Prelude.{inl, inr, ℕ, zero, suc, Bool, true, false, cond, List, [], length, get_or, set, drop, map, refl, sym, ap, ◌∙◌, arith, filter, enumerate_from, list_any, zip, eq-eqb, ne_eqb, drop_more, Record, Role, Volume, changed, with_origin, with_store, recorded, records_of, role_by, role_of, unless_recorded}
+use Rattle.std.specs.Prelude.{◌≡◌, ◌⊎◌, ◌+◌, ◌-◌, ◌<◌, ◌≤◌, ◌==◌, ◌∷◌, if◌then◌else◌, ◌||◌}
 
 -- One snapshot more
 

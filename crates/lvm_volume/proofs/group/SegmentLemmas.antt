@@ -1,8 +1,9 @@
 -- Which fields a segment's type asks for.
-use Rattle.lvm_volume.proofs.Prelude.{◌≡◌, ℕ, ◌<◌, ◌≤◌, true, false, [], ◌++◌, codes, ap, sym, ◌∙◌, nat_lt, lt-ltb, le-ltb, Tree, Check, field, field_faults, fields_faults, number_at, text_at, at_key, later_fields, type_text}
+use Rattle.lvm_volume.proofs.Prelude.{ℕ, true, false, [], codes, ap, sym, ◌∙◌, nat_lt, lt-ltb, le-ltb, Tree, Check, field, field_faults, fields_faults, number_at, text_at, at_key, later_fields, type_text}
 use Rattle.lvm_volume.specs.declared.group.segment.TypeName.TheVariants.{Striped, Zero, Error, Snapshot}
 use Rattle.lvm_volume.specs.fields.Fields.{Field}
 use Rattle.lvm_volume.specs.fields.Kinds as kinds
+use Rattle.std.specs.Prelude.{◌≡◌, ◌<◌, ◌≤◌, ◌++◌}
 
 pub of_striped : (segment : Tree) (check : Check) → text_at (codes "type") segment ≡ type_text Striped
     → at_key kinds.Positive (codes "stripe_count") segment check ++ (at_key kinds.Stripes (codes "stripes") segment check ++ (field_faults check segment (field (codes "stripe_size") kinds.Number kinds.Several) ++ [])) ≡ fields_faults check segment later_fields

@@ -1,8 +1,9 @@
 -- What the devices of a sound group need, volume by volume.
-use Rattle.lvm_volume.proofs.Prelude.{◌≡◌, ℕ, zero, suc, ◌+◌, ◌*◌, ◌^◌, ◌<◌, ◌==◌, Bool, true, false, List, [], ◌∷◌, map, Option, Some, None, arith, IfSome, filter, slice_get, slice_index_or, AllByRecursion, enumerate_from, flat_map, list_any, zip, first_or, Real, Physical, Record, Role, Segment, Volume, Group, fault_of, end_of, name_at, recorded, records_of, role_at, role_by, role_of, roles_of, segments_at, unless_recorded, IsMadeIn, IsSegmentIn, IsSnapshotIn, IsSoundGroup, members_of, device_parts, length_of, unnamed, unnamed_volume, first_or-none, all_changed, append-nil_both}
+use Rattle.lvm_volume.proofs.Prelude.{ℕ, zero, suc, Bool, true, false, List, [], map, Option, Some, None, arith, IfSome, filter, slice_get, slice_index_or, AllByRecursion, enumerate_from, flat_map, list_any, zip, first_or, Real, Physical, Record, Role, Segment, Volume, Group, fault_of, end_of, name_at, recorded, records_of, role_at, role_by, role_of, roles_of, segments_at, unless_recorded, IsMadeIn, IsSegmentIn, IsSnapshotIn, IsSoundGroup, members_of, device_parts, length_of, unnamed, unnamed_volume, first_or-none, all_changed, append-nil_both}
 use Rattle.lvm_volume.specs.declared.group.roles.Role.TheVariants as roles
 use Rattle.lvm_volume.proofs.tables.NamedLemmas.{origin_named}
 use Rattle.lvm_volume.proofs.checks.OriginLemmas.{all_filtered}
+use Rattle.std.specs.Prelude.{◌≡◌, ◌+◌, ◌*◌, ◌^◌, ◌<◌, ◌==◌, ◌∷◌}
 
 -- Lengths
 

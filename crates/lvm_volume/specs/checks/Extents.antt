@@ -1,11 +1,12 @@
 -- The checks of a group beyond its fields: names of disks, segments that name nothing, how extents lie, and snapshots.
-use Rattle.lvm_volume.specs.Base.{ℕ, ◌+◌, ◌*◌, ◌/◌, ◌%◌, Bool, false, not, ◌&&◌, ◌||◌, ◌==◌, List, [], ◌∷◌, ◌++◌, Option, Some, None, nat_lt, length, map, min, slice_index, if◌then◌else◌, list_any, Source, LoadKind, Name, Unknown, Extents, LoadFault, faults_by, is_disk_name, Stripe, SegmentType, Zero, Error, Striped, Snapshot, Segment, Physical}
+use Rattle.lvm_volume.specs.Base.{ℕ, Bool, false, not, List, [], Option, Some, None, nat_lt, length, map, min, slice_index, list_any, Source, LoadKind, Name, Unknown, Extents, LoadFault, faults_by, is_disk_name, Stripe, SegmentType, Zero, Error, Striped, Snapshot, Segment, Physical}
 use Rattle.dm_table.specs.declared.load.place.Place.{Place}
 use Rattle.dm_table.specs.declared.load.load_fault.LoadKind.TheVariants as loads
 use Rattle.lvm_volume.specs.declared.group.volume.Volume.{Volume}
 use Rattle.lvm_volume.specs.fields.Fields.{source_faults}
 use Rattle.lvm_volume.specs.group.Group.{Group}
 use Rattle.lvm_volume.specs.group.Roles.{is_bad_snapshot, roles_of}
+use Rattle.std.specs.Prelude.{◌+◌, ◌*◌, ◌/◌, ◌%◌, ◌&&◌, ◌||◌, ◌==◌, ◌∷◌, ◌++◌, if◌then◌else◌}
 
 -- the place of a line of the source
 abbrev pub source_line : ℕ → Place

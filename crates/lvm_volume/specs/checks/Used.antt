@@ -1,6 +1,7 @@
 -- Ranges of extents that are used, as a map from the first of each to the end before which it lies.
-use Rattle.lvm_volume.specs.Base.{◌≡◌, ℕ, ◌+◌, ◌<◌, ◌≤◌, ◌==◌, Bool, true, false, ◌&&◌, nat_lt, List, [], ◌∷◌, Some, length, map, if◌then◌else◌, get_or, list_any, AllByRecursion, nat_cmp, BTreeMap, get, Stripe, Physical}
+use Rattle.lvm_volume.specs.Base.{ℕ, Bool, true, false, nat_lt, List, [], Some, length, map, get_or, list_any, AllByRecursion, nat_cmp, BTreeMap, get, Stripe, Physical}
 use Rattle.lvm_volume.specs.checks.Extents.{Claim, claim_on, have_clash, used_by}
+use Rattle.std.specs.Prelude.{◌≡◌, ◌+◌, ◌<◌, ◌≤◌, ◌==◌, ◌&&◌, ◌∷◌, if◌then◌else◌}
 
 -- a range has something in common with that from the first to before the end
 abbrev pub reaches : ℕ → ℕ → ℕ × ℕ → Bool

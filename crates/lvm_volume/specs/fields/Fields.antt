@@ -1,10 +1,11 @@
 -- The fields of a group's metadata that are read, and what each may hold (vgcfgbackup(8), lvm.conf(5)).
-use Rattle.lvm_volume.specs.Base.{◌≡◌, ◌⊎◌, ℕ, ◌*◌, Bool, true, false, not, ◌&&◌, ◌||◌, ◌==◌, List, [], ◌∷◌, ◌++◌, Option, Some, None, Result, Ok, Err, nat_lt, is_some, bytes_eq, codes, decimal, length, if◌then◌else◌, flat_map, list_any, list_all, range_with_len, Tree, Content, Inner, Whole, Items, Scalar, Int, Text, Shown, node_of, sections_of, scalar_views, Source, LoadKind, LoadFault, IsMemoryFault, fault_at, first_or}
+use Rattle.lvm_volume.specs.Base.{ℕ, Bool, true, false, not, List, [], Option, Some, None, Result, Ok, Err, nat_lt, is_some, bytes_eq, codes, decimal, length, flat_map, list_any, list_all, range_with_len, Tree, Content, Inner, Whole, Items, Scalar, Int, Text, Shown, node_of, sections_of, scalar_views, Source, LoadKind, LoadFault, IsMemoryFault, fault_at, first_or}
 use Rattle.dm_table.specs.declared.load.load_fault.LoadKind.TheVariants as loads
 use Rattle.lvm_volume.specs.fields.Kinds as kinds
 use Rattle.lvm_volume.specs.fields.Kinds.{Kind, Condition, Always, Given, Striped, Several, Snapshot}
 use Rattle.lvm_volume.specs.fields.Checks.{Check, Fields, Limits}
 use Rattle.lvm_text.specs.declared.tree.Scalar.{Scalar as code_scalar}
+use Rattle.std.specs.Prelude.{◌≡◌, ◌⊎◌, ◌*◌, ◌&&◌, ◌||◌, ◌==◌, ◌∷◌, ◌++◌, if◌then◌else◌}
 use denote.Ref.{Bor}
 
 -- The tables

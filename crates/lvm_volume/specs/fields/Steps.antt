@@ -1,5 +1,5 @@
 -- One pass for both checks of fields: what a step of it comes to.
-use Rattle.lvm_volume.specs.Base.{◌≡◌, ◌⊎◌, ℕ, List, [], ◌∷◌, Option, Some, None, codes, flat_map, range_with_len, Tree, node_of, Source, LoadFault, IsMemoryFault}
+use Rattle.lvm_volume.specs.Base.{ℕ, List, [], Option, Some, None, codes, flat_map, range_with_len, Tree, node_of, Source, LoadFault, IsMemoryFault}
 use Rattle.lvm_volume.specs.declared.fields.reader.FieldReader.{FieldReader}
 use Rattle.lvm_volume.specs.declared.fields.reader.NumberKind.{NumberKind}
 use Rattle.lvm_volume.specs.declared.fields.reader.NumberKind.TheVariants as numbers
@@ -7,6 +7,7 @@ use Rattle.lvm_volume.specs.fields.Checks.{Check, Fields, Limits}
 use Rattle.lvm_volume.specs.fields.Kinds as kinds
 use Rattle.lvm_volume.specs.fields.Kinds.{Kind}
 use Rattle.lvm_volume.specs.fields.Fields.{Field, always, field, field_faults, fields_faults, first_of, node_faults, segment_field, segment_fields}
+use Rattle.std.specs.Prelude.{◌≡◌, ◌⊎◌, ◌∷◌}
 
 -- what was found before, or else the first of these
 abbrev pub or_first : Option LoadFault → List LoadFault → Option LoadFault

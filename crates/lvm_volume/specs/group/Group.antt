@@ -1,8 +1,9 @@
 -- What a group's metadata says: the group, its physical volumes, and its volumes with their segments.
-use Rattle.lvm_volume.specs.Base.{ℕ, Bool, false, not, ◌&&◌, ◌||◌, ◌==◌, List, [], ◌∷◌, nat_lt, bytes_eq, codes, count_by, map, if◌then◌else◌, list_any, position_or_len, code, is_disk_name, Tree, Scalar, Int, Text, Nothing, sections_of, Stripe, SegmentType, Zero, Error, Striped, Snapshot, Segment, Physical}
+use Rattle.lvm_volume.specs.Base.{ℕ, Bool, false, not, List, [], nat_lt, bytes_eq, codes, count_by, map, list_any, position_or_len, code, is_disk_name, Tree, Scalar, Int, Text, Nothing, sections_of, Stripe, SegmentType, Zero, Error, Striped, Snapshot, Segment, Physical}
 use Rattle.lvm_volume.specs.declared.group.positions.GroupPositions.{GroupPositions}
 use Rattle.lvm_volume.specs.declared.group.volume.Volume.{Volume}
 use Rattle.lvm_volume.specs.fields.Fields.{number_at, text_at, items_at, sections_at, segments_of, is_snapshot, is_striped}
+use Rattle.std.specs.Prelude.{◌&&◌, ◌||◌, ◌==◌, ◌∷◌, if◌then◌else◌}
 
 -- a group: its name, the sectors of an extent, its physical volumes, and its volumes
 pub record Group : Type 0 where

@@ -1,5 +1,6 @@
 -- How the code's values are seen while a group is made.
-use Rattle.lvm_volume.specs.Base.{◌≡◌, ℕ, List, map, unwrap_or, count_by, bytes_eq, nat_cmp, slice_cmp, BTreeMap, get_by}
+use Rattle.lvm_volume.specs.Base.{ℕ, List, map, unwrap_or, count_by, bytes_eq, nat_cmp, slice_cmp, BTreeMap, get_by}
+use Rattle.std.specs.Prelude.{◌≡◌}
 use denote.Ref.{Bor}
 
 -- what slices point to

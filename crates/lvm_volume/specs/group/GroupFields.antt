@@ -1,10 +1,11 @@
 -- What the text of a group says, as the code has it before disks have names.
-use Rattle.lvm_volume.specs.Base.{◌≡◌, List, codes, map}
+use Rattle.lvm_volume.specs.Base.{List, codes, map}
 use Rattle.lvm_volume.specs.declared.group.group_fields.GroupFields as code
 use Rattle.lvm_volume.specs.declared.group.volume.Volume.{Volume}
 use Rattle.lvm_volume.specs.fields.Fields.{number_at, sections_at}
 use Rattle.lvm_volume.specs.group.Group.{Keyed, keys_in, volume_of, volumes_in}
 use Rattle.lvm_volume.specs.group.PhysicalFields.{fields_of, fields_view}
+use Rattle.std.specs.Prelude.{◌≡◌}
 
 -- the volumes that sections say, in a group of these physical volumes
 abbrev pub volumes_said : (physicals volumes : List Keyed) → List Volume

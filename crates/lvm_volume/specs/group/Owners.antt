@@ -1,8 +1,9 @@
 -- Physical volumes by the disks whose images have them. The header of a physical volume has its id, and so has its section in the text of its group (lvm2's format_text).
-use Rattle.lvm_volume.specs.Base.{ℕ, ◌+◌, ◌==◌, ◌&&◌, ◌||◌, Bool, not, List, [], ◌∷◌, Option, Some, None, bytes_eq, codes, filter, find, map, nat_eq, option_map, slice_index_or, if◌then◌else◌, position_from, starts_with, zip, code, Tree, sections_of, DiskFault, Physical}
+use Rattle.lvm_volume.specs.Base.{ℕ, Bool, not, List, [], Option, Some, None, bytes_eq, codes, filter, find, map, nat_eq, option_map, slice_index_or, position_from, starts_with, zip, code, Tree, sections_of, DiskFault, Physical}
 use Rattle.lvm_volume.specs.declared.group.owners.DiskFault.TheVariants.{Array, Foreign, Missing}
 use Rattle.lvm_volume.specs.fields.Fields.{sections_at, text_at}
 use Rattle.lvm_volume.specs.group.Group.{Group, Keyed, first_section, lists}
+use Rattle.std.specs.Prelude.{◌+◌, ◌==◌, ◌&&◌, ◌||◌, ◌∷◌, if◌then◌else◌}
 
 -- the letters of an id: a text has dashes between them, a header has none
 unfoldable pub letters_of : (text : List ℕ) → List ℕ

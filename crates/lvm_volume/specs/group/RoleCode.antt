@@ -1,6 +1,7 @@
 -- Roles as the code finds them, one snapshot after the other.
-use Rattle.lvm_volume.specs.Base.{ℕ, ◌+◌, ◌==◌, List, [], ◌∷◌, Option, Some, None, if◌then◌else◌, Record, Role}
+use Rattle.lvm_volume.specs.Base.{ℕ, List, [], Option, Some, None, Record, Role}
 use Rattle.lvm_volume.specs.declared.group.roles.Role.TheVariants as roles
+use Rattle.std.specs.Prelude.{◌+◌, ◌==◌, ◌∷◌, if◌then◌else◌}
 
 -- the record, if there is one
 abbrev pub record_list : Option Record → List Record

@@ -1,7 +1,8 @@
 -- What the volumes of a group are to its snapshots: records, origins and stores (lvm(8), lvcreate(8) "--snapshot").
-use Rattle.lvm_volume.specs.Base.{ℕ, ◌+◌, ◌-◌, Bool, true, false, not, ◌||◌, ◌==◌, List, [], ◌∷◌, Option, Some, None, filter, length, map, slice_get, slice_index_or, enumerate_from, flat_map, list_any, SegmentType, Zero, Error, Striped, Snapshot, Segment, Record, Role}
+use Rattle.lvm_volume.specs.Base.{ℕ, Bool, true, false, not, List, [], Option, Some, None, filter, length, map, slice_get, slice_index_or, enumerate_from, flat_map, list_any, SegmentType, Zero, Error, Striped, Snapshot, Segment, Record, Role}
 use Rattle.lvm_volume.specs.declared.group.volume.Volume.{Volume}
 use Rattle.lvm_volume.specs.declared.group.roles.Role.TheVariants as roles
+use Rattle.std.specs.Prelude.{◌+◌, ◌-◌, ◌||◌, ◌==◌, ◌∷◌}
 
 -- Records: volumes whose only segment is a snapshot
 

@@ -1,7 +1,8 @@
 -- The words of the types of segments.
-use Rattle.lvm_volume.specs.Base.{ℕ, List, Option, Some, None, bytes_eq, codes, if◌then◌else◌}
+use Rattle.lvm_volume.specs.Base.{ℕ, List, Option, Some, None, bytes_eq, codes}
 use Rattle.lvm_volume.specs.declared.group.segment.TypeName.{TypeName}
 use Rattle.lvm_volume.specs.declared.group.segment.TypeName.TheVariants.{Striped, Zero, Error, Snapshot}
+use Rattle.std.specs.Prelude.{if◌then◌else◌}
 
 -- the word of a segment type
 abbrev pub type_text : TypeName → List ℕ

@@ -1,5 +1,5 @@
 -- The checks of a group in their order, and the devices and disks that a group is.
-use Rattle.lvm_volume.specs.Base.{◌≡◌, ℕ, ◌+◌, ◌*◌, ◌^◌, ◌<◌, Bool, false, List, [], ◌∷◌, ◌++◌, Option, None, Some, ⊤, codes, is_some, length, map, option_map, slice_index_or, flat_map, zip, AllByRecursion, TextFault, Source, Deep, Field, Memory, Name, Syntax, Twice, LoadFault, DeviceSpec, Disk, Tree, fault_at, Stripe, SegmentType, Zero, Error, Striped, Snapshot, Segment, Physical, Record, Role}
+use Rattle.lvm_volume.specs.Base.{ℕ, Bool, false, List, [], Option, None, Some, ⊤, codes, is_some, length, map, option_map, slice_index_or, flat_map, zip, AllByRecursion, TextFault, Source, Deep, Field, Memory, Name, Syntax, Twice, LoadFault, DeviceSpec, Disk, Tree, fault_at, Stripe, SegmentType, Zero, Error, Striped, Snapshot, Segment, Physical, Record, Role}
 use Rattle.dm_table.specs.declared.tables.table.Column.{Column}
 use Rattle.dm_table.specs.declared.tables.table.Target.{Target}
 use Rattle.dm_table.specs.declared.tables.table.StoreKind.TheVariants.{Persistent}
@@ -17,6 +17,7 @@ use Rattle.lvm_volume.specs.fields.Fields.{faults_of_fields}
 use Rattle.lvm_volume.specs.group.Group.{Group, group_of}
 use Rattle.lvm_volume.specs.group.Roles.{extents_of, name_at, records_of, role_at, roles_of, segments_at}
 use Rattle.lvm_volume.specs.checks.Extents.{hit, name_faults, size_faults, snapshot_faults, source_line, stripes_of, unknown_faults, volume_faults}
+use Rattle.std.specs.Prelude.{◌≡◌, ◌+◌, ◌*◌, ◌^◌, ◌<◌, ◌∷◌, ◌++◌}
 
 -- The checks, in their order
 

@@ -3,9 +3,10 @@
 //!
 //! What stripes use is listed by physical volume (`used`), over all volumes in the order of the text.
 
-ghost use Rattle.lvm_volume.specs.Prelude.{◌≡◌, ◌==◌, ◌+◌, ◌*◌, ◌/◌, ◌%◌, ◌^◌, ◌<◌, ◌∷◌, ◌||◌, [], List, None, Some, true, false, not, nat_lt, length, IfOk, OnOk, result_err, list_any, IsChecked, first_of, Claim, claim_on, extents_at, is_misplaced, is_too_long, meets, segment_faults, size_faults, used_after, used_by, Claimed, Holds, claims_by};
+ghost use Rattle.lvm_volume.specs.Prelude.{[], List, None, Some, true, false, not, nat_lt, length, IfOk, OnOk, result_err, list_any, IsChecked, first_of, Claim, claim_on, extents_at, is_misplaced, is_too_long, meets, segment_faults, size_faults, used_after, used_by, Claimed, Holds, claims_by};
 ghost use Rattle.lvm_volume.specs.checks.Extents as spec;
 ghost use Rattle.lvm_volume.specs.checks.Extents.{volume_faults};
+ghost use Rattle.std.specs.Prelude.{◌≡◌, ◌==◌, ◌+◌, ◌*◌, ◌/◌, ◌%◌, ◌^◌, ◌<◌, ◌∷◌, ◌||◌};
 
 use crate::checks::used::take;
 use crate::fields::source_line::{memory_fault, source_fault};

@@ -4,7 +4,8 @@
 //! The fault is the first in the text, where segments may stand in any order, so it is the one at the least
 //! line.
 
-ghost use Rattle.lvm_volume.specs.Prelude.{◌≡◌, ◌==◌, None, length, not, nat_lt, result_err, list_any, Unknown, IsChecked, first_of, at_line, is_unknown, least_line, least_line_of, snapshot_faults_in, test_of, is_bad_snapshot, is_bad_target};
+ghost use Rattle.lvm_volume.specs.Prelude.{None, length, not, nat_lt, result_err, list_any, Unknown, IsChecked, first_of, at_line, is_unknown, least_line, least_line_of, snapshot_faults_in, test_of, is_bad_snapshot, is_bad_target};
+ghost use Rattle.std.specs.Prelude.{◌≡◌, ◌==◌};
 ghost use Rattle.lvm_volume.specs.checks.Extents as spec;
 
 use crate::fields::source_line::{memory_fault, source_fault};

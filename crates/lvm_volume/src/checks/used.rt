@@ -3,7 +3,8 @@
 //! Ranges are in a map by their first extent. Of those that begin before the end of a new one only the last
 //! can reach into it. So one look-up decides, and the check of extents is near-linear.
 
-ghost use Rattle.lvm_volume.specs.Prelude.{◌≡◌, ◌<◌, ◌∷◌, List, ℕ, true, not, IfOk, list_any, HasRanges, reaches};
+ghost use Rattle.lvm_volume.specs.Prelude.{List, ℕ, true, not, IfOk, list_any, HasRanges, reaches};
+ghost use Rattle.std.specs.Prelude.{◌≡◌, ◌<◌, ◌∷◌};
 
 use std::alloc::{AllocError, Global};
 use std::collections::BTreeMap;

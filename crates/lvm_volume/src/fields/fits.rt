@@ -2,7 +2,8 @@
 //!
 //! A limit that changes here changes in `specs/fields/Fields.antt` alike.
 
-ghost use Rattle.lvm_volume.specs.Prelude.{◌≡◌, ◌==◌, ◌*◌, nat_lt, list_all, list_any, scalar_view, scalar_views, are_pairs, is_far_scalar, is_text, most};
+ghost use Rattle.lvm_volume.specs.Prelude.{nat_lt, list_all, list_any, scalar_view, scalar_views, are_pairs, is_far_scalar, is_text, most};
+ghost use Rattle.std.specs.Prelude.{◌≡◌, ◌==◌, ◌*◌};
 
 use lvm_text::Scalar;
 

@@ -4,7 +4,8 @@
 //! fit, and whether their integers are in the limits. One pass makes both: it stops at the first field that does
 //! not fit, and keeps the first integer above its limit until the end (`IsStep` in `specs/fields/Steps.antt`).
 
-ghost use Rattle.lvm_volume.specs.Prelude.{◌≡◌, ◌∷◌, [], ℕ, Bool, List, false, None, Some, if◌then◌else◌, IfErr, IfOk, MatchResult, codes, result_err, Tree, node_of, content_view, node_view, scalar_views, Source, fault_at, field, field_faults, inner_sections, is_far, number_at, text_at, items_at, section_at, sections_at, source_faults, FieldReader, IsPlainStep, IsStep, after, at_key, number_kind};
+ghost use Rattle.lvm_volume.specs.Prelude.{[], ℕ, Bool, List, false, None, Some, IfErr, IfOk, MatchResult, codes, result_err, Tree, node_of, content_view, node_view, scalar_views, Source, fault_at, field, field_faults, inner_sections, is_far, number_at, text_at, items_at, section_at, sections_at, source_faults, FieldReader, IsPlainStep, IsStep, after, at_key, number_kind};
+ghost use Rattle.std.specs.Prelude.{◌≡◌, ◌∷◌, if◌then◌else◌};
 ghost use Rattle.lvm_text.specs.Tree as tree;
 ghost use Rattle.dm_table.specs.declared.load.load_fault.LoadKind.TheVariants as loads;
 ghost use Rattle.lvm_volume.specs.fields.Kinds as kinds;

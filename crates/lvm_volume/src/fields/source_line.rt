@@ -3,7 +3,8 @@
 //! The place of each fault, device, line and disk of metadata is made here. Lines count from 1; a fault of
 //! memory has no line.
 
-ghost use Rattle.lvm_volume.specs.Prelude.{◌≡◌, Source, IsMemoryFault, fault_at, source_line};
+ghost use Rattle.lvm_volume.specs.Prelude.{Source, IsMemoryFault, fault_at, source_line};
+ghost use Rattle.std.specs.Prelude.{◌≡◌};
 
 use dm_table::{LoadFault, LoadKind, Part, Place};
 

@@ -1,6 +1,7 @@
 //! What a section holds that no check asks for, and the sections inside it.
 
-ghost use Rattle.lvm_volume.specs.Prelude.{◌≡◌, map, unwrap_or, IfOk, item_view, inner_sections, items_at, items_view, number_at, sections_at, text_at};
+ghost use Rattle.lvm_volume.specs.Prelude.{map, unwrap_or, IfOk, item_view, inner_sections, items_at, items_view, number_at, sections_at, text_at};
+ghost use Rattle.std.specs.Prelude.{◌≡◌};
 ghost use Rattle.lvm_text.specs.Tree as spec;
 
 use lvm_text::{Scalar, Section, Value};

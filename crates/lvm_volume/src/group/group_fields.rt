@@ -1,6 +1,7 @@
 //! The fields of a group: what its text says, once both checks of fields found nothing.
 
-ghost use Rattle.lvm_volume.specs.Prelude.{◌≡◌, None, Some, MatchResult, map, IfOk, codes, result_err, item_view, sections_of, first_or, Fields, Limits, IsChecked, faults_of_fields, fields_faults, first_of, group_faults, group_fields, inner_sections, number_at, physicals_faults, sections_at, top_fields, volumes_faults, IsPlainStep, IsStep, at_key, FieldReader, first_section, group_of, IsSaid, volumes_said, fields_of, fields_view};
+ghost use Rattle.lvm_volume.specs.Prelude.{None, Some, MatchResult, map, IfOk, codes, result_err, item_view, sections_of, first_or, Fields, Limits, IsChecked, faults_of_fields, fields_faults, first_of, group_faults, group_fields, inner_sections, number_at, physicals_faults, sections_at, top_fields, volumes_faults, IsPlainStep, IsStep, at_key, FieldReader, first_section, group_of, IsSaid, volumes_said, fields_of, fields_view};
+ghost use Rattle.std.specs.Prelude.{◌≡◌};
 ghost use Rattle.lvm_text.specs.Tree as tree;
 ghost use Rattle.lvm_volume.specs.fields.Kinds as kinds;
 

@@ -1,6 +1,7 @@
 //! The key of a section, copied so that it outlives the text. A clause sees it as its bytes.
 
-ghost use Rattle.lvm_volume.specs.Prelude.{◌≡◌, IfOk};
+ghost use Rattle.lvm_volume.specs.Prelude.{IfOk};
+ghost use Rattle.std.specs.Prelude.{◌≡◌};
 
 use std::alloc::{AllocError, Global};
 use std::marker::Model;

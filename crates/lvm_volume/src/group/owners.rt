@@ -1,7 +1,8 @@
 //! Physical volumes by the disks whose images have them: an image's header has an id, and so has the section of a
 //! physical volume. Where no image has its id, a physical volume keeps the name that it has without images.
 
-ghost use Rattle.lvm_volume.specs.Prelude.{◌≡◌, [], ◌∷◌, List, ℕ, IfOk, false, bytes_eq, codes, length, map, option_map, slice_index_or, unwrap_or, item_view, inner_sections, sections_at, first_section, all_owned, disk_fault, id_in, lay_elsewhere, letters_of, name_by, owned_group, owner_of, physicals_of, section_of, untaken, ids_view, owners_view};
+ghost use Rattle.lvm_volume.specs.Prelude.{[], List, ℕ, IfOk, false, bytes_eq, codes, length, map, option_map, slice_index_or, unwrap_or, item_view, inner_sections, sections_at, first_section, all_owned, disk_fault, id_in, lay_elsewhere, letters_of, name_by, owned_group, owner_of, physicals_of, section_of, untaken, ids_view, owners_view};
+ghost use Rattle.std.specs.Prelude.{◌≡◌, ◌∷◌};
 
 use crate::fields::value::{section_if_there, sections_of, text_or_empty};
 use crate::group::physical::Physical;

@@ -4,8 +4,9 @@
 //! by its device only where that is a path that no other physical volume gives, and else by the key. The rule
 //! is `chosen` in `specs/group/Group.antt`.
 
-ghost use Rattle.lvm_volume.specs.Prelude.{◌≡◌, Err, List, [], ◌∷◌, ℕ, None, false, true, map, nat_lt, unwrap_or, IfOk, result_err, nat_cmp, slice_cmp, get_by, item_view, Source, Answers, unless, is_disk_name, fields_faults, first_of, physical_fields, physicals_faults, IsStep, name_faults, chosen, Counts, all_named, fields_of, fields_view, with_disk_name, devices_in};
+ghost use Rattle.lvm_volume.specs.Prelude.{Err, List, [], ℕ, None, false, true, map, nat_lt, unwrap_or, IfOk, result_err, nat_cmp, slice_cmp, get_by, item_view, Source, Answers, unless, is_disk_name, fields_faults, first_of, physical_fields, physicals_faults, IsStep, name_faults, chosen, Counts, all_named, fields_of, fields_view, with_disk_name, devices_in};
 ghost use Rattle.dm_table.specs.declared.words.name.CheckFault.TheVariants.{Form};
+ghost use Rattle.std.specs.Prelude.{◌≡◌, ◌∷◌};
 
 use crate::fields::reader::{FieldReader, NumberKind, text_at};
 use crate::fields::source_line::{memory_fault, source_fault};

@@ -3,7 +3,8 @@
 //!
 //! The keys of a section all differ, so each is new to the set. A clause sees the keys in source order.
 
-ghost use Rattle.lvm_volume.specs.Prelude.{◌≡◌, ◌++◌, ◌∷◌, [], false, IfOk, OnOk, bytes_eq, list_any, sections_of, keys_in, position_of, texts};
+ghost use Rattle.lvm_volume.specs.Prelude.{[], false, IfOk, OnOk, bytes_eq, list_any, sections_of, keys_in, position_of, texts};
+ghost use Rattle.std.specs.Prelude.{◌≡◌, ◌++◌, ◌∷◌};
 
 use indexmap::IndexSet;
 use lvm_text::Section;

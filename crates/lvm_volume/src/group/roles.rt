@@ -4,7 +4,8 @@
 //! its origin and which its store. The roles of all volumes are found in one pass over their records; the
 //! check of snapshots, the names of devices and the devices themselves follow from them.
 
-ghost use Rattle.lvm_volume.specs.Prelude.{◌≡◌, [], IfOk, extents_of, is_record, is_store, name_at, recorded, role_at, roles_among, roles_of, segments_at, changed, record_list, with_origin, with_store};
+ghost use Rattle.lvm_volume.specs.Prelude.{[], IfOk, extents_of, is_record, is_store, name_at, recorded, role_at, roles_among, roles_of, segments_at, changed, record_list, with_origin, with_store};
+ghost use Rattle.std.specs.Prelude.{◌≡◌};
 ghost use Rattle.lvm_volume.specs.declared.group.roles.Role.TheVariants as roles;
 ghost use Rattle.lvm_volume.specs.group.Roles as spec;
 

@@ -3,7 +3,8 @@
 //! What they say is not checked here. A new type of segment is a variant of `SegmentType`, a word of the
 //! field `type`, and an arm where segments are checked and where they become lines.
 
-ghost use Rattle.lvm_volume.specs.Prelude.{◌≡◌, ◌+◌, ◌∷◌, [], ℕ, List, MatchOption, IfOk, codes, map, result_err, scalar_view, scalar_views, field, field_faults, fields_faults, items_at, number_at, section_view, segment_fields, text_at, IsPlainStep, IsStep, at_key, later_fields, segments_faults, type_fields, named_type, type_text, segment_of, snapshot_in, striped_in, stripes_in, target_of};
+ghost use Rattle.lvm_volume.specs.Prelude.{[], ℕ, List, MatchOption, IfOk, codes, map, result_err, scalar_view, scalar_views, field, field_faults, fields_faults, items_at, number_at, section_view, segment_fields, text_at, IsPlainStep, IsStep, at_key, later_fields, segments_faults, type_fields, named_type, type_text, segment_of, snapshot_in, striped_in, stripes_in, target_of};
+ghost use Rattle.std.specs.Prelude.{◌≡◌, ◌+◌, ◌∷◌};
 ghost use Rattle.lvm_text.specs.Tree as tree;
 ghost use Rattle.lvm_volume.specs.fields.Kinds as kinds;
 ghost use Rattle.lvm_volume.specs.declared.group.segment.TypeName.TheVariants as types;

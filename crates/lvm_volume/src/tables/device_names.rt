@@ -3,7 +3,8 @@
 //! Their parts are all looked at before any device is made, so that the first in the order of the text is refused,
 //! whichever devices name it in their lines.
 
-ghost use Rattle.lvm_volume.specs.Prelude.{◌≡◌, ◌∷◌, [], None, Some, IfOk, result_err, flat_map, zip, first_of, Returns, built, fault_of, IsNamed, device_name, device_parts, layer_text, unnamed_layer, unnamed_volume};
+ghost use Rattle.lvm_volume.specs.Prelude.{[], None, Some, IfOk, result_err, flat_map, zip, first_of, Returns, built, fault_of, IsNamed, device_name, device_parts, layer_text, unnamed_layer, unnamed_volume};
+ghost use Rattle.std.specs.Prelude.{◌≡◌, ◌∷◌};
 
 use crate::fault::NameFault;
 use crate::fields::source_line::source_fault;

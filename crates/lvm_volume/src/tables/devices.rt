@@ -4,8 +4,9 @@
 //! their names (lvm(8); what `dmsetup table` prints of a group with snapshots). A new role is an arm in
 //! `add_devices`, and in `devices_by` and `layers_of` of `specs/tables/Tables.antt`.
 
-ghost use Rattle.lvm_volume.specs.Prelude.{◌≡◌, ◌++◌, ◌*◌, ◌^◌, ◌<◌, None, Some, IfOk, OnOk, AllByRecursion, flat_map, zip, Real, Cow, group_view, extents_of, name_at, segments_at, AreSegmentsIn, IsMadeIn, IsNamed, device_name, length_of, origin_line, over_device, own_device, snapshot_line};
+ghost use Rattle.lvm_volume.specs.Prelude.{None, Some, IfOk, OnOk, AllByRecursion, flat_map, zip, Real, Cow, group_view, extents_of, name_at, segments_at, AreSegmentsIn, IsMadeIn, IsNamed, device_name, length_of, origin_line, over_device, own_device, snapshot_line};
 ghost use Rattle.lvm_volume.specs.tables.Tables.{devices_in};
+ghost use Rattle.std.specs.Prelude.{◌≡◌, ◌++◌, ◌*◌, ◌^◌, ◌<◌};
 
 use crate::fields::source_line::source_line;
 use crate::group::physical::Physical;

@@ -1,6 +1,7 @@
 //! The disks of physical volumes.
 
-ghost use Rattle.lvm_volume.specs.Prelude.{◌≡◌, IfOk, map, physical_disk};
+ghost use Rattle.lvm_volume.specs.Prelude.{IfOk, map, physical_disk};
+ghost use Rattle.std.specs.Prelude.{◌≡◌};
 
 use crate::fields::source_line::source_line;
 use crate::group::physical::Physical;

@@ -3,7 +3,8 @@
 //! The checks of a group have passed, so each product fits 64 bits, and each stripe is on a physical volume
 //! of the group. A new type of segment is an arm in `line_target`, here and in `specs/tables/Tables.antt`.
 
-ghost use Rattle.lvm_volume.specs.Prelude.{◌≡◌, IfOk, map, AllByRecursion, stripes_of, IsSegmentIn, IsStripeIn, column_of, columns_target, line_of, line_target};
+ghost use Rattle.lvm_volume.specs.Prelude.{IfOk, map, AllByRecursion, stripes_of, IsSegmentIn, IsStripeIn, column_of, columns_target, line_of, line_target};
+ghost use Rattle.std.specs.Prelude.{◌≡◌};
 
 use crate::fields::source_line::source_line;
 use crate::group::physical::Physical;

@@ -1,8 +1,9 @@
-use Rattle.dm_map.proofs.Prelude.{◌≡◌, ◌+◌, false, true, arith, nat_lt, device_len}
+use Rattle.dm_map.proofs.Prelude.{false, true, arith, nat_lt, device_len}
 use Rattle.dm_map.proofs.walk.Bounds.{request_bound}
 use Rattle.dm_map.proofs.walk.HomeLemmas.{walked_over}
 use Rattle.dm_map.proofs.walk.Rows.{step_past_end, walked_piece}
 use Rattle.dm_map.proofs.mapper.pieces_or_home.Goals as goal
+use Rattle.std.specs.Prelude.{◌≡◌, ◌+◌}
 
 pub returns-then-passes_end-clause-walked : goal.returns-then-passes_end-clause-walked
 returns-then-passes_end-clause-walked g c =

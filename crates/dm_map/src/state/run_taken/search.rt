@@ -3,7 +3,8 @@
 //! This is the one place where a chunk is compared with the first chunk of a run, and each comparison
 //! of a search is counted here.
 
-ghost use Rattle.dm_map.specs.Prelude.{◌≤◌, length, binary_digits, AreBegunBy, AreRuns};
+ghost use Rattle.dm_map.specs.Prelude.{length, binary_digits, AreBegunBy, AreRuns};
+ghost use Rattle.std.specs.Prelude.{◌≤◌};
 
 use crate::state::run_taken::run::Run;
 

@@ -2,7 +2,8 @@
 //!
 //! A table of links is written when a snapshot is loaded, so that they are as short as can be.
 
-ghost use Rattle.dm_map.specs.Prelude.{◌≡◌, ◌<◌, ◌+◌, ◌^◌, Empty, Number, Fork};
+ghost use Rattle.dm_map.specs.Prelude.{Empty, Number, Fork};
+ghost use Rattle.std.specs.Prelude.{◌≡◌, ◌<◌, ◌+◌, ◌^◌};
 
 use std::marker::Model;
 

@@ -1,6 +1,7 @@
 //! The slots of a trie's table: at which of its links the way of a chunk begins.
 
-ghost use Rattle.dm_map.specs.Prelude.{◌≡◌, ◌+◌, ◌<◌, ◌≤◌, slot_of};
+ghost use Rattle.dm_map.specs.Prelude.{slot_of};
+ghost use Rattle.std.specs.Prelude.{◌≡◌, ◌+◌, ◌<◌, ◌≤◌};
 
 /// An odd number without a pattern: 2³² less its golden section.
 const SPREAD: u64 = 0x61C8_8647;

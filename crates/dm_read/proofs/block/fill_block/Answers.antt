@@ -1,7 +1,8 @@
-use Rattle.dm_read.proofs.Prelude.{◌≡◌, ◌+◌, ◌-◌, ◌<◌, ap, subst, ◌∙◌, arith, MapperView, with_looked, read, IsFirstRead, disk_contents, device_bytes}
+use Rattle.dm_read.proofs.Prelude.{ap, subst, ◌∙◌, arith, MapperView, with_looked, read, IsFirstRead, disk_contents, device_bytes}
 use Rattle.dm_stack.specs.declared.id.Lower.TheVariants.{Device}
 use Rattle.dm_read.proofs.FilledLemmas.{all_at, at_ground, fewer_at, front_more, of_ground, stopped_at}
 use Rattle.dm_read.proofs.block.fill_block.Goals as goal
+use Rattle.std.specs.Prelude.{◌≡◌, ◌+◌, ◌-◌, ◌<◌}
 
 pub returns-in-Some-clause-filled : goal.returns-in-Some-clause-filled
 returns-in-Some-clause-filled g c = λ held seen.

@@ -1,6 +1,7 @@
-use Rattle.dm_read.proofs.Prelude.{◌≡◌, ◌+◌, ◌-◌, ◌≤◌, length, with_looked, Contents, disk_contents, device_bytes}
+use Rattle.dm_read.proofs.Prelude.{length, with_looked, Contents, disk_contents, device_bytes}
 use Rattle.dm_read.proofs.FilledLemmas.{AreIn}
 use Rattle.dm_read.proofs.block.fill_block.Given as goal
+use Rattle.std.specs.Prelude.{◌≡◌, ◌+◌, ◌-◌, ◌≤◌}
 
 abbrev pub invariant-loop-done : goal.invariant-loop-done
 invariant-loop-done g l = record {

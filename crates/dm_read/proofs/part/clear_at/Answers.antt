@@ -1,6 +1,7 @@
-use Rattle.dm_read.proofs.Prelude.{◌≡◌, ℕ, ◌*◌, List, length, replicate, ap, ◌∙◌, arith, length-replicate, sector_in}
+use Rattle.dm_read.proofs.Prelude.{ℕ, List, length, replicate, ap, ◌∙◌, arith, length-replicate, sector_in}
 use Rattle.dm_read.proofs.BlockLemmas.{cleared, in_part, part_kept, part_len}
 use Rattle.dm_read.proofs.part.clear_at.Goals as goal
+use Rattle.std.specs.Prelude.{◌≡◌, ◌*◌}
 
 pub returns-clause-kept : goal.returns-clause-kept
 returns-clause-kept c =

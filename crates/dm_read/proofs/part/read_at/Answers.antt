@@ -1,7 +1,8 @@
-use Rattle.dm_read.proofs.Prelude.{◌≡◌, ℕ, ◌+◌, ◌*◌, ◌<◌, List, length, Result, Ok, Err, ap, sym, ◌∙◌, arith, OnOk, AreRead, disk_contents, sector_in, Sectors}
+use Rattle.dm_read.proofs.Prelude.{ℕ, List, length, Result, Ok, Err, ap, sym, ◌∙◌, arith, OnOk, AreRead, disk_contents, sector_in, Sectors}
 use Rattle.dm_store.specs.declared.fault.SectorFault.{SectorFault}
 use Rattle.dm_read.proofs.BlockLemmas.{in_part, part_kept, part_len}
 use Rattle.dm_read.proofs.part.read_at.Goals as goal
+use Rattle.std.specs.Prelude.{◌≡◌, ◌+◌, ◌*◌, ◌<◌}
 
 -- sectors that were read to a part of a block
 placed : (sectors : Sectors) (start at count : ℕ) (result : Result (Unit {0}) SectorFault) (bytes block : List ℕ) → length bytes ≡ 512 * count → ((i : ℕ) → i < count → sector_in block (at + i) ≡ sector_in bytes i)

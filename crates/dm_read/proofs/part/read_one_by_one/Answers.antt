@@ -1,6 +1,7 @@
-use Rattle.dm_read.proofs.Prelude.{◌+◌, arith, ReadOf, disk_contents, unit_bytes}
+use Rattle.dm_read.proofs.Prelude.{arith, ReadOf, disk_contents, unit_bytes}
 use Rattle.dm_read.proofs.FilledLemmas.{kept_more, more_in, of_disks}
 use Rattle.dm_read.proofs.part.read_one_by_one.Goals as goal
+use Rattle.std.specs.Prelude.{◌+◌}
 
 pub loop-done-preserved : goal.loop-done-preserved
 loop-done-preserved g c =

@@ -1,5 +1,6 @@
-use Rattle.dm_read.proofs.Prelude.{◌≡◌, ◌+◌, ◌-◌, ◌<◌, ◌≤◌, ℕ, Ok, ReadOf, Contents, disk_contents, sector_in, unit_bytes, AreKept}
+use Rattle.dm_read.proofs.Prelude.{ℕ, Ok, ReadOf, Contents, disk_contents, sector_in, unit_bytes, AreKept}
 use Rattle.dm_read.proofs.part.read_one_by_one.Given as goal
+use Rattle.std.specs.Prelude.{◌≡◌, ◌+◌, ◌-◌, ◌<◌, ◌≤◌}
 
 abbrev pub invariant-loop-done : goal.invariant-loop-done
 invariant-loop-done g l = record {

@@ -1,7 +1,8 @@
-use Rattle.dm_read.proofs.Prelude.{◌≡◌, ℕ, ◌+◌, ◌-◌, ◌*◌, List, take, Result, None, ap, subst, ◌∙◌, arith, err_from_is_err_and, MapperView, with_looked, disk_contents, written_since, written_more, ByteFault, Reading, after, bytes_of, device_bytes, AreFilled}
+use Rattle.dm_read.proofs.Prelude.{ℕ, List, take, Result, None, ap, subst, ◌∙◌, arith, err_from_is_err_and, MapperView, with_looked, disk_contents, written_since, written_more, ByteFault, Reading, after, bytes_of, device_bytes, AreFilled}
 use Rattle.dm_read.proofs.ByteLemmas.{all_written, block_filled, none_left, part_cut, part_moved, part_written, stopped_first}
 use Rattle.dm_read.proofs.FilledLemmas.{all_at, fewer_at, most_at, stopped_at}
 use Rattle.dm_read.proofs.sectors.write_sectors.Goals as goal
+use Rattle.std.specs.Prelude.{◌≡◌, ◌+◌, ◌-◌, ◌*◌}
 
 -- ---- a write failed
 

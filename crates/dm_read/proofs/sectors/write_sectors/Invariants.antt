@@ -1,5 +1,6 @@
-use Rattle.dm_read.proofs.Prelude.{◌≡◌, ◌+◌, length, with_looked, Contents, disk_contents, written_since, HasWritten, after, bytes_of, device_bytes}
+use Rattle.dm_read.proofs.Prelude.{length, with_looked, Contents, disk_contents, written_since, HasWritten, after, bytes_of, device_bytes}
 use Rattle.dm_read.proofs.sectors.write_sectors.Given as goal
+use Rattle.std.specs.Prelude.{◌≡◌, ◌+◌}
 
 abbrev pub invariant-loop-left : goal.invariant-loop-left
 invariant-loop-left g l = record {

@@ -1,6 +1,7 @@
 -- what is stored is as before
-use Rattle.dm_replay.proofs.Prelude.{◌≡◌, ◌-◌, ◌+◌, ℕ, length, values_of}
+use Rattle.dm_replay.proofs.Prelude.{ℕ, length, values_of}
 use Rattle.dm_replay.proofs.disk_values.reach.Given as goal
+use Rattle.std.specs.Prelude.{◌≡◌, ◌-◌, ◌+◌}
 
 abbrev pub invariant-loop-alloc : goal.invariant-loop-alloc
 invariant-loop-alloc l = (disk sector : ℕ) → values_of l.disks.items disk sector ≡ values_of l.initial.disks.items disk sector

@@ -1,6 +1,7 @@
-use Rattle.dm_replay.proofs.Prelude.{ℕ, ◌+◌, length, List, ◌++◌, drop, take, refl, flat_map, err_from_is_err_and, slice_get_read, at_index, ValueRun, run_line, IsRunOf}
+use Rattle.dm_replay.proofs.Prelude.{ℕ, length, List, drop, take, refl, flat_map, err_from_is_err_and, slice_get_read, at_index, ValueRun, run_line, IsRunOf}
 use Rattle.dm_table.proofs.WriteLemmas.{stopped, and_then, flat_map_at, flat_map_next}
 use Rattle.dm_replay.proofs.run_text.write_runs.Goals as goal
+use Rattle.std.specs.Prelude.{◌+◌, ◌++◌}
 
 pub write_run-requires : goal.write_run-requires
 write_run-requires g c = at_index (IsRunOf (length c.args.stack.now.disks)) c.args.runs.now c.loop-run.run-index c.run-item.result c.requires (slice_get_read c.args.runs.now _ c.loop-run.run-index c.run-item.result refl c.loop-run-test.true c.run-item.is)

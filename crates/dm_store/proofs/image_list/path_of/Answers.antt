@@ -1,6 +1,7 @@
-use Rattle.dm_store.proofs.Prelude.{◌≡◌, ◌≢◌, sym, ◌∙◌}
+use Rattle.dm_store.proofs.Prelude.{sym, ◌∙◌}
 use Rattle.dm_store.proofs.ImageLemmas.{path_here, path_later}
 use Rattle.dm_store.proofs.image_list.path_of.Goals as goal
+use Rattle.std.specs.Prelude.{◌≡◌, ◌≢◌}
 
 pub returns-then-are_same : goal.returns-then-are_same
 returns-then-are_same c =

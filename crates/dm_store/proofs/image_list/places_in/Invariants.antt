@@ -1,6 +1,7 @@
 -- the disks so far have their places
-use Rattle.dm_store.proofs.Prelude.{◌≡◌, map, take, image_in}
+use Rattle.dm_store.proofs.Prelude.{map, take, image_in}
 use Rattle.dm_store.proofs.image_list.places_in.Given as goal
+use Rattle.std.specs.Prelude.{◌≡◌}
 
 abbrev pub invariant-loop-disk : goal.invariant-loop-disk
 invariant-loop-disk l = l.places.items ≡ map (λ disk. image_in l.paths disk.name) (take l.disk-index l.stack.disks)

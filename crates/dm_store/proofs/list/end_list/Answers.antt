@@ -1,7 +1,8 @@
-use Rattle.dm_store.proofs.Prelude.{◌≡◌, ℕ, ◌+◌, ◌%◌, ◌<◌, true, List, Result, Ok, Err, refl, sym, ap, subst, ◌∙◌, arith, Description, MapperView, with_looked, SectorFault, disk_contents, rest_count, each, HasRead, store_sectors, are_zeros, is_clear, is_clear_in, of_list}
+use Rattle.dm_store.proofs.Prelude.{ℕ, true, List, Result, Ok, Err, refl, sym, ap, subst, ◌∙◌, arith, Description, MapperView, with_looked, SectorFault, disk_contents, rest_count, each, HasRead, store_sectors, are_zeros, is_clear, is_clear_in, of_list}
 use Rattle.dm_store.proofs.ListLemmas.{each_more}
 use Rattle.dm_store.proofs.WalkLemmas.{rest_clear, rest_inside, rest_stops}
 use Rattle.dm_store.proofs.list.end_list.Goals as goal
+use Rattle.std.specs.Prelude.{◌≡◌, ◌+◌, ◌%◌, ◌<◌}
 
 pub loop-next-init : goal.loop-next-init
 unfolding each

@@ -1,5 +1,6 @@
-use Rattle.dm_store.proofs.Prelude.{◌≡◌, ◌+◌, true, with_looked, Contents, disk_contents, each, HasRows, store_sectors, is_clear}
+use Rattle.dm_store.proofs.Prelude.{true, with_looked, Contents, disk_contents, each, HasRows, store_sectors, is_clear}
 use Rattle.dm_store.proofs.list.end_list.Given as goal
+use Rattle.std.specs.Prelude.{◌≡◌, ◌+◌}
 
 abbrev pub invariant-loop-next : goal.invariant-loop-next
 invariant-loop-next g l = record {

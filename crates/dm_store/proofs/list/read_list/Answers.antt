@@ -1,7 +1,8 @@
-use Rattle.dm_store.proofs.Prelude.{◌≡◌, ℕ, ◌+◌, ◌<◌, None, List, [], ◌∷◌, is_some, length, length-append, refl, sym, ap, subst, ◌∙◌, arith, set-get_or, Description, MapperView, with_looked, number_in, State, Taken, none_taken, put, taken_at, with_chunk, disk_contents, pair_count, HasRows, Walked, next_fault, told_list, store_sectors, Holds, ended, is_near, is_placed, listed, of_list}
+use Rattle.dm_store.proofs.Prelude.{ℕ, None, List, [], is_some, length, length-append, refl, sym, ap, subst, ◌∙◌, arith, set-get_or, Description, MapperView, with_looked, number_in, State, Taken, none_taken, put, taken_at, with_chunk, disk_contents, pair_count, HasRows, Walked, next_fault, told_list, store_sectors, Holds, ended, is_near, is_placed, listed, of_list}
 use Rattle.dm_store.proofs.StoreLemmas.{put_more}
 use Rattle.dm_store.proofs.WalkLemmas.{ended_list, full_list, no_fault_before, one_more, unread_list, walked_none}
 use Rattle.dm_store.proofs.list.read_list.Goals as goal
+use Rattle.std.specs.Prelude.{◌≡◌, ◌+◌, ◌<◌, ◌∷◌}
 
 pub loop-number-init : goal.loop-number-init
 loop-number-init g c =

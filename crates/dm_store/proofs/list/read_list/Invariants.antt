@@ -1,5 +1,6 @@
-use Rattle.dm_store.proofs.Prelude.{◌≡◌, None, length, true, put, taken_at, Contents, disk_contents, HasRows, Walked, store_sectors}
+use Rattle.dm_store.proofs.Prelude.{None, length, true, put, taken_at, Contents, disk_contents, HasRows, Walked, store_sectors}
 use Rattle.dm_store.proofs.list.read_list.Given as goal
+use Rattle.std.specs.Prelude.{◌≡◌}
 
 abbrev pub invariant-loop-number : goal.invariant-loop-number
 invariant-loop-number g l = record {

@@ -1,6 +1,7 @@
-use Rattle.dm_store.proofs.Prelude.{◌≡◌, ℕ, ◌+◌, ◌%◌, ◌≤◌, ◌<◌, ap, subst, ◌∙◌, arith, disk_contents, row_sector, store_sectors}
+use Rattle.dm_store.proofs.Prelude.{ℕ, ap, subst, ◌∙◌, arith, disk_contents, row_sector, store_sectors}
 use Rattle.dm_store.proofs.RowLemmas.{block_row, block_rows, one_row, row_fault, rows_within}
 use Rattle.dm_store.proofs.rows.read_block.Goals as goal
+use Rattle.std.specs.Prelude.{◌≡◌, ◌+◌, ◌%◌, ◌≤◌, ◌<◌}
 
 pub first_homes-disk-requires-clause-inside : goal.first_homes-disk-requires-clause-inside
 first_homes-disk-requires-clause-inside g c =

@@ -1,5 +1,6 @@
-use Rattle.dm_store.proofs.Prelude.{◌≡◌, ℕ, ◌+◌, sym, ap, ◌∙◌, arith, disk_contents}
+use Rattle.dm_store.proofs.Prelude.{ℕ, sym, ap, ◌∙◌, arith, disk_contents}
 use Rattle.dm_store.proofs.rows.read_row.Goals as goal
+use Rattle.std.specs.Prelude.{◌≡◌, ◌+◌}
 
 pub returns-in-Ok-clause-sector : goal.returns-in-Ok-clause-sector
 returns-in-Ok-clause-sector g c = λ held seen.

@@ -1,6 +1,7 @@
-use Rattle.dm_store.proofs.Prelude.{◌≡◌, ℕ, Ok, sym, ap, ◌∙◌, arith, disk_contents, store_sectors, by_header}
+use Rattle.dm_store.proofs.Prelude.{ℕ, Ok, sym, ap, ◌∙◌, arith, disk_contents, store_sectors, by_header}
 use Rattle.dm_store.proofs.RowLemmas.{first_home, first_read}
 use Rattle.dm_store.proofs.stores.header_of.Goals as goal
+use Rattle.std.specs.Prelude.{◌≡◌}
 
 pub returns-in-Ok-clause-header : goal.returns-in-Ok-clause-header
 returns-in-Ok-clause-header g c = λ held seen used.

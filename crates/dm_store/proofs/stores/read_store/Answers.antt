@@ -1,6 +1,7 @@
-use Rattle.dm_store.proofs.Prelude.{◌≡◌, Result, Ok, ap, ◌∙◌, MapperView, State, Taken, lost, none_taken, put, taken_at, taken_same, StoreFault, disk_contents, told_list, store_sectors, taken_in, Holds, Lost, listed, stored}
+use Rattle.dm_store.proofs.Prelude.{Result, Ok, ap, ◌∙◌, MapperView, State, Taken, lost, none_taken, put, taken_at, taken_same, StoreFault, disk_contents, told_list, store_sectors, taken_in, Holds, Lost, listed, stored}
 use Rattle.dm_store.proofs.StoreLemmas.{list_told}
 use Rattle.dm_store.proofs.stores.read_store.Goals as goal
+use Rattle.std.specs.Prelude.{◌≡◌}
 
 pub returns-in-Lost-clause-stored : goal.returns-in-Lost-clause-stored
 returns-in-Lost-clause-stored g c = λ held seen.

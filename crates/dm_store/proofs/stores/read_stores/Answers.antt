@@ -1,6 +1,7 @@
-use Rattle.dm_store.proofs.Prelude.{◌≡◌, ℕ, Result, Ok, get_or, length, refl, sym, ap, ◌∙◌, arith, get_or_default, get_or_past, get_or_read, length-replicate, length-set, take_all, State, Taken, none_taken, put, taken_at, none_at, StoreFault, StoreRefusal, disk_contents, start_of}
+use Rattle.dm_store.proofs.Prelude.{ℕ, Result, Ok, get_or, length, refl, sym, ap, ◌∙◌, arith, get_or_default, get_or_past, get_or_read, length-replicate, length-set, take_all, State, Taken, none_taken, put, taken_at, none_at, StoreFault, StoreRefusal, disk_contents, start_of}
 use Rattle.dm_store.proofs.StartLemmas.{InOrder, all_started, first_refused, in_order, next_later, next_started, none_before, snapshot_there}
 use Rattle.dm_store.proofs.stores.read_stores.Goals as goal
+use Rattle.std.specs.Prelude.{◌≡◌}
 
 pub loop-next-init : goal.loop-next-init
 loop-next-init g c =

@@ -1,5 +1,6 @@
-use Rattle.dm_store.proofs.Prelude.{◌≡◌, ℕ, ◌<◌, ◌≤◌, Ok, get_or, length, none_taken, taken_at, Contents, disk_contents, start_of}
+use Rattle.dm_store.proofs.Prelude.{ℕ, Ok, get_or, length, none_taken, taken_at, Contents, disk_contents, start_of}
 use Rattle.dm_store.proofs.stores.read_stores.Given as goal
+use Rattle.std.specs.Prelude.{◌≡◌, ◌<◌, ◌≤◌}
 
 abbrev pub invariant-loop-next : goal.invariant-loop-next
 invariant-loop-next g l = record {

@@ -1,5 +1,6 @@
-use Rattle.dmremap.proofs.Prelude.{◌≡◌, drop, map, option_map, list_any, fits}
+use Rattle.dmremap.proofs.Prelude.{drop, map, option_map, list_any, fits}
 use Rattle.dmremap.proofs.explanation.has_entry.Given as goal
+use Rattle.std.specs.Prelude.{◌≡◌}
 
 abbrev pub invariant-loop-entry : goal.invariant-loop-entry
 invariant-loop-entry l =

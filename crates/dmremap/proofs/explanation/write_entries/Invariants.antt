@@ -1,7 +1,8 @@
-use Rattle.dmremap.proofs.Prelude.{◌≡◌, Ok, map, option_map, take, Wrote, fits, texts_of}
+use Rattle.dmremap.proofs.Prelude.{Ok, map, option_map, take, Wrote, fits, texts_of}
 use Rattle.dm_table.specs.declared.io.device_io.OutFault.{OutFault}
 use Rattle.dmremap.proofs.EntryLemmas.{between}
 use Rattle.dmremap.proofs.explanation.write_entries.Given as goal
+use Rattle.std.specs.Prelude.{◌≡◌}
 
 -- the texts of the entries so far are written, and nothing failed
 abbrev pub invariant-loop-entry : goal.invariant-loop-entry

@@ -1,6 +1,7 @@
-use Rattle.dmremap.proofs.Prelude.{◌≡◌, drop, length, AreSeen, short_of}
+use Rattle.dmremap.proofs.Prelude.{drop, length, AreSeen, short_of}
 use Rattle.lvm_head.specs.Disks.{Contents as DiskContents}
 use Rattle.dmremap.proofs.images_load.first_short.Given as goal
+use Rattle.std.specs.Prelude.{◌≡◌}
 
 abbrev pub invariant-loop-disk : goal.invariant-loop-disk
 invariant-loop-disk g l = record {

@@ -1,7 +1,8 @@
-use Rattle.dmremap.proofs.Prelude.{◌≡◌, rules, true, delivery, written_since, job_words, Opened, JobAnswers, JobMakes, is_loading}
+use Rattle.dmremap.proofs.Prelude.{rules, true, delivery, written_since, job_words, Opened, JobAnswers, JobMakes, is_loading}
 use Rattle.dmremap.proofs.AnswerLemmas.{does_more, opened_does, refused_does, unopened_tells}
 use Rattle.dmremap.proofs.OneOther.{job_loads}
 use Rattle.dmremap.proofs.other_whole.answer.Goals as goal
+use Rattle.std.specs.Prelude.{◌≡◌}
 
 -- ---- nothing is loaded
 

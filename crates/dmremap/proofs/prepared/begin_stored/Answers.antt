@@ -1,7 +1,8 @@
-use Rattle.dmremap.proofs.Prelude.{◌≡◌, None, ap, refl, sym, ◌∙◌, IfErr, disk_contents, stored_state, IsOutOfMemory, IsBegunAt, start_at}
+use Rattle.dmremap.proofs.Prelude.{None, ap, refl, sym, ◌∙◌, IfErr, disk_contents, stored_state, IsOutOfMemory, IsBegunAt, start_at}
 use Rattle.dmremap.specs.Whole.{Refuses}
 use Rattle.dmremap.proofs.BegunLemmas.{handed_on, out_begun}
 use Rattle.dmremap.proofs.prepared.begin_stored.Goals as goal
+use Rattle.std.specs.Prelude.{◌≡◌}
 
 pub returns-in_err-prepared-clause-begun : goal.returns-in_err-prepared-clause-begun
 returns-in_err-prepared-clause-begun g c = λ held seen.

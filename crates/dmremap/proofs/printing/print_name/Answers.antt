@@ -1,6 +1,7 @@
-use Rattle.dmremap.proofs.Prelude.{Ok, ap, option_map, rules, ◌≡◌, ◌∙◌}
+use Rattle.dmremap.proofs.Prelude.{Ok, ap, option_map, rules, ◌∙◌}
 use Rattle.dmremap.proofs.PrintLemmas.{name_done}
 use Rattle.dmremap.proofs.printing.print_name.Goals as goal
+use Rattle.std.specs.Prelude.{◌≡◌}
 
 pub returns-in-Ok : goal.returns-in-Ok
 returns-in-Ok g c =

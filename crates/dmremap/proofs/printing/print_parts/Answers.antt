@@ -1,8 +1,9 @@
-use Rattle.dmremap.proofs.Prelude.{None, Option, Some, refl, rules, subst, sym, ◌≡◌, IfNone, IfSome, string_bytes, Builds, IsSpaced, NameParts, Refuses, SaidBy, SplitSays, line}
+use Rattle.dmremap.proofs.Prelude.{None, Option, Some, refl, rules, subst, sym, IfNone, IfSome, string_bytes, Builds, IsSpaced, NameParts, Refuses, SaidBy, SplitSays, line}
 use Rattle.dmremap.specs.declared.exit.Refusal.TheVariants.{Split}
 use Rattle.dmremap.proofs.AnswerLemmas.{refused_done}
 use Rattle.dmremap.proofs.PrintLemmas.{says_done}
 use Rattle.dmremap.proofs.printing.print_parts.Goals as goal
+use Rattle.std.specs.Prelude.{◌≡◌}
 
 -- what is so where there is something is so of what there is
 of_some : {T : Type 0} (found : Option T) (value : T) (Holds : T → Type 0) → found ≡ Some value → IfSome found Holds → Holds value

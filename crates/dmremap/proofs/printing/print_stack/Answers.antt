@@ -1,6 +1,7 @@
-use Rattle.dmremap.proofs.Prelude.{rules, ◌≡◌}
+use Rattle.dmremap.proofs.Prelude.{rules}
 use Rattle.dmremap.proofs.PrintLemmas.{text_done}
 use Rattle.dmremap.proofs.printing.print_stack.Goals as goal
+use Rattle.std.specs.Prelude.{◌≡◌}
 
 pub returns : goal.returns
 returns g c =

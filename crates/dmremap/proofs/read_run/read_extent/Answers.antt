@@ -1,7 +1,8 @@
-use Rattle.dmremap.proofs.Prelude.{◌≡◌, Some, disk_contents, stored_state, answer_from, start_at}
+use Rattle.dmremap.proofs.Prelude.{Some, disk_contents, stored_state, answer_from, start_at}
 use Rattle.dmremap.proofs.AnswerLemmas.{asked_refused, refused_does}
 use Rattle.dmremap.proofs.ReadLemmas.{read_does, unbegun_reads, written_asked, written_failed, written_no_memory}
 use Rattle.dmremap.proofs.read_run.read_extent.Goals as goal
+use Rattle.std.specs.Prelude.{◌≡◌}
 
 -- ---- it does not begin
 

@@ -1,7 +1,8 @@
-use Rattle.dmremap.proofs.Prelude.{◌≡◌, Ok, Some, ap, sym, ◌∙◌, disk_contents, load_status, range_words, extent_answer, range_answer}
+use Rattle.dmremap.proofs.Prelude.{Ok, Some, ap, sym, ◌∙◌, disk_contents, load_status, range_words, extent_answer, range_answer}
 use Rattle.dmremap.specs.declared.exit.Refusal.TheVariants as refusals
 use Rattle.dmremap.proofs.AnswerLemmas.{asked_refused, does_more, refused_does}
 use Rattle.dmremap.proofs.read_run.read_range.Goals as goal
+use Rattle.std.specs.Prelude.{◌≡◌}
 
 -- ---- nobody knows where disks lie
 

@@ -1,7 +1,8 @@
-use Rattle.dmremap.proofs.Prelude.{ℕ, ◌+◌, ◌-◌, ◌<◌, ◌≡◌, ◌∙◌, List, ◌∷◌, [], true, false, cond, not, codes, length, get_or, take, drop, add-one, arith, refl, ap, sym, take_while-cons, drop-cons, take-length, Bor, before_first, list_any, bytes_eq, lone_hyphen_in}
+use Rattle.dmremap.proofs.Prelude.{ℕ, ◌∙◌, List, [], true, false, cond, not, codes, length, get_or, take, drop, add-one, arith, refl, ap, sym, take_while-cons, drop-cons, take-length, Bor, before_first, list_any, bytes_eq, lone_hyphen_in}
 use Rattle.clap.specs.Walk.{texts}
 use Rattle.clap.specs.Words.{Text}
 use Rattle.dmremap.proofs.words.has_lone_hyphen.Goals as goal
+use Rattle.std.specs.Prelude.{◌+◌, ◌-◌, ◌<◌, ◌≡◌, ◌∷◌}
 
 -- the first word decides, where it is `--` or a hyphen alone
 lone-cons : (word : Text) (words : List Text) → lone_hyphen_in (word ∷ words)

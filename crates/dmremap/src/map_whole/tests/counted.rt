@@ -3,7 +3,8 @@
 //! A script says what each call of a fake returns, and the fake counts its calls. A row is a script
 //! and what must come of it.
 
-ghost use Rattle.dmremap.specs.Prelude.{◌≤◌, IfOk};
+ghost use Rattle.dmremap.specs.Prelude.{IfOk};
+ghost use Rattle.std.specs.Prelude.{◌≤◌};
 
 use dm_table::{Counted, Input, Output, write_all};
 use std::cell::Cell;

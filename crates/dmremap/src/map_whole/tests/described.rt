@@ -3,7 +3,8 @@
 //! These are texts that no load takes, or that say more than is printed. The commands `table` and
 //! `concise` print the others, and are tested on the built program.
 
-ghost use Rattle.dmremap.specs.Prelude.{◌≤◌, length};
+ghost use Rattle.dmremap.specs.Prelude.{length};
+ghost use Rattle.std.specs.Prelude.{◌≤◌};
 
 use super::*;
 use dm_table::{DeviceSpec, parse_concise, parse_table, write_concise, write_table};

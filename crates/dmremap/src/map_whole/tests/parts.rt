@@ -4,7 +4,8 @@
 //! would meet every clause: these rows refuse it. Read-only devices are tested here, since table
 //! text has none.
 
-ghost use Rattle.dmremap.specs.Prelude.{◌≡◌, ◌<◌, length, disk_len};
+ghost use Rattle.dmremap.specs.Prelude.{length, disk_len};
+ghost use Rattle.std.specs.Prelude.{◌≡◌, ◌<◌};
 
 use super::*;
 use dm_map::{Mapper, Piece, PlainTaken, Sink};

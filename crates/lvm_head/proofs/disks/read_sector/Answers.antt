@@ -1,6 +1,7 @@
-use Rattle.lvm_head.proofs.Prelude.{◌≡◌, length, arith}
+use Rattle.lvm_head.proofs.Prelude.{length, arith}
 use Rattle.lvm_head.proofs.TextLemmas.{one_read}
 use Rattle.lvm_head.proofs.disks.read_sector.Goals as goal
+use Rattle.std.specs.Prelude.{◌≡◌}
 
 pub returns-clause-is : goal.returns-clause-is
 returns-clause-is g c = λ held seen.

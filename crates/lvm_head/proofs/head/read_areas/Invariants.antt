@@ -1,5 +1,6 @@
-use Rattle.lvm_head.proofs.Prelude.{◌≡◌, [], drop, Contents, areas_text}
+use Rattle.lvm_head.proofs.Prelude.{[], drop, Contents, areas_text}
 use Rattle.lvm_head.proofs.head.read_areas.Given as goal
+use Rattle.std.specs.Prelude.{◌≡◌}
 
 abbrev pub invariant-loop-area : goal.invariant-loop-area
 invariant-loop-area g l = record {

@@ -1,6 +1,7 @@
-use Rattle.lvm_head.proofs.Prelude.{◌≡◌, ◌-◌, Ok, Err, refl, ◌∙◌, arith}
+use Rattle.lvm_head.proofs.Prelude.{Ok, Err, refl, ◌∙◌, arith}
 use Rattle.lvm_head.proofs.HeadsLemmas.{heads_done, heads_more}
 use Rattle.lvm_head.proofs.heads.read_heads.Goals as goal
+use Rattle.std.specs.Prelude.{◌≡◌, ◌-◌}
 
 pub loop-disk-init : goal.loop-disk-init
 loop-disk-init g c = record {

@@ -1,5 +1,6 @@
-use Rattle.lvm_head.proofs.Prelude.{◌≡◌, ◌-◌, Contents, heads_from, heads_of}
+use Rattle.lvm_head.proofs.Prelude.{Contents, heads_from, heads_of}
 use Rattle.lvm_head.proofs.heads.read_heads.Given as goal
+use Rattle.std.specs.Prelude.{◌≡◌, ◌-◌}
 
 abbrev pub invariant-loop-disk : goal.invariant-loop-disk
 invariant-loop-disk g l = record {

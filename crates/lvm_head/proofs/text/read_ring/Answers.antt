@@ -1,6 +1,7 @@
-use Rattle.lvm_head.proofs.Prelude.{ℕ, ◌%◌, ◌+◌, ◌∙◌, ◌≡◌, ◌≤◌, List, Ok, ap, subst, sym, length, get_or, refl, length-append, arith, slice_range, elements, common_steps, ring_place, byte_at}
+use Rattle.lvm_head.proofs.Prelude.{ℕ, ◌∙◌, List, Ok, ap, subst, sym, length, get_or, refl, length-append, arith, slice_range, elements, common_steps, ring_place, byte_at}
 use Rattle.lvm_head.proofs.TextLemmas.{gathered_fault, gathered_none, gathered_row}
 use Rattle.lvm_head.proofs.text.read_ring.Goals as goal
+use Rattle.std.specs.Prelude.{◌%◌, ◌+◌, ◌≡◌, ◌≤◌}
 
 pub loop-number-init : goal.loop-number-init
 loop-number-init g c = record {

@@ -1,5 +1,6 @@
-use Rattle.lvm_head.proofs.Prelude.{◌≡◌, ◌-◌, ◌≤◌, Ok, length, Contents, ring_bytes}
+use Rattle.lvm_head.proofs.Prelude.{Ok, length, Contents, ring_bytes}
 use Rattle.lvm_head.proofs.text.read_ring.Given as goal
+use Rattle.std.specs.Prelude.{◌≡◌, ◌-◌, ◌≤◌}
 
 abbrev pub invariant-loop-number : goal.invariant-loop-number
 invariant-loop-number g l = record {

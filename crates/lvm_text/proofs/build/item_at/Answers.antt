@@ -1,6 +1,7 @@
-use Rattle.lvm_text.proofs.Prelude.{sym, ◌∙◌, drop, ◌+◌}
+use Rattle.lvm_text.proofs.Prelude.{sym, ◌∙◌, drop}
 use Rattle.lvm_text.proofs.Building.{item_none}
 use Rattle.lvm_text.proofs.build.item_at.Goals as goal
+use Rattle.std.specs.Prelude.{◌+◌}
 
 pub returns-in-None-clause-item : goal.returns-in-None-clause-item
 returns-in-None-clause-item c =

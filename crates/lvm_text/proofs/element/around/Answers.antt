@@ -1,6 +1,7 @@
-use Rattle.lvm_text.proofs.Prelude.{ap, ◌∙◌, ◌<◌, length, drop, arith, add-one, drop-drop, nat_tests}
+use Rattle.lvm_text.proofs.Prelude.{ap, ◌∙◌, length, drop, arith, add-one, drop-drop, nat_tests}
 use Rattle.lvm_text.proofs.Boundaries.{after_byte, first_of_drop}
 use Rattle.lvm_text.proofs.element.around.Goals as goal
+use Rattle.std.specs.Prelude.{◌<◌}
 
 pub split_at-requires-2 : goal.split_at-requires-2
 split_at-requires-2 c =

@@ -1,6 +1,7 @@
+use Rattle.std.specs.Prelude.{◌≤◌}
 use denote.Text.{Utf8}
 use denote.Shadow.{shadow}
-use Rattle.lvm_text.proofs.Prelude.{◌≤◌, length, views}
+use Rattle.lvm_text.proofs.Prelude.{length, views}
 use Rattle.lvm_text.proofs.Elements.{Reached}
 use Rattle.lvm_text.proofs.lexer.tokens_of.Given as goal
 

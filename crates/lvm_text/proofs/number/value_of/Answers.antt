@@ -1,6 +1,7 @@
-use Rattle.lvm_text.proofs.Prelude.{arith, ◌+◌}
+use Rattle.lvm_text.proofs.Prelude.{arith}
 use Rattle.lvm_text.proofs.Digits.{value_more, value_fits}
 use Rattle.lvm_text.proofs.number.value_of.Goals as goal
+use Rattle.std.specs.Prelude.{◌+◌}
 
 pub overflow_mul-value : goal.overflow_mul-value
 overflow_mul-value c =

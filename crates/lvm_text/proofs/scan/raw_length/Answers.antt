@@ -1,6 +1,7 @@
-use Rattle.lvm_text.proofs.Prelude.{sym, ◌∙◌, ◌+◌, arith}
+use Rattle.lvm_text.proofs.Prelude.{sym, ◌∙◌, arith}
 use Rattle.lvm_text.proofs.Searches.{plus_zero, stop_at, quote_at, stopped_at, escape_at, ended_at}
 use Rattle.lvm_text.proofs.scan.raw_length.Goals as goal
+use Rattle.std.specs.Prelude.{◌+◌}
 
 pub loop-plain-init : goal.loop-plain-init
 loop-plain-init c = record { in_range = omega arith; same = plus_zero _ }

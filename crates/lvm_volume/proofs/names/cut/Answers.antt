@@ -1,7 +1,8 @@
-use Rattle.lvm_volume.proofs.Prelude.{◌≡◌, ◌≤◌, ◌∙◌, ap, ℕ, List, drop, length, get_or, arith, code, slice_length, after_hyphen}
+use Rattle.lvm_volume.proofs.Prelude.{◌∙◌, ap, ℕ, List, drop, length, get_or, arith, code, slice_length, after_hyphen}
 use Rattle.std.proofs.lemmas.Str.Pattern.{strip_prefix_char}
 use Rattle.lvm_volume.proofs.Splits.{length_within, hyphen_at, after_is}
 use Rattle.lvm_volume.proofs.names.cut.Goals as goal
+use Rattle.std.specs.Prelude.{◌≡◌, ◌≤◌}
 
 length_is : (n : ℕ) (xs bs : List ℕ) → n ≡ slice_length xs → xs ≡ bs → n ≡ slice_length bs
 length_is n xs bs e f = e ∙ ap slice_length f

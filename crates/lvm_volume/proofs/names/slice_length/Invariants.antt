@@ -1,5 +1,6 @@
-use Rattle.lvm_volume.proofs.Prelude.{◌≡◌, ◌+◌, ◌-◌, ◌≤◌, length, drop, slice_length}
+use Rattle.lvm_volume.proofs.Prelude.{length, drop, slice_length}
 use Rattle.lvm_volume.proofs.names.slice_length.Given as goal
+use Rattle.std.specs.Prelude.{◌≡◌, ◌+◌, ◌-◌, ◌≤◌}
 
 abbrev pub invariant-loop-at : goal.invariant-loop-at
 invariant-loop-at l = record {

@@ -1,7 +1,8 @@
-use Rattle.lvm_volume.proofs.Prelude.{◌≡◌, ◌∙◌, arith, Bool, true, false, Option, Some, None, refl, not, is_some, is_none, parts_view}
+use Rattle.lvm_volume.proofs.Prelude.{◌∙◌, arith, Bool, true, false, Option, Some, None, refl, not, is_some, is_none, parts_view}
 use Rattle.lvm_volume.proofs.Splits.{one_split, none_sliced, none_faulty, none_long, some_split}
 use Rattle.lvm_volume.proofs.names.split_name.Goals as goal
 use Rattle.lvm_volume.proofs.names.split_name.Goals.{else-name-le127-via-then-name-le127+else-is_none, else-name-le127-via-else-name-le127}
+use Rattle.std.specs.Prelude.{◌≡◌}
 
 none_is : {X : Type 0} (o : Option X) (b : Bool) → is_some o ≡ not b → is_none o ≡ b
 none_is None false e = absurd cc

@@ -1,5 +1,6 @@
-use Rattle.lvm_volume.proofs.Prelude.{◌≡◌, ◌++◌, length, string_bytes, undoubled}
+use Rattle.lvm_volume.proofs.Prelude.{length, string_bytes, undoubled}
 use Rattle.lvm_volume.proofs.names.undouble.Given as goal
+use Rattle.std.specs.Prelude.{◌≡◌, ◌++◌}
 use denote.Shadow.{shadow}
 use denote.Text.{Utf8}
 

@@ -1,6 +1,7 @@
-use Rattle.lvm_volume.proofs.Prelude.{◌≡◌, Result, owners_view, OwnedFault, Gives, OfTree, Tables, owned_tables}
+use Rattle.lvm_volume.proofs.Prelude.{Result, owners_view, OwnedFault, Gives, OfTree, Tables, owned_tables}
 use Rattle.lvm_volume.proofs.OwnedLemmas.{answers_by, gives_one_thing, said_text}
 use Rattle.lvm_volume.proofs.owned_metadata.parse_owned.Goals as goal
+use Rattle.std.specs.Prelude.{◌≡◌}
 
 pub returns-in-Err-clause-one : goal.returns-in-Err-clause-one
 returns-in-Err-clause-one c = gives_one_thing (owners_view c.args.owners.now) c.args.source.now

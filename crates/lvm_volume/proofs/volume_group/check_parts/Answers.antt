@@ -1,7 +1,8 @@
-use Rattle.lvm_volume.proofs.Prelude.{◌≡◌, ◌∙◌, List, [], None, ap, sym, first_or, Volume, size_faults, snapshot_faults_in, unknown_faults, Group, extent_faults, first_or-passed}
+use Rattle.lvm_volume.proofs.Prelude.{◌∙◌, List, [], None, ap, sym, first_or, Volume, size_faults, snapshot_faults_in, unknown_faults, Group, extent_faults, first_or-passed}
 use Rattle.lvm_volume.specs.checks.Extents.{volume_faults}
 use Rattle.lvm_volume.proofs.fields.Faults.{first_after}
 use Rattle.lvm_volume.proofs.volume_group.check_parts.Goals as goal
+use Rattle.std.specs.Prelude.{◌≡◌}
 
 pub returns : goal.returns
 returns c = λ name.

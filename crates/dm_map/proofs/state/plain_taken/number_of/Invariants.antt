@@ -1,5 +1,6 @@
-use Rattle.dm_map.proofs.Prelude.{length, ◌-◌, ◌≡◌, ◌≤◌, None, take, number_in}
+use Rattle.dm_map.proofs.Prelude.{length, None, take, number_in}
 use Rattle.dm_map.proofs.state.plain_taken.number_of.Given as goal
+use Rattle.std.specs.Prelude.{◌-◌, ◌≡◌, ◌≤◌}
 
 abbrev pub invariant-loop-number : goal.invariant-loop-number
 invariant-loop-number l = record {

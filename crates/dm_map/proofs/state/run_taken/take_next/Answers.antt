@@ -1,7 +1,8 @@
-use Rattle.dm_map.proofs.Prelude.{◌≡◌, ◌+◌, ◌-◌, ◌<◌, ap, length, arith, rules, get_or_read, length-set, length-insert, Run, AreBegunBy, no_run, run_at}
+use Rattle.dm_map.proofs.Prelude.{ap, length, arith, rules, get_or_read, length-set, length-insert, Run, AreBegunBy, no_run, run_at}
 use Rattle.dm_map.proofs.state.GrowLemmas.{takes_new, takes_next}
 use Rattle.dm_map.proofs.state.run_taken.take_next.Goals.{After-index_mut}
 use Rattle.dm_map.proofs.state.run_taken.take_next.Goals as goal
+use Rattle.std.specs.Prelude.{◌≡◌, ◌+◌, ◌-◌, ◌<◌}
 
 -- the run that gets longer
 longer : (c : After-index_mut) → c.index_mut.result.now ≡ run_at c.args.runs.now.items (c.begun_by-begun.result.0 - 1)

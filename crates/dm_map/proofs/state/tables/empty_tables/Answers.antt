@@ -1,6 +1,7 @@
-use Rattle.dm_map.proofs.Prelude.{◌≡◌, ℕ, ◌<◌, List, get_or, length, refl, ◌∙◌, arith, length-set, nat_lt, Description, snapshots, has_room}
+use Rattle.dm_map.proofs.Prelude.{ℕ, List, get_or, length, refl, ◌∙◌, arith, length-set, nat_lt, Description, snapshots, has_room}
 use Rattle.dm_map.proofs.state.TableLemmas.{first_rooms, next_rooms, snapshot_there, state_new}
 use Rattle.dm_map.proofs.state.tables.empty_tables.Goals as goal
+use Rattle.std.specs.Prelude.{◌≡◌, ◌<◌}
 
 pub loop-next-init : goal.loop-next-init
 loop-next-init g c =

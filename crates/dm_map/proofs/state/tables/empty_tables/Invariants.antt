@@ -1,5 +1,6 @@
-use Rattle.dm_map.proofs.Prelude.{◌≡◌, ℕ, ◌+◌, ◌≤◌, Some, false, drop, length, nat_eq, list_any, nat_lt, slice_get, snapshots, start_state, has_room, state_of}
+use Rattle.dm_map.proofs.Prelude.{ℕ, Some, false, drop, length, nat_eq, list_any, nat_lt, slice_get, snapshots, start_state, has_room, state_of}
 use Rattle.dm_map.proofs.state.tables.empty_tables.Given as goal
+use Rattle.std.specs.Prelude.{◌≡◌, ◌+◌, ◌≤◌}
 
 abbrev pub invariant-loop-next : goal.invariant-loop-next
 invariant-loop-next g l = record {

@@ -1,6 +1,7 @@
-use Rattle.dm_map.proofs.Prelude.{◌≡◌, sym, ◌∙◌, arith, le-ltb, device_len, lower_len, found_of, device_some}
+use Rattle.dm_map.proofs.Prelude.{sym, ◌∙◌, arith, le-ltb, device_len, lower_len, found_of, device_some}
 use Rattle.dm_map.proofs.state.TableLemmas.{other_room, snapshot_room, store_some}
 use Rattle.dm_map.proofs.state.tables.room_of.Goals as goal
+use Rattle.std.specs.Prelude.{◌≡◌}
 
 pub look-requires-clause-sector : goal.look-requires-clause-sector
 look-requires-clause-sector c = device_some c.args.looker.now.stack c.args.device c.depth.ensures.sound c.requires

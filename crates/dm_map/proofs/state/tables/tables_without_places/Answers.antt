@@ -1,6 +1,7 @@
-use Rattle.dm_map.proofs.Prelude.{◌≡◌, ◌∷◌, [], ◌∙◌, length-append, replicate-append-replicate, All-push, none_taken}
+use Rattle.dm_map.proofs.Prelude.{[], ◌∙◌, length-append, replicate-append-replicate, All-push, none_taken}
 use Rattle.dm_map.proofs.state.TableLemmas.{state_push}
 use Rattle.dm_map.proofs.state.tables.tables_without_places.Goals as goal
+use Rattle.std.specs.Prelude.{◌≡◌, ◌∷◌}
 
 pub loop-device-preserved : goal.loop-device-preserved
 loop-device-preserved g c =

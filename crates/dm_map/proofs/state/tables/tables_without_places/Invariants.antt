@@ -1,5 +1,6 @@
-use Rattle.dm_map.proofs.Prelude.{◌≡◌, length, replicate, All, none_taken, state_of}
+use Rattle.dm_map.proofs.Prelude.{length, replicate, All, none_taken, state_of}
 use Rattle.dm_map.proofs.state.tables.tables_without_places.Given as goal
+use Rattle.std.specs.Prelude.{◌≡◌}
 
 abbrev pub invariant-loop-device : goal.invariant-loop-device
 invariant-loop-device g l = record {

@@ -1,6 +1,7 @@
-use Rattle.dm_map.proofs.Prelude.{◌≡◌, ℕ, ◌+◌, ◌*◌, ◌<◌, ◌≤◌, true, Some, sym, refl, subst, arith, IsSnapshotSound, lower_len, place, found_of, device_some, allocated_small, has_room, snapshot_at, StackState, lower_small}
+use Rattle.dm_map.proofs.Prelude.{ℕ, true, Some, sym, refl, subst, arith, IsSnapshotSound, lower_len, place, found_of, device_some, allocated_small, has_room, snapshot_at, StackState, lower_small}
 use Rattle.dm_map.proofs.state.TableLemmas.{room_place, store_some}
 use Rattle.dm_map.proofs.state.usage.usage_of.Goals as goal
+use Rattle.std.specs.Prelude.{◌≡◌, ◌+◌, ◌*◌, ◌<◌, ◌≤◌}
 
 pub look-line-requires-clause-sector : goal.look-line-requires-clause-sector
 look-line-requires-clause-sector g c = device_some c.args.walker.now.stack c.args.device c.recall_soundness.ensures c.requires.there

@@ -1,5 +1,6 @@
-use Rattle.dm_map.proofs.Prelude.{◌≡◌, ◌+◌, ◌*◌, arith, place, place_within}
+use Rattle.dm_map.proofs.Prelude.{arith, place, place_within}
 use Rattle.dm_map.proofs.walk.chunk.store_start.Goals as goal
+use Rattle.std.specs.Prelude.{◌≡◌, ◌+◌, ◌*◌}
 
 pub place-requires : goal.place-requires
 place-requires c =

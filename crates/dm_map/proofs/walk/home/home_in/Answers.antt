@@ -1,7 +1,8 @@
-use Rattle.dm_map.proofs.Prelude.{◌-◌, ℕ, ap, subst, ◌∙◌, arith, Lower, Disk, Beneath, IsLegOf}
+use Rattle.dm_map.proofs.Prelude.{ℕ, ap, subst, ◌∙◌, arith, Lower, Disk, Beneath, IsLegOf}
 use Rattle.dm_stack.specs.declared.lines.leg.Beneath.TheVariants.{Lies}
 use Rattle.dm_map.proofs.walk.LineRanges.{leg_of, line_sectors}
 use Rattle.dm_map.proofs.walk.home.home_in.Goals as goal
+use Rattle.std.specs.Prelude.{◌-◌}
 
 pub leg-below-requires-clause-there : goal.leg-below-requires-clause-there
 leg-below-requires-clause-there g c =

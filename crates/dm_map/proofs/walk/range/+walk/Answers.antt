@@ -1,4 +1,4 @@
-use Rattle.dm_map.proofs.Prelude.{Result, rules, ◌≡◌, ℕ, ◌+◌, ◌-◌, ◌≤◌, Some, refl, sym, ap, subst, ◌∙◌, arith, Op, Read, ResolvedLine, ResolvedSnapshot, ResolvedTarget, Snapshot, Origin, Beneath, Device, AreInside, LegsView, IsLineOf, IsOriginSound, IsSnapshotSound, IsTargetSound, found_at, Description, lower_len, IsMapped, origin_mapping, range_mapping, target_mapping, read_over, taken_at, ReadAt, SinkPast, snapshot_at, StackState, WalkerView, stack_state, AreReadAt, line_step, origin_step, range_step, AreAsked, AreAskedOfOrigin, AreAskedOfSnapshot, HasRoomFor, IsAtLine, IsLegOf, device_there, lower_small, other_chunk}
+use Rattle.dm_map.proofs.Prelude.{Result, rules, ℕ, Some, refl, sym, ap, subst, ◌∙◌, arith, Op, Read, ResolvedLine, ResolvedSnapshot, ResolvedTarget, Snapshot, Origin, Beneath, Device, AreInside, LegsView, IsLineOf, IsOriginSound, IsSnapshotSound, IsTargetSound, found_at, Description, lower_len, IsMapped, origin_mapping, range_mapping, target_mapping, read_over, taken_at, ReadAt, SinkPast, snapshot_at, StackState, WalkerView, stack_state, AreReadAt, line_step, origin_step, range_step, AreAsked, AreAskedOfOrigin, AreAskedOfSnapshot, HasRoomFor, IsAtLine, IsLegOf, device_there, lower_small, other_chunk}
 use Rattle.dm_map.proofs.state.ResolvedLines.{first_line}
 use Rattle.dm_map.proofs.walk.Bounds.{lines_apart, mapped_below, mapped_line, mapped_target, parts_apart}
 use Rattle.dm_map.proofs.walk.Chunks.{chunk_read, in_snapshot, lost_read, read_on, write_line_step}
@@ -12,6 +12,7 @@ use Rattle.dm_map.proofs.walk.Spans.{below_is}
 use Rattle.dm_map.proofs.walk.WalkedOn.{IsMappedTo, mapped_after_look, mapped_before_look, mapped_cut, mapped_handed, mapped_last, mapped_none, mapped_on, mapped_still, range_keeps, target_keeps}
 use Rattle.dm_map.proofs.walk.range.+walk.Goals as goal
 use Rattle.dm_map.proofs.walk.range.+walk.Goals.{map_device-then-levels-eq0-via-then-levels-eq0, map_device-then-levels-eq0-via-else-levels-eq0+then-refuses}
+use Rattle.std.specs.Prelude.{◌≡◌, ◌+◌, ◌-◌, ◌≤◌}
 
 -- A disk
 

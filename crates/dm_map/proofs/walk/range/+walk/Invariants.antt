@@ -1,6 +1,7 @@
-use Rattle.dm_map.proofs.Prelude.{◌≡◌, ◌+◌, ◌-◌, ◌*◌, ◌/◌, ◌<◌, ◌≤◌, false, ◌==◌, Read, Write, Snapshot, Device, IsLineOf, origin_mapping, range_mapping, target_mapping, AreReadAt}
+use Rattle.dm_map.proofs.Prelude.{false, Read, Write, Snapshot, Device, IsLineOf, origin_mapping, range_mapping, target_mapping, AreReadAt}
 use Rattle.dm_map.proofs.walk.WalkedOn.{IsMappedTo}
 use Rattle.dm_map.proofs.walk.range.+walk.Given as goal
+use Rattle.std.specs.Prelude.{◌≡◌, ◌+◌, ◌-◌, ◌*◌, ◌/◌, ◌<◌, ◌≤◌, ◌==◌}
 
 abbrev pub decreases-map_lines : goal.decreases-map_lines
 decreases-map_lines g l = 8 * l.levels

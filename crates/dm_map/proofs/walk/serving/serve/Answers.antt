@@ -1,7 +1,8 @@
-use Rattle.dm_map.proofs.Prelude.{◌≡◌, ◌+◌, List, take, sym, ap, subst, ◌∙◌, arith, take_all, recursion_from_All, ResolvedOver, AreSettled, IsOver, serve, State}
+use Rattle.dm_map.proofs.Prelude.{List, take, sym, ap, subst, ◌∙◌, arith, take_all, recursion_from_All, ResolvedOver, AreSettled, IsOver, serve, State}
 use Rattle.dm_map.proofs.walk.Served.{chunk_there, over_at, over_there, serve_settled, served_cut, served_on}
 use Rattle.dm_map.proofs.walk.WalkedOn.{walked_none}
 use Rattle.dm_map.proofs.walk.serving.serve.Goals as goal
+use Rattle.std.specs.Prelude.{◌≡◌, ◌+◌}
 
 pub loop-one-init : goal.loop-one-init
 unfolding serve

@@ -1,6 +1,7 @@
-use Rattle.dm_map.proofs.Prelude.{◌+◌, refl, sym, ◌∙◌, arith, both_ways, taken_at, device_there}
+use Rattle.dm_map.proofs.Prelude.{refl, sym, ◌∙◌, arith, both_ways, taken_at, device_there}
 use Rattle.dm_map.proofs.walk.Served.{chunk_more, chunk_settled, over_sound}
 use Rattle.dm_map.proofs.walk.serving.settled_in.Goals as goal
+use Rattle.std.specs.Prelude.{◌+◌}
 
 pub loop-part-init : goal.loop-part-init
 loop-part-init g c =

@@ -1,6 +1,7 @@
 -- the sectors so far are settled
-use Rattle.dm_map.proofs.Prelude.{◌≡◌, ℕ, ◌+◌, ◌-◌, ◌/◌, ◌<◌, ◌≤◌, true, is_settled, taken_at}
+use Rattle.dm_map.proofs.Prelude.{ℕ, true, is_settled, taken_at}
 use Rattle.dm_map.proofs.walk.serving.settled_in.Given as goal
+use Rattle.std.specs.Prelude.{◌≡◌, ◌+◌, ◌-◌, ◌/◌, ◌<◌, ◌≤◌}
 
 abbrev pub invariant-loop-part : goal.invariant-loop-part
 invariant-loop-part g l = record {

@@ -1,6 +1,7 @@
-use Rattle.dm_map.proofs.Prelude.{◌≡◌, inl, inr, ℕ, ◌+◌, List, [], ◌∷◌, ◌++◌, take, sym, ap, subst, ◌∙◌, arith, cases_lt, take_all, take_more, ResolvedOver, AreSettled, IsLongest}
+use Rattle.dm_map.proofs.Prelude.{inl, inr, ℕ, List, [], take, sym, ap, subst, ◌∙◌, arith, cases_lt, take_all, take_more, ResolvedOver, AreSettled, IsLongest}
 use Rattle.dm_map.proofs.walk.Served.{settled_more, settled_parts}
 use Rattle.dm_map.proofs.walk.serving.settled_part.Goals as goal
+use Rattle.std.specs.Prelude.{◌≡◌, ◌+◌, ◌∷◌, ◌++◌}
 
 pub loop-one-preserved : goal.loop-one-preserved
 loop-one-preserved g c =

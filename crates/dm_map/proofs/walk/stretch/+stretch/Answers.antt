@@ -1,10 +1,11 @@
-use Rattle.dm_map.proofs.Prelude.{rules, ◌≡◌, ℕ, ◌+◌, ◌-◌, ◌<◌, ◌≤◌, Some, sym, ap, subst, refl, ◌∙◌, arith, Read, ResolvedTarget, Lower, Device, Beneath, IsOriginSound, IsTargetSound, found_at, lower_len, AreInside, shorter, Ground, Stretch, Step, keep, ground_unit, IsFirst, IsFirstOf, IsGroundInStack, units_in, StackState, WalkerView, stack_state, line_step, range_step, device_there, disk_there}
+use Rattle.dm_map.proofs.Prelude.{rules, ℕ, Some, sym, ap, subst, refl, ◌∙◌, arith, Read, ResolvedTarget, Lower, Device, Beneath, IsOriginSound, IsTargetSound, found_at, lower_len, AreInside, shorter, Ground, Stretch, Step, keep, ground_unit, IsFirst, IsFirstOf, IsGroundInStack, units_in, StackState, WalkerView, stack_state, line_step, range_step, device_there, disk_there}
 use Rattle.dm_map.specs.declared.walk.stretch.Ground.TheVariants as grounds
 use Rattle.dm_map.proofs.walk.Ranges.{beneath_as, leg_errors, leg_lies, leg_zeros, line_served, origin_read, range_deepest, range_disk, range_line}
 use Rattle.dm_map.proofs.walk.Chunks.{chunk_read, in_one_chunk, in_snapshot, lost_read}
 use Rattle.dm_map.proofs.walk.LineRanges.{line_sectors}
 use Rattle.dm_map.proofs.walk.Rows.{added_then, none_added}
 use Rattle.dm_map.proofs.walk.stretch.+stretch.Goals as goal
+use Rattle.std.specs.Prelude.{◌≡◌, ◌+◌, ◌-◌, ◌<◌, ◌≤◌}
 
 -- A first stretch that is known without a look-up, and one that goes on from a stretch below
 

@@ -1,5 +1,5 @@
-use Rattle.dm_map.proofs.Prelude.{◌+◌, ◌*◌}
 use Rattle.dm_map.proofs.walk.stretch.+stretch.Given as goal
+use Rattle.std.specs.Prelude.{◌+◌, ◌*◌}
 
 abbrev pub decreases-first_stretch : goal.decreases-first_stretch
 decreases-first_stretch g l = 3 * l.levels + 1

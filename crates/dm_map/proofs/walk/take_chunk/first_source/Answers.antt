@@ -1,8 +1,9 @@
-use Rattle.dm_map.proofs.Prelude.{◌≡◌, ◌+◌, ◌-◌, true, length, refl, sym, ap, ◌∙◌, arith, and_from, and_right, not-false, has_place, taken_at, room_of, reads_all, lower_small}
+use Rattle.dm_map.proofs.Prelude.{true, length, refl, sym, ap, ◌∙◌, arith, and_from, and_right, not-false, has_place, taken_at, room_of, reads_all, lower_small}
 use Rattle.dm_map.proofs.walk.Chunks.{snapshot_device}
 use Rattle.dm_map.proofs.walk.ChunkCopies.{fails_on, first_seen, reads_on}
 use Rattle.dm_map.proofs.walk.Rows.{added_then}
 use Rattle.dm_map.proofs.walk.take_chunk.first_source.Goals as goal
+use Rattle.std.specs.Prelude.{◌≡◌, ◌+◌, ◌-◌}
 
 pub is_full-requires : goal.is_full-requires
 is_full-requires g c = snapshot_device c.requires.inside c.requires.some

@@ -1,7 +1,8 @@
-use Rattle.dm_map.proofs.Prelude.{◌≡◌, ℕ, ◌-◌, ◌*◌, ◌<◌, true, Some, length, sym, ap, subst, ◌∙◌, arith, is_some, min, and_parts, Description, has_place, store_sector, State, put, taken_at, with_chunk, StackState, IsFirstHomes, count_of}
+use Rattle.dm_map.proofs.Prelude.{ℕ, true, Some, length, sym, ap, subst, ◌∙◌, arith, is_some, min, and_parts, Description, has_place, store_sector, State, put, taken_at, with_chunk, StackState, IsFirstHomes, count_of}
 use Rattle.dm_map.proofs.walk.Chunks.{chunk_begins, snapshot_device}
 use Rattle.dm_map.proofs.walk.ChunkTaking.{numbered_next}
 use Rattle.dm_map.proofs.walk.take_chunk.take_new_chunk.Goals as goal
+use Rattle.std.specs.Prelude.{◌≡◌, ◌-◌, ◌*◌, ◌<◌}
 
 pub len-end-requires : goal.len-end-requires
 len-end-requires g c = snapshot_device c.requires.inside (omega arith)

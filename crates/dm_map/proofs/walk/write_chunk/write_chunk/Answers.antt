@@ -1,8 +1,9 @@
-use Rattle.dm_map.proofs.Prelude.{◌≡◌, ◌/◌, List, true, refl, sym, ap, ◌∙◌, arith, or_right, is_some, not, is_settled, store_writes, taken_at, keep, BlockUnit, lower_small}
+use Rattle.dm_map.proofs.Prelude.{List, true, refl, sym, ap, ◌∙◌, arith, or_right, is_some, not, is_settled, store_writes, taken_at, keep, BlockUnit, lower_small}
 use Rattle.dm_map.proofs.walk.Chunks.{place_inside, row_lost, row_numbered, settled_written, snapshot_device}
 use Rattle.dm_map.proofs.walk.Rows.{walked_as, walked_piece, walked_within}
 use Rattle.dm_map.proofs.state.TableLemmas.{room_place}
 use Rattle.dm_map.proofs.walk.write_chunk.write_chunk.Goals as goal
+use Rattle.std.specs.Prelude.{◌≡◌, ◌/◌}
 
 pub is_valid-requires : goal.is_valid-requires
 is_valid-requires g c = snapshot_device c.requires.chunk.whole c.requires.some

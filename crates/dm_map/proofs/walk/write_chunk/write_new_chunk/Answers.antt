@@ -1,8 +1,9 @@
-use Rattle.dm_map.proofs.Prelude.{◌≡◌, ℕ, ◌/◌, ◌<◌, ◌≤◌, Bool, false, true, List, Option, Some, None, length, refl, sym, ap, ◌∙◌, arith, ◌&&◌, not, IfNone, Result, Ok, leb-true, ResolvedSnapshot, Disk, Description, has_place, number_in, State, Taken, taken_at, WalkerView, AreInChunk, IsWalked, is_keeping, is_refused, take_chunk, row, store_writes, unit_in_store, write_snapshot, keep, steps, IsLawful, SinkPast, BlockUnit, lower_small}
+use Rattle.dm_map.proofs.Prelude.{ℕ, Bool, false, true, List, Option, Some, None, length, refl, sym, ap, ◌∙◌, arith, not, IfNone, Result, Ok, leb-true, ResolvedSnapshot, Disk, Description, has_place, number_in, State, Taken, taken_at, WalkerView, AreInChunk, IsWalked, is_keeping, is_refused, take_chunk, row, store_writes, unit_in_store, write_snapshot, keep, steps, IsLawful, SinkPast, BlockUnit, lower_small}
 use Rattle.dm_map.proofs.walk.Chunks.{chunk_refused, chunk_written, first_there, left_taking, row_lost, row_numbered, row_taken, snapshot_device}
 use Rattle.dm_map.proofs.walk.ChunkTaking.{not_settled, refused_as}
 use Rattle.dm_map.proofs.walk.Rows.{walked_as, walked_cut, walked_piece, walked_then}
 use Rattle.dm_map.proofs.walk.write_chunk.write_new_chunk.Goals as goal
+use Rattle.std.specs.Prelude.{◌≡◌, ◌/◌, ◌<◌, ◌≤◌, ◌&&◌}
 
 -- such a chunk is not refused where the store isn't keeping, or has a place for one more
 passing : (stack : Description) (snapshot : ResolvedSnapshot) (taken : Taken) (chunk : ℕ) (refused : Bool) → taken.valid ≡ true → number_in chunk taken.chunks ≡ None → refused ≡ (is_keeping snapshot.kind && not (has_place stack snapshot (length taken.chunks))) → is_refused stack snapshot taken chunk ≡ refused

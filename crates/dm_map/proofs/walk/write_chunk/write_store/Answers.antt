@@ -1,8 +1,9 @@
-use Rattle.dm_map.proofs.Prelude.{◌≡◌, ℕ, ◌+◌, ◌-◌, ap, ◌∙◌, arith, Lower, home, store_writes, write_to, keep, BlockUnit, WriteOf, units_in, StackState, WalkerView, lower_small}
+use Rattle.dm_map.proofs.Prelude.{ℕ, ap, ◌∙◌, arith, Lower, home, store_writes, write_to, keep, BlockUnit, WriteOf, units_in, StackState, WalkerView, lower_small}
 use Rattle.dm_map.proofs.walk.ChunkCopies.{next_writes}
 use Rattle.dm_map.proofs.walk.Rows.{added_then, walked_cut}
 use Rattle.dm_map.proofs.walk.UnitRows.{left_row, took_row}
 use Rattle.dm_map.proofs.walk.write_chunk.write_store.Goals as goal
+use Rattle.std.specs.Prelude.{◌≡◌, ◌+◌, ◌-◌}
 
 abbrev writes_to : WalkerView → Lower → ℕ → BlockUnit
 writes_to walk store s = write_to (home walk.stack store s)

@@ -1,6 +1,7 @@
-use Rattle.dm_map.proofs.Prelude.{◌≡◌, ◌+◌, ◌-◌, ◌≤◌, store_writes}
+use Rattle.dm_map.proofs.Prelude.{store_writes}
 use Rattle.dm_map.proofs.walk.ChunkCopies.{IsGoingOn}
 use Rattle.dm_map.proofs.walk.write_chunk.write_store.Given as goal
+use Rattle.std.specs.Prelude.{◌≡◌, ◌+◌, ◌-◌, ◌≤◌}
 
 abbrev pub invariant-loop-left : goal.invariant-loop-left
 invariant-loop-left g l = record {

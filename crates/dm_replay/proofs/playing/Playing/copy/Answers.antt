@@ -1,6 +1,7 @@
-use Rattle.dm_replay.proofs.Prelude.{◌≡◌, ◌+◌, ◌-◌, ℕ, refl, subst, arith, CopyOf, units_in, Playing, HasPlayed, played_nothing}
+use Rattle.dm_replay.proofs.Prelude.{ℕ, refl, subst, arith, CopyOf, units_in, Playing, HasPlayed, played_nothing}
 use Rattle.dm_replay.proofs.PlayedLemmas.{copy_more, copy_played, none_played}
 use Rattle.dm_replay.proofs.playing.Playing.copy.Goals as goal
+use Rattle.std.specs.Prelude.{◌≡◌, ◌+◌, ◌-◌}
 
 pub loop-left-init : goal.loop-left-init
 loop-left-init c =

@@ -1,5 +1,6 @@
-use Rattle.dm_replay.proofs.Prelude.{◌≡◌, ◌+◌, ◌-◌, ◌≤◌, CopyOf, units_in, HasPlayed}
+use Rattle.dm_replay.proofs.Prelude.{CopyOf, units_in, HasPlayed}
 use Rattle.dm_replay.proofs.playing.Playing.copy.Given as goal
+use Rattle.std.specs.Prelude.{◌≡◌, ◌+◌, ◌-◌, ◌≤◌}
 
 abbrev pub invariant-loop-left : goal.invariant-loop-left
 invariant-loop-left l = record {

@@ -1,6 +1,7 @@
-use Rattle.dm_replay.proofs.Prelude.{◌≡◌, ◌+◌, ◌-◌, ℕ, refl, subst, arith, ReadOf, units_in, HasPlayed, played_nothing, Gives}
+use Rattle.dm_replay.proofs.Prelude.{ℕ, refl, subst, arith, ReadOf, units_in, HasPlayed, played_nothing, Gives}
 use Rattle.dm_replay.proofs.PlayedLemmas.{none_played, read_more, read_played, run_answered}
 use Rattle.dm_replay.proofs.playing.Playing.read.Goals as goal
+use Rattle.std.specs.Prelude.{◌≡◌, ◌+◌, ◌-◌}
 
 pub loop-left-init : goal.loop-left-init
 loop-left-init c =

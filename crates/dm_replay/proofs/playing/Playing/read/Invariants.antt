@@ -1,5 +1,6 @@
-use Rattle.dm_replay.proofs.Prelude.{◌≡◌, ◌+◌, ◌-◌, ◌≤◌, ReadOf, units_in, HasPlayed}
+use Rattle.dm_replay.proofs.Prelude.{ReadOf, units_in, HasPlayed}
 use Rattle.dm_replay.proofs.playing.Playing.read.Given as goal
+use Rattle.std.specs.Prelude.{◌≡◌, ◌+◌, ◌-◌, ◌≤◌}
 
 abbrev pub invariant-loop-left : goal.invariant-loop-left
 invariant-loop-left l = record {

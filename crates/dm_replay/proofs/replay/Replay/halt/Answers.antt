@@ -1,7 +1,8 @@
-use Rattle.dm_replay.proofs.Prelude.{◌≡◌, ℕ, false, List, Some, ap, sym, ◌∙◌, position, IsTop, is_same, State, start_state, HasTop, Replaying, rerun_from, with_request}
+use Rattle.dm_replay.proofs.Prelude.{ℕ, false, List, Some, ap, sym, ◌∙◌, position, IsTop, is_same, State, start_state, HasTop, Replaying, rerun_from, with_request}
 use Rattle.dm_replay.proofs.NamedLemmas.{named_id, named_there}
 use Rattle.dm_replay.proofs.WorldLemmas.{are_whole, few_whole, going_halted, is_kept, kept_more, next_start, write_of}
 use Rattle.dm_replay.proofs.replay.Replay.halt.Goals as goal
+use Rattle.std.specs.Prelude.{◌≡◌}
 
 -- a replay that is spent for want of memory: it had not failed, and a top device has the name
 spent : (inside old : Replaying) (name : List ℕ) (device : ℕ) → inside ≡ old → inside.failed ≡ false → position (λ other. is_same other.name name) inside.stack.devices ≡ Some device → IsTop inside.stack device

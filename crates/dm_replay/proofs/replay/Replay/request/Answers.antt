@@ -1,6 +1,7 @@
-use Rattle.dm_replay.proofs.Prelude.{◌≡◌, Some, sym, ◌∙◌, subst, position, on_ok_weaker, IsTop, is_same, HasTop, Replaying}
+use Rattle.dm_replay.proofs.Prelude.{Some, sym, ◌∙◌, subst, position, on_ok_weaker, IsTop, is_same, HasTop, Replaying}
 use Rattle.dm_replay.proofs.NamedLemmas.{named_id, named_top, top_named, unanswered_result}
 use Rattle.dm_replay.proofs.replay.Replay.request.Goals as goal
+use Rattle.std.specs.Prelude.{◌≡◌}
 
 pub returns-in-Some-clause-answered : goal.returns-in-Some-clause-answered
 returns-in-Some-clause-answered g c =

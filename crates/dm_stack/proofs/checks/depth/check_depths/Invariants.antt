@@ -1,5 +1,6 @@
-use Rattle.dm_stack.proofs.Prelude.{◌≡◌, None, drop, get_or, nat_lt, Deep, first_or, faults_by_id}
+use Rattle.dm_stack.proofs.Prelude.{None, drop, get_or, nat_lt, Deep, first_or, faults_by_id}
 use Rattle.dm_stack.proofs.checks.depth.check_depths.Given as goal
+use Rattle.std.specs.Prelude.{◌≡◌}
 
 abbrev pub invariant-loop-id : goal.invariant-loop-id
 invariant-loop-id l =

@@ -1,9 +1,10 @@
 -- What the closure returned of a line and what it says by ids is what its test says of the line.
-use Rattle.dm_stack.proofs.Prelude.{◌≡◌, true, false, ◌∙◌, length, resolved_line}
+use Rattle.dm_stack.proofs.Prelude.{true, false, ◌∙◌, length, resolved_line}
 use Rattle.dm_stack.proofs.checks.PlacedLemmas.{bad_before, good_here}
 use Rattle.dm_stack.proofs.lines.ByDevice.{made_at, table_is}
 use Rattle.dm_stack.proofs.checks.faults.check_by_ids.Goals as goal
 use Rattle.dm_stack.proofs.checks.faults.check_by_ids.Goals.{After-is_bad}
+use Rattle.std.specs.Prelude.{◌≡◌}
 
 -- the line by ids
 line_is : (g : _) (c : After-is_bad g) → c.index-resolved-index.result ≡ resolved_line c.args.stack.now c.index-lines-index.result

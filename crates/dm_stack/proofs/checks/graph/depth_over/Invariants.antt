@@ -1,6 +1,7 @@
 -- the greatest so far and that of what is left give the greatest of all, and no depth passes its bound
-use Rattle.dm_stack.proofs.Prelude.{◌≡◌, ◌≤◌, max, map, drop, get_or, greatest}
+use Rattle.dm_stack.proofs.Prelude.{max, map, drop, get_or, greatest}
 use Rattle.dm_stack.proofs.checks.graph.depth_over.Given as goal
+use Rattle.std.specs.Prelude.{◌≡◌, ◌≤◌}
 
 abbrev pub invariant-loop-device : goal.invariant-loop-device
 invariant-loop-device l =

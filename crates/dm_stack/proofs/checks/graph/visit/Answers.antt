@@ -1,8 +1,9 @@
 -- A device that was visited before adds nothing; another one is visited and waits.
-use Rattle.dm_stack.proofs.Prelude.{◌<◌, length, get_or, arith, Contains-get_or}
+use Rattle.dm_stack.proofs.Prelude.{length, get_or, arith, Contains-get_or}
 use Rattle.dm_stack.proofs.checks.SearchLemmas.{Visits-skip, Visits-push}
 use Rattle.dm_stack.proofs.checks.graph.visit.Goals as goal
 use Rattle.dm_stack.proofs.checks.graph.visit.Goals.{then-not-visited-device+in_ok-push, else-not-visited-device}
+use Rattle.std.specs.Prelude.{◌<◌}
 
 pub bounds-visited-device : goal.bounds-visited-device
 bounds-visited-device c = omega (arith, c.requires (get_or c.args.named.now c.loop-device.device-index 0) (Contains-get_or c.args.named.now c.loop-device.device-index 0 c.loop-device-test.true))

@@ -1,6 +1,7 @@
-use Rattle.dm_stack.proofs.Prelude.{◌≡◌, ◌<◌, ◌≤◌, Some, sym, ap, refl, ◌∙◌, length, slice_get, slice_get_read}
+use Rattle.dm_stack.proofs.Prelude.{Some, sym, ap, refl, ◌∙◌, length, slice_get, slice_get_read}
 use Rattle.dm_stack.proofs.checks.FirstFaults.{line_in, line_later}
 use Rattle.dm_stack.proofs.checks.limits.line_at.Goals as goal
+use Rattle.std.specs.Prelude.{◌≡◌, ◌<◌, ◌≤◌}
 
 pub returns-then-left-lines : goal.returns-then-left-lines
 returns-then-left-lines c =

@@ -1,6 +1,7 @@
-use Rattle.dm_stack.proofs.Prelude.{◌≡◌, ◌≤◌, [], ap, arith, drop, drop_all, length, no_bad_lines, noted_devices}
+use Rattle.dm_stack.proofs.Prelude.{[], ap, arith, drop, drop_all, length, no_bad_lines, noted_devices}
 use Rattle.dm_stack.proofs.checks.BadLineLemmas.{are_first}
 use Rattle.dm_stack.proofs.checks.lines.bad_lines.Goals as goal
+use Rattle.std.specs.Prelude.{◌≡◌, ◌≤◌}
 
 pub returns : goal.returns
 returns c =

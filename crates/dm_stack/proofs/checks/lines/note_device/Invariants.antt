@@ -1,6 +1,7 @@
 -- what is noted so far, with the faults of the lines that are left, is what the whole device adds
-use Rattle.dm_stack.proofs.Prelude.{◌≡◌, drop, length, noted_device, noted_lines}
+use Rattle.dm_stack.proofs.Prelude.{drop, length, noted_device, noted_lines}
 use Rattle.dm_stack.proofs.checks.lines.note_device.Given as goal
+use Rattle.std.specs.Prelude.{◌≡◌}
 
 abbrev pub invariant-loop-index : goal.invariant-loop-index
 invariant-loop-index l = noted_lines l.stack (length l.device.lines) l.end l.found (drop l.index l.device.lines) ≡ noted_device l.stack l.fn.found l.device

@@ -1,8 +1,9 @@
 -- What is noted of a line by ids is what its checks say of it by names.
-use Rattle.dm_stack.proofs.Prelude.{◌≡◌, ap, ◌∙◌, ResolvedLine, has_bad_stripes, is_bad_snapshot, is_unknown}
+use Rattle.dm_stack.proofs.Prelude.{ap, ◌∙◌, ResolvedLine, has_bad_stripes, is_bad_snapshot, is_unknown}
 use Rattle.dm_stack.specs.checks.Soundness as by_names
 use Rattle.dm_stack.proofs.lines.SpanLemmas.{past_is, unknown_is}
 use Rattle.dm_stack.proofs.checks.lines.note_line.Goals as goal
+use Rattle.std.specs.Prelude.{◌≡◌}
 
 pub returns-clause-found : goal.returns-clause-found
 returns-clause-found c =

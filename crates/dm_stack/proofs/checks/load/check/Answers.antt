@@ -1,9 +1,10 @@
 -- What the checks found is handed on, and what a stack keeps is what was made.
-use Rattle.dm_stack.proofs.Prelude.{◌≡◌, [], ap, ◌∙◌, map, inr, take, first_fault-none, Description, resolved_device, stack_depth, snapshots, checks_before}
+use Rattle.dm_stack.proofs.Prelude.{[], ap, ◌∙◌, map, inr, take, first_fault-none, Description, resolved_device, stack_depth, snapshots, checks_before}
 use Rattle.dm_stack.proofs.checks.HandedOn.{ends_within}
 use Rattle.dm_stack.proofs.checks.LoadLemmas.{handed, made_ok}
 use Rattle.dm_stack.proofs.checks.load.check.Goals as goal
 use Rattle.dm_stack.proofs.checks.load.check.Goals.{In_ok-found}
+use Rattle.std.specs.Prelude.{◌≡◌}
 
 pub returns-in_err-names-clause-fault : goal.returns-in_err-names-clause-fault
 returns-in_err-names-clause-fault c = handed _ _ _ c.from_residual.ensures.1 c.in_err-names.ensures.fault

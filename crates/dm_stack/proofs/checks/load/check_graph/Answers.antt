@@ -1,10 +1,11 @@
 -- Each check finds its fault where those before it find nothing.
-use Rattle.dm_stack.proofs.Prelude.{◌≡◌, List, None, sym, ap, ◌∙◌, get_or, nat_lt, Deep, LoadFault, first_or, first_or-none, links, depths_to, OnCycle, deep, faults_by_id, snapshot}
+use Rattle.dm_stack.proofs.Prelude.{List, None, sym, ap, ◌∙◌, get_or, nat_lt, Deep, LoadFault, first_or, first_or-none, links, depths_to, OnCycle, deep, faults_by_id, snapshot}
 use Rattle.dm_stack.proofs.checks.ChunkLemmas.{good_chunks}
 use Rattle.dm_stack.proofs.checks.DepthTests.{depth_each, told_depths}
 use Rattle.dm_stack.proofs.checks.LoadLemmas.{handed, refused_last, refused_late, sound_last}
 use Rattle.dm_stack.proofs.checks.load.check_graph.Goals as goal
 use Rattle.dm_stack.proofs.checks.load.check_graph.Goals.{After-deref}
+use Rattle.std.specs.Prelude.{◌≡◌}
 
 pub returns-in_err-check_cycles-clause-fault : goal.returns-in_err-check_cycles-clause-fault
 returns-in_err-check_cycles-clause-fault c = handed _ _ _ c.from_residual.ensures.1 (OnCycle c.requires.before c.in_err-check_cycles.ensures.fault)

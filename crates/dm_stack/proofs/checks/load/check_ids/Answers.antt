@@ -1,8 +1,9 @@
 -- What was followed is what the checks by it go by.
-use Rattle.dm_stack.proofs.Prelude.{◌≡◌, inl, inr, sym, ◌∙◌, take, first_fault-none, links, IsFirstRing, depths_to, checks_before, store_links}
+use Rattle.dm_stack.proofs.Prelude.{inl, inr, sym, ◌∙◌, take, first_fault-none, links, IsFirstRing, depths_to, checks_before, store_links}
 use Rattle.dm_stack.proofs.checks.HandedOn.{ends_within}
 use Rattle.dm_stack.proofs.checks.LoadLemmas.{closed_links, deepest_is, handed, made_ok, none_found, nothing_found, refused_early}
 use Rattle.dm_stack.proofs.checks.load.check_ids.Goals as goal
+use Rattle.std.specs.Prelude.{◌≡◌}
 
 pub bad_lines-found-requires : goal.bad_lines-found-requires
 bad_lines-found-requires c = ends_within c.args.stack.now (first_fault-none (take 3 (checks_before c.args.stack.now)) c.requires).1.0

@@ -1,7 +1,8 @@
 -- A name that is in the index stands before, and one that is new does not.
-use Rattle.dm_stack.proofs.Prelude.{◌≡◌, [], ◌∷◌, ◌++◌, None, true, false, sym, ◌∙◌, not-true, not-false, take_all, Source, first_or, twice_in}
+use Rattle.dm_stack.proofs.Prelude.{[], None, true, false, sym, ◌∙◌, not-true, not-false, take_all, Source, first_or, twice_in}
 use Rattle.dm_stack.proofs.names.NameLemmas.{names_more, refused_twice, seen_in, stands_nowhere, stands_once, stands_twice}
 use Rattle.dm_stack.proofs.checks.names.index_of.Goals as goal
+use Rattle.std.specs.Prelude.{◌≡◌, ◌∷◌, ◌++◌}
 
 pub returns-in-Ok-false : goal.returns-in-Ok-false
 returns-in-Ok-false g c =

@@ -1,8 +1,9 @@
-use Rattle.dm_stack.proofs.Prelude.{◌+◌, ◌≡◌, ◌∙◌, ap, arith, drop, rules, tests, ResolvedLine, HasGoodChunk, all_lines, places_of, resolved_line}
+use Rattle.dm_stack.proofs.Prelude.{◌∙◌, ap, arith, drop, rules, tests, ResolvedLine, HasGoodChunk, all_lines, places_of, resolved_line}
 use Rattle.dm_stack.proofs.checks.CrowdLemmas.{crowded_passes, line_places, places_are}
 use Rattle.dm_stack.proofs.lines.ByDevice.{made_at, table_is}
 use Rattle.dm_stack.proofs.checks.store_limit.check_places.Goals as goal
 use Rattle.dm_stack.proofs.checks.store_limit.check_places.Goals.{After-places_of-places}
+use Rattle.std.specs.Prelude.{◌+◌, ◌≡◌}
 
 -- the places of the line that is next
 places_here : (c : After-places_of-places) → c.places_of-places.result ≡ line_places c.args.stack.now c.line-item.result

@@ -1,7 +1,8 @@
 -- the stores so far have not too many places, and the rest has the first fault of all lines
-use Rattle.dm_stack.proofs.Prelude.{◌≡◌, ◌+◌, ◌≤◌, ◌++◌, None, drop, first_or, all_lines, crowded}
+use Rattle.dm_stack.proofs.Prelude.{None, drop, first_or, all_lines, crowded}
 use Rattle.dm_stack.proofs.checks.CrowdLemmas.{crowded_from}
 use Rattle.dm_stack.proofs.checks.store_limit.check_places.Given as goal
+use Rattle.std.specs.Prelude.{◌≡◌, ◌+◌, ◌≤◌, ◌++◌}
 
 abbrev pub invariant-loop-index : goal.invariant-loop-index
 invariant-loop-index l = record {

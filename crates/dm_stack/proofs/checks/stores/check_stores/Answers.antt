@@ -1,7 +1,8 @@
-use Rattle.dm_stack.proofs.Prelude.{◌≡◌, ◌∙◌, rules, tests, Store, has_bad_store, has_deep_store, resolved_target}
+use Rattle.dm_stack.proofs.Prelude.{◌∙◌, rules, tests, Store, has_bad_store, has_deep_store, resolved_target}
 use Rattle.dm_stack.proofs.checks.PlacedLemmas.{first_devices}
 use Rattle.dm_stack.proofs.checks.StoreLemmas.{deep_same}
 use Rattle.dm_stack.proofs.checks.stores.check_stores.Goals as goal
+use Rattle.std.specs.Prelude.{◌≡◌}
 
 pub returns : goal.returns
 returns c =

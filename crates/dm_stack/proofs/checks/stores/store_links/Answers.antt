@@ -1,6 +1,7 @@
-use Rattle.dm_stack.proofs.Prelude.{◌≡◌, ◌<◌, ap, ◌∙◌, arith, get_or, length, links_in}
+use Rattle.dm_stack.proofs.Prelude.{ap, ◌∙◌, arith, get_or, length, links_in}
 use Rattle.dm_stack.proofs.checks.StoreLemmas.{links_length, store_links_next}
 use Rattle.dm_stack.proofs.checks.stores.store_links.Goals as goal
+use Rattle.std.specs.Prelude.{◌≡◌, ◌<◌}
 
 pub bounds-named-id : goal.bounds-named-id
 bounds-named-id c = omega (arith, c.loop-id-test.true, links_length c.args.stack.now c.args.named.now c.requires, ap length c.devices-device-items.ensures)

@@ -1,8 +1,9 @@
 -- what is left to claim, after what was claimed so far, gives all claims of the line
-use Rattle.dm_stack.proofs.Prelude.{◌≡◌, ◌++◌, false, map, list_any, is_past, line_claims}
+use Rattle.dm_stack.proofs.Prelude.{false, map, list_any, is_past, line_claims}
 use Rattle.dm_stack.specs.lines.Span.{span_claim}
 use Rattle.dm_stack.proofs.lines.SpanLemmas.{spans_left}
 use Rattle.dm_stack.proofs.claims.claim.add_line.Given as goal
+use Rattle.std.specs.Prelude.{◌≡◌, ◌++◌}
 
 abbrev pub invariant-loop-span : goal.invariant-loop-span
 invariant-loop-span l = record {

@@ -1,9 +1,10 @@
-use Rattle.dm_stack.proofs.Prelude.{◌≡◌, ap, arith, length, length-map, resolved_device, lines_at}
+use Rattle.dm_stack.proofs.Prelude.{ap, arith, length, length-map, resolved_device, lines_at}
 use Rattle.dm_stack.specs.claims.Claims.{line_claims}
 use Rattle.dm_stack.specs.lines.Span as by_id
 use Rattle.dm_stack.proofs.lines.ByDevice.{lines_next, table_at}
 use Rattle.dm_stack.proofs.lines.SpanLemmas.{claims_are, flat_lines}
 use Rattle.dm_stack.proofs.claims.claim.claims.Goals as goal
+use Rattle.std.specs.Prelude.{◌≡◌}
 
 pub loop-id-preserved : goal.loop-id-preserved
 loop-id-preserved c =

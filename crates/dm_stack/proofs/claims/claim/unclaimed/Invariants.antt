@@ -1,6 +1,7 @@
 -- the devices that none of the claims so far is on
-use Rattle.dm_stack.proofs.Prelude.{◌≡◌, ◌<◌, ℕ, false, length, not, slice_index_or, take, list_any, is_device}
+use Rattle.dm_stack.proofs.Prelude.{ℕ, false, length, not, slice_index_or, take, list_any, is_device}
 use Rattle.dm_stack.proofs.claims.claim.unclaimed.Given as goal
+use Rattle.std.specs.Prelude.{◌≡◌, ◌<◌}
 
 abbrev pub invariant-loop-claim : goal.invariant-loop-claim
 invariant-loop-claim l = record {

@@ -1,7 +1,8 @@
-use Rattle.dm_stack.proofs.Prelude.{◌≡◌, ◌<◌, ◌+◌, true, length, sym, ap, subst, ◌∙◌, arith, AllPairs, take_all, get_or_from_slice_get, NeverMeet, IsFirstClash, is_tidy_to}
+use Rattle.dm_stack.proofs.Prelude.{true, length, sym, ap, subst, ◌∙◌, arith, AllPairs, take_all, get_or_from_slice_get, NeverMeet, IsFirstClash, is_tidy_to}
 use Rattle.dm_stack.proofs.claims.TidyLemmas.{first_is, order_length, counted_kept, tidy_below}
 use Rattle.dm_stack.proofs.SoundLines.{there}
 use Rattle.dm_stack.proofs.claims.tidy.first_clash.Goals as goal
+use Rattle.std.specs.Prelude.{◌≡◌, ◌<◌, ◌+◌}
 
 pub is_tidy_to-requires-clause-counted : goal.is_tidy_to-requires-clause-counted
 is_tidy_to-requires-clause-counted c =

@@ -1,7 +1,8 @@
-use Rattle.dm_stack.proofs.Prelude.{◌≡◌, false, true, not, sym, ap, take, list_any, reach_of, rivals}
+use Rattle.dm_stack.proofs.Prelude.{false, true, not, sym, ap, take, list_any, reach_of, rivals}
 use Rattle.dm_stack.proofs.claims.SweepLemmas.{counted, met, not_met, reach_more, search_ends, search_more, uncounted}
 use Rattle.dm_stack.proofs.claims.tidy.is_tidy_to.Goals as goal
 use Rattle.dm_stack.proofs.claims.tidy.is_tidy_to.Goals.{then-next-count+else-meets, else-next-count}
+use Rattle.std.specs.Prelude.{◌≡◌}
 
 pub loop-next-preserved : goal.loop-next-preserved
 loop-next-preserved c =

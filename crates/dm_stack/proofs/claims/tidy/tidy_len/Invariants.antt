@@ -1,6 +1,7 @@
 -- none of the claims below the one index meet, and some below the other do
-use Rattle.dm_stack.proofs.Prelude.{◌≡◌, ◌<◌, ◌≤◌, ◌-◌, false, length, true, is_tidy_to}
+use Rattle.dm_stack.proofs.Prelude.{false, length, true, is_tidy_to}
 use Rattle.dm_stack.proofs.claims.tidy.tidy_len.Given as goal
+use Rattle.std.specs.Prelude.{◌≡◌, ◌<◌, ◌≤◌, ◌-◌}
 
 abbrev pub invariant-loop-tidy : goal.invariant-loop-tidy
 invariant-loop-tidy l = record {

@@ -1,6 +1,7 @@
-use Rattle.dm_stack.proofs.Prelude.{ℕ, ◌≡◌, ◌+◌, ◌-◌, ◌*◌, ◌/◌, ◌^◌, ◌<◌, ◌≤◌, ◌∙◌, arith, length, subst, sym, leb-false, leb-true, StartsAfter}
+use Rattle.dm_stack.proofs.Prelude.{ℕ, ◌∙◌, arith, length, subst, sym, leb-false, leb-true, StartsAfter}
 use Rattle.dm_stack.proofs.lines.LineSearchLemmas.{few_digits, more-few, more-halved, starts_after, starts_by}
 use Rattle.dm_stack.proofs.lines.line_search.search.Goals as goal
+use Rattle.std.specs.Prelude.{◌≡◌, ◌+◌, ◌-◌, ◌*◌, ◌/◌, ◌^◌, ◌<◌, ◌≤◌}
 
 pub loop-count-preserved-then-starts_by : goal.loop-count-preserved-then-starts_by
 loop-count-preserved-then-starts_by c =

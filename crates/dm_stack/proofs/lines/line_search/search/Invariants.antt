@@ -1,6 +1,7 @@
 -- the sought line is one of count lines from index on; each comparison halves how many come after the first of them
-use Rattle.dm_stack.proofs.Prelude.{◌+◌, ◌-◌, ◌*◌, ◌^◌, ◌<◌, ◌≤◌, length, StartsAfter, StartsBy}
+use Rattle.dm_stack.proofs.Prelude.{length, StartsAfter, StartsBy}
 use Rattle.dm_stack.proofs.lines.line_search.search.Given as goal
+use Rattle.std.specs.Prelude.{◌+◌, ◌-◌, ◌*◌, ◌^◌, ◌<◌, ◌≤◌}
 
 abbrev pub invariant-loop-count : goal.invariant-loop-count
 invariant-loop-count l = record {

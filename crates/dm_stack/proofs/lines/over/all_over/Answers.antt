@@ -1,7 +1,8 @@
-use Rattle.dm_stack.proofs.Prelude.{◌≡◌, ◌<◌, ap, arith, get_or, length, Line, over_of}
+use Rattle.dm_stack.proofs.Prelude.{ap, arith, get_or, length, Line, over_of}
 use Rattle.dm_stack.proofs.lines.ByDevice.{device_next}
 use Rattle.dm_stack.proofs.lines.OverLemmas.{all_is}
 use Rattle.dm_stack.proofs.lines.over.all_over.Goals as goal
+use Rattle.std.specs.Prelude.{◌≡◌, ◌<◌}
 
 pub returns : goal.returns
 returns c =

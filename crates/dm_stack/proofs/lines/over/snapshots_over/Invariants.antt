@@ -1,6 +1,7 @@
 -- what is kept so far is what passes of those so far
-use Rattle.dm_stack.proofs.Prelude.{◌≡◌, take, filter, is_same_lower}
+use Rattle.dm_stack.proofs.Prelude.{take, filter, is_same_lower}
 use Rattle.dm_stack.proofs.lines.over.snapshots_over.Given as goal
+use Rattle.std.specs.Prelude.{◌≡◌}
 
 abbrev pub invariant-loop-one : goal.invariant-loop-one
 invariant-loop-one l = l.over.items ≡ filter (λ one. is_same_lower one.snapshot.origin l.to) (take l.one-index l.all)

@@ -1,6 +1,7 @@
-use Rattle.dm_stack.proofs.Prelude.{◌≡◌, ◌<◌, ◌∙◌, ap, arith, get_or, length, refl, IfSome_then, slice_get_read}
+use Rattle.dm_stack.proofs.Prelude.{◌∙◌, ap, arith, get_or, length, refl, IfSome_then, slice_get_read}
 use Rattle.dm_stack.proofs.lines.OwnSnapshot.{own_is}
 use Rattle.dm_stack.proofs.lines.resolve.resolved_devices.Goals as goal
+use Rattle.std.specs.Prelude.{◌≡◌, ◌<◌}
 
 pub table-requires-clause-own : goal.table-requires-clause-own
 table-requires-clause-own c =

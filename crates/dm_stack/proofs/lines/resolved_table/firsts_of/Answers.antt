@@ -1,8 +1,9 @@
-use Rattle.dm_stack.proofs.Prelude.{◌≡◌, ℕ, ◌+◌, ◌*◌, ◌/◌, ◌%◌, ◌^◌, ◌<◌, ◌≤◌, List, [], ◌∷◌, length, length-append, ap, subst, sym, ◌∙◌, arith, div-mul-le_self, mod-eq_of_lt, mul-le-mul_right, pow_mono, AreFirsts, StartsAfter, StartsBy}
+use Rattle.dm_stack.proofs.Prelude.{ℕ, List, [], length, length-append, ap, subst, sym, ◌∙◌, arith, div-mul-le_self, mod-eq_of_lt, mul-le-mul_right, pow_mono, AreFirsts, StartsAfter, StartsBy}
 use Rattle.dm_stack.specs.lines.LineSearch.{IsLineOf}
 use Rattle.dm_stack.proofs.lines.BucketLemmas.{earlier_pushed, firsts_pushed, next_bucket, starts_after_start, starts_by_later, starts_by_start, within_start}
 use Rattle.dm_stack.proofs.lines.resolved_table.firsts_of.Goals.{After-len-in-loop-firsts}
 use Rattle.dm_stack.proofs.lines.resolved_table.firsts_of.Goals as goal
+use Rattle.std.specs.Prelude.{◌≡◌, ◌+◌, ◌*◌, ◌/◌, ◌%◌, ◌^◌, ◌<◌, ◌≤◌, ◌∷◌}
 
 -- a bucket, up to the one after the last line's start, begins at a sector
 begins_at : (end shift bucket : ℕ) → end ≤ 2 ^ 50 → shift < 64 → bucket < end / 2 ^ shift + 2 → bucket * 2 ^ shift + 1 < 2 ^ 64

@@ -1,6 +1,7 @@
 -- the line of an index starts at the first sector of the next bucket or before it, and no bucket so far begins in a later one
-use Rattle.dm_stack.proofs.Prelude.{◌+◌, ◌-◌, ◌*◌, ◌^◌, ◌<◌, ◌≤◌, ℕ, get_or, length, AreFirsts, IsStartOf, StartsBy}
+use Rattle.dm_stack.proofs.Prelude.{ℕ, get_or, length, AreFirsts, IsStartOf, StartsBy}
 use Rattle.dm_stack.proofs.lines.resolved_table.firsts_of.Given as goal
+use Rattle.std.specs.Prelude.{◌+◌, ◌-◌, ◌*◌, ◌^◌, ◌<◌, ◌≤◌}
 
 abbrev pub invariant-loop-next : goal.invariant-loop-next
 invariant-loop-next l = record {

@@ -1,6 +1,7 @@
-use Rattle.dm_stack.proofs.Prelude.{◌≡◌, ◌+◌, ◌-◌, ◌*◌, ◌/◌, inl, inr, arith, place_count, places_in}
+use Rattle.dm_stack.proofs.Prelude.{inl, inr, arith, place_count, places_in}
 use Rattle.dm_stack.proofs.lines.StoreLayoutLemmas.{has_place}
 use Rattle.dm_stack.proofs.lines.store_layout.place_count.Goals as goal
+use Rattle.std.specs.Prelude.{◌≡◌, ◌+◌, ◌-◌, ◌*◌, ◌/◌}
 
 pub returns-in-Persistent : goal.returns-in-Persistent
 returns-in-Persistent c =

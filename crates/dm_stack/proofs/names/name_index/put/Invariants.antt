@@ -1,5 +1,6 @@
-use Rattle.dm_stack.proofs.Prelude.{◌≡◌, ◌≤◌, ◌-◌, length}
+use Rattle.dm_stack.proofs.Prelude.{length}
 use Rattle.dm_stack.proofs.names.name_index.put.Given as goal
+use Rattle.std.specs.Prelude.{◌≡◌, ◌≤◌, ◌-◌}
 
 abbrev pub invariant-tries : goal.invariant-tries
 invariant-tries l = (l.places.items ≡ l.fn.places.items) × (l.end ≤ length l.places.items)

@@ -1,5 +1,6 @@
-use Rattle.dm_stack.proofs.Prelude.{◌≡◌, ◌+◌, ◌-◌, length, arith, get_or-take, get_or-chunk}
+use Rattle.dm_stack.proofs.Prelude.{length, arith, get_or-take, get_or-chunk}
 use Rattle.dm_stack.proofs.names.name_index.space_ahead.Goals as goal
+use Rattle.std.specs.Prelude.{◌≡◌, ◌+◌, ◌-◌}
 
 pub returns-in-Some-clause-space : goal.returns-in-Some-clause-space
 returns-in-Some-clause-space c =

@@ -1,5 +1,5 @@
-use Rattle.dm_stack.proofs.Prelude.{◌-◌}
 use Rattle.dm_stack.proofs.names.name_index.space_ahead.Given as goal
+use Rattle.std.specs.Prelude.{◌-◌}
 
 abbrev pub invariant-steps : goal.invariant-steps
 invariant-steps l = Unit {0}

@@ -1,7 +1,8 @@
-use Rattle.dm_stack.proofs.Prelude.{◌≡◌, ℕ, ◌-◌, ◌<◌, ◌++◌, Bool, true, get_or, replicate, refl, subst, ◌∙◌, arith, slice_range, list_all, range_with_len, bytes_eq, get_or-range_with_len, AllPass-from_list_all, bytes_eq-Decides}
+use Rattle.dm_stack.proofs.Prelude.{ℕ, Bool, true, get_or, replicate, refl, subst, ◌∙◌, arith, slice_range, list_all, range_with_len, bytes_eq, get_or-range_with_len, AllPass-from_list_all, bytes_eq-Decides}
 use Rattle.dm_stack.specs.declared.names.name_key.TheConstants.{KEPT}
 use Rattle.dm_stack.proofs.names.KeyLemmas.{and_kept}
 use Rattle.dm_stack.proofs.names.name_key.first_kept.Goals as goal
+use Rattle.std.specs.Prelude.{◌≡◌, ◌-◌, ◌<◌, ◌++◌}
 
 -- so it is of each length
 abbrev is_kept : ℕ → Bool

@@ -1,4 +1,5 @@
-use Rattle.dm_stack.proofs.Prelude.{◌≡◌, ℕ, ◌%◌, ◌^◌, ◌<◌, cond, not, List, get_or, length, map, replicate, refl, ap, ◌∙◌, arith, w8, pos_of_ne-zero, nat_eq, prefix_len, eqb-true, length-map, passes_at_first, mask_l-mod, tops_compared, trailing_mask_l, zip2_splat}
+use Rattle.dm_stack.proofs.Prelude.{ℕ, cond, not, List, get_or, length, map, replicate, refl, ap, ◌∙◌, arith, w8, pos_of_ne-zero, nat_eq, prefix_len, eqb-true, length-map, passes_at_first, mask_l-mod, tops_compared, trailing_mask_l, zip2_splat}
+use Rattle.std.specs.Prelude.{◌≡◌, ◌%◌, ◌^◌, ◌<◌}
 use lib.Count.{count_trailing_zeros}
 use lib.Lanes.{mask_l, top, zip2}
 use Rattle.dm_table.proofs.MarkLemmas.{mark_within}

@@ -1,7 +1,8 @@
-use Rattle.dm_stack.proofs.Prelude.{◌≡◌, Some, [], ap, arith, get_or, length, sym, take, true, ◌∙◌, position, length-map, position-Some, bytes_eq-Decides, is_device_name, is_same}
+use Rattle.dm_stack.proofs.Prelude.{Some, [], ap, arith, get_or, length, sym, take, true, ◌∙◌, position, length-map, position-Some, bytes_eq-Decides, is_device_name, is_same}
 use Rattle.dm_stack.proofs.SoundLines.{position-map}
 use Rattle.dm_stack.proofs.stack.Stack.device_at_front.Goals as goal
 use Rattle.dm_stack.proofs.stack.Stack.device_at_front.Goals.{In_ok-index}
+use Rattle.std.specs.Prelude.{◌≡◌}
 
 -- the device that was found
 device_is : (c : In_ok-index) → position (λ device. is_same device.name (take c.in_ok-index.len c.args.text.now)) c.self.inside.devices ≡ Some c.in_ok-index.index

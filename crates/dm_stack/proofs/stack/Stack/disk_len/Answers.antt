@@ -1,6 +1,7 @@
-use Rattle.dm_stack.proofs.Prelude.{◌≡◌, ◌<◌, length, Some, refl, slice_get, slice_get_read}
+use Rattle.dm_stack.proofs.Prelude.{length, Some, refl, slice_get, slice_get_read}
 use Rattle.dm_stack.proofs.SoundLines.{disk_some, disk_small}
 use Rattle.dm_stack.proofs.stack.Stack.disk_len.Goals as goal
+use Rattle.std.specs.Prelude.{◌≡◌, ◌<◌}
 
 -- the disk that was read is the one of the id
 disk_read : (c : goal.After-index-as_slice-index) → slice_get c.self.inside.disks c.args.disk ≡ Some c.index-as_slice-index.result

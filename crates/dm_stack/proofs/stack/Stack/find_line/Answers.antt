@@ -1,8 +1,9 @@
-use Rattle.dm_stack.proofs.Prelude.{◌≡◌, Some, refl, ◌∙◌, add-one, length-map, slice_get_read, found_at}
+use Rattle.dm_stack.proofs.Prelude.{Some, refl, ◌∙◌, add-one, length-map, slice_get_read, found_at}
 use Rattle.dm_stack.proofs.lines.LineSearchLemmas.{few_halvings, first_starts, last_kept, line_there, next_after, small_there}
 use Rattle.dm_stack.proofs.lines.SameLine.{resolved_line_of}
 use Rattle.dm_stack.proofs.SoundLines.{sector_found}
 use Rattle.dm_stack.proofs.stack.Stack.find_line.Goals as goal
+use Rattle.std.specs.Prelude.{◌≡◌}
 
 pub find-index-requires-clause-first : goal.find-index-requires-clause-first
 find-index-requires-clause-first c =

@@ -1,6 +1,7 @@
-use Rattle.dm_store.proofs.Prelude.{◌≡◌, ℕ, ◌+◌, List, ◌++◌, length, length-append, refl, sym, ap, ◌∙◌, Asked, given_total, path_total}
+use Rattle.dm_store.proofs.Prelude.{ℕ, List, length, length-append, refl, sym, ap, ◌∙◌, Asked, given_total, path_total}
 use Rattle.dm_store.proofs.LogLemmas.{agrees_more, given_more, path_more}
 use Rattle.dm_store.proofs.read_log.ReadLog.note.Goals as goal
+use Rattle.std.specs.Prelude.{◌≡◌, ◌+◌, ◌++◌}
 
 pub invariant_of-self : goal.invariant_of-self
 invariant_of-self c =

@@ -1,7 +1,8 @@
-use Rattle.dm_stream.proofs.Prelude.{◌+◌, ℕ, sym, subst, ◌∙◌, ap, arith, Description, BlockUnit, IsOnDisks, first_unit, piece_len, Piece, Fits}
+use Rattle.dm_stream.proofs.Prelude.{ℕ, sym, subst, ◌∙◌, ap, arith, Description, BlockUnit, IsOnDisks, first_unit, piece_len, Piece, Fits}
 use Rattle.dm_map.specs.declared.pieces.piece.Piece.TheVariants as coded
 use Rattle.dm_stream.proofs.pieces.FitsLemmas.{fits_few}
 use Rattle.dm_stream.proofs.pieces.held_piece.longer.Goals as goal
+use Rattle.std.specs.Prelude.{◌+◌}
 
 fits_there : (stack : Description) (piece : Piece) → Fits stack (first_unit piece) (piece_len piece) → IsOnDisks stack piece
 fits_there stack (coded.Read disk start len) fits = fits

@@ -1,5 +1,6 @@
-use Rattle.dm_stream.proofs.Prelude.{rules, ◌≡◌, ℕ, ◌≤◌, ◌++◌, List, [], ◌∷◌, get_or, set, length, take, decimal, ap, ◌∙◌, arith, get_or-set_same, length-set, length-take-le, length-decimal-le, take-take, take-set-le, IsLineEnd, line_end}
+use Rattle.dm_stream.proofs.Prelude.{rules, ℕ, List, [], get_or, set, length, take, decimal, ap, ◌∙◌, arith, get_or-set_same, length-set, length-take-le, length-decimal-le, take-take, take-set-le, IsLineEnd, line_end}
 use Rattle.dm_stream.proofs.pieces.line_ends.line_end.Goals as goal
+use Rattle.std.specs.Prelude.{◌≡◌, ◌≤◌, ◌++◌, ◌∷◌}
 
 -- the front of a text with the count of its bytes as the last of eight
 counted : (len end : ℕ) (text array : List ℕ) → end ≤ 7 → length array ≡ 8 → array ≡ take 8 text → take end text ≡ line_end len → IsLineEnd len (set array 7 end)

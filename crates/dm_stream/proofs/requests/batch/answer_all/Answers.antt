@@ -1,6 +1,7 @@
-use Rattle.dm_stream.proofs.Prelude.{[], ◌∷◌, ◌++◌, suc, drop, take, front_requests, numbered}
+use Rattle.dm_stream.proofs.Prelude.{[], suc, drop, take, front_requests, numbered}
 use Rattle.dm_stream.proofs.requests.Batches.{up_to}
 use Rattle.dm_stream.proofs.requests.batch.answer_all.Goals as goal
+use Rattle.std.specs.Prelude.{◌∷◌, ◌++◌}
 
 pub returns-in-Err-clause-stopped : goal.returns-in-Err-clause-stopped
 returns-in-Err-clause-stopped g c =

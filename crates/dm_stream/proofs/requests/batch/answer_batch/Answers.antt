@@ -1,6 +1,7 @@
-use Rattle.dm_stream.proofs.Prelude.{◌+◌, [], length, drop, ap, front_requests}
+use Rattle.dm_stream.proofs.Prelude.{[], length, drop, ap, front_requests}
 use Rattle.dm_stream.proofs.requests.Batches.{among_those}
 use Rattle.dm_stream.proofs.requests.batch.answer_batch.Goals as goal
+use Rattle.std.specs.Prelude.{◌+◌}
 
 pub returns-in-Err : goal.returns-in-Err
 returns-in-Err g c =

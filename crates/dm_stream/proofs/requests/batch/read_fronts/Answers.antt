@@ -1,6 +1,7 @@
-use Rattle.dm_stream.proofs.Prelude.{◌≡◌, Some, ap, length, length-drop, arith, take_rest, All-push, All-same, device_of, Front}
+use Rattle.dm_stream.proofs.Prelude.{Some, ap, length, length-drop, arith, take_rest, All-push, All-same, device_of, Front}
 use Rattle.dm_stream.proofs.requests.Batches.{one_more}
 use Rattle.dm_stream.proofs.requests.batch.read_fronts.Goals as goal
+use Rattle.std.specs.Prelude.{◌≡◌}
 
 pub fronts-preserved : goal.fronts-preserved
 fronts-preserved c =

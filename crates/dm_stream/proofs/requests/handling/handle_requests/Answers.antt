@@ -1,10 +1,11 @@
-use Rattle.dm_stream.proofs.Prelude.{grows-same, rules, ◌+◌, ◌++◌, ◌∙◌, refl, [], ◌∷◌, take, stand_of, grows_more, ALine, AnEnd, AnUnended, ALong, AFault, numbered}
+use Rattle.dm_stream.proofs.Prelude.{grows-same, rules, ◌∙◌, refl, [], take, stand_of, grows_more, ALine, AnEnd, AnUnended, ALong, AFault, numbered}
 use Rattle.dm_stream.specs.declared.runs.ending.Ending as ending
 use Rattle.dm_stream.specs.declared.runs.ending.RequestWord as word
 use Rattle.dm_stream.proofs.requests.Batches.{after_batch, among_batch}
 use Rattle.dm_stream.proofs.requests.Fronts.{held_next, told_front}
 use Rattle.dm_stream.proofs.requests.HandledRequests.{after_waiting, bad_met, told_none, told_turn, ended, among}
 use Rattle.dm_stream.proofs.requests.handling.handle_requests.Goals as goal
+use Rattle.std.specs.Prelude.{◌+◌, ◌++◌, ◌∷◌}
 
 pub lines-init : goal.lines-init
 lines-init g c = record {

@@ -1,7 +1,7 @@
-use Rattle.dm_stream.proofs.Prelude.{◌+◌, ◌-◌, ◌≤◌}
 use Rattle.dm_stream.specs.declared.requests.handling.TheConstants.{MOST_REQUESTS}
 use Rattle.dm_stream.proofs.requests.HandledRequests.{HasHandled}
 use Rattle.dm_stream.proofs.requests.handling.handle_requests.Given as goal
+use Rattle.std.specs.Prelude.{◌+◌, ◌-◌, ◌≤◌}
 
 abbrev pub invariant-lines : goal.invariant-lines
 invariant-lines g l = record {

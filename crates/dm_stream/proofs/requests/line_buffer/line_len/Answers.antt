@@ -1,7 +1,8 @@
-use Rattle.dm_stream.proofs.Prelude.{◌≡◌, ℕ, ◌+◌, ◌<◌, None, Some, Option, MatchOption, List, [], ◌∷◌, length, take, drop, ◌-◌, arith, add-one, length-drop, take_rest, line_parts}
+use Rattle.dm_stream.proofs.Prelude.{ℕ, None, Some, Option, MatchOption, List, [], length, take, drop, arith, add-one, length-drop, take_rest, line_parts}
 use Rattle.memchr.specs.Find.{IsFirstByte, is_byte}
 use Rattle.dm_stream.proofs.requests.LineParts.{parts_without, parts_first, still_one, first_after}
 use Rattle.dm_stream.proofs.requests.line_buffer.line_len.Goals as goal
+use Rattle.std.specs.Prelude.{◌≡◌, ◌+◌, ◌<◌, ◌∷◌, ◌-◌}
 
 by_first : (xs : List ℕ) (r : Option ℕ) → IsFirstByte (is_byte 10) xs r → MatchOption r (line_parts xs ≡ xs ∷ []) (λ n. (n < length xs) × (line_parts xs ≡ take n xs ∷ line_parts (drop (n + 1) xs)))
 by_first xs None h = parts_without xs (λ k l. h k (omega arith) l)

@@ -1,6 +1,7 @@
-use Rattle.dm_stream.proofs.Prelude.{◌≡◌, ◌∙◌, sym, ap, None, Some, Ok, Err, subst₂, units_of, piece_of, step_of, numbered, fewest, pieces_text, Wrote, OutFault, on_ok}
+use Rattle.dm_stream.proofs.Prelude.{◌∙◌, sym, ap, None, Some, Ok, Err, subst₂, units_of, piece_of, step_of, numbered, fewest, pieces_text, Wrote, OutFault, on_ok}
 use Rattle.dm_stream.proofs.runs.RequestMapped.{at_home, cut_short, home_wrote, on_sink, state_at, taken_wrote, took_all}
 use Rattle.dm_stream.proofs.runs.request_mapper.write_joined.Goals as goal
+use Rattle.std.specs.Prelude.{◌≡◌}
 
 pub returns-in-Ok-None-clause-wrote : goal.returns-in-Ok-None-clause-wrote
 returns-in-Ok-None-clause-wrote g c =

@@ -1,6 +1,7 @@
-use Rattle.dm_stream.proofs.Prelude.{◌≡◌, ◌+◌, ◌++◌, ◌∙◌, ℕ, List, Some, ap, sym, drop, take, rules, IfSome, flat_map, err_from_is_err_and, stopped, and_then, flat_map_at, Description, device_len, name_at, IsSnapshot, MapperView, with_looked, taken_at, snapshot_at, usage_of, after_name, status_line}
+use Rattle.dm_stream.proofs.Prelude.{◌∙◌, ℕ, List, Some, ap, sym, drop, take, rules, IfSome, flat_map, err_from_is_err_and, stopped, and_then, flat_map_at, Description, device_len, name_at, IsSnapshot, MapperView, with_looked, taken_at, snapshot_at, usage_of, after_name, status_line}
 use Rattle.dm_map.specs.declared.state.usage.Usage.{Usage}
 use Rattle.dm_stream.proofs.runs.status_lines.write_status.Goals as goal
+use Rattle.std.specs.Prelude.{◌≡◌, ◌+◌, ◌++◌}
 
 -- what is written of a snapshot is its line
 line_of : (stack : Description) (old mapper : MapperView) (device : ℕ) (usage : Usage) → old.stack ≡ stack → mapper ≡ with_looked old mapper.looked → IsSnapshot stack device

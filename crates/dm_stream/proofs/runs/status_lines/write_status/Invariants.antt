@@ -1,6 +1,7 @@
 -- the mapper stays but for its looker's counts, the lines of the snapshots so far are written, and nothing failed
-use Rattle.dm_stream.proofs.Prelude.{◌≡◌, take, Ok, flat_map, Wrote, OutFault, with_looked, status_line}
+use Rattle.dm_stream.proofs.Prelude.{take, Ok, flat_map, Wrote, OutFault, with_looked, status_line}
 use Rattle.dm_stream.proofs.runs.status_lines.write_status.Given as goal
+use Rattle.std.specs.Prelude.{◌≡◌}
 
 abbrev pub invariant-loop-device : goal.invariant-loop-device
 invariant-loop-device g l = (l.mapper ≡ with_looked l.fn.mapper l.mapper.looked)

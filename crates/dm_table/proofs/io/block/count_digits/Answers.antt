@@ -1,7 +1,8 @@
 -- A number from one power of ten to below the next has one digit more than the power.
-use Rattle.dm_table.proofs.Prelude.{◌≡◌, ◌+◌, ◌*◌, ◌/◌, ◌^◌, ◌<◌, ◌≤◌, ℕ, zero, suc, length, decimal, sym, arith, pow-succ'}
+use Rattle.dm_table.proofs.Prelude.{ℕ, zero, suc, length, decimal, sym, arith, pow-succ'}
 use Rattle.itoa.proofs.Decimal.{length_one, length_step_wide}
 use Rattle.dm_table.proofs.io.block.count_digits.Goals as goal
+use Rattle.std.specs.Prelude.{◌≡◌, ◌+◌, ◌*◌, ◌/◌, ◌^◌, ◌<◌, ◌≤◌}
 
 some_power : (power : ℕ) → 1 ≤ 10 ^ power
 some_power zero = omega arith

@@ -1,6 +1,7 @@
-use Rattle.dm_table.proofs.Prelude.{refl, ◌≡◌, ◌+◌, ◌-◌, drop, take, length, rules, arith}
+use Rattle.dm_table.proofs.Prelude.{refl, drop, take, length, rules, arith}
 use Rattle.dm_table.proofs.io.BlockLemmas.{next_part, array_text}
 use Rattle.dm_table.proofs.io.block.put_array.Goals as goal
+use Rattle.std.specs.Prelude.{◌≡◌, ◌+◌, ◌-◌}
 
 pub sixteens-preserved : goal.sixteens-preserved
 sixteens-preserved g c =

@@ -1,5 +1,6 @@
-use Rattle.dm_table.proofs.Prelude.{◌≡◌, ◌+◌, ◌-◌, ◌≤◌, ◌++◌, take}
+use Rattle.dm_table.proofs.Prelude.{take}
 use Rattle.dm_table.proofs.io.block.put_array.Given as goal
+use Rattle.std.specs.Prelude.{◌≡◌, ◌+◌, ◌-◌, ◌≤◌, ◌++◌}
 
 -- what was put so far is the front of the room
 abbrev pub invariant-sixteens : goal.invariant-sixteens

@@ -1,6 +1,7 @@
-use Rattle.dm_table.proofs.Prelude.{rules, ◌≤◌, length, decimal, arith, length-decimal-le}
+use Rattle.dm_table.proofs.Prelude.{rules, length, decimal, arith, length-decimal-le}
 use Rattle.dm_table.proofs.io.BlockLemmas.{digits_front}
 use Rattle.dm_table.proofs.io.block.put_digits.Goals as goal
+use Rattle.std.specs.Prelude.{◌≤◌}
 
 pub overflow_add-end : goal.overflow_add-end
 overflow_add-end c =

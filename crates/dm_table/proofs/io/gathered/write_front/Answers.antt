@@ -1,6 +1,7 @@
-use Rattle.dm_table.proofs.Prelude.{ℕ, ◌≤◌, ◌+◌, ◌-◌, drop, length-take, add-zero, sym, ap, ◌∙◌, arith, le-ltb, lt-ltb, OutputPast}
+use Rattle.dm_table.proofs.Prelude.{ℕ, drop, length-take, add-zero, sym, ap, ◌∙◌, arith, le-ltb, lt-ltb, OutputPast}
 use Rattle.dm_table.proofs.io.BlockLemmas.{sent_more}
 use Rattle.dm_table.proofs.io.gathered.write_front.Goals as goal
+use Rattle.std.specs.Prelude.{◌≤◌, ◌+◌, ◌-◌}
 
 pub rest-preserved : goal.rest-preserved
 rest-preserved g c =

@@ -1,7 +1,8 @@
-use Rattle.dm_table.proofs.Prelude.{◌≡◌, ◌<◌, ◌∙◌, ap, length, rules, append-nil, err_from_is_err_and, OutputPast}
+use Rattle.dm_table.proofs.Prelude.{◌∙◌, ap, length, rules, append-nil, err_from_is_err_and, OutputPast}
 use Rattle.dm_table.proofs.io.Growth.{before, sent_cut, sent_further, sent_whole, front_beginning}
 use Rattle.dm_table.proofs.io.writing.write_all.Goals as goal
 use Rattle.dm_table.proofs.Lists.{on_err}
+use Rattle.std.specs.Prelude.{◌≡◌, ◌<◌}
 
 pub returns-in_err-taken-clause-err : goal.returns-in_err-taken-clause-err
 returns-in_err-taken-clause-err g c =

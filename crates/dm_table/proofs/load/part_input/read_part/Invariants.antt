@@ -1,6 +1,7 @@
-use Rattle.dm_table.proofs.Prelude.{◌≡◌, ◌-◌, ◌+◌, ◌++◌, vec_len}
+use Rattle.dm_table.proofs.Prelude.{vec_len}
 use Rattle.dm_table.specs.declared.load.part_input.TheConstants.{MOST_PART_BYTES}
 use Rattle.dm_table.proofs.load.part_input.read_part.Given as goal
+use Rattle.std.specs.Prelude.{◌≡◌, ◌-◌, ◌+◌, ◌++◌}
 
 -- the text is what was handed out, and neither an end nor a fault was met
 abbrev pub invariant-chunks : goal.invariant-chunks

@@ -1,7 +1,8 @@
-use Rattle.dm_table.proofs.Prelude.{◌≡◌, ◌+◌, ◌-◌, [], suc, length, map, take, drop, sym, ap, ◌∙◌, arith, texts, lines_of, rest_of, with_rows, no_faults, noted_rows, row_fault}
+use Rattle.dm_table.proofs.Prelude.{[], suc, length, map, take, drop, sym, ap, ◌∙◌, arith, texts, lines_of, rest_of, with_rows, no_faults, noted_rows, row_fault}
 use Rattle.dm_table.proofs.words.FieldLemmas.{line_found, no_line_found}
 use Rattle.dm_table.proofs.load.ReadRows.{values_left, faults_left}
 use Rattle.dm_table.proofs.load.reading.read_each.Goals as goal
+use Rattle.std.specs.Prelude.{◌≡◌, ◌+◌, ◌-◌}
 
 pub loop-end-preserved : goal.loop-end-preserved
 loop-end-preserved g c =

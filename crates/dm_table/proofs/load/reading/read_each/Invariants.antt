@@ -1,6 +1,7 @@
 -- the values and the faults so far, and the rows that are left, give those of all rows
-use Rattle.dm_table.proofs.Prelude.{◌≡◌, ◌+◌, ◌≤◌, [], None, length, map, lines_of, rest_of, with_rows, first_noted, no_faults, noted_rows, row_fault}
+use Rattle.dm_table.proofs.Prelude.{[], None, length, map, lines_of, rest_of, with_rows, first_noted, no_faults, noted_rows, row_fault}
 use Rattle.dm_table.proofs.load.reading.read_each.Given as goal
+use Rattle.std.specs.Prelude.{◌≡◌, ◌+◌, ◌≤◌}
 
 abbrev pub invariant-loop-end : goal.invariant-loop-end
 invariant-loop-end g l =

@@ -1,7 +1,8 @@
 -- What is read of the rows is what their checks and their values give.
-use Rattle.dm_table.proofs.Prelude.{◌≡◌, ◌+◌, [], length, map, length-map, lines_of, rest_of, with_rows, no_faults, noted_rest, noted_rows, row_fault}
+use Rattle.dm_table.proofs.Prelude.{[], length, map, length-map, lines_of, rest_of, with_rows, no_faults, noted_rest, noted_rows, row_fault}
 use Rattle.dm_table.proofs.load.RowFaultLemmas.{rows_answer}
 use Rattle.dm_table.proofs.load.reading.read_rows.Goals as goal
+use Rattle.std.specs.Prelude.{◌≡◌, ◌+◌}
 
 pub returns-in-Ok : goal.returns-in-Ok
 returns-in-Ok g c =

@@ -1,6 +1,7 @@
 -- what the pieces that are left give is what all give
-use Rattle.dm_table.proofs.Prelude.{◌≡◌, ◌+◌, not, drop, NotText, texts, faults_from, untexts}
+use Rattle.dm_table.proofs.Prelude.{not, drop, NotText, texts, faults_from, untexts}
 use Rattle.dm_table.proofs.load.text_checks.first_untext.Given as goal
+use Rattle.std.specs.Prelude.{◌≡◌, ◌+◌}
 
 abbrev pub invariant-loop-index : goal.invariant-loop-index
 invariant-loop-index g l =

@@ -1,7 +1,8 @@
 -- What was read of a text's front is the line of its request.
-use Rattle.dm_table.proofs.Prelude.{◌+◌, ◌-◌, length, refl, arith}
+use Rattle.dm_table.proofs.Prelude.{length, refl, arith}
 use Rattle.dm_table.proofs.requests.FrontRequest.{front_line}
 use Rattle.dm_table.proofs.requests.request_line.front_request.Goals as goal
+use Rattle.std.specs.Prelude.{◌+◌, ◌-◌}
 
 pub returns-clause-front : goal.returns-clause-front
 returns-clause-front c =

@@ -1,9 +1,10 @@
 -- The spaces of a text cut its fields.
-use Rattle.dm_table.proofs.Prelude.{◌≡◌, ◌≤◌, ◌<◌, ◌+◌, length, take, drop, sym, ap, ◌∙◌, arith, eqb-true, eqb-false, take_rest, length-take-le}
+use Rattle.dm_table.proofs.Prelude.{length, take, drop, sym, ap, ◌∙◌, arith, eqb-true, eqb-false, take_rest, length-take-le}
 use Rattle.dm_table.proofs.words.FieldLemmas.{parts_at-found, parts_at-nowhere}
 use Rattle.dm_table.proofs.requests.RequestLemmas.{two, two_first, two_last, two_more}
 use Rattle.dm_table.proofs.requests.request_line.number_fault.Goals as goal
 use Rattle.dm_table.proofs.requests.request_line.number_fault.Goals.{then-end-eq0-via-then-end-eq0, then-end-eq0-via-else-end-eq0+then-is_empty}
+use Rattle.std.specs.Prelude.{◌≡◌, ◌≤◌, ◌<◌, ◌+◌}
 
 pub returns-in_default : goal.returns-in_default
 returns-in_default c = rw (parts_at-nowhere 32 c.args.text.now c.in_default.ensures)

@@ -1,7 +1,8 @@
 -- A line with a fault says no request, and one without says that of its fields.
-use Rattle.dm_table.proofs.Prelude.{◌≡◌, false, rules, arith, inl, inr, Form, Length, fields, is_length}
+use Rattle.dm_table.proofs.Prelude.{false, rules, arith, inl, inr, Form, Length, fields, is_length}
 use Rattle.dm_table.proofs.requests.RequestLemmas.{described, unique, refused, read-said, fault-numbers, fault-length, no_length}
 use Rattle.dm_table.proofs.requests.request_line.parse_request.Goals as goal
+use Rattle.std.specs.Prelude.{◌≡◌}
 
 pub returns-in_default-clause-only : goal.returns-in_default-clause-only
 returns-in_default-clause-only c = λ values said. refused c.args.line.now values Form (search rules) said

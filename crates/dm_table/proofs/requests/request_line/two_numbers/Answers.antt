@@ -1,8 +1,9 @@
 -- The first field and what follows its space are the two.
-use Rattle.dm_table.proofs.Prelude.{◌≡◌, sym, ap, ◌∙◌, [], Some, ◌∷◌, join_with_byte, fields, number_of}
+use Rattle.dm_table.proofs.Prelude.{sym, ap, ◌∙◌, [], Some, join_with_byte, fields, number_of}
 use Rattle.dm_table.proofs.words.FieldLemmas.{join-parts_at}
 use Rattle.dm_table.proofs.requests.RequestLemmas.{number_whole}
 use Rattle.dm_table.proofs.requests.request_line.two_numbers.Goals as goal
+use Rattle.std.specs.Prelude.{◌≡◌, ◌∷◌}
 
 pub returns-in_err-len-clause-other : goal.returns-in_err-len-clause-other
 returns-in_err-len-clause-other c = rw c.from_residual-in_err-len.ensures (λ m n read.

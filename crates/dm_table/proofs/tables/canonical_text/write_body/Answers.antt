@@ -1,6 +1,7 @@
-use Rattle.dm_table.proofs.Prelude.{◌++◌, flat_map, err_from_is_err_and, column_text, body_head, columns_of}
+use Rattle.dm_table.proofs.Prelude.{flat_map, err_from_is_err_and, column_text, body_head, columns_of}
 use Rattle.dm_table.proofs.io.WriteLemmas.{stopped, and_then, line_split}
 use Rattle.dm_table.proofs.tables.canonical_text.write_body.Goals as goal
+use Rattle.std.specs.Prelude.{◌++◌}
 
 pub returns-in_err-put : goal.returns-in_err-put
 returns-in_err-put g c =

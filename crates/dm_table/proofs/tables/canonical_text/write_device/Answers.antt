@@ -1,6 +1,7 @@
-use Rattle.dm_table.proofs.Prelude.{◌++◌, refl, append_assoc, map, join_with_byte, err_from_is_err_and, body_text, flag_text}
+use Rattle.dm_table.proofs.Prelude.{refl, append_assoc, map, join_with_byte, err_from_is_err_and, body_text, flag_text}
 use Rattle.dm_table.proofs.io.WriteLemmas.{stopped, and_then}
 use Rattle.dm_table.proofs.tables.canonical_text.write_device.Goals as goal
+use Rattle.std.specs.Prelude.{◌++◌}
 
 pub returns-in_err-write_all : goal.returns-in_err-write_all
 returns-in_err-write_all g c =

@@ -1,6 +1,7 @@
-use Rattle.dm_table.proofs.Prelude.{List, ℕ, [], ◌∷◌, ◌++◌, append_assoc, Line, body_text, line_text}
+use Rattle.dm_table.proofs.Prelude.{List, ℕ, [], append_assoc, Line, body_text, line_text}
 use Rattle.dm_table.proofs.io.WriteLemmas.{stopped, and_then, each_stopped, each_further}
 use Rattle.dm_table.proofs.tables.canonical_text.write_lines.Goals as goal
+use Rattle.std.specs.Prelude.{◌∷◌, ◌++◌}
 
 -- a line as it is written, with its newline
 abbrev ended : List ℕ → Line → List ℕ

@@ -1,6 +1,7 @@
-use Rattle.dm_table.proofs.Prelude.{◌∷◌, body_text, Line}
+use Rattle.dm_table.proofs.Prelude.{body_text, Line}
 use Rattle.dm_table.proofs.io.WriteLemmas.{each_stopped, each_further}
 use Rattle.dm_table.proofs.tables.canonical_text.write_more_bodies.Goals as goal
+use Rattle.std.specs.Prelude.{◌∷◌}
 
 pub returns-in_err-write_body : goal.returns-in_err-write_body
 returns-in_err-write_body g c =

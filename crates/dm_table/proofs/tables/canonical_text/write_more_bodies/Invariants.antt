@@ -1,6 +1,7 @@
 -- the text of the items so far is written, and nothing failed
-use Rattle.dm_table.proofs.Prelude.{◌∷◌, take, Ok, flat_map, body_text, Wrote, OutFault}
+use Rattle.dm_table.proofs.Prelude.{take, Ok, flat_map, body_text, Wrote, OutFault}
 use Rattle.dm_table.proofs.tables.canonical_text.write_more_bodies.Given as goal
+use Rattle.std.specs.Prelude.{◌∷◌}
 
 abbrev pub invariant-loop-line : goal.invariant-loop-line
 invariant-loop-line g l =

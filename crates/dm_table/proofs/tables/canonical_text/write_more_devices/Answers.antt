@@ -1,6 +1,7 @@
-use Rattle.dm_table.proofs.Prelude.{◌∷◌, concise_device, DeviceSpec}
+use Rattle.dm_table.proofs.Prelude.{concise_device, DeviceSpec}
 use Rattle.dm_table.proofs.io.WriteLemmas.{each_stopped, each_further}
 use Rattle.dm_table.proofs.tables.canonical_text.write_more_devices.Goals as goal
+use Rattle.std.specs.Prelude.{◌∷◌}
 
 pub returns-in_err-write_device : goal.returns-in_err-write_device
 returns-in_err-write_device g c =

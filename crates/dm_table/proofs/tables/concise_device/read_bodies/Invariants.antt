@@ -1,6 +1,7 @@
 -- the fault so far and those of the bodies that are left are that of all; where there is none, so are the lines
-use Rattle.dm_table.proofs.Prelude.{◌≡◌, ◌++◌, drop, None, texts, earlier_of, fault_of_bodies, lines_in}
+use Rattle.dm_table.proofs.Prelude.{drop, None, texts, earlier_of, fault_of_bodies, lines_in}
 use Rattle.dm_table.proofs.tables.concise_device.read_bodies.Given as goal
+use Rattle.std.specs.Prelude.{◌≡◌, ◌++◌}
 
 abbrev pub invariant-loop-body : goal.invariant-loop-body
 invariant-loop-body l =

@@ -1,6 +1,7 @@
-use Rattle.dm_table.proofs.Prelude.{◌-◌, length, take, drop, err_from_is_err_and, texts}
+use Rattle.dm_table.proofs.Prelude.{length, take, drop, err_from_is_err_and, texts}
 use Rattle.dm_table.proofs.tables.ConciseFaults.{few_entries, entries_fault, entries_read, entries_named}
 use Rattle.dm_table.proofs.tables.concise_device.read_entries.Goals as goal
+use Rattle.std.specs.Prelude.{◌-◌}
 
 pub returns-in_default : goal.returns-in_default
 returns-in_default c = λ other. few_entries c.args.number c.args.on_a_line c.args.entries.now c.in_default.len_below

@@ -1,4 +1,5 @@
-use Rattle.dm_table.proofs.Prelude.{◌≡◌, ◌+◌, ℕ, suc, List, [], drop, get_or, ap, refl, arith, drop_more, Source, texts, no_faults, noted_rows, fault_of_device}
+use Rattle.dm_table.proofs.Prelude.{ℕ, suc, List, [], drop, get_or, ap, refl, arith, drop_more, Source, texts, no_faults, noted_rows, fault_of_device}
+use Rattle.std.specs.Prelude.{◌≡◌, ◌+◌}
 use denote.Ref.{Bor}
 use Rattle.dm_table.proofs.tables.ConciseFaults.{devices_further}
 use Rattle.dm_table.proofs.load.ReadRows.{faults_left}

@@ -1,7 +1,8 @@
-use Rattle.dm_table.proofs.Prelude.{◌≢◌, sym, ◌∙◌, texts, columns_reading}
+use Rattle.dm_table.proofs.Prelude.{sym, ◌∙◌, texts, columns_reading}
 use Rattle.dm_table.specs.declared.load.row_faults.RowFault.TheVariants.{Memory}
 use Rattle.dm_table.proofs.tables.TargetRows.{columns_first, column_further, column_unnamed, column_unknown, memory_before, columns_last, columns_odd, columns_fault}
 use Rattle.dm_table.proofs.tables.line_body.read_columns.Goals as goal
+use Rattle.std.specs.Prelude.{◌≢◌}
 
 pub loop-rest-init : goal.loop-rest-init
 loop-rest-init c = rw c.new-columns.ensures.items (columns_first (columns_reading (texts c.args.fields.now)))

@@ -1,6 +1,7 @@
-use Rattle.dm_table.proofs.Prelude.{ap, ◌≡◌, sym, length, arith, nat_tests, err_from_is_err_and, with_target}
+use Rattle.dm_table.proofs.Prelude.{ap, sym, length, arith, nat_tests, err_from_is_err_and, with_target}
 use Rattle.dm_table.proofs.tables.TargetRows.{linear_none, linear_made}
 use Rattle.dm_table.proofs.tables.line_body.read_linear.Goals as goal
+use Rattle.std.specs.Prelude.{◌≡◌}
 
 pub returns-in_default : goal.returns-in_default
 returns-in_default c = λ other.

@@ -1,6 +1,7 @@
-use Rattle.dm_table.proofs.Prelude.{ℕ, List, length, take, drop, ◌-◌, refl, sym, ◌∙◌, rules, Column, Striped, then_in, columns_in, has_target_names, has_column_names, number_of, texts}
+use Rattle.dm_table.proofs.Prelude.{ℕ, List, length, take, drop, refl, sym, ◌∙◌, rules, Column, Striped, then_in, columns_in, has_target_names, has_column_names, number_of, texts}
 use Rattle.dm_table.proofs.tables.TargetRows.{striped_said, made_reading}
 use Rattle.dm_table.proofs.tables.line_body.read_striped.Goals as goal
+use Rattle.std.specs.Prelude.{◌-◌}
 
 pub returns : goal.returns
 returns c =

@@ -1,6 +1,7 @@
-use Rattle.dm_table.proofs.Prelude.{◌≤◌, length, take, ap, ◌∙◌, append_assoc, arith}
+use Rattle.dm_table.proofs.Prelude.{length, take, ap, ◌∙◌, append_assoc, arith}
 use Rattle.dm_table.proofs.words.ByteLemmas.{device_name_len}
 use Rattle.dm_table.proofs.tables.line_head.put_name.Goals as goal
+use Rattle.std.specs.Prelude.{◌≤◌}
 
 pub returns-in-Device : goal.returns-in-Device
 returns-in-Device c =

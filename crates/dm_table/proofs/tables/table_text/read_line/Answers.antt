@@ -1,7 +1,8 @@
-use Rattle.dm_table.proofs.Prelude.{◌≡◌, ◌-◌, true, false, nat_eq, refl, sym, ◌∙◌, arith, pointwise, vec_len, texts}
+use Rattle.dm_table.proofs.Prelude.{true, false, nat_eq, refl, sym, ◌∙◌, arith, pointwise, vec_len, texts}
 use Rattle.dm_table.proofs.tables.TableLines.{add_same, add_other, add_first}
 use Rattle.dm_table.proofs.tables.table_text.read_line.Goals.{in-Some+else-eq, in_default}
 use Rattle.dm_table.proofs.tables.table_text.read_line.Goals as goal
+use Rattle.std.specs.Prelude.{◌≡◌, ◌-◌}
 
 pub returns-then-eq : goal.returns-then-eq
 returns-then-eq c =

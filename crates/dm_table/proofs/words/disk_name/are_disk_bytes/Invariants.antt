@@ -1,6 +1,7 @@
 -- what was asked, and the bytes that are left, give what the whole gives
-use Rattle.dm_table.proofs.Prelude.{◌≡◌, ◌&&◌, drop, list_all, is_disk_byte}
+use Rattle.dm_table.proofs.Prelude.{drop, list_all, is_disk_byte}
 use Rattle.dm_table.proofs.words.disk_name.are_disk_bytes.Given as goal
+use Rattle.std.specs.Prelude.{◌≡◌, ◌&&◌}
 
 abbrev pub invariant-loop-byte : goal.invariant-loop-byte
 invariant-loop-byte l = (l.allowed && list_all is_disk_byte (drop l.byte-index l.bytes)) ≡ list_all is_disk_byte l.bytes

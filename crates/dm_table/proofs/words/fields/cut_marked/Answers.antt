@@ -1,4 +1,5 @@
-use Rattle.dm_table.proofs.Prelude.{◌≡◌, ◌+◌, ◌-◌, ◌^◌, ◌++◌, length, take, drop, ap, sym, ◌∙◌, arith, ◌/◌, take_rest, drop-drop, common_steps, texts, parts_at, marks_of}
+use Rattle.dm_table.proofs.Prelude.{length, take, drop, ap, sym, ◌∙◌, arith, take_rest, drop-drop, common_steps, texts, parts_at, marks_of}
+use Rattle.std.specs.Prelude.{◌≡◌, ◌+◌, ◌-◌, ◌^◌, ◌++◌, ◌/◌}
 use lib.Count.{count_trailing_zeros}
 use Rattle.dm_table.proofs.words.FieldLemmas.{cut_more, cut_last}
 use Rattle.dm_table.proofs.words.MarkLemmas.{marked_first, marked_none, marks_after}

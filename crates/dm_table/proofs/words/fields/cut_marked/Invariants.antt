@@ -1,6 +1,7 @@
 -- the parts so far, and those of the rest, are the parts of the text; the marks left are those of the rest
-use Rattle.dm_table.proofs.Prelude.{◌≡◌, ◌++◌, ◌≤◌, length, texts, parts_at, marks_of}
+use Rattle.dm_table.proofs.Prelude.{length, texts, parts_at, marks_of}
 use Rattle.dm_table.proofs.words.fields.cut_marked.Given as goal
+use Rattle.std.specs.Prelude.{◌≡◌, ◌++◌, ◌≤◌}
 
 abbrev pub invariant-loop-left : goal.invariant-loop-left
 invariant-loop-left l =

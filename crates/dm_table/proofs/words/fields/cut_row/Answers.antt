@@ -1,8 +1,9 @@
 -- The last field goes where it is empty: then it was there.
-use Rattle.dm_table.proofs.Prelude.{◌≡◌, [], None, sym, ap, ◌∙◌, refl, arith, nil_from_length, MatchOption-at_none, texts, fields, without_last_space, ends_empty}
+use Rattle.dm_table.proofs.Prelude.{[], None, sym, ap, ◌∙◌, refl, arith, nil_from_length, MatchOption-at_none, texts, fields, without_last_space, ends_empty}
 use Rattle.dm_table.proofs.words.FieldLemmas.{all_but_last-popped}
 use Rattle.dm_table.proofs.tables.TableFields.{spaced, not_spaced}
 use Rattle.dm_table.proofs.words.fields.cut_row.Goals as goal
+use Rattle.std.specs.Prelude.{◌≡◌}
 
 pub returns-then-ends_empty : goal.returns-then-ends_empty
 returns-then-ends_empty c =

@@ -1,6 +1,7 @@
-use Rattle.dm_table.proofs.Prelude.{◌++◌, texts, parts_at}
+use Rattle.dm_table.proofs.Prelude.{texts, parts_at}
 use Rattle.dm_table.proofs.words.FieldLemmas.{cut_more, cut_last}
 use Rattle.dm_table.proofs.words.fields.cut_searched.Goals as goal
+use Rattle.std.specs.Prelude.{◌++◌}
 
 pub loop-end-preserved : goal.loop-end-preserved
 loop-end-preserved c =

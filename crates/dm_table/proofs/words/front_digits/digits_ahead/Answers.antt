@@ -1,4 +1,5 @@
-use Rattle.dm_table.proofs.Prelude.{◌≡◌, ℕ, ◌%◌, ◌^◌, ◌<◌, cond, not, List, length, map, replicate, ap, ◌∙◌, arith, w8, pos_of_ne-zero, nat_lt, prefix_len, length-map, mask_l-mod, tops_compared, trailing_mask_l, zip2_splat_left}
+use Rattle.dm_table.proofs.Prelude.{ℕ, cond, not, List, length, map, replicate, ap, ◌∙◌, arith, w8, pos_of_ne-zero, nat_lt, prefix_len, length-map, mask_l-mod, tops_compared, trailing_mask_l, zip2_splat_left}
+use Rattle.std.specs.Prelude.{◌≡◌, ◌%◌, ◌^◌, ◌<◌}
 use lib.Count.{count_trailing_zeros}
 use lib.Lanes.{mask_l, top, zip2}
 use Rattle.dm_table.proofs.words.LaneDigits.{front_each}

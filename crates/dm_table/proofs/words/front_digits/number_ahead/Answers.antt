@@ -1,7 +1,8 @@
-use Rattle.dm_table.proofs.Prelude.{◌≡◌, ℕ, true, eqb, ◌+◌, ◌-◌, ◌*◌, ◌^◌, ◌<◌, ◌++◌, List, get_or, length, take, drop, refl, sym, arith, length-drop, length-take-le, number_from_digits, take-add, agree_below_at, eqb-true, number_after_append, take-take}
+use Rattle.dm_table.proofs.Prelude.{ℕ, true, eqb, List, get_or, length, take, drop, refl, sym, arith, length-drop, length-take-le, number_from_digits, take-add, agree_below_at, eqb-true, number_after_append, take-take}
 use Rattle.dm_table.specs.declared.words.front_digits.TheConstants.{POWERS}
 use Rattle.dm_table.proofs.words.LaneDigits.{each_part, number_after}
 use Rattle.dm_table.proofs.words.front_digits.number_ahead.Goals as goal
+use Rattle.std.specs.Prelude.{◌≡◌, ◌+◌, ◌-◌, ◌*◌, ◌^◌, ◌<◌, ◌++◌}
 
 powers : (k : ℕ) → k < 8 → get_or POWERS k 0 ≡ 10 ^ k
 powers k few = eqb-true _ _ (agree_below_at (λ n. eqb (get_or POWERS n 0) (10 ^ n)) (λ n. true) 8 k refl few)

@@ -1,7 +1,8 @@
-use Rattle.dm_table.proofs.Prelude.{◌≡◌, ◌^◌, ◌<◌, length, take, arith, length-take-le, number_from_digits, number_lt}
+use Rattle.dm_table.proofs.Prelude.{length, take, arith, length-take-le, number_from_digits, number_lt}
 use Rattle.dm_table.proofs.words.LaneDigits.{each_below}
 use Rattle.dm_table.proofs.words.WordLemmas.{front_value}
 use Rattle.dm_table.proofs.words.front_digits.number_in_word.Goals as goal
+use Rattle.std.specs.Prelude.{◌≡◌, ◌^◌, ◌<◌}
 
 pub returns-clause-number : goal.returns-clause-number
 returns-clause-number c =

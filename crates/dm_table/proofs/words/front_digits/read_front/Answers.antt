@@ -1,4 +1,5 @@
-use Rattle.dm_table.proofs.Prelude.{Some, ◌≡◌, ◌≢◌, ℕ, zero, suc, ◌+◌, ◌%◌, ◌<◌, ◌≤◌, inl, inr, List, [], ◌∷◌, get_or, length, map, take, sym, ap, ◌∙◌, arith, length-take-le, number_from_digits, elements, digits_value_is, take-take, take-map, number_of}
+use Rattle.dm_table.proofs.Prelude.{Some, ℕ, zero, suc, inl, inr, List, [], get_or, length, map, take, sym, ap, ◌∙◌, arith, length-take-le, number_from_digits, elements, digits_value_is, take-take, take-map, number_of}
+use Rattle.std.specs.Prelude.{◌≡◌, ◌≢◌, ◌+◌, ◌%◌, ◌<◌, ◌≤◌, ◌∷◌}
 use lib.Lanes.{Each1}
 use Rattle.dm_table.proofs.words.LaneDigits.{digits_from_lanes, values_from_lanes}
 use Rattle.dm_table.proofs.words.NumberLemmas.{number_of-digits}

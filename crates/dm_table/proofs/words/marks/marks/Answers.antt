@@ -1,6 +1,7 @@
-use Rattle.dm_table.proofs.Prelude.{map, ◌∙◌, ◌==◌, length-map}
+use Rattle.dm_table.proofs.Prelude.{map, ◌∙◌, length-map}
 use Rattle.dm_table.proofs.words.MarkLemmas.{front_marks, back_marks}
 use Rattle.dm_table.proofs.words.marks.marks.Goals as goal
+use Rattle.std.specs.Prelude.{◌==◌}
 
 pub returns-then-len-lt16-clause-marks : goal.returns-then-len-lt16-clause-marks
 returns-then-len-lt16-clause-marks c =

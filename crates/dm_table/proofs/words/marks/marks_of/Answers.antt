@@ -1,5 +1,6 @@
-use Rattle.dm_table.proofs.Prelude.{◌≡◌, eqb, length, ap, ◌∙◌, w8, bitmask_splat, marks_of}
+use Rattle.dm_table.proofs.Prelude.{eqb, length, ap, ◌∙◌, w8, bitmask_splat, marks_of}
 use Rattle.dm_table.proofs.words.marks.marks_of.Goals as goal
+use Rattle.std.specs.Prelude.{◌≡◌}
 
 pub returns : goal.returns
 returns g c =

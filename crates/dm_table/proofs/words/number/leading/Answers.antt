@@ -1,8 +1,9 @@
 -- At most 19 digits are read, and they are below 10^19.
-use Rattle.dm_table.proofs.Prelude.{◌≡◌, ◌<◌, true, get_or, take, length, refl, sym, ap, inl, inr, ◌≢◌, ◌∙◌, arith, is_ascii_digit, prefix_len, prefix_len-drop_yes, prefix_len-drop_no, prefix_len-drop_all, length-prefix_len, length-take-le, Some, elements}
+use Rattle.dm_table.proofs.Prelude.{true, get_or, take, length, refl, sym, ap, inl, inr, ◌∙◌, arith, is_ascii_digit, prefix_len, prefix_len-drop_yes, prefix_len-drop_no, prefix_len-drop_all, length-prefix_len, length-take-le, Some, elements}
 use Rattle.dm_table.proofs.words.NumberLemmas.{next_below, read_more, number_of-long, number_of-empty, number_of-zero, number_of-digits}
 use Rattle.dm_table.proofs.words.number.leading.Goals.{then-loop-len-test+else-is_ascii_digit, else-loop-len-test, then-len-eq0-via-then-len-eq0, then-len-eq0-via-else-len-eq0+then-len-ne1}
 use Rattle.dm_table.proofs.words.number.leading.Goals as goal
+use Rattle.std.specs.Prelude.{◌≡◌, ◌<◌, ◌≢◌}
 
 pub loop-len-init : goal.loop-len-init
 loop-len-init c = record {

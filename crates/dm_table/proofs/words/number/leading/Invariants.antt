@@ -1,6 +1,7 @@
 -- some digits are read, and what is left has the rest of them
-use Rattle.dm_table.proofs.Prelude.{◌≡◌, ◌+◌, ◌-◌, drop, length, is_ascii_digit, prefix_len, IsReadTo}
+use Rattle.dm_table.proofs.Prelude.{drop, length, is_ascii_digit, prefix_len, IsReadTo}
 use Rattle.dm_table.proofs.words.number.leading.Given as goal
+use Rattle.std.specs.Prelude.{◌≡◌, ◌+◌, ◌-◌}
 
 abbrev pub invariant-loop-len : goal.invariant-loop-len
 invariant-loop-len l = record {

@@ -1,6 +1,7 @@
 -- Texts with the same first bytes and the same last bytes, of which there are enough for all.
-use Rattle.dm_table.proofs.Prelude.{◌≡◌, ◌-◌, ◌≤◌, ℕ, Bool, true, false, ◌&&◌, List, length, take, drop, sym, ap, ◌∙◌, arith, take-take, take-append-drop, take_rest, OnTrue}
+use Rattle.dm_table.proofs.Prelude.{ℕ, Bool, true, false, List, length, take, drop, sym, ap, ◌∙◌, arith, take-take, take-append-drop, take_rest, OnTrue}
 use Rattle.dm_table.proofs.words.same_bytes.ends_same.Goals as goal
+use Rattle.std.specs.Prelude.{◌≡◌, ◌-◌, ◌≤◌, ◌&&◌}
 
 -- the last bytes begin where the first ones end, or before
 joined : (left right : List ℕ) (len from : ℕ) → from ≤ len → take len left ≡ take len right → drop from left ≡ drop from right → left ≡ right

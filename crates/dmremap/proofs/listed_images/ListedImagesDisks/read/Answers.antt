@@ -1,6 +1,7 @@
-use Rattle.dmremap.proofs.Prelude.{◌≡◌, ◌∙◌, ◌+◌, ℕ, List, Some, refl, slice_get, sym, ap, slice_get_read, DiskPath}
+use Rattle.dmremap.proofs.Prelude.{◌∙◌, ℕ, List, Some, refl, slice_get, sym, ap, slice_get_read, DiskPath}
 use Rattle.dmremap.proofs.ListedLemmas.{asked_there, failed_there, read_there, unread_there}
 use Rattle.dmremap.proofs.listed_images.ListedImagesDisks.read.Goals as goal
+use Rattle.std.specs.Prelude.{◌≡◌, ◌+◌}
 
 -- the path that a list of this value has at a place
 path_there : (xs paths : List DiskPath) (i : ℕ) (path : DiskPath) → xs ≡ paths → slice_get xs i ≡ Some path → slice_get paths i ≡ Some path

@@ -1,7 +1,8 @@
-use Rattle.dmremap.proofs.Prelude.{◌≡◌, ◌∙◌, refl, ap, rules, Err, IsTop, written_to_none, numbered, written_since, IsUnanswered, runs_text, none_named, IsOfNone, IsOfTop}
+use Rattle.dmremap.proofs.Prelude.{◌∙◌, refl, ap, rules, Err, IsTop, written_to_none, numbered, written_since, IsUnanswered, runs_text, none_named, IsOfNone, IsOfTop}
 use Rattle.dm_replay.specs.declared.replay_fault.ReplayFault.TheVariants as faults
 use Rattle.dmremap.proofs.ReplayLemmas.{cut_by_name, not_top_by_name, one_stopped, played_by_name, stopped_by, top_by_name}
 use Rattle.dmremap.proofs.replay_run.RequestPlayerHandler.handle.Goals as goal
+use Rattle.std.specs.Prelude.{◌≡◌}
 
 pub returns-in_default-clause-stopped : goal.returns-in_default-clause-stopped
 returns-in_default-clause-stopped g c =

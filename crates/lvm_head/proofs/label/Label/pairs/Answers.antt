@@ -1,6 +1,7 @@
-use Rattle.lvm_head.proofs.Prelude.{◌≡◌, ◌∙◌, List, ◌∷◌, [], ◌++◌, ap, ap₂, arith, length, sym, length-map-range_with_len, Area, area_at}
+use Rattle.lvm_head.proofs.Prelude.{◌∙◌, List, [], ap, ap₂, arith, length, sym, length-map-range_with_len, Area, area_at}
 use Rattle.lvm_head.proofs.LabelLemmas.{range_more}
 use Rattle.lvm_head.proofs.label.Label.pairs.Goals as goal
+use Rattle.std.specs.Prelude.{◌≡◌, ◌∷◌, ◌++◌}
 
 pub push-requires : goal.push-requires
 push-requires c =

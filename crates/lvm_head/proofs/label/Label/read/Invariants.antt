@@ -1,5 +1,6 @@
-use Rattle.lvm_head.proofs.Prelude.{◌≡◌, None, Contents, first_found, label_in}
+use Rattle.lvm_head.proofs.Prelude.{None, Contents, first_found, label_in}
 use Rattle.lvm_head.proofs.label.Label.read.Given as goal
+use Rattle.std.specs.Prelude.{◌≡◌}
 
 abbrev pub invariant-loop-place : goal.invariant-loop-place
 invariant-loop-place g l = record {

@@ -1,8 +1,9 @@
-use Rattle.lvm_text.proofs.Prelude.{◌≡◌, sym, ◌∙◌, ap, ◌+◌, [], ◌∷◌, ◌++◌, drop, arith, is_some, err_from_is_err_and, view, views, lines_agree, Entry}
+use Rattle.lvm_text.proofs.Prelude.{sym, ◌∙◌, ap, [], drop, arith, is_some, err_from_is_err_and, view, views, lines_agree, Entry}
 use Rattle.lvm_text.specs.declared.tree.Value.TheVariants as values
 use Rattle.lvm_text.proofs.Building.{values_more, values_end, value_nothing, value_section, value_leaf, views_after, lines_agree-push}
 use Rattle.lvm_text.proofs.Twice.{differ_push, key_twice, twice_inside, twice_opened}
 use Rattle.lvm_text.proofs.build.Builder.+build.Goals as goal
+use Rattle.std.specs.Prelude.{◌≡◌, ◌+◌, ◌∷◌, ◌++◌}
 
 pub section_at-loop-key-preserved : goal.section_at-loop-key-preserved
 section_at-loop-key-preserved t c =

@@ -1,6 +1,7 @@
-use Rattle.lvm_text.proofs.Prelude.{◌≡◌, ◌≤◌, ◌-◌, true, [], length, drop, views, values_of, lines_agree, twice_lines, Finds}
+use Rattle.lvm_text.proofs.Prelude.{true, [], length, drop, views, values_of, lines_agree, twice_lines, Finds}
 use Rattle.lvm_text.proofs.Building.{ValuesSoFar}
 use Rattle.lvm_text.proofs.build.Builder.+build.Given as goal
+use Rattle.std.specs.Prelude.{◌≡◌, ◌≤◌, ◌-◌}
 
 abbrev pub decreases-section_at : goal.decreases-section_at
 decreases-section_at l = length l.self.now.tokens.now - l.start

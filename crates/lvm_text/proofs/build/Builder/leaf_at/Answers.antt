@@ -1,7 +1,8 @@
-use Rattle.lvm_text.proofs.Prelude.{sym, ap, ◌+◌, drop, refl, scalar_views, view, views}
+use Rattle.lvm_text.proofs.Prelude.{sym, ap, drop, refl, scalar_views, view, views}
 use Rattle.lvm_text.specs.declared.tree.Value.TheVariants as values
 use Rattle.lvm_text.proofs.Building.{leaf_list}
 use Rattle.lvm_text.proofs.build.Builder.leaf_at.Goals as goal
+use Rattle.std.specs.Prelude.{◌+◌}
 
 pub returns-then-is_list_open-clause-read : goal.returns-then-is_list_open-clause-read
 returns-then-is_list_open-clause-read c =

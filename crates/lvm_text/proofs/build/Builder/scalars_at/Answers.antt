@@ -1,6 +1,7 @@
-use Rattle.lvm_text.proofs.Prelude.{◌∙◌, ap, ◌≡◌, ◌++◌, ◌∷◌, [], drop, arith, map_push, views, scalar_view, scalar_views}
+use Rattle.lvm_text.proofs.Prelude.{◌∙◌, ap, [], drop, arith, map_push, views, scalar_view, scalar_views}
 use Rattle.lvm_text.proofs.Building.{list_more, list_ends, views_after}
 use Rattle.lvm_text.proofs.build.Builder.scalars_at.Goals as goal
+use Rattle.std.specs.Prelude.{◌≡◌, ◌++◌, ◌∷◌}
 
 pub loop-scalar-preserved : goal.loop-scalar-preserved
 loop-scalar-preserved c =

@@ -1,6 +1,7 @@
-use Rattle.lvm_text.proofs.Prelude.{◌≤◌, ◌-◌, length, drop, views, scalar_views}
+use Rattle.lvm_text.proofs.Prelude.{length, drop, views, scalar_views}
 use Rattle.lvm_text.proofs.Building.{ListSoFar}
 use Rattle.lvm_text.proofs.build.Builder.scalars_at.Given as goal
+use Rattle.std.specs.Prelude.{◌≤◌, ◌-◌}
 
 abbrev pub invariant-loop-scalar : goal.invariant-loop-scalar
 invariant-loop-scalar l = record {

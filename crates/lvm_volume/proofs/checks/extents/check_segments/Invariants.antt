@@ -1,6 +1,7 @@
 -- what was used is now used with the segments so far, and those that are left tell the same as all did
-use Rattle.lvm_volume.proofs.Prelude.{◌≡◌, List, None, drop, length, first_or, Claim, segment_faults, used_after, Holds}
+use Rattle.lvm_volume.proofs.Prelude.{List, None, drop, length, first_or, Claim, segment_faults, used_after, Holds}
 use Rattle.lvm_volume.proofs.checks.extents.check_segments.Given as goal
+use Rattle.std.specs.Prelude.{◌≡◌}
 
 abbrev pub invariant-loop-segment : goal.invariant-loop-segment
 invariant-loop-segment l = record {

@@ -1,7 +1,8 @@
 -- what is used is held, and the volumes that are left tell the same as all did
-use Rattle.lvm_volume.proofs.Prelude.{◌≡◌, List, [], None, drop, length, first_or, Claim, Holds}
+use Rattle.lvm_volume.proofs.Prelude.{List, [], None, drop, length, first_or, Claim, Holds}
 use Rattle.lvm_volume.specs.checks.Extents.{volume_faults}
 use Rattle.lvm_volume.proofs.checks.extents.check_volumes.Given as goal
+use Rattle.std.specs.Prelude.{◌≡◌}
 
 abbrev pub invariant-loop-volume : goal.invariant-loop-volume
 invariant-loop-volume l = record {

@@ -1,6 +1,7 @@
 -- what was used is now used with the stripes so far, and those that are left tell the same as all did
-use Rattle.lvm_volume.proofs.Prelude.{◌≡◌, List, drop, length, Claim, have_clash, used_by, Holds, claims_by}
+use Rattle.lvm_volume.proofs.Prelude.{List, drop, length, Claim, have_clash, used_by, Holds, claims_by}
 use Rattle.lvm_volume.proofs.checks.extents.claim_all.Given as goal
+use Rattle.std.specs.Prelude.{◌≡◌}
 
 abbrev pub invariant-loop-stripe : goal.invariant-loop-stripe
 invariant-loop-stripe l = record {

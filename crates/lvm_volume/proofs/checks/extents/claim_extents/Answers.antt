@@ -1,6 +1,7 @@
-use Rattle.lvm_volume.proofs.Prelude.{true, ◌≡◌, ◌∷◌, set, Claim, Holds, HasRanges, ranges_of}
+use Rattle.lvm_volume.proofs.Prelude.{true, set, Claim, Holds, HasRanges, ranges_of}
 use Rattle.lvm_volume.proofs.checks.HoldLemmas.{meets_is, if_ok, holds_more}
 use Rattle.lvm_volume.proofs.checks.extents.claim_extents.Goals as goal
+use Rattle.std.specs.Prelude.{◌≡◌, ◌∷◌}
 
 pub returns-clause-free : goal.returns-clause-free
 returns-clause-free c = λ used holds.

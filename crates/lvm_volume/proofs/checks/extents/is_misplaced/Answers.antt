@@ -1,6 +1,7 @@
-use Rattle.lvm_volume.proofs.Prelude.{◌≡◌, List, false, ◌/◌, sym, ap, length, ◌∙◌, Stripe, SegmentType, claims_of, parts_of, stripes_of, used_by, Claimed, Holds, claims_by}
+use Rattle.lvm_volume.proofs.Prelude.{List, false, sym, ap, length, ◌∙◌, Stripe, SegmentType, claims_of, parts_of, stripes_of, used_by, Claimed, Holds, claims_by}
 use Rattle.lvm_volume.proofs.checks.HoldLemmas.{if_ok}
 use Rattle.lvm_volume.proofs.checks.extents.is_misplaced.Goals as goal
+use Rattle.std.specs.Prelude.{◌≡◌, ◌/◌}
 
 pub returns-else-segment-parts-ne0-clause-held : goal.returns-else-segment-parts-ne0-clause-held
 returns-else-segment-parts-ne0-clause-held c = λ used holds.

@@ -1,5 +1,6 @@
-use Rattle.lvm_volume.proofs.Prelude.{◌≡◌, ◌≤◌, drop, length, least_line_of, test_of}
+use Rattle.lvm_volume.proofs.Prelude.{drop, length, least_line_of, test_of}
 use Rattle.lvm_volume.proofs.checks.segment_check.least_line_of.Given as goal
+use Rattle.std.specs.Prelude.{◌≡◌, ◌≤◌}
 
 abbrev pub invariant-loop-at : goal.invariant-loop-at
 invariant-loop-at l = record {

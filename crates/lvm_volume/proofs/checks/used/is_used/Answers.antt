@@ -1,6 +1,7 @@
-use Rattle.lvm_volume.proofs.Prelude.{◌≡◌, ℕ, ◌<◌, ◌≤◌, Less, sym, arith, common_steps, ge_from_not_lt, IsSome, nat_cmp, get}
+use Rattle.lvm_volume.proofs.Prelude.{ℕ, Less, sym, arith, common_steps, ge_from_not_lt, IsSome, nat_cmp, get}
 use Rattle.lvm_volume.proofs.checks.UsedLemmas.{last_before, none_before}
 use Rattle.lvm_volume.proofs.checks.used.is_used.Goals as goal
+use Rattle.std.specs.Prelude.{◌≡◌, ◌<◌, ◌≤◌}
 
 less : (a b : ℕ) → a < b → nat_cmp a b ≡ Less
 less a b below = grind (arith, common_steps)

@@ -1,7 +1,8 @@
-use Rattle.lvm_volume.proofs.Prelude.{◌≡◌, ◌∙◌, ℕ, List, ap, codes, map, sym, err_from_is_err_and, Source, Field, LoadFault, fault_at, Tree, sections_of, item_view, Check, faults_of_fields, fields_faults, group_faults, number_at, one_group_faults, top_fields, Keyed, first_section}
+use Rattle.lvm_volume.proofs.Prelude.{◌∙◌, ℕ, List, ap, codes, map, sym, err_from_is_err_and, Source, Field, LoadFault, fault_at, Tree, sections_of, item_view, Check, faults_of_fields, fields_faults, group_faults, number_at, one_group_faults, top_fields, Keyed, first_section}
 use Rattle.lvm_volume.proofs.fields.Steps.{ends_failed, finds_nothing, fresh, in_words, is_missing, same_both, then_fails, then_goes}
 use Rattle.lvm_volume.proofs.group.TextLemmas.{first_is, of_none, of_one, of_several}
 use Rattle.lvm_volume.proofs.group.group_fields.read_fields.Goals as goal
+use Rattle.std.specs.Prelude.{◌≡◌}
 
 abbrev of_text : Tree → Check → List LoadFault
 of_text top check = faults_of_fields check top

@@ -1,6 +1,7 @@
-use Rattle.lvm_volume.proofs.Prelude.{◌++◌, List, ℕ, map, sym, ap, ◌∙◌, append-nil, either_empty_from_Zip, Physical, owned, owners_view}
+use Rattle.lvm_volume.proofs.Prelude.{List, ℕ, map, sym, ap, ◌∙◌, append-nil, either_empty_from_Zip, Physical, owned, owners_view}
 use Rattle.lvm_volume.proofs.group.OwnersLemmas.{none_left}
 use Rattle.lvm_volume.proofs.group.owners.all_owned.Goals as goal
+use Rattle.std.specs.Prelude.{◌++◌}
 
 pub returns : goal.returns
 returns c =

@@ -1,6 +1,7 @@
 -- the physical volumes so far, with those that are left, are all
-use Rattle.lvm_volume.proofs.Prelude.{◌≡◌, ◌++◌, map, zip_first, zip_second, zip, iter_rest, all_owned, ids_view, owners_view}
+use Rattle.lvm_volume.proofs.Prelude.{map, zip_first, zip_second, zip, iter_rest, all_owned, ids_view, owners_view}
 use Rattle.lvm_volume.proofs.group.owners.all_owned.Given as goal
+use Rattle.std.specs.Prelude.{◌≡◌, ◌++◌}
 
 abbrev pub invariant-loop-id : goal.invariant-loop-id
 invariant-loop-id l =

@@ -1,5 +1,6 @@
-use Rattle.lvm_volume.proofs.Prelude.{◌≡◌, drop, map, item_view, untaken, owners_view}
+use Rattle.lvm_volume.proofs.Prelude.{drop, map, item_view, untaken, owners_view}
 use Rattle.lvm_volume.proofs.group.owners.first_untaken.Given as goal
+use Rattle.std.specs.Prelude.{◌≡◌}
 
 abbrev pub invariant-loop-disk : goal.invariant-loop-disk
 invariant-loop-disk l =

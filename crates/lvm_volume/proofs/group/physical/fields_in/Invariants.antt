@@ -1,6 +1,7 @@
 -- the fields so far and those of the sections that are left are all, and what is found in the sections that are left is found in all
-use Rattle.lvm_volume.proofs.Prelude.{◌≡◌, ◌++◌, Option, drop, map, item_view, LoadFault, FieldReader, physicals_faults, IsStep, fields_of, fields_view}
+use Rattle.lvm_volume.proofs.Prelude.{Option, drop, map, item_view, LoadFault, FieldReader, physicals_faults, IsStep, fields_of, fields_view}
 use Rattle.lvm_volume.proofs.group.physical.fields_in.Given as goal
+use Rattle.std.specs.Prelude.{◌≡◌, ◌++◌}
 
 abbrev pub invariant-loop-section : goal.invariant-loop-section
 invariant-loop-section l = record {

@@ -1,6 +1,7 @@
-use Rattle.lvm_volume.proofs.Prelude.{◌+◌, ◌++◌, ◌∷◌, [], List, sym, ap, ◌∙◌, map, drop, append_assoc, err_from_is_err_and, Physical, all_named, fields_view, with_disk_name, devices_in}
+use Rattle.lvm_volume.proofs.Prelude.{[], List, sym, ap, ◌∙◌, map, drop, append_assoc, err_from_is_err_and, Physical, all_named, fields_view, with_disk_name, devices_in}
 use Rattle.lvm_volume.proofs.group.PhysicalLemmas.{refused_here, taken_here}
 use Rattle.lvm_volume.proofs.group.physical.named_physicals.Goals as goal
+use Rattle.std.specs.Prelude.{◌+◌, ◌++◌, ◌∷◌}
 
 pub returns-in_err-physical : goal.returns-in_err-physical
 returns-in_err-physical c =

@@ -1,7 +1,8 @@
-use Rattle.lvm_volume.proofs.Prelude.{◌≡◌, Bool, Err, sym, ap, ◌∙◌, nat_lt, Memory, Name, is_disk_name, chosen, fields_view}
+use Rattle.lvm_volume.proofs.Prelude.{Bool, Err, sym, ap, ◌∙◌, nat_lt, Memory, Name, is_disk_name, chosen, fields_view}
 use Rattle.lvm_volume.specs.group.PhysicalFields as spec
 use Rattle.lvm_volume.proofs.group.PhysicalLemmas.{named, unnamed}
 use Rattle.lvm_volume.proofs.group.physical.with_disk_name.Goals as goal
+use Rattle.std.specs.Prelude.{◌≡◌}
 
 pub returns-in-Ok : goal.returns-in-Ok
 returns-in-Ok c = λ devices counts.

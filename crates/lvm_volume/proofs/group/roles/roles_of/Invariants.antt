@@ -1,6 +1,7 @@
 -- the roles by the snapshots of the volumes that were passed, from the last on
-use Rattle.lvm_volume.proofs.Prelude.{◌≡◌, ◌≤◌, drop, length, records_of, roles_among}
+use Rattle.lvm_volume.proofs.Prelude.{drop, length, records_of, roles_among}
 use Rattle.lvm_volume.proofs.group.roles.roles_of.Given as goal
+use Rattle.std.specs.Prelude.{◌≡◌, ◌≤◌}
 
 abbrev pub invariant-loop-at : goal.invariant-loop-at
 invariant-loop-at l = record {

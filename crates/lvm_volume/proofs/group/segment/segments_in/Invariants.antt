@@ -1,6 +1,7 @@
 -- the segments so far and those of the sections that are left are all, and what is found in the sections that are left is found in all
-use Rattle.lvm_volume.proofs.Prelude.{◌≡◌, ◌++◌, Option, drop, map, LoadFault, FieldReader, section_view, IsStep, segments_faults, segment_of}
+use Rattle.lvm_volume.proofs.Prelude.{Option, drop, map, LoadFault, FieldReader, section_view, IsStep, segments_faults, segment_of}
 use Rattle.lvm_volume.proofs.group.segment.segments_in.Given as goal
+use Rattle.std.specs.Prelude.{◌≡◌, ◌++◌}
 
 abbrev pub invariant-loop-section : goal.invariant-loop-section
 invariant-loop-section l = record {

@@ -1,7 +1,8 @@
-use Rattle.lvm_volume.proofs.Prelude.{◌≡◌, ◌++◌, ◌-◌, ◌∙◌, List, ℕ, ap, arith, codes, decimal, map, sym, map_push, err_from_is_err_and, Tree, LoadFault, Check, field_faults, section_at, section_view, segment_field}
+use Rattle.lvm_volume.proofs.Prelude.{◌∙◌, List, ℕ, ap, arith, codes, decimal, map, sym, map_push, err_from_is_err_and, Tree, LoadFault, Check, field_faults, section_at, section_view, segment_field}
 use Rattle.lvm_volume.proofs.fields.Faults.{made_more}
 use Rattle.lvm_volume.proofs.fields.Steps.{in_words, no_number, number_fails, number_goes}
 use Rattle.lvm_volume.proofs.group.volume.segment_sections.Goals as goal
+use Rattle.std.specs.Prelude.{◌≡◌, ◌++◌, ◌-◌}
 
 -- what is found at a number
 abbrev at_number : Tree → Check → ℕ → List LoadFault

@@ -1,6 +1,7 @@
-use Rattle.lvm_volume.proofs.Prelude.{◌≡◌, ◌∙◌, ℕ, ap, map, section_view, segments_of, volume_faults, numbers_faults, segment_of, volume_of}
+use Rattle.lvm_volume.proofs.Prelude.{◌∙◌, ℕ, ap, map, section_view, segments_of, volume_faults, numbers_faults, segment_of, volume_of}
 use Rattle.lvm_volume.proofs.fields.Steps.{exits, in_words, then_fails, then_goes}
 use Rattle.lvm_volume.proofs.group.volume.volume_of.Goals as goal
+use Rattle.std.specs.Prelude.{◌≡◌}
 
 pub returns-in_err-head-clause-step : goal.returns-in_err-head-clause-step
 unfolding volume_faults

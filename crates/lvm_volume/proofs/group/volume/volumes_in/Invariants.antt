@@ -1,6 +1,7 @@
 -- the volumes so far and those of the sections that are left are all, and what is found in the sections that are left is found in all
-use Rattle.lvm_volume.proofs.Prelude.{◌≡◌, ◌++◌, Option, drop, map, item_view, LoadFault, FieldReader, volumes_faults, IsStep, volume_of}
+use Rattle.lvm_volume.proofs.Prelude.{Option, drop, map, item_view, LoadFault, FieldReader, volumes_faults, IsStep, volume_of}
 use Rattle.lvm_volume.proofs.group.volume.volumes_in.Given as goal
+use Rattle.std.specs.Prelude.{◌≡◌, ◌++◌}
 
 abbrev pub invariant-loop-section : goal.invariant-loop-section
 invariant-loop-section l = record {

@@ -1,6 +1,7 @@
-use Rattle.lvm_volume.proofs.Prelude.{◌≡◌, ◌++◌, [], None, Some, sym, ◌∙◌, append-nil, err_from_is_err_and, first_or, unnamed_layer}
+use Rattle.lvm_volume.proofs.Prelude.{[], None, Some, sym, ◌∙◌, append-nil, err_from_is_err_and, first_or, unnamed_layer}
 use Rattle.lvm_volume.proofs.fields.Faults.{first_after, first_here}
 use Rattle.lvm_volume.proofs.tables.device_names.check_layer.Goals as goal
+use Rattle.std.specs.Prelude.{◌≡◌, ◌++◌}
 
 pub returns-in_err-check_device : goal.returns-in_err-check_device
 returns-in_err-check_device c =

@@ -1,6 +1,7 @@
 -- the volumes that are left tell the same as all did
-use Rattle.lvm_volume.proofs.Prelude.{◌≡◌, None, zip_first, zip_second, flat_map, zip, iter_rest, first_or, unnamed_volume}
+use Rattle.lvm_volume.proofs.Prelude.{None, zip_first, zip_second, flat_map, zip, iter_rest, first_or, unnamed_volume}
 use Rattle.lvm_volume.proofs.tables.device_names.check_names.Given as goal
+use Rattle.std.specs.Prelude.{◌≡◌}
 
 abbrev pub invariant-loop-role : goal.invariant-loop-role
 invariant-loop-role l =

@@ -1,7 +1,8 @@
-use Rattle.lvm_volume.proofs.Prelude.{◌++◌, List, sym, ap, ◌∙◌, flat_map, append-nil, either_empty_from_Zip, Role, Volume, group_view}
+use Rattle.lvm_volume.proofs.Prelude.{List, sym, ap, ◌∙◌, flat_map, append-nil, either_empty_from_Zip, Role, Volume, group_view}
 use Rattle.lvm_volume.specs.tables.Tables.{devices_in}
 use Rattle.lvm_volume.proofs.group.RoleLemmas.{none_left}
 use Rattle.lvm_volume.proofs.tables.devices.devices_of.Goals as goal
+use Rattle.std.specs.Prelude.{◌++◌}
 
 pub returns : goal.returns
 returns c =

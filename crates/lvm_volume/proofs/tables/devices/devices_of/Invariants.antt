@@ -1,7 +1,8 @@
 -- the devices so far, with those of the volumes that are left, are all
-use Rattle.lvm_volume.proofs.Prelude.{◌≡◌, ◌++◌, zip_first, zip_second, AllByRecursion, flat_map, zip, iter_rest, group_view, IsMadeIn}
+use Rattle.lvm_volume.proofs.Prelude.{zip_first, zip_second, AllByRecursion, flat_map, zip, iter_rest, group_view, IsMadeIn}
 use Rattle.lvm_volume.specs.tables.Tables.{devices_in}
 use Rattle.lvm_volume.proofs.tables.devices.devices_of.Given as goal
+use Rattle.std.specs.Prelude.{◌≡◌, ◌++◌}
 
 abbrev pub invariant-loop-role : goal.invariant-loop-role
 invariant-loop-role l =

@@ -1,5 +1,6 @@
-use Rattle.lvm_volume.proofs.Prelude.{◌≡◌, ◌++◌, drop, map, AllByRecursion, IsStripeIn, column_of}
+use Rattle.lvm_volume.proofs.Prelude.{drop, map, AllByRecursion, IsStripeIn, column_of}
 use Rattle.lvm_volume.proofs.tables.lines.columns_of.Given as goal
+use Rattle.std.specs.Prelude.{◌≡◌, ◌++◌}
 
 abbrev pub invariant-loop-stripe : goal.invariant-loop-stripe
 invariant-loop-stripe l = record {

@@ -1,5 +1,6 @@
-use Rattle.lvm_volume.proofs.Prelude.{◌≡◌, ◌++◌, drop, map, AllByRecursion, IsSegmentIn, line_of}
+use Rattle.lvm_volume.proofs.Prelude.{drop, map, AllByRecursion, IsSegmentIn, line_of}
 use Rattle.lvm_volume.proofs.tables.lines.lines_of.Given as goal
+use Rattle.std.specs.Prelude.{◌≡◌, ◌++◌}
 
 abbrev pub invariant-loop-segment : goal.invariant-loop-segment
 invariant-loop-segment l = record {

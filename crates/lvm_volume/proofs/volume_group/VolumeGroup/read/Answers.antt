@@ -1,9 +1,10 @@
-use Rattle.lvm_volume.proofs.Prelude.{◌≡◌, ℕ, List, Option, None, Ok, codes, map, sym, ap, subst, ◌∙◌, refl, err_from_is_err_and, Tree, sections_of, LoadFault, first_fault, first_or, unless, Physical, PhysicalFields, Volume, name_faults, Fields, Limits, faults_of_fields, sections_at, Group, first_section, group_of, group_with, IsSaid, all_named, fields_view, IsSoundGroup, checks_of_parts, unless-ok}
+use Rattle.lvm_volume.proofs.Prelude.{ℕ, List, Option, None, Ok, codes, map, sym, ap, subst, ◌∙◌, refl, err_from_is_err_and, Tree, sections_of, LoadFault, first_fault, first_or, unless, Physical, PhysicalFields, Volume, name_faults, Fields, Limits, faults_of_fields, sections_at, Group, first_section, group_of, group_with, IsSaid, all_named, fields_view, IsSoundGroup, checks_of_parts, unless-ok}
 use Rattle.lvm_volume.specs.declared.group.group_fields.GroupFields.{GroupFields}
 use Rattle.lvm_volume.proofs.checks.Sound.{one-in_limits, one_section, sound_group}
 use Rattle.lvm_volume.proofs.group.PhysicalLemmas.{all_said}
 use Rattle.lvm_volume.proofs.GroupLemmas.{accepted, at_fields, at_names, at_parts, both_none, of_both, refused_by}
 use Rattle.lvm_volume.proofs.volume_group.VolumeGroup.read.Goals as goal
+use Rattle.std.specs.Prelude.{◌≡◌}
 
 pub returns-in-Err : goal.returns-in-Err
 returns-in-Err c = refused_by (at_fields c.args.top.now c.in-Err.fault) c.in-Err.ensures.checked

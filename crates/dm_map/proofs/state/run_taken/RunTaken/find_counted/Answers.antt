@@ -1,6 +1,7 @@
-use Rattle.dm_map.proofs.Prelude.{◌-◌, ◌<◌, sym, arith, AreBegunBy, run_at}
+use Rattle.dm_map.proofs.Prelude.{sym, arith, AreBegunBy, run_at}
 use Rattle.dm_map.proofs.state.RunLemmas.{number_in_run, number_missed}
 use Rattle.dm_map.proofs.state.run_taken.RunTaken.find_counted.Goals as goal
+use Rattle.std.specs.Prelude.{◌-◌, ◌<◌}
 
 pub returns-then-begun-eq0-clause-found : goal.returns-then-begun-eq0-clause-found
 returns-then-begun-eq0-clause-found c =

@@ -1,5 +1,6 @@
-use Rattle.dm_map.proofs.Prelude.{◌≡◌, ◌∙◌, [], refl, arith, IsDistinct}
+use Rattle.dm_map.proofs.Prelude.{◌∙◌, [], refl, arith, IsDistinct}
 use Rattle.dm_map.proofs.state.run_taken.RunTakenTaken.with_places.Goals as goal
+use Rattle.std.specs.Prelude.{◌≡◌}
 
 pub invariant_of-result-clause-reserved : goal.invariant_of-result-clause-reserved
 invariant_of-result-clause-reserved c = omega (arith, c.from_vec.ensures.room, c.in_ok-with_capacity.ensures.capacity)

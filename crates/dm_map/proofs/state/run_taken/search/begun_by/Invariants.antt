@@ -1,6 +1,7 @@
 -- the runs before an index begin at the chunk or before it, those from another index on after it; each comparison halves what lies between
-use Rattle.dm_map.proofs.Prelude.{◌+◌, ◌-◌, ◌*◌, ◌^◌, ◌<◌, ◌≤◌, length, binary_digits, run_at}
+use Rattle.dm_map.proofs.Prelude.{length, binary_digits, run_at}
 use Rattle.dm_map.proofs.state.run_taken.search.begun_by.Given as goal
+use Rattle.std.specs.Prelude.{◌+◌, ◌-◌, ◌*◌, ◌^◌, ◌<◌, ◌≤◌}
 
 abbrev pub invariant-loop-low : goal.invariant-loop-low
 invariant-loop-low l = record {

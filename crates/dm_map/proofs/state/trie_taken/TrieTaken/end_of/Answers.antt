@@ -1,7 +1,8 @@
-use Rattle.dm_map.proofs.Prelude.{◌≡◌, ◌∙◌, ◌+◌, ◌<◌, false, ap, length, sym, arith, add-one, bit_at-lt, Fork, is_fork, next_at, node_at, slot_of, way}
+use Rattle.dm_map.proofs.Prelude.{◌∙◌, false, ap, length, sym, arith, add-one, bit_at-lt, Fork, is_fork, next_at, node_at, slot_of, way}
 use Rattle.dm_map.proofs.state.TrieLemmas.{bit_ahead, no_fork, node_read, stays, way-suc, way-zero}
 use Rattle.dm_map.proofs.state.trie_taken.TrieTaken.end_of.Goals.{In-Fork}
 use Rattle.dm_map.proofs.state.trie_taken.TrieTaken.end_of.Goals as goal
+use Rattle.std.specs.Prelude.{◌≡◌, ◌+◌, ◌<◌}
 
 pub loop-bit-init : goal.loop-bit-init
 loop-bit-init c =

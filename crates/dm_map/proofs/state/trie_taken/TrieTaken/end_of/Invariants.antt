@@ -1,6 +1,7 @@
 -- this many steps from the slot
-use Rattle.dm_map.proofs.Prelude.{◌≡◌, ◌-◌, ◌<◌, ◌≤◌, length, slot_of, way}
+use Rattle.dm_map.proofs.Prelude.{length, slot_of, way}
 use Rattle.dm_map.proofs.state.trie_taken.TrieTaken.end_of.Given as goal
+use Rattle.std.specs.Prelude.{◌≡◌, ◌-◌, ◌<◌, ◌≤◌}
 
 abbrev pub invariant-loop-bit : goal.invariant-loop-bit
 invariant-loop-bit l = record {

@@ -1,8 +1,9 @@
-use Rattle.dm_map.proofs.Prelude.{◌≡◌, ◌∙◌, ap, sym, arith, number_in, end_of, node_at}
+use Rattle.dm_map.proofs.Prelude.{◌∙◌, ap, sym, arith, number_in, end_of, node_at}
 use Rattle.dm_map.proofs.state.Numbers.{number_distinct}
 use Rattle.dm_map.proofs.state.TrieLemmas.{end_within, its_number, last_node, last_read, not_other, not_taken, number_within, own_number}
 use Rattle.dm_map.proofs.state.trie_taken.TrieTaken.find_counted.Goals.{After-node}
 use Rattle.dm_map.proofs.state.trie_taken.TrieTaken.find_counted.Goals as goal
+use Rattle.std.specs.Prelude.{◌≡◌}
 
 -- the node at which the way of the chunk ends was read
 last : (c : After-node) → last_node c.args.self.now c.args.chunk ≡ c.node.result

@@ -1,9 +1,10 @@
-use Rattle.dm_map.proofs.Prelude.{◌≡◌, ◌∙◌, ◌+◌, ◌^◌, ◌<◌, ℕ, List, [], ◌∷◌, ◌++◌, ap, get_or, length, set, sym, arith, w64, bit_at, trailing_zeros, bit_xor, ∥∥₁_map, merely, get_or_read, length_push, Fork, Number, end_of}
+use Rattle.dm_map.proofs.Prelude.{◌∙◌, ℕ, List, [], ap, get_or, length, set, sym, arith, w64, bit_at, trailing_zeros, bit_xor, ∥∥₁_map, merely, get_or_read, length_push, Fork, Number, end_of}
 use Rattle.dm_map.specs.declared.state.trie_taken.link.Node.{Node}
 use Rattle.dm_map.proofs.state.Numbers.{distinct_more}
 use Rattle.dm_map.proofs.state.TrieLemmas.{end_within, fresh_apart, is_parted, last_node, lowest_apart, number_within, part_trie}
 use Rattle.dm_map.proofs.state.trie_taken.TrieTaken.part.Goals.{After-index-there}
 use Rattle.dm_map.proofs.state.trie_taken.TrieTaken.part.Goals as goal
+use Rattle.std.specs.Prelude.{◌≡◌, ◌+◌, ◌^◌, ◌<◌, ◌∷◌, ◌++◌}
 
 -- the way of the chunk ends at the number of the other one, which was read
 ends_at_other : (c : After-index-there) → last_node c.args.self.now c.args.chunk ≡ Number c.args.other

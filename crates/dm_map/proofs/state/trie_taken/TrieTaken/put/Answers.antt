@@ -1,7 +1,8 @@
-use Rattle.dm_map.proofs.Prelude.{◌≡◌, ◌∙◌, true, [], ◌∷◌, ◌++◌, ap, length, set, arith, ◌&&◌, ◌==◌, ∥∥₁_map, and_parts, eqb-true, length-set, length_push, Number, AreInOwnSlots, IsTrie, end_of}
+use Rattle.dm_map.proofs.Prelude.{◌∙◌, true, [], ap, length, set, arith, ∥∥₁_map, and_parts, eqb-true, length-set, length_push, Number, AreInOwnSlots, IsTrie, end_of}
 use Rattle.dm_map.proofs.state.Numbers.{distinct_more}
 use Rattle.dm_map.proofs.state.TrieLemmas.{end_within, put_own, put_trie}
 use Rattle.dm_map.proofs.state.trie_taken.TrieTaken.put.Goals as goal
+use Rattle.std.specs.Prelude.{◌≡◌, ◌∷◌, ◌++◌, ◌&&◌, ◌==◌}
 
 pub index_mut-requires : goal.index_mut-requires
 index_mut-requires c = omega (arith, end_within c.args.self.now c.args.chunk, c.requires.at)

@@ -1,6 +1,7 @@
-use Rattle.dm_map.proofs.Prelude.{◌≡◌, ◌∙◌, ◌<◌, [], ap, length, replicate, arith, IsDistinct, merely, length-replicate, pow_pos, Empty}
+use Rattle.dm_map.proofs.Prelude.{◌∙◌, [], ap, length, replicate, arith, IsDistinct, merely, length-replicate, pow_pos, Empty}
 use Rattle.dm_map.proofs.state.TrieLemmas.{no_trie, none_own}
 use Rattle.dm_map.proofs.state.trie_taken.TrieTakenTaken.for_chunks.Goals as goal
+use Rattle.std.specs.Prelude.{◌≡◌, ◌<◌}
 
 pub invariant_of-result : goal.invariant_of-result
 unfolding IsDistinct

@@ -1,7 +1,8 @@
-use Rattle.dm_map.proofs.Prelude.{◌≡◌, ◌∙◌, ap, sym, arith, is_none, node_at}
+use Rattle.dm_map.proofs.Prelude.{◌∙◌, ap, sym, arith, is_none, node_at}
 use Rattle.dm_map.proofs.state.TrieLemmas.{end_stops, end_within, its_number, last_node, last_read, not_empty, not_other, number_within}
 use Rattle.dm_map.proofs.state.trie_taken.TrieTakenTaken.offer.Goals.{After-node}
 use Rattle.dm_map.proofs.state.trie_taken.TrieTakenTaken.offer.Goals as goal
+use Rattle.std.specs.Prelude.{◌≡◌}
 
 -- the node at which the way of the chunk ends was read
 last : (c : After-node) → last_node c.args.self.now c.args.chunk ≡ c.node.result

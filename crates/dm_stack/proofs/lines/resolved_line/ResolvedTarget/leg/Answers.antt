@@ -1,6 +1,7 @@
-use Rattle.dm_stack.proofs.Prelude.{◌+◌, arith}
+use Rattle.dm_stack.proofs.Prelude.{arith}
 use Rattle.dm_stack.proofs.lines.LegLemmas.{leg_lies_inside, lies_small, row_leg}
 use Rattle.dm_stack.proofs.lines.resolved_line.ResolvedTarget.leg.Goals as goal
+use Rattle.std.specs.Prelude.{◌+◌}
 
 pub overflow_add-result : goal.overflow_add-result
 overflow_add-result c =

@@ -1,8 +1,9 @@
-use Rattle.dm_stack.proofs.Prelude.{◌≡◌, ℕ, List, [], ◌∷◌, ◌++◌, not, map, arith, rules, ap, sym, ◌∙◌, string_bytes, length-map, map-append, is_same, names_in}
+use Rattle.dm_stack.proofs.Prelude.{ℕ, List, [], not, map, arith, rules, ap, sym, ◌∙◌, string_bytes, length-map, map-append, is_same, names_in}
 use Rattle.dm_stack.proofs.names.NameLemmas.{any_names}
 use Rattle.dm_stack.proofs.names.KeyLemmas.{key_added, last_of, places_more}
 use Rattle.dm_stack.proofs.names.name_index.NameIndex.add.Goals as goal
 use Rattle.dm_stack.proofs.names.name_index.NameIndex.add.Goals.{in-Ok-true, in-Ok-false, in-Err}
+use Rattle.std.specs.Prelude.{◌≡◌, ◌∷◌, ◌++◌}
 
 pub invariant_of-self : goal.invariant_of-self
 invariant_of-self c =

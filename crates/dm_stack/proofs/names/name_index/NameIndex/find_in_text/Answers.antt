@@ -1,6 +1,7 @@
-use Rattle.dm_stack.proofs.Prelude.{◌≡◌, ◌<◌, get_or, length, take, arith, get_or-take, length-take, take-take}
+use Rattle.dm_stack.proofs.Prelude.{get_or, length, take, arith, get_or-take, length-take, take-take}
 use Rattle.dm_stack.proofs.names.KeyLemmas.{space_cut}
 use Rattle.dm_stack.proofs.names.name_index.NameIndex.find_in_text.Goals as goal
+use Rattle.std.specs.Prelude.{◌≡◌, ◌<◌}
 
 pub returns-clause-number : goal.returns-clause-number
 returns-clause-number c =

@@ -1,8 +1,9 @@
-use Rattle.dm_stack.proofs.Prelude.{◌≡◌, ◌<◌, Some, get_or, arith, ap, refl, ◌∙◌, slice_get, IsPlaceOf, names_in}
+use Rattle.dm_stack.proofs.Prelude.{Some, get_or, arith, ap, refl, ◌∙◌, slice_get, IsPlaceOf, names_in}
 use Rattle.dm_stack.specs.declared.names.name_index.Place.{Place}
 use Rattle.dm_stack.proofs.names.KeyLemmas.{part_of, same_name}
 use Rattle.dm_stack.proofs.names.NameLemmas.{named_distinct}
 use Rattle.dm_stack.proofs.names.name_index.NameIndex.find_key.Goals as goal
+use Rattle.std.specs.Prelude.{◌≡◌, ◌<◌}
 
 pub loop-place-init : goal.loop-place-init
 loop-place-init c =

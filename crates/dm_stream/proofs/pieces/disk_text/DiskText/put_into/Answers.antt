@@ -1,5 +1,6 @@
-use Rattle.dm_stream.proofs.Prelude.{◌≡◌, ◌+◌, ◌++◌, ℕ, List, length, take, ap, ◌∙◌, arith, take-take}
+use Rattle.dm_stream.proofs.Prelude.{ℕ, List, length, take, ap, ◌∙◌, arith, take-take}
 use Rattle.dm_stream.proofs.pieces.disk_text.DiskText.put_into.Goals as goal
+use Rattle.std.specs.Prelude.{◌≡◌, ◌+◌, ◌++◌}
 
 -- what is copied begins with the text
 pub returns-clause-put : goal.returns-clause-put

@@ -1,6 +1,7 @@
-use Rattle.dm_stream.proofs.Prelude.{◌≡◌, ◌∙◌, ◌+◌, ℕ, Option, Some, sym, ap, subst, piece_len, Pending, IsHeld, held_of, held_units, piece_of, DiskRange}
+use Rattle.dm_stream.proofs.Prelude.{◌∙◌, ℕ, Option, Some, sym, ap, subst, piece_len, Pending, IsHeld, held_of, held_units, piece_of, DiskRange}
 use Rattle.dm_stream.proofs.pieces.JoinLemmas.{held_apart, held_joined, piece_len-range}
 use Rattle.dm_stream.proofs.pieces.held_piece.HeldPiece.lengthen.Goals as goal
+use Rattle.std.specs.Prelude.{◌≡◌, ◌+◌}
 
 pub returns-then-not-goes_on-clause-apart : goal.returns-then-not-goes_on-clause-apart
 returns-then-not-goes_on-clause-apart c =

@@ -1,6 +1,7 @@
-use Rattle.dm_stream.proofs.Prelude.{◌≡◌, None, Some, HasTakenTo, join_past, IsHeld, piece_of}
+use Rattle.dm_stream.proofs.Prelude.{None, Some, HasTakenTo, join_past, IsHeld, piece_of}
 use Rattle.dm_stream.proofs.pieces.RowLemmas.{at_hand}
 use Rattle.dm_stream.proofs.pieces.join.JoinSink.disk_legs.Given as goal
+use Rattle.std.specs.Prelude.{◌≡◌}
 
 abbrev pub invariant-legs : goal.invariant-legs
 invariant-legs g l = record {

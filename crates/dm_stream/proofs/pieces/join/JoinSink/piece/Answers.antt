@@ -1,6 +1,7 @@
-use Rattle.dm_stream.proofs.Prelude.{◌≡◌, ℕ, ◌+◌, List, rules, Result, Ok, Err, IsErr, IsHanded, SinkPast, BlockUnit}
+use Rattle.dm_stream.proofs.Prelude.{ℕ, List, rules, Result, Ok, Err, IsErr, IsHanded, SinkPast, BlockUnit}
 use Rattle.dm_stream.proofs.pieces.JoinLemmas.{left_apart}
 use Rattle.dm_stream.proofs.pieces.join.JoinSink.piece.Goals as goal
+use Rattle.std.specs.Prelude.{◌≡◌, ◌+◌}
 
 -- a piece that a sink failed at
 failed_at : {S R F : Type 0} {past : SinkPast S} (result : Result R F) {old new : S} {units : List BlockUnit} {len : ℕ} → IsErr result → past.left old units new → (past.view new).faults ≡ (past.view old).faults + 1 → IsHanded past result old new units len

@@ -1,5 +1,6 @@
-use Rattle.dm_stream.proofs.Prelude.{ℕ, ◌+◌, ◌<◌, List, [], get_or, inl, inr, length, set, sym, subst, ◌∙◌, arith, length-set, get_or-set_same, get_or-set_other, cases_eq, AreMade, IsLineEnd}
+use Rattle.dm_stream.proofs.Prelude.{ℕ, List, [], get_or, inl, inr, length, set, sym, subst, ◌∙◌, arith, length-set, get_or-set_same, get_or-set_other, cases_eq, AreMade, IsLineEnd}
 use Rattle.dm_stream.proofs.pieces.line_ends.LineEnds.new.Goals as goal
+use Rattle.std.specs.Prelude.{◌+◌, ◌<◌}
 
 made_more : (bound : ℕ) (ends : List (List ℕ)) (array : List ℕ) → bound < length ends → IsLineEnd bound array → AreMade bound ends → AreMade (bound + 1) (set ends bound array)
 made_more bound ends array within is made len below =

@@ -1,5 +1,6 @@
-use Rattle.dm_stream.proofs.Prelude.{◌≡◌, ◌-◌, ◌≤◌, length, AreMade}
+use Rattle.dm_stream.proofs.Prelude.{length, AreMade}
 use Rattle.dm_stream.proofs.pieces.line_ends.LineEnds.new.Given as goal
+use Rattle.std.specs.Prelude.{◌≡◌, ◌-◌, ◌≤◌}
 
 -- those so far have their text
 abbrev pub invariant-lengths : goal.invariant-lengths

@@ -1,5 +1,6 @@
-use Rattle.dm_stream.proofs.Prelude.{◌≡◌, ℕ, ◌+◌, ◌-◌, ◌≤◌, ◌++◌, List, [], ◌∷◌, length, take, decimal, sym, append_assoc, arith, length-append, length-take-le, take-append-add, take-append_seam, take-take, IsPut}
+use Rattle.dm_stream.proofs.Prelude.{ℕ, List, [], length, take, decimal, sym, append_assoc, arith, length-append, length-take-le, take-append-add, take-append_seam, take-take, IsPut}
 use Rattle.dm_stream.proofs.pieces.line_ends.LineEnds.put_inside.Goals as goal
+use Rattle.std.specs.Prelude.{◌≡◌, ◌+◌, ◌-◌, ◌≤◌, ◌++◌, ◌∷◌}
 
 -- what was put but for its last byte
 but_last : (last at end : ℕ) (text old new : List ℕ) → at ≤ length old → IsPut (text ++ last ∷ []) at old new end → IsPut text at old new (end - 1)

@@ -1,5 +1,6 @@
-use Rattle.dm_stream.proofs.Prelude.{◌≡◌, ℕ, ◌+◌, ◌≤◌, ◌++◌, List, [], get_or, length, take, sym, ap, subst, ◌∙◌, arith, length-take-le, take-append-add, take-take, IsPut, IsLineEnd, line_end}
+use Rattle.dm_stream.proofs.Prelude.{ℕ, List, [], get_or, length, take, sym, ap, subst, ◌∙◌, arith, length-take-le, take-append-add, take-take, IsPut, IsLineEnd, line_end}
 use Rattle.dm_stream.proofs.pieces.line_ends.LineEnds.put_short.Goals as goal
+use Rattle.std.specs.Prelude.{◌≡◌, ◌+◌, ◌≤◌, ◌++◌}
 
 -- an array that was put whole begins with its text
 front_put : (len at end : ℕ) (array old new : List ℕ) → at ≤ length old → IsLineEnd len array → IsPut array at old new end → IsPut (line_end len) at old new (at + get_or array 7 0)

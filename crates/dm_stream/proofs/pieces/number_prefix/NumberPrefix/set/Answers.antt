@@ -1,8 +1,9 @@
-use Rattle.dm_stream.proofs.Prelude.{◌≡◌, ◌+◌, ◌-◌, ◌%◌, ◌/◌, ◌≤◌, ◌<◌, ◌^◌, ℕ, take, set, subst, sym, ap, ◌∙◌, arith, number_prefix}
+use Rattle.dm_stream.proofs.Prelude.{ℕ, take, set, subst, sym, ap, ◌∙◌, arith, number_prefix}
 use Rattle.dm_stream.specs.declared.pieces.number_prefix.NumberPrefix.TheInside.{Inside}
 use Rattle.dm_stream.proofs.pieces.LastDigit.{last_digit_set}
 use Rattle.dm_stream.proofs.pieces.number_prefix.NumberPrefix.set.Goals as goal
 use Rattle.dm_stream.proofs.pieces.number_prefix.NumberPrefix.set.Goals.{then-self-number+then-number-self-lt10, else-self-number}
+use Rattle.std.specs.Prelude.{◌≡◌, ◌+◌, ◌-◌, ◌%◌, ◌/◌, ◌≤◌, ◌<◌, ◌^◌}
 
 pub invariant_of-self : goal.invariant_of-self
 invariant_of-self c =

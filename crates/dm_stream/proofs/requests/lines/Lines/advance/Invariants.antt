@@ -1,6 +1,7 @@
-use Rattle.dm_stream.proofs.Prelude.{◌≡◌, ◌-◌, ◌≤◌, ◌++◌, [], ◌∷◌, length, take, since, line_parts}
+use Rattle.dm_stream.proofs.Prelude.{[], length, take, since, line_parts}
 use Rattle.dm_stream.specs.declared.requests.lines.TheConstants.{BUFFER_BYTES}
 use Rattle.dm_stream.proofs.requests.lines.Lines.advance.Given as goal
+use Rattle.std.specs.Prelude.{◌≡◌, ◌-◌, ◌≤◌, ◌++◌, ◌∷◌}
 
 -- what came is held, its front was searched, and neither an end nor a fault was met
 abbrev pub invariant-turns : goal.invariant-turns

@@ -1,7 +1,8 @@
-use Rattle.dm_stream.proofs.Prelude.{◌-◌, ◌∙◌, on_err}
+use Rattle.dm_stream.proofs.Prelude.{◌∙◌, on_err}
 use Rattle.dm_table.proofs.Growth.{quiet_since}
 use Rattle.dm_stream.proofs.requests.Held.{same_range, none_after, refilled}
 use Rattle.dm_stream.proofs.requests.lines.Lines.fill.Goals as goal
+use Rattle.std.specs.Prelude.{◌-◌}
 
 pub returns-clause-held : goal.returns-clause-held
 returns-clause-held g c =

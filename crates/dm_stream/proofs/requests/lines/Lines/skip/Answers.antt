@@ -1,6 +1,7 @@
-use Rattle.dm_stream.proofs.Prelude.{◌-◌, length, length-take, drop, ap, arith}
+use Rattle.dm_stream.proofs.Prelude.{length, length-take, drop, ap, arith}
 use Rattle.dm_stream.proofs.requests.Held.{without_front}
 use Rattle.dm_stream.proofs.requests.lines.Lines.skip.Goals as goal
+use Rattle.std.specs.Prelude.{◌-◌}
 
 pub returns : goal.returns
 returns c =

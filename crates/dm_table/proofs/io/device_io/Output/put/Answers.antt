@@ -1,6 +1,7 @@
-use Rattle.dm_table.proofs.Prelude.{◌≡◌, ◌<◌, length, rules, err_from_is_err_and}
+use Rattle.dm_table.proofs.Prelude.{length, rules, err_from_is_err_and}
 use Rattle.dm_table.proofs.io.Growth.{sent_cut, sent_further, sent_whole}
 use Rattle.dm_table.proofs.io.device_io.Output.put.Goals as goal
+use Rattle.std.specs.Prelude.{◌≡◌, ◌<◌}
 
 pub returns-in_err-taken : goal.returns-in_err-taken
 returns-in_err-taken g c =

@@ -1,5 +1,6 @@
-use Rattle.dm_table.proofs.Prelude.{◌≡◌, ◌+◌, ◌<◌, ◌≤◌, ◌||◌, ℕ, Bool, true, false, nat_lt, refl, sym, ◌∙◌, arith, lt-ltb, Gathering}
+use Rattle.dm_table.proofs.Prelude.{ℕ, Bool, true, false, nat_lt, refl, sym, ◌∙◌, arith, lt-ltb, Gathering}
 use Rattle.dm_table.proofs.io.gathered.GatheredOutput.flush.Goals as goal
+use Rattle.std.specs.Prelude.{◌≡◌, ◌+◌, ◌<◌, ◌≤◌, ◌||◌}
 
 first_false : (a b : Bool) → false ≡ (a || b) → a ≡ false
 first_false false b e = refl

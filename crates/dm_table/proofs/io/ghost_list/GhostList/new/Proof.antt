@@ -1,5 +1,6 @@
 -- The value made has no field that takes room, and the list that its clause names is picked here.
-use Rattle.dm_table.proofs.Prelude.{List, [], ◌∷◌, refl, proved, the_row}
+use Rattle.dm_table.proofs.Prelude.{List, [], refl, proved, the_row}
+use Rattle.std.specs.Prelude.{◌∷◌}
 use mir.Syntax.{Args, a_type}
 use mir.MapTy.{inst_fn}
 use mir.Val.{Val, vstruct, vcons, vnil}

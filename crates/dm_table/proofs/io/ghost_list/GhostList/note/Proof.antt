@@ -1,5 +1,6 @@
 -- The borrow of `self` is opened and closed again at the longer list: the code changes nothing.
-use Rattle.dm_table.proofs.Prelude.{[], ◌∷◌, ◌++◌, refl, proved, the_row}
+use Rattle.dm_table.proofs.Prelude.{[], refl, proved, the_row}
+use Rattle.std.specs.Prelude.{◌∷◌, ◌++◌}
 use base.Fml.{ftrue, flft}
 use mir.Syntax.{Args, a_type, named}
 use mir.MapTy.{inst_fn}

@@ -1,8 +1,9 @@
-use Rattle.dm_table.proofs.Prelude.{rules, ◌≡◌, ◌<◌, ◌++◌, ℕ, zero, suc, Ok, refl, add-zero, List, length, take, drop, sym, ap, ◌∙◌, arith, length-append, length-drop, length-take, eqb-suc-zero, eqb-false, ends_added, same_input}
+use Rattle.dm_table.proofs.Prelude.{rules, ℕ, zero, suc, Ok, refl, add-zero, List, length, take, drop, sym, ap, ◌∙◌, arith, length-append, length-drop, length-take, eqb-suc-zero, eqb-false, ends_added, same_input}
 use Rattle.dm_table.specs.io.ShortIo.{Supply, portion}
 use Rattle.dm_table.specs.declared.io.device_io.InFault.{InFault}
 use Rattle.dm_table.proofs.io.Portions.{rest_after, rest_after_is, front_is, handed_grows, left_shrinks}
 use Rattle.dm_table.proofs.io.short_io.ShortInInput.read.Goals as goal
+use Rattle.std.specs.Prelude.{◌≡◌, ◌<◌, ◌++◌}
 
 -- all the bytes of the input, the place in them before the read, and the slice after it
 abbrev bytes : goal.After-self-1 → List ℕ

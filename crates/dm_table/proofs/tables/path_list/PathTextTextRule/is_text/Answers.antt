@@ -1,7 +1,8 @@
-use Rattle.dm_table.proofs.Prelude.{◌≡◌, true, false, sym, ◌∙◌, is_utf8}
+use Rattle.dm_table.proofs.Prelude.{true, false, sym, ◌∙◌, is_utf8}
 use Rattle.dm_table.proofs.tables.PathPlaces.{told_utf8}
 use Rattle.dm_table.proofs.words.FieldLemmas.{lacks-searched}
 use Rattle.dm_table.proofs.tables.path_list.PathTextTextRule.is_text.Goals as goal
+use Rattle.std.specs.Prelude.{◌≡◌}
 
 pub returns-then-is_ok : goal.returns-then-is_ok
 returns-then-is_ok c =

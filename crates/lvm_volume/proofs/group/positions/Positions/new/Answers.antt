@@ -1,6 +1,7 @@
-use Rattle.lvm_volume.proofs.Prelude.{◌++◌, List, ℕ, sym, ap, subst, ◌∙◌, bytes_eq, IsDistinct, Tree, sections_left, keys_in, texts}
+use Rattle.lvm_volume.proofs.Prelude.{List, ℕ, sym, ap, subst, ◌∙◌, bytes_eq, IsDistinct, Tree, sections_left, keys_in, texts}
 use Rattle.lvm_volume.proofs.group.PositionLemmas.{none_before, sections_differ}
 use Rattle.lvm_volume.proofs.group.positions.Positions.new.Goals as goal
+use Rattle.std.specs.Prelude.{◌++◌}
 
 pub add_key-requires : goal.add_key-requires
 add_key-requires c =
