@@ -1,4 +1,4 @@
--- The words of std and of the crates below that this crate cites, and its types, from one place.
+-- The names from std and from lower crates, and the types, that this crate's definitions use.
 pub use Rattle.dm_table.specs.Std.{All, AllByRecursion, Bool, Err, Fml, IfErr, IfOk, IfSome, IsAscii, IsErr, IsTrue, Lends, List, MatchOption, MutBor, None, Ok, OnErr, OnOk, Option, RattleType, Result, Some, [], codes, cons_option, decimal, digits_value, drop, ends_with, false, filter_map, flat_map, ftrue, get_or, is_ascii_digit, is_err, is_some, join_with_byte, length, list_all, map, min, nat_eq, nat_le, nat_lt, not, ok_or, option_map, pointwise, slice_index, slice_set, slice_split, starts_with, string_bytes, suc, take, true, unwrap_or, vec_capacity, vec_len, ℕ}
 unfoldable pub use Rattle.dm_table.specs.Std.{is_utf8}
 pub use Rattle.dm_table.specs.declared.load.load_fault.LoadFault.{LoadFault}

@@ -1,4 +1,4 @@
--- The words that contracts cite, here and in crates above, from one place.
+-- The names that contracts use, in this crate and in crates above, in one place.
 pub use Rattle.dm_table.specs.Base.{Bool, Err, IfErr, IfOk, IfSome, IsErr, IsTrue, List, None, Ok, OnErr, OnOk, Some, [], decimal, drop, false, flat_map, get_or, is_ascii_digit, is_some, join_with_byte, length, list_all, map, nat_lt, option_map, string_bytes, take, true, vec_capacity, ℕ}
 pub use Rattle.dm_table.specs.Std.{IfNone, IsOkAnd, Keeps, OnFalse, OnTrue, ReadConsumes, WriteAppends, insert, number_from_digits, option_to_list, prefix_len, sem, slice_index_or, slice_range}
 pub use Rattle.dm_table.specs.contracts.io.ghost_list.GhostList.{the_row}

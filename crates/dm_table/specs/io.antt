@@ -1,4 +1,4 @@
--- The past of inputs and outputs, and what is put and written.
+-- What inputs and outputs have done so far, and how reads, writes and flushes change that.
 pub mod Block
 pub mod DeviceIo
 pub mod Gathered

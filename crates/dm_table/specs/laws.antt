@@ -1,3 +1,3 @@
--- Laws of the definitions, with their proofs: where a type or a trait cites them, they cannot stand among the proofs.
+-- Proved laws about the definitions. They are kept with the specs because types and traits cite them.
 pub mod NameLaws
 pub mod Progress

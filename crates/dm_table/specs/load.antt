@@ -1,4 +1,4 @@
--- The parts of a load: what reading one gives, its checks, faults and messages.
+-- The parts of a load: the result of reading one, its checks, its faults and their messages.
 pub mod LoadFault
 pub mod LoadMessage
 pub mod Parsed

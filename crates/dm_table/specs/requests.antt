@@ -1,2 +1,2 @@
--- Requests: which lines are requests.
+-- Request lines.
 pub mod RequestLine

@@ -1,4 +1,4 @@
--- Tables and lists of disks: which texts describe them, and the texts that are written of them.
+-- Tables and disk lists: which texts describe them, and which text is written for them.
 pub mod CanonicalText
 pub mod ConciseReading
 pub mod ConciseText

@@ -1,4 +1,4 @@
--- The words of the texts: how a line is cut into them, and which are names and numbers.
+-- Fields, names and numbers: how a line of text is cut into fields, and which fields are names or numbers.
 pub mod Bytes
 pub mod Fields
 pub mod Marks

@@ -1,42 +1,42 @@
--- The past of inputs and outputs: what they did so far, what a call adds to it, and what an input delivered in some calls.
+-- The history of an input or output, what each call adds to it, and what an input delivered between two states.
 use Rattle.dm_table.specs.Base.{ℕ, List, [], length, take, drop, Result, Ok, Err, nat_lt}
 use Rattle.std.specs.Prelude.{◌+◌, ◌++◌, ◌==◌, ◌&&◌, if◌then◌else◌}
 
--- what an input did so far: the bytes that it handed out, how many reads failed, and how many met an end: those into a slice with room that returned 0
+-- the history of an input: the bytes it handed out, how many reads failed, and how many reads into a nonempty slice returned 0 (an end)
 pub record InputPast : Type 0 where
   pub handed : List ℕ
   pub faults : ℕ
   pub ends : ℕ
 
--- what an output did so far: the bytes that it took, those of them that no flush passed on yet, how many writes and flushes failed, and how many
--- flushes were asked for, failed ones too
+-- the history of an output: the bytes it accepted, those not passed on by a flush yet, how many writes and flushes failed, and how many
+-- flushes were requested, including failed ones
 pub record OutputPast : Type 0 where
   pub written : List ℕ
   pub waiting : List ℕ
   pub faults : ℕ
   pub flushes : ℕ
 
--- the bytes that changed hands: those a read left at the front of the slice, or a write took from there
+-- the bytes that a read stored at the front of the slice, or that a write accepted from its front; none if the call failed
 abbrev pub given : {E : Type 0} → Result ℕ E → List ℕ → List ℕ
 given (Ok n) slice = take n slice
 given (Err e) slice = []
 
--- how many faults a result adds
+-- how many faults a call's result adds: 1 for an error, else 0
 abbrev pub fault_of : {T E : Type 0} → Result T E → ℕ
 fault_of (Ok x) = 0
 fault_of (Err e) = 1
 
--- how many ends the result of a read adds: one for a 0 where the slice had room
+-- how many ends a read's result adds: 1 if it is 0 although the slice had room, else 0
 abbrev pub ends_added : {E : Type 0} → Result ℕ E → ℕ → ℕ
 ends_added (Ok n) room = if n == 0 && nat_lt 0 room then 1 else 0
 ends_added (Err e) room = 0
 
--- what of the waiting bytes a flush leaves waiting: all of them where it failed
+-- the bytes still unflushed after a flush: none if it succeeded, all that were waiting if it failed
 abbrev pub unflushed : {T E : Type 0} → Result T E → List ℕ → List ℕ
 unflushed (Ok x) waiting = []
 unflushed (Err e) waiting = waiting
 
--- after a read into a slice, which now holds this
+-- an input's history after one read; `slice` is the content of the buffer after the read
 abbrev pub after_read : {E : Type 0} → InputPast → Result ℕ E → (slice : List ℕ) → InputPast
 after_read past result slice = record {
   handed = past.handed ++ given result slice;
@@ -44,7 +44,7 @@ after_read past result slice = record {
   ends = past.ends + ends_added result (length slice);
 }
 
--- after a write of a slice
+-- an output's history after one write of the slice, of which the result says how many bytes were accepted
 abbrev pub after_write : {E : Type 0} → OutputPast → Result ℕ E → (slice : List ℕ) → OutputPast
 after_write past result slice = record {
   written = past.written ++ given result slice;
@@ -53,11 +53,11 @@ after_write past result slice = record {
   flushes = past.flushes;
 }
 
--- after a call that took no bytes, which may have failed
+-- an output's history after a call that accepted no bytes and may have failed
 abbrev pub with_fault : {T E : Type 0} → OutputPast → Result T E → OutputPast
 with_fault past result = record past { faults = past.faults + fault_of result }
 
--- after a flush
+-- an output's history after one flush
 abbrev pub after_flush : {E : Type 0} → OutputPast → Result (Unit {0}) E → OutputPast
 after_flush past result = record {
   written = past.written;
@@ -66,29 +66,29 @@ after_flush past result = record {
   flushes = past.flushes + 1;
 }
 
--- how an input stands after some calls: they met an end, they met a fault, or neither
+-- how some reads of an input ended: at its end (Clean), at a fault (Failed), or at neither (Open)
 pub data Stand : Type 0 where
   Clean : Stand
   Failed : Stand
   Open : Stand
 
--- what some calls got out of an input
+-- the bytes that some reads delivered, and how the reads ended
 pub record Delivery : Type 0 where
   pub bytes : List ℕ
   pub stand : Stand
 
--- the part of a growing list that is new
+-- the elements that a growing list gained: `new` without its first `length old` elements
 abbrev pub since : List ℕ → List ℕ → List ℕ
 since old new = drop (length old) new
 
--- the bytes that an output took between two states of it
+-- the bytes that an output accepted between two of its states
 abbrev pub written_since : (old new : OutputPast) → List ℕ
 written_since old new = since old.written new.written
 
--- how it stands by what it did then, where a fault counts before an end
+-- how the reads between two states of an input ended; a fault takes precedence over an end
 abbrev pub stand_of : (old new : InputPast) → Stand
 stand_of old new = if nat_lt old.faults new.faults then Failed else (if nat_lt old.ends new.ends then Clean else Open)
 
--- what the calls between two states of an input got out of it
+-- the bytes that an input handed out between two of its states, and how those reads ended
 abbrev pub delivery : (old new : InputPast) → Delivery
 delivery old new = record { bytes = since old.handed new.handed; stand = stand_of old new }

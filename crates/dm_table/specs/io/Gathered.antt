@@ -1,9 +1,9 @@
--- What an output took that gathers for another one.
+-- The state of a `GatheredOutput`, which collects bytes in a buffer and writes them to another output.
 use Rattle.dm_table.specs.Base.{ℕ, List, Bool, true, nat_lt}
 use Rattle.dm_table.specs.io.DeviceIo.{OutputPast}
 use Rattle.std.specs.Prelude.{◌≡◌, ◌≤◌, ◌++◌, ◌||◌}
 
--- the past of the output that is gathered for, what is gathered for it, whether it failed, and the counts of the one that gathers
+-- the history of the output behind, the bytes in the buffer, whether the output behind failed, and the gathering output's own counts
 pub record Gathering : Type 0 where
   pub behind : OutputPast
   pub held : List ℕ
@@ -11,7 +11,7 @@ pub record Gathering : Type 0 where
   pub faults : ℕ
   pub flushes : ℕ
 
--- its past: what it gathers counts as taken, and waits for a flush
+-- the history of a gathering output: bytes in its buffer count as accepted and as not flushed yet
 abbrev pub past_of : Gathering → OutputPast
 past_of g = record {
   written = g.behind.written ++ g.held;
@@ -20,7 +20,7 @@ past_of g = record {
   flushes = g.flushes;
 }
 
--- a fault of the output behind is kept in mind, and nothing is asked of that output after it
+-- a fault of the output behind sets `broken` for good, and a broken gathering output no longer calls the output behind
 pub record MindsFaults (old new : Gathering) : Type 0 where
   pub grows : old.behind.faults ≤ new.behind.faults
   pub broken : new.broken ≡ (old.broken || nat_lt old.behind.faults new.behind.faults)

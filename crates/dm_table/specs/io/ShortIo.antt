@@ -1,38 +1,38 @@
--- What the devices over memory hold, and what a call of one does.
+-- The states of the in-memory input and output for tests, and what each of their calls does.
 use Rattle.dm_table.specs.Base.{ℕ, List, [], length, min, Bool, true, false, Result, IsErr, IfOk}
 use Rattle.dm_table.specs.io.DeviceIo.{InputPast, OutputPast, given}
 use Rattle.std.specs.Prelude.{◌≡◌, ◌↔◌, ◌+◌, ◌++◌, ◌<◌}
 
--- an input: its past, what it has left, the most bytes of a read, and whether it fails at the end of them
+-- an in-memory input: its history, the bytes still unread, the most bytes per read, and whether reads fail once no bytes are left
 pub record Supply : Type 0 where
   pub past : InputPast
   pub left : List ℕ
   pub step : ℕ
   pub fails : Bool
 
--- an input that was not read yet
+-- an in-memory input before its first read
 abbrev pub fresh_supply : List ℕ → ℕ → Bool → Supply
 fresh_supply bytes step fails =
     record { past = record { handed = []; faults = 0; ends = 0 }; left = bytes; step = step; fails = fails }
 
--- an output: its past, the room left in bytes, the most bytes of a write, and whether a flush fails
+-- an in-memory output: its history, the bytes it still has room for, the most bytes per write, and whether flushes fail
 pub record Intake : Type 0 where
   pub past : OutputPast
   pub room : ℕ
   pub step : ℕ
   pub flush_fails : Bool
 
--- an output that was not written to yet
+-- an in-memory output before its first write
 abbrev pub fresh_intake : (step room : ℕ) → Bool → Intake
 fresh_intake step room flush_fails =
     record { past = record { written = []; waiting = []; faults = 0; flushes = 0 }; room = room; step = step; flush_fails = flush_fails }
 
--- the bytes of one call: no more than a step, than one side offers, or than the other has room for
+-- how many bytes one call moves: the least of the step, the bytes offered, and the room for them
 abbrev pub portion : (step offered room : ℕ) → ℕ
 portion step offered room = min step (min offered room)
 
--- a read: a fault exactly where nothing is left to an input that fails, else the next portion of what is left;
--- a 0 where there is room is an end, which comes only where nothing is left to an input that doesn't fail
+-- a read of an in-memory input: it fails exactly if no bytes are left and `fails` is set, else it hands out the next portion;
+-- it returns 0 for a nonempty buffer only if no bytes are left and `fails` is not set
 pub record HandsOut {E : Type 0} (old new : Supply) (result : Result ℕ E) (buffer : List ℕ) : Type 0 where
   pub fault : IsErr result ↔ ((old.fails ≡ true) × (old.left ≡ []))
   pub count : IfOk result (λ n. n ≡ portion old.step (length old.left) (length buffer))
@@ -40,14 +40,14 @@ pub record HandsOut {E : Type 0} (old new : Supply) (result : Result ℕ E) (buf
   pub left : old.left ≡ given result buffer ++ new.left
   pub plan : (new.step ≡ old.step) × (new.fails ≡ old.fails)
 
--- a write: a fault exactly where there is no room, else a portion of the slice
+-- a write to an in-memory output: it fails exactly if there is no room left, else it accepts a portion of the slice
 pub record TakesIn {E : Type 0} (old new : Intake) (result : Result ℕ E) (bytes : List ℕ) : Type 0 where
   pub fault : IsErr result ↔ (old.room ≡ 0)
   pub count : IfOk result (λ n. n ≡ portion old.step (length bytes) old.room)
   pub room : old.room ≡ length (given result bytes) + new.room
   pub plan : (new.step ≡ old.step) × (new.flush_fails ≡ old.flush_fails)
 
--- a flush: a fault exactly where the output was made so
+-- a flush of an in-memory output: it fails exactly if `flush_fails` is set
 pub record PassesOn {E : Type 0} (old new : Intake) (result : Result (Unit {0}) E) : Type 0 where
   pub fault : IsErr result ↔ (old.flush_fails ≡ true)
   pub plan : (new.room ≡ old.room) × (new.step ≡ old.step) × (new.flush_fails ≡ old.flush_fails)

@@ -1,11 +1,11 @@
--- What a write that stops early leaves.
+-- Prefixes of a text, as a write that stops early leaves them.
 use Rattle.dm_table.specs.Base.{List, ℕ}
 use Rattle.std.specs.Prelude.{◌≡◌, ◌++◌, ◌∷◌}
 
--- the text begins so
+-- `front` is a prefix of the text, possibly all of it
 abbrev pub IsBeginning : List ℕ → List ℕ → Type 0
 IsBeginning text front = (rest : List ℕ) × (text ≡ front ++ rest)
 
--- the text begins like this, and a byte of it is left
+-- `front` is a proper prefix of the text: at least one byte comes after it
 abbrev pub IsCutShort : List ℕ → List ℕ → Type 0
 IsCutShort text front = (byte : ℕ) × (rest : List ℕ) × (text ≡ front ++ byte ∷ rest)

@@ -1,4 +1,4 @@
--- What the tests of bytes say of each byte of a text, and that names are ASCII.
+-- A byte test that implies a property implies it for all bytes of a text; and names are ASCII.
 use Rattle.dm_table.specs.Base.{ℕ, Bool, true, nat_le, not, List, [], length, All, IsTrue, list_all, AllByRecursion, IsAscii}
 use Rattle.std.proofs.Common.{arith}
 use Rattle.std.proofs.lemmas.Bool.{and_parts}
@@ -8,13 +8,13 @@ use Rattle.std.proofs.lemmas.Str.Ascii.{IsAscii-from_all}
 use Rattle.dm_table.specs.words.Name.{is_device_byte, is_device_name, is_disk_byte, is_disk_name, names_device}
 use Rattle.std.specs.Prelude.{◌≡◌, ◌<◌, ◌∷◌}
 
--- Texts of which each byte passes a test
+-- Texts whose bytes all pass a test
 
 each : (test : ℕ → Bool) (Q : ℕ → Type 0) → ((b : ℕ) → test b ≡ true → Q b) → (text : List ℕ) → list_all test text ≡ true → AllByRecursion Q text
 each test Q says [] h = tt
 each test Q says (b ∷ text) h = let a = and_parts (test b) (list_all test text) h in (says b a.0, each test Q says text a.1)
 
--- what the test says of a byte holds of each
+-- if every byte that passes the test has property Q, every byte of a text that passes it has Q
 pub All-list_all : (test : ℕ → Bool) (Q : ℕ → Type 0) → ((b : ℕ) → test b ≡ true → Q b) → (text : List ℕ) → list_all test text ≡ true → All Q text
 All-list_all test Q says text h = All-from_recursion Q text (each test Q says text h)
 

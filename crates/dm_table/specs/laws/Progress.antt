@@ -1,4 +1,4 @@
--- Laws of how inputs and outputs moved on: what is new in a list that grew, and what an output took in two steps.
+-- Laws about the progress of inputs and outputs, chiefly how two steps combine into one.
 use Rattle.dm_table.specs.Base.{ℕ, List, [], length, drop, MutBor, sym, ap, ◌∙◌, refl, append_assoc, append-nil}
 use Rattle.std.proofs.Common.{add-zero}
 use Rattle.std.proofs.Math.Seq.{drop-append_seam}
@@ -6,21 +6,21 @@ use Rattle.dm_table.specs.io.DeviceIo.{InputPast, OutputPast, since}
 use Rattle.dm_table.specs.io.Progress.{HasWritten, HasWrittenTo, IsClosedAfter, IsFinished}
 use Rattle.std.specs.Prelude.{◌≡◌, ◌+◌, ◌∷◌, ◌++◌}
 
--- what was added after a list
+-- the new part of a list that had `more` appended is `more`
 pub since_is : (old new more : List ℕ) → new ≡ old ++ more → since old new ≡ more
 since_is old new more e = ap (drop (length old)) e ∙ drop-append_seam old more
 
--- what was added after it in two steps
+-- the new part of a list that grew twice is both new parts, one after the other
 pub since_more : (old mid new : List ℕ) → mid ≡ old ++ since old mid → new ≡ mid ++ since mid new → since old new ≡ since old mid ++ since mid new
 since_more old mid new e f =
     since_is old new (since old mid ++ since mid new) (f ∙ ap (λ xs. xs ++ since mid new) e ∙ append_assoc old (since old mid) (since mid new))
 
--- a list that grew in two steps grew
+-- a list that grew twice has grown from its first state
 pub grows_more : (old mid new : List ℕ) → mid ≡ old ++ since old mid → new ≡ mid ++ since mid new → new ≡ old ++ since old new
 grows_more old mid new e f =
     f ∙ ap (λ xs. xs ++ since mid new) e ∙ append_assoc old (since old mid) (since mid new) ∙ ap (λ xs. old ++ xs) (sym (since_more old mid new e f))
 
--- nothing is new where nothing was added
+-- a list that did not change has no new part
 pub since-same : (xs : List ℕ) → since xs xs ≡ []
 since-same [] = refl
 since-same (x ∷ xs) = since-same xs
@@ -28,21 +28,21 @@ since-same (x ∷ xs) = since-same xs
 pub grows-same : (xs ys : List ℕ) → ys ≡ ys ++ since xs xs
 grows-same xs ys = sym (append-nil ys) ∙ ap (λ (zs : List ℕ). ys ++ zs) (sym (since-same xs))
 
--- what an input did, from its parts
+-- an input's history, built from its three fields
 abbrev input_as : (handed : List ℕ) (faults ends : ℕ) → InputPast
 input_as handed faults ends = record { handed = handed; faults = faults; ends = ends }
 
--- what an output did, from its parts
+-- an output's history, built from its four fields
 abbrev output_as : (written waiting : List ℕ) (faults flushes : ℕ) → OutputPast
 output_as written waiting faults flushes = record { written = written; waiting = waiting; faults = faults; flushes = flushes }
 
--- two pasts of outputs that agree in all are one
+-- two output histories with equal fields are equal
 pub same_output : (a b : OutputPast) → a.written ≡ b.written → a.waiting ≡ b.waiting → a.faults ≡ b.faults → a.flushes ≡ b.flushes → a ≡ b
 same_output a b written waiting faults flushes =
     ap (λ (x : List ℕ). output_as x a.waiting a.faults a.flushes) written ∙ ap (λ (x : List ℕ). output_as b.written x a.faults a.flushes) waiting
     ∙ ap (λ (x : ℕ). output_as b.written b.waiting x a.flushes) faults ∙ ap (λ (x : ℕ). output_as b.written b.waiting b.faults x) flushes
 
--- two pasts of inputs that agree in all are one
+-- two input histories with equal fields are equal
 pub same_input : (a b : InputPast) → a.handed ≡ b.handed → a.faults ≡ b.faults → a.ends ≡ b.ends → a ≡ b
 same_input a b handed faults ends =
     ap (λ (x : List ℕ). input_as x a.faults a.ends) handed ∙ ap (λ (x : ℕ). input_as b.handed x a.ends) faults ∙ ap (λ (x : ℕ). input_as b.handed b.faults x) ends
@@ -55,12 +55,12 @@ written_none x = record {
   unflushed = refl;
 }
 
--- what waits after two steps
+-- if the unflushed bytes grew in two steps by what was written, they grew in sum by all that was written
 waits_more : (w0 w1 w2 v0 v1 v2 : List ℕ) → w1 ≡ w0 ++ since w0 w1 → w2 ≡ w1 ++ since w1 w2 → v1 ≡ v0 ++ since w0 w1 → v2 ≡ v1 ++ since w1 w2 → v2 ≡ v0 ++ since w0 w2
 waits_more w0 w1 w2 v0 v1 v2 e f g h =
     h ∙ ap (λ (xs : List ℕ). xs ++ since w1 w2) g ∙ append_assoc v0 (since w0 w1) (since w1 w2) ∙ ap (λ (xs : List ℕ). v0 ++ xs) (sym (since_more w0 w1 w2 e f))
 
--- first without a fault, and then with any number of them
+-- writing without a fault, and then with `failed` failed writes, is writing with `failed` failed writes
 pub written_more : (a b c : OutputPast) (failed : ℕ) → HasWritten a b 0 → HasWritten b c failed → HasWritten a c failed
 written_more a b c failed first second = record {
   appends = grows_more a.written b.written c.written first.appends second.appends;
@@ -69,7 +69,7 @@ written_more a b c failed first second = record {
   unflushed = second.unflushed ∙ first.unflushed;
 }
 
--- ---- what a borrowed output took
+-- ---- what an output behind a mutable reference accepted
 
 pub written_to_none : {X : Type 0} (past : X → OutputPast) (x : MutBor X) → HasWrittenTo past x x 0
 written_to_none past x = record { moved = written_none (past x.now); same_reference = refl }
@@ -80,9 +80,9 @@ written_to_more past a b c failed first second = record {
   same_reference = second.same_reference ∙ first.same_reference;
 }
 
--- ---- an output that is done with
+-- ---- outputs that are finished
 
--- that it failed is said in other words
+-- in IsFinished, the statement that says the output failed may be replaced by an equivalent one
 pub finished_as : {old new : OutputPast} (P Q : Type 0) → (P → Q) → (Q → P) → IsFinished old new P → IsFinished old new Q
 finished_as P Q there back finished = record {
   appends = finished.appends;

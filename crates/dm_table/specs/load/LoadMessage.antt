@@ -1,15 +1,15 @@
--- The message of a refused load.
+-- The message that reports a refused load on standard error.
 use Rattle.dm_table.specs.Base.{ℕ, List, codes, decimal, Part, Source, Disks, Paths, LoadKind, LoadFault}
 use Rattle.dm_table.specs.declared.load.load_fault.LoadKind.TheVariants as kinds
 use Rattle.std.specs.Prelude.{◌++◌}
 
--- the word of a part
+-- the word for a part of the load in messages
 abbrev pub part_word : Part → List ℕ
 part_word Source = codes "source"
 part_word Disks = codes "disks"
 part_word Paths = codes "paths"
 
--- the word of a kind
+-- the word for a kind of fault in messages
 abbrev pub kind_word : LoadKind → List ℕ
 kind_word kinds.Read = codes "read"
 kind_word kinds.Long = codes "long"
@@ -32,15 +32,15 @@ kind_word kinds.Extents = codes "extents"
 kind_word kinds.Limit = codes "limit"
 kind_word kinds.Memory = codes "memory"
 
--- a message about a part as a whole
+-- a message about a part as a whole, without a line number
 abbrev pub part_message : Part → LoadKind → List ℕ
 part_message part kind = codes "dmremap: " ++ part_word part ++ codes ": " ++ kind_word kind ++ codes "\n"
 
--- the message where memory runs out
+-- the message for a load that ran out of memory
 abbrev pub memory_message : List ℕ
 memory_message = codes "dmremap: memory\n"
 
--- the message of a fault of this kind in a part, at a number: what was not read has none
+-- the message for a fault of this kind in a part; a part that could not be read or is too long has no line number
 abbrev pub kind_message : Part → LoadKind → ℕ → List ℕ
 kind_message part kinds.Read number = part_message part kinds.Read
 kind_message part kinds.Long number = part_message part kinds.Long
@@ -48,6 +48,6 @@ kind_message part kinds.Memory number = memory_message
 kind_message part kind number =
     codes "dmremap: " ++ part_word part ++ codes ": " ++ kind_word kind ++ codes " at " ++ decimal number ++ codes "\n"
 
--- the message of a refused load
+-- the message for a refused load
 abbrev pub load_message : LoadFault → List ℕ
 load_message fault = kind_message fault.at.part fault.kind fault.at.number

@@ -1,23 +1,23 @@
--- What a part of a load delivers: a text, or why it was not read.
+-- The result of reading a part of a load from its input: a text, or the fault that stopped the read.
 use Rattle.dm_table.specs.Base.{ℕ, List, length, nat_lt, Part, LoadFault, Read, Long}
 use Rattle.dm_table.specs.load.LoadFault.{fault_at}
 use Rattle.dm_table.specs.io.DeviceIo.{Stand, Clean, Failed, Open, Delivery}
 use Rattle.dm_table.specs.declared.load.part_input.TheConstants.{MOST_PART_BYTES}
 use Rattle.std.specs.Prelude.{if◌then◌else◌}
 
--- what reading a part gave: its text, why it is refused, or neither yet
+-- what reading a part gave: its text, the fault it is refused for, or neither, if the input met neither an end nor a fault
 pub data PartRead : Type 0 where
   TextOf : List ℕ → PartRead
   Refuses : LoadFault → PartRead
   Unread : PartRead
 
--- what a part that is not too long gave, by how its input stands
+-- what reading a part gave, if it is not too long, by how the reads ended
 abbrev pub part_by : Part → Stand → List ℕ → PartRead
 part_by part Clean bytes = TextOf bytes
 part_by part Failed bytes = Refuses (fault_at part Read 0)
 part_by part Open bytes = Unread
 
--- what reading a part gave: too long takes precedence over a fault
+-- what reading a part gave; that it is too long takes precedence over a fault of the input
 abbrev pub part_read : Part → Delivery → PartRead
 part_read part delivered =
     if nat_lt MOST_PART_BYTES (length delivered.bytes) then Refuses (fault_at part Long 0) else part_by part delivered.stand delivered.bytes

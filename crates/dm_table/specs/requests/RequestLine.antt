@@ -20,24 +20,24 @@ pub record RequestValues : Type 0 where
   pub start : ℕ
   pub len : ℕ
 
--- the values of a request, apart from its number
+-- the values of a `Request`, without its number
 abbrev pub values_of : Request → RequestValues
 values_of request = record { op = request.op; device = request.device.now; start = request.start; len = request.len }
 
--- how an operation is written
+-- the letter for an operation in a request line
 abbrev pub op_text : Op → ℕ
 op_text Read = code "R"
 op_text Write = code "W"
 
--- how a request is written
+-- the line for a request, without its newline
 abbrev pub request_text : RequestValues → List ℕ
 request_text values = op_text values.op ∷ code " " ∷ values.device ++ code " " ∷ decimal values.start ++ code " " ∷ decimal values.len
 
--- the fields of a line in the form of a request
+-- the four fields of a request line
 abbrev pub row_of : Op → List ℕ → List ℕ → List ℕ → List (List ℕ)
 row_of op device start len = (op_text op ∷ []) ∷ device ∷ start ∷ len ∷ []
 
--- the line says this request: at most 1,048,576 sectors of a device that can be named
+-- the line is this request: 1 to MOST_SECTORS sectors, on a device with a valid name
 pub record DescribesRequest (line : List ℕ) (values : RequestValues) : Type 0 where
   pub written : line ≡ request_text values
   pub device : is_device_name values.device ≡ true
@@ -45,35 +45,35 @@ pub record DescribesRequest (line : List ℕ) (values : RequestValues) : Type 0 
   pub least : 1 ≤ values.len
   pub most : values.len ≤ MOST_SECTORS
 
--- the line of a request at the front of a text, up to a newline
+-- the first line of a text, which a newline at offset `end` terminates, is this request and has at most 200 bytes
 pub record IsFront (text : List ℕ) (values : RequestValues) (end : ℕ) : Type 0 where
   pub described : DescribesRequest (take end text) values
   pub line : parts_at (code "\n") text ≡ take end text ∷ parts_at (code "\n") (drop (end + 1) text)
   pub within : end < length text
   pub short : end ≤ 200
 
--- Its checks
+-- The checks of a request line
 
--- one of the two letters
+-- the field is R or W
 abbrev pub is_op : List ℕ → Bool
 is_op (letter ∷ []) = letter == code "R" || letter == code "W"
 is_op _ = false
 
--- a length in its limits
+-- the length in sectors is in the range that a request may have
 abbrev pub is_length : ℕ → Bool
 is_length len = nat_le 1 len && nat_le len MOST_SECTORS
 
--- four fields: an operation, a device name, and two that are not empty
+-- four fields: an operation, a device name, and two nonempty fields
 abbrev pub has_form : List (List ℕ) → Bool
 has_form (op ∷ device ∷ start ∷ len ∷ []) = is_op op && (is_device_name device && (nat_le 1 (length start) && nat_le 1 (length len)))
 has_form _ = false
 
--- two fields, and neither is empty
+-- two fields, both nonempty
 abbrev pub are_two : List (List ℕ) → Bool
 are_two (start ∷ len ∷ []) = nat_le 1 (length start) && nat_le 1 (length len)
 are_two _ = false
 
--- two fields, which are these numbers
+-- two fields that spell the numbers m and n
 pub record AreNumbers (texts : List (List ℕ)) (m n : ℕ) : Type 0 where
   pub start : List ℕ
   pub len : List ℕ
@@ -81,18 +81,18 @@ pub record AreNumbers (texts : List (List ℕ)) (m n : ℕ) : Type 0 where
   pub first : number_of start ≡ Some m
   pub last : number_of len ≡ Some n
 
--- What is read of a line: its values, or the fault of the first test that it fails
+-- How a request line is read: its values, or the fault of the first test that it fails
 
 -- the values in four fields, if the last two are numbers
 abbrev pub values_in : List (List ℕ) → Option RequestValues
 values_in (op ∷ device ∷ start ∷ len ∷ []) = if_both (λ start len. record { op = if pointwise nat_eq op (codes "R") then Read else Write; device = device; start = start; len = len }) (number_of start) (number_of len)
 values_in _ = None
 
--- those values, if there are any and their length is in its limits
+-- the values of a request if its length is in range; Number if there are no values, Length if the length is out of range
 abbrev pub values_reading : Option RequestValues → Result RequestValues RequestFault
 values_reading None = Err Number
 values_reading (Some values) = if is_length values.len then Ok values else Err Length
 
--- the values that a line says, or its fault: Form before Number before Length
+-- the values of a request line, or its fault: Form before Number before Length
 abbrev pub request_reading : List ℕ → Result RequestValues RequestFault
 request_reading line = if has_form (fields line) then values_reading (values_in (fields line)) else Err Form

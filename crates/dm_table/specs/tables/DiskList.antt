@@ -10,58 +10,58 @@ use Rattle.dm_table.specs.tables.LineReading.{reading_of}
 use Rattle.dm_table.specs.words.Bytes.{code}
 use Rattle.std.specs.Prelude.{◌≡◌, ◌^◌, ◌<◌, ◌&&◌, ◌∷◌, ◌++◌, if◌then◌else◌}
 
--- What a list says
+-- What a disk list says
 
--- the line that says a disk
+-- the line for a disk, without its newline
 abbrev pub disk_line : Disk → List ℕ
 disk_line disk = disk.name ++ code " " ∷ decimal disk.len
 
--- line number n says a disk
+-- line number n is this disk
 pub record IsDiskOf (n : ℕ) (line : List ℕ) (disk : Disk) : Type 0 where
   pub spelled : line ≡ disk_line disk
   pub name : is_disk_name disk.name ≡ true
   pub len : disk.len < 10 ^ 19
   pub at : disk.at ≡ record { part = Disks; number = n }
 
--- the text says these disks, each by a line
+-- the text is these disks, one per line
 abbrev pub DescribesDisks : List ℕ → List Disk → Type 0
 DescribesDisks = LinesSay IsDiskOf
 
--- Its checks
+-- The checks of a disk list
 
--- two fields that are not empty
+-- two nonempty fields
 abbrev pub is_pair : List (List ℕ) → Bool
 is_pair (name ∷ sectors ∷ []) = nat_lt 0 (length name) && nat_lt 0 (length sectors)
 is_pair _ = false
 
--- what two fields say, as row n: the first is a name, and the second says a value
+-- what a row of two fields says, as row n: a name, and the value that the second field spells
 abbrev pub pair_in : {V X : Type 0} → (value_of : List ℕ → Option V) → (made : ℕ → (name : List ℕ) → V → X) → ℕ → List (List ℕ) → Option X
 pair_in value_of made n (name ∷ second ∷ []) = option_map (made n name) (value_of second)
 pair_in value_of made n _ = None
 
--- a disk by its name and its length, as line number n
+-- a disk with this name and length in sectors, from line number n of the disk list
 abbrev pub disk_at : ℕ → List ℕ → ℕ → Disk
 disk_at n name len = record { name = name; len = len; at = record { part = Disks; number = n } }
 
--- the disk that a row says, as line number n: a name, and sectors that are a number
+-- the disk that a row says, from line number n, if the second field is a number
 abbrev pub disk_in : ℕ → List (List ℕ) → Option Disk
 disk_in = pair_in number_of disk_at
 
--- sectors that are a number: the row says a disk, whatever its line number
+-- the row says a disk, whatever its line number: the second field is a number of sectors
 abbrev pub has_sectors : List (List ℕ) → Bool
 has_sectors row = is_some (disk_in 0 row)
 
--- a name that a disk can have
+-- the row's first field is a valid disk name
 abbrev pub has_name : List (List ℕ) → Bool
 has_name (name ∷ more) = is_disk_name name
 has_name [] = false
 
--- the checks of a list, in their order
+-- the checks of a disk list, in order
 abbrev pub disk_checks : List ℕ → List (List LoadFault)
 disk_checks text = line_checks is_printable Disks fields is_pair has_sectors has_name text
 
--- How rows are read, for the functions that the public call stands on
+-- How a row of a disk list is read
 
--- what is read of a row, as line n
+-- the disk that a row says, as line n, or the fault of the first test that it fails
 abbrev pub disk_reading : ℕ → List (List ℕ) → Result Disk RowFault
 disk_reading n row = if is_pair row then reading_of (λ disk. is_disk_name disk.name) (disk_in n row) else Err Syntax

@@ -1,4 +1,4 @@
--- The body of a table's line: a start, a length, and a target with its arguments (dmsetup(8)). How a line is labelled is up to the form.
+-- The body of a line of a table: a start, a length, and a target with its arguments (dmsetup(8)). What comes before it is up to the form.
 use Rattle.dm_table.specs.Base.{ℕ, Bool, true, List, [], length, nat_le, nat_lt, nat_eq, codes, decimal, drop, Option, Some, None, is_some, unwrap_or, map, option_map, flat_map, list_all, join_with_byte, AllByRecursion, pointwise}
 use Rattle.dm_table.specs.declared.tables.table.DevRef.{DevRef}
 use Rattle.dm_table.specs.declared.tables.table.DevRef.TheVariants.{Device, Disk}
@@ -15,34 +15,34 @@ use Rattle.std.specs.Prelude.{◌≡◌, ◌+◌, ◌*◌, ◌^◌, ◌<◌, ◌
 
 -- What a body says
 
--- how a lower device is written
+-- the text for the device or disk that a target names
 abbrev pub dev_text : DevRef → List ℕ
 dev_text (Device name) = mapper ++ name
 dev_text (Disk name) = name
 
--- how a column is written, after what stands before it
+-- a column of a striped target as text, with the space before it
 abbrev pub column_text : Column → List ℕ
 column_text column = code " " ∷ dev_text column.to ++ code " " ∷ decimal column.offset
 
--- how the kind of a store is written
+-- the letter for a kind of exception store: P persistent, N transient, K kept in memory by a program
 abbrev pub kind_text : StoreKind → List ℕ
 kind_text Persistent = codes "P"
 kind_text Transient = codes "N"
 kind_text Keeping = codes "K"
 
--- what an argument of a target is
+-- an argument of a target: a device or disk below, a number, or the letter for an exception store
 pub data Argument : Type 0 where
   Lower : DevRef → Argument
   Amount : ℕ → Argument
   Flag : StoreKind → Argument
 
--- how an argument is written
+-- the text for an argument of a target
 abbrev pub argument_text : Argument → List ℕ
 argument_text (Lower to) = dev_text to
 argument_text (Amount n) = decimal n
 argument_text (Flag kind) = kind_text kind
 
--- a target as a row: its type and its arguments
+-- a target as text fields would give it: its type and its arguments
 pub record Row : Type 0 where
   pub type : List ℕ
   pub arguments : List Argument
@@ -50,11 +50,11 @@ pub record Row : Type 0 where
 abbrev pub row : List ℕ → List Argument → Row
 row type arguments = record { type = type; arguments = arguments }
 
--- the arguments of a column
+-- a column of a striped target as two arguments
 abbrev pub column_arguments : Column → List Argument
 column_arguments column = Lower column.to ∷ Amount column.offset ∷ []
 
--- what stands for a target in a line
+-- a target as its type and its arguments
 abbrev pub target_row : Target → Row
 target_row (Linear to offset) = row (codes "linear") (Lower to ∷ Amount offset ∷ [])
 target_row (Striped chunk columns) = row (codes "striped") (Amount (length columns) ∷ Amount chunk ∷ flat_map column_arguments columns)
@@ -63,95 +63,95 @@ target_row Error = row (codes "error") []
 target_row (Snapshot origin store kind chunk) = row (codes "snapshot") (Lower origin ∷ Lower store ∷ Flag kind ∷ Amount chunk ∷ [])
 target_row (Origin origin) = row (codes "snapshot-origin") (Lower origin ∷ [])
 
--- the fields of a target
+-- the fields for a target, its type first
 abbrev pub target_fields : Target → List (List ℕ)
 target_fields target = (target_row target).type ∷ map argument_text (target_row target).arguments
 
--- how a target is written: its fields with spaces between them
+-- the text for a target: its fields with single spaces between them
 abbrev pub target_text : Target → List ℕ
 target_text target = join_with_byte (code " ") (target_fields target)
 
--- how the body of a line is written
+-- the text for the body of a line: start, length and target, with single spaces between the fields
 abbrev pub body_text : Line → List ℕ
 body_text line = join_with_byte (code " ") (decimal line.start ∷ decimal line.len ∷ target_fields line.target)
 
--- the name of a device or of a disk is valid
+-- a name below is a valid device name or a valid disk name
 abbrev pub is_dev_ref : DevRef → Bool
 is_dev_ref (Device name) = is_device_name name
 is_dev_ref (Disk name) = is_disk_name name
 
--- a text may name this device or disk
+-- a table can name this device or disk
 abbrev pub IsDevRef : DevRef → Type 0
 IsDevRef dev = is_dev_ref dev ≡ true
 
--- a text may say this argument
+-- a table can contain this argument
 abbrev pub IsArgument : Argument → Type 0
 IsArgument (Lower to) = IsDevRef to
 IsArgument (Amount n) = n < 10 ^ 19
 IsArgument (Flag kind) = Unit {0}
 
--- a text may say this target
+-- a table can contain this target
 abbrev pub IsTarget : Target → Type 0
 IsTarget target = AllByRecursion IsArgument (target_row target).arguments
 
--- a text may say this body
+-- a table can contain this line's body
 pub record IsBody (line : Line) : Type 0 where
   pub start : line.start < 10 ^ 19
   pub len : line.len < 10 ^ 19
   pub target : IsTarget line.target
 
--- What its fields say, if they are those of a body. Whether the names in them are valid is checked afterwards.
+-- How fields are read as a body. Whether the names in it are valid is checked afterwards.
 
--- what a text names: a device of the stack, or else a disk
+-- the device or disk that a field names: a device if the field begins with /dev/mapper/, else a disk
 abbrev pub dev_in : List ℕ → DevRef
 dev_in text = if names_device text then Device (drop (length mapper) text) else Disk text
 
--- what is made of two values, if both are there
+-- the result of `make` for two values, if both are there
 abbrev pub if_both : {X Y Z : Type 0} → (X → Y → Z) → Option X → Option Y → Option Z
 if_both make None y = None
 if_both make (Some x) y = option_map (make x) y
 
--- what the first field says and what the others say, if both say something
+-- what `first` reads from the first field together with what `others` reads from the other fields, if both succeed
 abbrev pub then_in : {X Y : Type 0} → (List ℕ → Option X) → (List (List ℕ) → Option Y) → List (List ℕ) → Option (X × Y)
 then_in first others [] = None
 then_in first others (field ∷ fields) = if_both (λ x y. (x, y)) (first field) (others fields)
 
--- what no field says
+-- succeeds if no field is left
 abbrev pub nothing_in : List (List ℕ) → Option (Unit {0})
 nothing_in [] = Some tt
 nothing_in (field ∷ fields) = None
 
--- a device or a disk
+-- the device or disk that a field names; every field names one
 abbrev pub lower_in : List ℕ → Option DevRef
 lower_in text = Some (dev_in text)
 
--- two fields for each column: a text and a number
+-- the columns in the fields, if each has two: a device or disk, and a number
 abbrev pub columns_in : List (List ℕ) → Option (List Column)
 columns_in [] = Some []
 columns_in (to ∷ []) = None
 columns_in (to ∷ offset ∷ more) = if_both (λ n columns. record { to = dev_in to; offset = n } ∷ columns) (number_of offset) (columns_in more)
 
--- the number of columns that have two fields each among n of them, which have one more
+-- the number of columns fits n fields: one for the chunk and two for each column
 abbrev pub is_count : List ℕ → ℕ → Bool
 is_count count n = is_some (number_of count) && 2 * number_in count + 1 == n
 
--- the number of columns, the number of sectors of a chunk, and the columns
+-- a striped target: the number of columns, the number of sectors per chunk, and the columns
 abbrev pub striped_in : List (List ℕ) → Option Target
 striped_in [] = None
 striped_in (count ∷ others) = if is_count count (length others) then option_map (λ said. Striped said.0 said.1) (then_in number_of columns_in others) else None
 
--- the flag of a kind of store
+-- the kind of exception store that a field names: P, N or K
 abbrev pub kind_in : List ℕ → Option StoreKind
 kind_in flag =
     if pointwise nat_eq flag (codes "P") then Some Persistent
     else (if pointwise nat_eq flag (codes "N") then Some Transient
     else (if pointwise nat_eq flag (codes "K") then Some Keeping else None))
 
--- a device and a number
+-- a linear target: a device or disk, and a number
 abbrev pub linear_in : List (List ℕ) → Option Target
 linear_in fields = option_map (λ said. Linear said.0 said.1.0) (then_in lower_in (then_in number_of nothing_in) fields)
 
--- a target of a type that few lines have, by its arguments
+-- a target of one of the rarer types, from its arguments: striped, snapshot or snapshot-origin
 abbrev pub other_in : (type : List ℕ) → List (List ℕ) → Option Target
 other_in type fields =
     if pointwise nat_eq type (codes "striped") then striped_in fields
@@ -160,7 +160,7 @@ other_in type fields =
     else (if pointwise nat_eq type (codes "snapshot-origin") then option_map (λ said. Origin said.0) (then_in lower_in nothing_in fields)
     else None))
 
--- a target of this type, by its arguments
+-- a target of this type, from its arguments
 abbrev pub arguments_in : (type : List ℕ) → List (List ℕ) → Option Target
 arguments_in type fields =
     if pointwise nat_eq type (codes "linear") then linear_in fields
@@ -168,22 +168,22 @@ arguments_in type fields =
     else (if pointwise nat_eq type (codes "error") then option_map (λ said. Error) (nothing_in fields)
     else other_in type fields))
 
--- a target type and its arguments
+-- a target, from its type and its arguments
 abbrev pub target_in : List (List ℕ) → Option Target
 target_in [] = None
 target_in (type ∷ arguments) = arguments_in type arguments
 
--- a line without its place
+-- a line of a table, without its place
 pub record Body : Type 0 where
   pub start : ℕ
   pub len : ℕ
   pub target : Target
 
--- a start, a length and a target
+-- the body that fields say: a start, a length and a target
 abbrev pub body_in : List (List ℕ) → Option Body
 body_in fields = option_map (λ said. record { start = said.0; len = said.1.0; target = said.1.1 }) (then_in number_of (then_in number_of target_in) fields)
 
--- Its checks
+-- The checks of a body
 
 -- at least three fields, none of them empty
 abbrev pub is_body_row : List (List ℕ) → Bool
@@ -193,16 +193,16 @@ is_body_row fields = nat_le 3 (length fields) && list_all (λ field. nat_lt 0 (l
 abbrev pub is_body : List (List ℕ) → Bool
 is_body fields = is_some (body_in fields)
 
--- an argument that is a name is a valid one
+-- the argument, if it is a name, is a valid one
 abbrev pub has_name : Argument → Bool
 has_name (Lower to) = is_dev_ref to
 has_name (Amount n) = true
 has_name (Flag kind) = true
 
--- each name in a target is valid
+-- all names in a target are valid
 abbrev pub has_target_names : Target → Bool
 has_target_names target = list_all has_name (target_row target).arguments
 
--- each name in the body that fields say is valid; where they say none, there is no name to check
+-- all names in the body that the fields say are valid; true if they say no body
 abbrev pub has_body_names : List (List ℕ) → Bool
 has_body_names fields = unwrap_or (option_map (λ body. has_target_names body.target) (body_in fields)) true

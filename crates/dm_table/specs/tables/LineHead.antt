@@ -1,4 +1,4 @@
--- The line of a table in two parts: one that has a greatest length, and the columns of a striped line.
+-- The body of a line in two parts: a head of limited length, and the columns of a striped target.
 use Rattle.dm_table.specs.Base.{ℕ, List, [], length, codes, decimal}
 use Rattle.dm_table.specs.declared.tables.table.Column.{Column}
 use Rattle.dm_table.specs.declared.tables.table.Line.{Line}
@@ -8,16 +8,16 @@ use Rattle.dm_table.specs.tables.LineBody.{target_text}
 use Rattle.dm_table.specs.words.Bytes.{code}
 use Rattle.std.specs.Prelude.{◌∷◌, ◌++◌}
 
--- a target without its columns
+-- the text for a target without its columns
 abbrev pub target_head : Target → List ℕ
 target_head (Striped chunk columns) = codes "striped " ++ decimal (length columns) ++ code " " ∷ decimal chunk
 target_head target = target_text target
 
--- the columns, which only a striped line has
+-- the columns of a striped target; any other target has none
 abbrev pub columns_of : Target → List Column
 columns_of (Striped chunk columns) = columns
 columns_of _ = []
 
--- a body without its columns
+-- the text for a body without its columns
 abbrev pub body_head : Line → List ℕ
 body_head line = decimal line.start ++ code " " ∷ decimal line.len ++ code " " ∷ target_head line.target

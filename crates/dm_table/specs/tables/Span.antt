@@ -1,4 +1,4 @@
--- What a line names below, and where.
+-- The extents of lower devices and disks that a line of a table names.
 use Rattle.dm_table.specs.Base.{ℕ, List, [], Option, Some, None, length, map}
 use Rattle.dm_table.specs.declared.tables.table.DevRef.{DevRef}
 use Rattle.dm_table.specs.declared.tables.table.Column.{Column}
@@ -9,22 +9,22 @@ use Rattle.dm_table.specs.declared.tables.table.Use.{Use}
 use Rattle.dm_table.specs.declared.tables.table.Use.TheVariants.{Own, Reading, Serving}
 use Rattle.std.specs.Prelude.{◌/◌, ◌∷◌}
 
--- len sectors of a device or a disk from an offset on, or all of it where no length is given, and how a line uses them
+-- `len` sectors of a device or disk from `offset` on, or all of it if there is no length; and how the line uses them
 pub record Span : Type 0 where
   pub to : DevRef
   pub offset : ℕ
   pub len : Option ℕ
   pub kind : Use
 
--- a column has its share of the line's length
+-- the extent of one column of a striped line, where `len` is the column's share of the line's length
 abbrev pub column_span : ℕ → Column → Span
 column_span len column = record { to = column.to; offset = column.offset; len = Some len; kind = Own }
 
--- all of a device or a disk
+-- all of a device or disk
 abbrev pub whole_span : DevRef → Use → Span
 whole_span to kind = record { to = to; offset = 0; len = None; kind = kind }
 
--- what a line of this length and target names: the whole of the line, a share for each column, or all of a store and of an origin, which a snapshot only reads
+-- the extents that a line of this length names: linear one, striped one per column, a snapshot all of its store and, to read, of its origin
 abbrev pub target_spans : ℕ → Target → List Span
 target_spans len (targets.Linear to offset) = record { to = to; offset = offset; len = Some len; kind = Own } ∷ []
 target_spans len (targets.Striped chunk columns) = map (column_span (len / length columns)) columns
@@ -33,6 +33,6 @@ target_spans len targets.Error = []
 target_spans len (targets.Snapshot origin store kind chunk) = whole_span store Own ∷ whole_span origin Reading ∷ []
 target_spans len (targets.Origin origin) = whole_span origin Serving ∷ []
 
--- what a line names: of a snapshot first the store
+-- the extents that a line names; for a snapshot, the store's comes first
 abbrev pub spans : Line → List Span
 spans line = target_spans line.len line.target

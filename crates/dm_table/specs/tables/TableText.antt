@@ -1,4 +1,4 @@
--- Table text: a line NAME: START LEN TYPE ARGS for each line of a table (dmsetup(8)). The name and its colon label the body of a line.
+-- Table text (dmsetup(8)): a text line NAME: START LEN TYPE ARGS for each line of a table. The name and its colon label the body.
 use Rattle.dm_table.specs.Base.{ℕ, Bool, true, false, List, [], length, map, nat_lt, flat_map, AllByRecursion, Place, Source, LoadFault}
 use Rattle.dm_table.specs.declared.tables.table.Line.{Line}
 use Rattle.dm_table.specs.declared.tables.table.DeviceSpec.{DeviceSpec}
@@ -10,46 +10,46 @@ use Rattle.dm_table.specs.tables.LineBody.{body_text, IsBody, is_body_row, is_bo
 use Rattle.dm_table.specs.words.Bytes.{code}
 use Rattle.std.specs.Prelude.{◌≡◌, ◌≢◌, ◌⊎◌, ◌==◌, ◌&&◌, ◌∷◌, ◌++◌}
 
--- What a text says
+-- What table text says
 
 -- a line of a table, with the name of its device
 pub record NamedLine : Type 0 where
   pub name : List ℕ
   pub line : Line
 
--- how a named line is written
+-- the text line for a named line, without its newline
 abbrev pub line_text : NamedLine → List ℕ
 line_text named = named.name ++ code ":" ∷ code " " ∷ body_text named.line
 
--- one space at the end of a line has no meaning
+-- the text line says this named line; one space at its end has no meaning
 abbrev pub Writes : List ℕ → NamedLine → Type 0
 Writes text named = (text ≡ line_text named) ⊎ (text ≡ line_text named ++ code " " ∷ [])
 
--- text line number n may say this line
+-- a named line that text line number n can say: its name and its body are valid, and its place is n
 pub record IsSaid (n : ℕ) (named : NamedLine) : Type 0 where
   pub name : is_device_name named.name ≡ true
   pub body : IsBody named.line
   pub at : named.line.at ≡ record { part = Source; number = n }
 
--- text line number n says this line
+-- text line number n says this named line
 abbrev pub SaysLine : ℕ → List ℕ → NamedLine → Type 0
 SaysLine n text named = Writes text named × IsSaid n named
 
--- the lines of all devices, one after another, each with its device's name
+-- the lines of all devices in order, each with its device's name
 abbrev pub named_lines : List DeviceSpec → List NamedLine
 named_lines = flat_map (λ device. map (λ line. record { name = device.name; line = line }) device.lines)
 
--- a device of table text: it has a first line, whose place is its own, and is writable
+-- the place of a device in table text is the place of its first line, so it has one
 abbrev pub HasPlaceOf : List Line → Place → Type 0
 HasPlaceOf [] at = ⊥
 HasPlaceOf (line ∷ lines) at = at ≡ line.at
 
--- what a device of table text can be: its text has no flag for read-only, and its place is that of its first line
+-- a device that table text can say: it is writable, as there is no flag for read-only, and its place is that of its first line
 pub record IsDescribed (device : DeviceSpec) : Type 0 where
   pub writable : device.ro ≡ false
   pub at : HasPlaceOf device.lines device.at
 
--- neighbouring lines of one name are one device: neighbouring devices have different names
+-- neighbouring devices have different names, because neighbouring text lines with the same name are one device
 abbrev pub DifferInName : List DeviceSpec → Type 0
 DifferInName [] = Unit {0}
 DifferInName (device ∷ []) = Unit {0}
@@ -61,31 +61,31 @@ pub record DescribesTable (text : List ℕ) (devices : List DeviceSpec) : Type 0
   pub each : AllByRecursion IsDescribed devices
   pub apart : DifferInName devices
 
--- Its checks
+-- The checks of table text
 
--- a name and a colon after it
+-- the field is a name with a colon at the end
 abbrev pub is_label : List ℕ → Bool
 is_label field = nat_lt 1 (length field) && last_or 0 field == code ":"
 
--- the name in a label: all before its last colon
+-- the name in a label: all bytes before its last colon
 abbrev pub name_in : List ℕ → List ℕ
 name_in label = all_but_last label
 
--- a label, and the fields of a body
+-- the row is a label and the fields of a body
 abbrev pub is_row : List (List ℕ) → Bool
 is_row (label ∷ body) = is_label label && is_body_row body
 is_row [] = false
 
--- a body whose values are valid
+-- the values in the row's body are valid
 abbrev pub has_values : List (List ℕ) → Bool
 has_values (label ∷ body) = is_body body
 has_values [] = false
 
--- the name of the line and those in its body are valid
+-- the row's own name and the names in its body are valid
 abbrev pub has_names : List (List ℕ) → Bool
 has_names (label ∷ body) = is_device_name (name_in label) && has_body_names body
 has_names [] = false
 
--- the checks of a text, in their order
+-- the checks of table text, in order
 abbrev pub table_checks : List ℕ → List (List LoadFault)
 table_checks text = line_checks is_printable Source row_fields is_row has_values has_names text

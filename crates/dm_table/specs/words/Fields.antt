@@ -4,39 +4,39 @@ use Rattle.dm_table.specs.words.Bytes.{code}
 use Rattle.std.specs.Prelude.{◌==◌, ◌∷◌}
 use denote.Ref.{Bor}
 
--- what slices point to
+-- the byte lists that slices point to
 abbrev pub texts : List (Bor (List ℕ)) → List (List ℕ)
 texts = map (λ slice. slice.now)
 
--- the parts of a text between the bytes that are c: always one more than there are such bytes
+-- the parts of a text between the bytes that equal c: always one more part than there are such bytes
 abbrev pub parts_at : ℕ → List ℕ → List (List ℕ)
 parts_at c = slice_split (λ b. b == c)
 
--- all but the last
+-- a list without its last element
 abbrev pub all_but_last : {X : Type 0} → List X → List X
 all_but_last [] = []
 all_but_last (x ∷ []) = []
 all_but_last (x ∷ y ∷ ys) = x ∷ all_but_last (y ∷ ys)
 
--- the last, or d
+-- the last element of a list, or d if the list is empty
 abbrev pub last_or : {X : Type 0} → X → List X → X
 last_or d [] = d
 last_or d (x ∷ []) = x
 last_or d (x ∷ y ∷ ys) = last_or d (y ∷ ys)
 
--- the lines that a newline ends
+-- the complete lines of a text: each ends with a newline, which is left out
 abbrev pub lines_of : List ℕ → List (List ℕ)
 lines_of text = all_but_last (parts_at (code "\n") text)
 
--- what stands after the last newline
+-- the unterminated last line of a text, empty if the text ends with a newline
 abbrev pub rest_of : List ℕ → List ℕ
 rest_of text = last_or [] (parts_at (code "\n") text)
 
--- the fields of a line, at single spaces
+-- the fields of a line, cut at each single space
 abbrev pub fields : List ℕ → List (List ℕ)
 fields = parts_at (code " ")
 
--- fields without an empty one at the end, as a space there leaves it
+-- fields without an empty last one, which a space at the end of a line leaves
 abbrev pub without_last_space : List (List ℕ) → List (List ℕ)
 without_last_space [] = []
 without_last_space ([] ∷ []) = []

@@ -1,4 +1,4 @@
--- The places of a byte in a text, as the bits of a number: the lowest bit stands for the first byte.
+-- The positions of a byte in a text, as bits of a number: bit 0 is the first byte of the text.
 use Rattle.dm_table.specs.Base.{ℕ, List, map}
 use Rattle.std.specs.Prelude.{◌==◌}
 use lib.Lanes.{mask_l}

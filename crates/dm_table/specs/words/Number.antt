@@ -1,26 +1,26 @@
--- Numbers as texts: 0, or a digit 1 to 9 followed by at most 18 digits.
+-- Numbers in texts: 0, or a digit 1 to 9 followed by at most 18 digits.
 use Rattle.dm_table.specs.Base.{ℕ, Bool, true, not, List, length, take, Option, Some, None, nat_le, slice_index, decimal, unwrap_or, list_all, is_ascii_digit, digits_value}
 use Rattle.dm_table.specs.words.Bytes.{code}
 use Rattle.std.specs.Prelude.{◌≡◌, ◌^◌, ◌<◌, ◌≤◌, ◌==◌, ◌&&◌, ◌||◌, if◌then◌else◌}
 
--- the text spells the number: its digits without a leading zero, at most 19 of them
+-- the text is the number in decimal, without leading zeros and with at most 19 digits
 pub record Spells (text : List ℕ) (number : ℕ) : Type 0 where
   pub digits : text ≡ decimal number
   pub short : number < 10 ^ 19
 
--- the test: 1 to 19 digits, the first of them 0 only where it stands alone
+-- 1 to 19 digits, without a leading zero unless 0 is the only digit
 abbrev pub is_number : List ℕ → Bool
 is_number text = nat_le 1 (length text) && (nat_le (length text) 19 && ((not (slice_index text 0 == code "0") || length text == 1) && list_all is_ascii_digit text))
 
--- the number that a text spells, if it spells one
+-- the number that a text spells, or None if it spells none
 unfoldable pub number_of : List ℕ → Option ℕ
 number_of text = if is_number text then Some (digits_value 10 text) else None
 
--- the number in a field that is one
+-- the number in a field that is known to be one, else 0
 abbrev pub number_in : List ℕ → ℕ
 number_in field = unwrap_or (number_of field) 0
 
--- the first bytes are digits, no more than a number has, and this is their value
+-- the first `len` bytes are at most 19 digits, and `number` is their value
 pub record IsReadTo (text : List ℕ) (len number : ℕ) : Type 0 where
   pub short : len ≤ 19
   pub within : len ≤ length text
