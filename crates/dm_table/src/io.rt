@@ -1,9 +1,9 @@
-//! Inputs and outputs: their traits, those over files and over memory, and how bytes and texts are
-//! put and written.
+//! Inputs and outputs: their traits, their implementations over files and over memory, and functions that
+//! copy bytes and texts into blocks and write them.
 //!
-//! None of it knows tables. It stands in this crate since the texts here are read and written by it,
-//! and all crates above that read or write stand on this one anyway; a crate of its own would only
-//! lengthen the row of crates that are proved one after the other.
+//! Nothing here knows about tables. It is part of this crate because the texts of this crate need it and
+//! every crate that reads or writes depends on this one anyway; a separate crate would only lengthen the
+//! chain of crates that are proved one after the other.
 
 pub mod block;
 pub mod counted;

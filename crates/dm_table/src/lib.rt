@@ -1,9 +1,9 @@
-//! Device-mapper tables, disk lists and requests: their texts, what the texts say, and the devices
-//! of bytes that they are read from and written to.
+//! Device-mapper tables, disk lists and requests: how their texts are read and written, and the inputs
+//! and outputs for the bytes.
 //!
-//! A text is accepted exactly where its grammar spells a description, and a call returns that
-//! description; else it returns the fault of the first check that finds anything, at its first place.
-//! The words are those of dmsetup(8) and of the kernel's admin-guide/device-mapper documents.
+//! A text is accepted exactly if it spells a description in its grammar, and a call returns that
+//! description; else it returns the first fault, in order of lines, of the first check that finds any.
+//! The terms are those of dmsetup(8) and of the kernel's admin-guide/device-mapper documents.
 #![tactic(auto)]
 
 mod io;

@@ -1,4 +1,4 @@
-//! Requests: their type, and how a line of them is read.
+//! Requests: their type, and how a request line is read.
 
 pub mod request;
 pub mod request_line;

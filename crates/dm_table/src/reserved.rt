@@ -1,9 +1,9 @@
-//! Memory that was taken while loading, and is only read and filled from then on.
+//! Memory that is allocated while loading, and afterwards only read and filled.
 //!
-//! A `Vec` keeps its allocator, so whoever holds one can take memory: clone it, let it grow, or ask it for the
-//! allocator. These types hide theirs. What they hold is made by a caller that has an allocator, they can't be
-//! cloned, and a call that takes memory has to be given one. So a function that has no allocator, and holds
-//! nothing but these, takes no memory. That is so as long as this module hands out no allocator, which no
+//! A `Vec` keeps its allocator, so whoever holds one can allocate: by cloning it, growing it, or asking it for the
+//! allocator. The types here hide theirs. A caller with an allocator makes their content, they can't be cloned, and
+//! every call that allocates takes an allocator as an argument. So a function that has no allocator, and holds
+//! nothing but these types, allocates nothing. That holds as long as this module hands out no allocator, which no
 //! contract says.
 
 ghost use Rattle.dm_table.specs.Prelude.{[], IfOk, OnOk, length, slice_index_or, vec_capacity, sem, insert, string_bytes};
@@ -13,8 +13,8 @@ use std::alloc::{AllocError, Global};
 use std::marker::Model;
 use std::ops::{Index, IndexMut};
 
-/// Values in their order, in memory that has room for more. A clause sees them as a list, and for how many
-/// there is room.
+/// A vector with spare capacity that hides its allocator. A contract sees its values as a list, and its
+/// capacity.
 #[derive(Debug, Drop)]
 pub struct Reserved<T> {
     items: Vec<T>,
@@ -30,7 +30,7 @@ impl<T> Model for Reserved<T> {
 }
 
 impl<T> Reserved<T> {
-    /// The values of a list, with the room that it has. No memory is taken.
+    /// Wraps a vector, with its capacity. Allocates nothing.
     pub fn from_vec(items: Vec<T>) -> Reserved<T>
         ensures items { result.items ≡ items.items }
         ensures room { result.room ≡ vec_capacity items }
@@ -38,14 +38,14 @@ impl<T> Reserved<T> {
         Reserved { items }
     }
 
-    /// The values as a list that may grow, for an owner. No memory is taken.
+    /// Returns the values as a vector that can grow, so only the owner may do this. Allocates nothing.
     pub(crate) fn into_vec(self) -> Vec<T>
         ensures { result.items ≡ self.items }
     {
         self.items
     }
 
-    /// How many there are.
+    /// How many values there are.
     #[inline(always)]
     pub fn len(&self) -> usize
         ensures { result ≡ length self.now.items }
@@ -53,7 +53,7 @@ impl<T> Reserved<T> {
         self.items.len()
     }
 
-    /// The values in their order.
+    /// The values in order.
     #[inline(always)]
     pub fn as_slice(&self) -> &[T]
         ensures { result.now ≡ self.now.items }
@@ -61,7 +61,7 @@ impl<T> Reserved<T> {
         self.items.as_slice()
     }
 
-    /// Puts a value at the end, where there is room. No memory is taken.
+    /// Appends a value, for which the capacity must suffice. Allocates nothing.
     #[inline(always)]
     pub fn push(&mut self, value: T)
         requires { length self.old.items < self.old.room }
@@ -73,7 +73,7 @@ impl<T> Reserved<T> {
 }
 
 impl<T: Drop> Reserved<T> {
-    /// Puts a value before that of an index, or at the end, where there is room. No memory is taken.
+    /// Inserts a value before the one at `index`, or at the end; the capacity must suffice. Allocates nothing.
     pub fn insert(&mut self, index: usize, value: T)
         requires within { index ≤ length self.old.items }
         requires room { length self.old.items < self.old.room }
@@ -85,7 +85,7 @@ impl<T: Drop> Reserved<T> {
         };
     }
 
-    /// Puts a value at the end, and takes memory where there is no room. Only who has an allocator may.
+    /// Appends a value, and allocates if the capacity doesn't suffice. Only a caller with an allocator can do this.
     #[inline(always)]
     pub(crate) fn grow(&mut self, _alloc: Global, value: T) -> Result<(), AllocError>
         ensures { OnOk result (self.new.items ≡ self.old.items ++ value ∷ []) }
@@ -124,7 +124,7 @@ impl<T> IndexMut<usize> for Reserved<T> {
     }
 }
 
-/// A text. A clause sees its bytes.
+/// A text that hides its allocator. A contract sees its bytes.
 #[derive(Debug, Drop)]
 pub struct ReservedText {
     text: String,
@@ -139,21 +139,21 @@ impl Model for ReservedText {
 }
 
 impl ReservedText {
-    /// A text as it is, with no memory taken.
+    /// Wraps a string. Allocates nothing.
     pub(crate) fn from_string(text: String) -> ReservedText
         ensures { result ≡ string_bytes text }
     {
         ReservedText { text }
     }
 
-    /// The text, with no memory taken.
+    /// Returns the text as a string. Allocates nothing.
     pub(crate) fn into_string(self) -> String
         ensures { string_bytes result ≡ self }
     {
         self.text
     }
 
-    /// The text.
+    /// The text as a `str`.
     #[inline(always)]
     pub fn as_str(&self) -> &str
         ensures { result.now ≡ self.now }
@@ -162,7 +162,7 @@ impl ReservedText {
     }
 }
 
-/// A value in memory of its own. A clause sees the value.
+/// A value in a heap allocation of its own that hides its allocator. A contract sees the value.
 #[derive(Debug, Drop)]
 pub struct ReservedBox<T> {
     boxed: Box<T>,
@@ -177,7 +177,7 @@ impl<T> Model for ReservedBox<T> {
 }
 
 impl<T: Drop> ReservedBox<T> {
-    /// A value in memory of its own. It fails only when out of memory.
+    /// Moves a value into a heap allocation of its own. Fails only if memory runs out.
     pub fn new(alloc: Global, value: T) -> Result<ReservedBox<T>, AllocError>
         ensures { IfOk result (λ reserved. reserved ≡ value) }
     {
@@ -185,7 +185,7 @@ impl<T: Drop> ReservedBox<T> {
         Ok(ReservedBox { boxed })
     }
 
-    /// The value.
+    /// The value inside.
     #[inline(always)]
     pub fn as_ref(&self) -> &T
         ensures { result.now ≡ self.now }

@@ -1,4 +1,4 @@
-//! Tables and lists of disks: their types, the texts that are read, and the texts that are written.
+//! Tables, disk lists and path lists: their types, how their texts are read, and how tables are written.
 
 pub mod canonical_text;
 pub mod concise_device;

@@ -1,4 +1,4 @@
-//! The words of the texts: how a line is cut into them, names and numbers, and how these are written.
+//! Fields, names and numbers: how a line is cut into fields, and how names and numbers are read and written.
 
 pub mod array;
 pub mod device_name;

@@ -24,7 +24,7 @@ dev_text (Disk name) = name
 abbrev pub column_text : Column → List ℕ
 column_text column = code " " ∷ dev_text column.to ++ code " " ∷ decimal column.offset
 
--- the letter for a kind of exception store: P persistent, N transient, K kept in memory by a program
+-- the letter for a kind of exception store: P persistent, N transient, K persistent and kept valid when full
 abbrev pub kind_text : StoreKind → List ℕ
 kind_text Persistent = codes "P"
 kind_text Transient = codes "N"

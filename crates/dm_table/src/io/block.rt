@@ -1,11 +1,11 @@
-//! Parts of a text put into a block of bytes, one after the other.
+//! Functions that copy the parts of a text into a block of bytes, one part after the other.
 //!
-//! Each says what the block holds up to its end, so the parts of a line add up. What stands after
-//! the end is free: an array of a fixed size is copied whole, past the end of its text, since such a
-//! copy is the cheapest.
+//! Each contract says what the block holds up to the end of the part, so that the parts of a line add up.
+//! The bytes after the end may be anything: an array of a fixed size is copied whole, past the end of its
+//! text, because a copy of a known size is the cheapest.
 //!
-//! Rooms, and copies of a known length, are here for speed alone: RESULTS.md has their gain as *texts kept
-//! ready*. They rest on the space after a text that each `requires` asks for, which a block has by `TEXT_ROOM`.
+//! Copies of a fixed size, and the free space after a text that they need, are here for speed alone: RESULTS.md
+//! has their gain as *texts kept ready*. Each `requires` asks for that space; `TEXT_ROOM` makes a block big enough.
 //! Change them only if you measure small requests, and large ones over 16 columns, before and after.
 
 ghost use Rattle.dm_table.specs.Prelude.{length, take, drop, decimal, IsPut};
@@ -14,7 +14,7 @@ ghost use Rattle.std.specs.Prelude.{◌≡◌, ◌++◌, ◌+◌, ◌≤◌};
 use crate::words::array::as_array;
 use crate::words::number_text::MOST_DIGITS;
 
-/// Copies bytes to an offset in a block.
+/// Copies bytes into a block at offset `at`.
 #[inline(always)]
 fn copy_to(block: &mut [u8], at: usize, bytes: &[u8])
     requires within { at + length bytes.now ≤ length block.old }
@@ -24,7 +24,7 @@ fn copy_to(block: &mut [u8], at: usize, bytes: &[u8])
     block[at..at + bytes.len()].copy_from_slice(bytes);
 }
 
-/// Sets a slice to an array, as one value: a copy from one slice to another asks first whether they
+/// Sets a slice to an array in one assignment. A copy from slice to slice would first check whether the two
 /// overlap.
 #[inline(always)]
 fn set_array<const LEN: usize>(place: &mut [u8], array: &[u8; LEN])
@@ -37,10 +37,10 @@ fn set_array<const LEN: usize>(place: &mut [u8], array: &[u8; LEN])
     *whole = *array;
 }
 
-/// Copies an array to an offset in a block, and returns where the text ends that the array begins with.
+/// Copies an array into a block at offset `at`, and returns the offset after its text, which is its first `len` bytes.
 ///
-/// It goes by 16 bytes, which are read before they are written: an array that is copied as one value is
-/// stored aside first, where this is put into a long function.
+/// The array is copied 16 bytes at a time, each 16 read before they are written. An array copied as one value
+/// would first be stored on the stack when this function is inlined into a long one.
 #[inline(always)]
 pub fn put_array<const LEN: usize>(
     block: &mut [u8],
@@ -66,10 +66,10 @@ pub fn put_array<const LEN: usize>(
     at + len
 }
 
-/// Puts bytes at an offset in a block, and returns where they end.
+/// Copies bytes into a block at offset `at`, and returns the offset after them.
 ///
-/// Most names of disks are short. A copy of a known length takes a few instructions, and one of any
-/// length is a call.
+/// Most disk names are short, so lengths up to 8 have a copy of their own: a few instructions instead of a
+/// call.
 #[inline(always)]
 pub fn put_bytes(block: &mut [u8], at: usize, bytes: &[u8]) -> usize
     requires { at + length bytes.now ≤ length block.old }
@@ -88,7 +88,7 @@ pub fn put_bytes(block: &mut [u8], at: usize, bytes: &[u8]) -> usize
     }
 }
 
-/// Puts bytes of a known length.
+/// Copies `LEN` bytes, a length known at compile time, into a block at offset `at`; returns the offset after them.
 #[tactic(auto, using(crate::proofs::io::BlockLemmas::bytes_front))]
 #[inline(always)]
 fn put_known<const LEN: usize>(block: &mut [u8], at: usize, bytes: &[u8]) -> usize
@@ -100,7 +100,7 @@ fn put_known<const LEN: usize>(block: &mut [u8], at: usize, bytes: &[u8]) -> usi
     at + bytes.len()
 }
 
-/// Puts bytes of any length.
+/// Copies bytes of any length into a block at offset `at`; returns the offset after them.
 #[tactic(auto, using(crate::proofs::io::BlockLemmas::bytes_front))]
 #[inline(always)]
 fn put_any(block: &mut [u8], at: usize, bytes: &[u8]) -> usize
@@ -111,9 +111,9 @@ fn put_any(block: &mut [u8], at: usize, bytes: &[u8]) -> usize
     at + bytes.len()
 }
 
-/// Puts a number at an offset in a block, in decimal digits, and returns where they end.
+/// Writes a number in decimal into a block at offset `at`, and returns the offset after its last digit.
 ///
-/// They are counted first and then written where they belong.
+/// The digits are counted first, so that each is written at its final offset.
 #[inline(always)]
 pub fn put_digits(block: &mut [u8], at: usize, number: u64) -> usize
     requires { at + MOST_DIGITS ≤ length block.old }
@@ -125,7 +125,7 @@ pub fn put_digits(block: &mut [u8], at: usize, number: u64) -> usize
     end
 }
 
-/// How many digits a number has.
+/// How many decimal digits a number has.
 #[inline(always)]
 fn count_digits(number: u64) -> usize
     ensures { result ≡ length (decimal number) }

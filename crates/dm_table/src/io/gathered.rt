@@ -1,9 +1,9 @@
-//! An output that gathers what it takes in a block, and passes it on when that is full.
+//! `Gathered`, an output that collects bytes in a block and writes them to another output when it is full.
 //!
-//! A system call for each line would cost many times what the line does. A text is put where it
-//! belongs in the block, whose last part is room for one, so nothing has to be asked before it.
-//! One test before each text finds that the block is full, or that the other output failed: the
-//! limit is 0 then.
+//! A system call per line would cost many times as much as the line itself. Each text is put directly into
+//! the block, which keeps free space for one more text at its end, so that only one test comes before each
+//! text: whether the block is full, or the output behind has failed. The limit is set to 0 when that output
+//! fails.
 
 ghost use Rattle.dm_table.specs.Prelude.{[], false, length, slice_range, take, true, IfOk, IsErr, OnOk, nat_lt, after_flush, after_write, with_fault, MindsFaults, past_of, Wrote};
 ghost use Rattle.std.specs.Prelude.{◌≡◌, ◌↔◌, ◌+◌, ◌-◌, ◌<◌, ◌≤◌, ◌++◌};
@@ -14,25 +14,25 @@ use crate::io::ghost_list::Tally;
 use crate::io::text::{TEXT_ROOM, Text};
 use std::marker::Model;
 
-/// With as many bytes as this, or more, what is gathered is passed on before the next text.
+/// At this many collected bytes or more, they are passed on before the next text.
 const FULL: usize = 65536;
 
-/// The bytes of the block.
+/// The size of the block in bytes.
 const BLOCK_BYTES: usize = FULL + TEXT_ROOM;
 
-/// An output in front of another one, which it gathers bytes for.
+/// An output that collects bytes in front of another output.
 ///
-/// It passes on what it took, in order, and at a flush all of it. Once a call of the other output
-/// failed, nothing is asked of that output any more: what it did not take stays gathered, and each
-/// write, `put` and flush fails. A fault met while handing on is counted by the next of these. The
-/// counts are its own, so those of the other output don't show here.
+/// It passes bytes on in order, and all of them at a flush. Once a call of the other output has failed, that
+/// output isn't called any more: the bytes it did not accept stay in the block, and each write, `put` and
+/// flush fails. A fault that `drain` meets is counted by the next of these calls. The fault and flush counts
+/// are this output's own; those of the other output aren't visible here.
 #[derive(Drop)]
 pub struct Gathered<W: Output> {
     output: W,
     block: [u8; BLOCK_BYTES],
     len: usize,
-    /// Where as many bytes as this are gathered, they are passed on before the next text. It is 0
-    /// once the other output failed.
+    /// At this many collected bytes or more, they are passed on before the next text. It is 0 once the other
+    /// output has failed, so that every write tries to pass bytes on and fails.
     limit: usize,
     faults: Tally,
     flushes: Tally,
@@ -60,7 +60,7 @@ impl<W: Output> Model for Gathered<W> {
 impl<W: Output> Gathered<W> {
     ghost use Rattle.dm_table.specs.declared.io.gathered.TheConstants.{FULL};
 
-    /// Nothing is gathered yet, no call failed, and no flush was asked for.
+    /// Puts an empty buffer in front of an output.
     pub fn new(output: W) -> Gathered<W>
         ensures { result ≡ record {
           behind = W.past output;
@@ -80,7 +80,7 @@ impl<W: Output> Gathered<W> {
         }
     }
 
-    /// Passes on all that is gathered, and counts a fault of the output as one of its own.
+    /// Passes all collected bytes on. A fault of the output behind is returned, and counted as this output's own.
     #[cold]
     #[inline(never)]
     fn try_drain(&mut self) -> Result<(), OutFault>
@@ -97,7 +97,7 @@ impl<W: Output> Gathered<W> {
         Ok(())
     }
 
-    /// Drains a block that has no room for a text, unless the output failed.
+    /// Passes all collected bytes on if the block has no room left for a text, or if the output behind has failed.
     #[inline(always)]
     fn drain_if_full(&mut self) -> Result<(), OutFault>
         ensures past { past_of self.new ≡ with_fault (past_of self.old) result }
@@ -112,13 +112,13 @@ impl<W: Output> Gathered<W> {
     }
 }
 
-/// Writes the first bytes of a block, up to a fault, and returns how many were written.
+/// Writes the first `len` bytes of a block, stopping at a fault, and returns how many were written.
 fn write_front<W: Output>(output: &mut W, block: &[u8], len: usize) -> usize
     requires { len ≤ length block.now }
     ensures within { result ≤ len }
     ensures bytes { (W.past output.new).written ≡ (W.past output.old).written ++ take result block.now }
     ensures waiting { (W.past output.new).waiting ≡ (W.past output.old).waiting ++ take result block.now }
-    // It failed exactly where not all of them were written.
+    // The output failed exactly if not all of the bytes were written.
     ensures grows { (W.past output.old).faults ≤ (W.past output.new).faults }
     ensures failed { nat_lt (W.past output.old).faults (W.past output.new).faults ≡ nat_lt result len }
 {
@@ -132,7 +132,7 @@ fn write_front<W: Output>(output: &mut W, block: &[u8], len: usize) -> usize
     sent
 }
 
-/// Moves a part of a block to its front.
+/// Moves the bytes from `start` to `end` to the front of a block.
 fn move_to_front(block: &mut [u8], start: usize, end: usize)
     requires ordered { start ≤ end }
     requires within { end ≤ length block.old }
@@ -188,8 +188,8 @@ impl<W: Output> Output for Gathered<W> {
         Ok(())
     }
 
-    /// What follows a fault of the output stays gathered, and nothing is passed on after it. It is left to the next
-    /// write, `put` or flush, which fails.
+    /// After a fault of the output behind, the bytes it did not accept stay in the block. The fault is reported by
+    /// the next write, `put` or flush.
     fn drain(&mut self)
         ensures past { past_of self.new ≡ past_of self.old }
         ensures minds { MindsFaults self.old self.new }

@@ -1,12 +1,12 @@
-//! Lists and counts that only proofs read.
-//! What a device did so far has no greatest length or count, so no data of the machine could hold it.
-//! Two proofs by hand set the lists: add a method only where no call of these two does.
+//! Lists and counts that exist only in proofs.
+//! The history of a device has no limit on its length or counts, so no variable of the machine could hold it.
+//! Two proofs written by hand change the lists: add a method only if no calls of these two will do.
 ghost use Rattle.dm_table.specs.Base.{ℕ, List, [], length, ftrue};
 ghost use Rattle.std.specs.Prelude.{◌≡◌, ◌+◌, ◌++◌};
 
 use std::marker::{Model, PhantomData};
 
-/// A growing list, of size zero.
+/// A growing list that only proofs read; its size in memory is zero.
 #[derive(Drop)]
 pub struct GhostList<T> {
     of: PhantomData<T>,
@@ -18,7 +18,7 @@ impl<T> Model for GhostList<T> {
 }
 
 impl<T> GhostList<T> {
-    /// No items.
+    /// An empty list.
     #[inline(always)]
     pub fn new() -> GhostList<T>
         ensures { result.items ≡ [] }
@@ -26,14 +26,14 @@ impl<T> GhostList<T> {
         GhostList { of: PhantomData }
     }
 
-    /// Adds the slice after the items so far, in no time.
+    /// Appends a slice to the list, at no cost at run time.
     #[inline(always)]
     pub fn note(&mut self, _more: &[T])
         ensures { self.new.items ≡ self.old.items ++ _more.now }
     {}
 }
 
-/// A count with no greatest value, of size zero.
+/// A count without an upper limit that only proofs read; its size in memory is zero.
 #[derive(Drop)]
 pub struct Tally {
     ticks: GhostList<()>,
@@ -46,7 +46,7 @@ impl Model for Tally {
 }
 
 impl Tally {
-    /// The count 0.
+    /// A count of 0.
     #[inline(always)]
     pub fn new() -> Tally
         ensures { result ≡ 0 }
@@ -56,7 +56,7 @@ impl Tally {
         }
     }
 
-    /// Raises the count by one, in no time.
+    /// Raises the count by one, at no cost at run time.
     #[inline(always)]
     pub fn raise(&mut self)
         ensures { self.new ≡ self.old + 1 }

@@ -1,6 +1,6 @@
-//! An input and an output over memory that go short and fail where a test wants it.
-//! What each call does is said exactly, so that a test over them shows what it claims to.
-//! Where one met its end or its fault, each later call meets it too: keep that, and that calls are exact.
+//! An in-memory input and output for tests, which move a few bytes per call and fail when a test wants them to.
+//! Contracts say exactly what each call does, so that a test over them shows what it claims to.
+//! After the first end or fault, each later call meets it again: keep it so, and keep the contracts exact.
 ghost use Rattle.dm_table.specs.Base.{length, take, drop, true, false, is_err, IsErr, IsTrue, IfOk, vec_len, vec_capacity};
 ghost use Rattle.dm_table.specs.io.DeviceIo.{after_flush, after_read, after_write, fault_of};
 ghost use Rattle.dm_table.specs.io.ShortIo.{Supply, fresh_supply, Intake, fresh_intake, HandsOut, TakesIn, PassesOn};
@@ -11,8 +11,8 @@ use crate::io::ghost_list::{GhostList, Tally};
 use std::alloc::{AllocError, Global};
 use std::marker::Model;
 
-/// An input that hands out a slice, at most `step` bytes a read. After it each read meets an end, or
-/// fails, as the input was made.
+/// An in-memory input that hands out a slice, at most `step` bytes per read. After the last byte, each read
+/// meets an end, or fails if `fails` is set.
 #[derive(Drop)]
 pub struct ShortIn<'a> {
     bytes: &'a [u8],
@@ -37,7 +37,7 @@ impl<'a> Model for ShortIn<'a> {
 }
 
 impl<'a> ShortIn<'a> {
-    /// Hands out all the bytes, and then ends.
+    /// An input that hands out all of the bytes and then ends.
     pub fn new(bytes: &'a [u8], step: usize) -> ShortIn<'a>
         requires { 0 < step }
         ensures { result ≡ fresh_supply bytes.now step false }
@@ -45,7 +45,7 @@ impl<'a> ShortIn<'a> {
         ShortIn::made(bytes, step, false)
     }
 
-    /// Hands out the first `count` bytes, and then fails.
+    /// An input that hands out the first `count` bytes and then fails.
     pub fn failing(bytes: &'a [u8], step: usize, count: usize) -> ShortIn<'a>
         requires moves { 0 < step }
         requires within { count ≤ length bytes.now }
@@ -54,7 +54,7 @@ impl<'a> ShortIn<'a> {
         ShortIn::made(&bytes[..count], step, true)
     }
 
-    /// One of which nothing is read or written yet.
+    /// An input that nothing has been read from yet.
     fn made(bytes: &'a [u8], step: usize, fails: bool) -> ShortIn<'a>
         requires { 0 < step }
         ensures { result ≡ fresh_supply bytes.now step fails }
@@ -69,7 +69,7 @@ impl<'a> ShortIn<'a> {
         }
     }
 
-    /// A read where nothing is left.
+    /// Reads when no bytes are left: a fault if `fails` is set, else 0, which is an end unless the buffer is empty.
     fn read_nothing(&mut self, is_full: bool) -> Result<usize, InFault>
         ensures fault { IsErr result ↔ IsTrue self.old.fails }
         ensures zero { IfOk result (λ n. n ≡ 0) }
@@ -94,7 +94,7 @@ impl<'a> ShortIn<'a> {
 impl<'a> Input for ShortIn<'a> {
     ghost past = { λ s. s.past };
 
-    /// The next bytes, as many as `step`, the slice and what is left allow.
+    /// Hands out the next bytes: at most `step`, and no more than are left or the buffer holds.
     fn read(&mut self, buffer: &mut [u8]) -> Result<usize, InFault>
         ensures within { IfOk result (λ n. n ≤ length buffer.new) }
         ensures past { self.new.past ≡ after_read self.old.past result buffer.new }
@@ -111,7 +111,7 @@ impl<'a> Input for ShortIn<'a> {
     }
 }
 
-/// An output that keeps what it takes, at most `step` bytes a write. Once it is full each write fails.
+/// An in-memory output that keeps what is written, at most `step` bytes per write. Once full, each write fails.
 #[derive(Drop)]
 pub struct ShortOut {
     taken: Vec<u8>,
@@ -142,7 +142,7 @@ impl Model for ShortOut {
 }
 
 impl ShortOut {
-    /// Takes `count` bytes, and then fails; its flushes succeed. The memory is taken here.
+    /// An output that accepts `count` bytes and then fails; flushes succeed. Allocates all of its memory here.
     pub fn new(alloc: Global, step: usize, count: usize) -> Result<ShortOut, AllocError>
         requires { 0 < step }
         ensures { IfOk result (λ s. s ≡ fresh_intake step count false) }
@@ -150,7 +150,7 @@ impl ShortOut {
         ShortOut::made(alloc, step, count, false)
     }
 
-    /// Takes `count` bytes, and then fails; each flush fails too.
+    /// An output that accepts `count` bytes and then fails; every flush fails too.
     pub fn failing_flush(alloc: Global, step: usize, count: usize) -> Result<ShortOut, AllocError>
         requires { 0 < step }
         ensures { IfOk result (λ s. s ≡ fresh_intake step count true) }
@@ -158,7 +158,7 @@ impl ShortOut {
         ShortOut::made(alloc, step, count, true)
     }
 
-    /// One of which nothing is read or written yet.
+    /// An output that nothing has been written to yet.
     fn made(
         alloc: Global,
         step: usize,
@@ -179,7 +179,7 @@ impl ShortOut {
         })
     }
 
-    /// What was written.
+    /// The bytes that were written.
     pub fn as_slice(&self) -> &[u8]
         ensures { result.now ≡ self.now.past.written }
     {
@@ -192,7 +192,7 @@ impl Output for ShortOut {
 
     ghost is_out = { λ s. Unit {0} };
 
-    /// Takes the first bytes, as many as `step`, the slice and the room allow.
+    /// Accepts the first bytes: at most `step`, and no more than the slice has or the output has room for.
     fn write(&mut self, bytes: &[u8]) -> Result<usize, OutFault>
         ensures within { IfOk result (λ n. n ≤ length bytes.now) }
         ensures progress { IfOk result (λ n. 0 < length bytes.now → 0 < n) }
@@ -204,7 +204,7 @@ impl Output for ShortOut {
             return Err(OutFault);
         }
         let n = self.step.min(bytes.len().min(self.room));
-        // The room was taken when the output was made.
+        // The vector has had its full capacity since the output was made.
         let Ok(()) = self.taken.extend_from_slice(&bytes[..n]) else {
             unreachable!()
         };
@@ -213,7 +213,7 @@ impl Output for ShortOut {
         Ok(n)
     }
 
-    /// Fails where the output was made so.
+    /// Fails if the output was made with `flush_fails`.
     fn flush(&mut self) -> Result<(), OutFault>
         ensures past { self.new.past ≡ after_flush self.old.past result }
         ensures exact { PassesOn self.old self.new result }
@@ -227,6 +227,6 @@ impl Output for ShortOut {
         Ok(())
     }
 
-    /// Nothing is gathered here.
+    /// Does nothing: a `ShortOut` passes nothing on.
     fn drain(&mut self) {}
 }

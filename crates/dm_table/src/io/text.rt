@@ -1,23 +1,23 @@
-//! Texts that put themselves into a block of bytes.
+//! The trait `Text`, for texts that write themselves into a block of bytes.
 //!
-//! An output that gathers has a text put where it gathers, so no byte of it is copied twice. An array
-//! of a fixed size is copied whole, past the end of its text: the cheapest copy, and what stands
-//! after a text in a block is never read.
+//! An output with a buffer has a text written directly into its buffer, so that no byte is copied twice. An
+//! array of a fixed size is copied whole, past the end of its text: that is the cheapest copy, and the bytes
+//! after a text in a block are never read.
 
 ghost use Rattle.dm_table.specs.Base.{ℕ, List, length};
 ghost use Rattle.dm_table.specs.io.Block.{IsPut};
 ghost use Rattle.std.specs.Prelude.{◌≡◌, ◌+◌, ◌≤◌};
 
-/// The bytes of a block that a text may use from its offset on.
+/// How many bytes of a block a text may overwrite, counted from its offset.
 pub const TEXT_ROOM: usize = 1024;
 
-/// What can be put into a block.
+/// A text that can be written into a block.
 pub trait Text {
-    /// Its bytes.
+    /// The text's bytes.
     ghost text: { Self → List ℕ };
 
-    /// Puts it at an offset in a block, and returns where it ends. What stands after its end may have
-    /// changed.
+    /// Writes the text into a block at offset `at`, and returns the offset after it. Bytes after the text may
+    /// change too.
     fn put_into(&self, block: &mut [u8], at: usize) -> usize
         requires room { at + TEXT_ROOM ≤ length block.old }
         ensures put { IsPut (text self.now) at block.old block.new result }

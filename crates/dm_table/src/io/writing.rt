@@ -1,13 +1,13 @@
-//! All of some bytes to an output, over as many writes as it takes, and the flush after the last of them.
-//! It loops here since an output may take less than it is given, and a byte must never go out twice.
-//! Keep what is left of the bytes as the only thing that a turn changes.
+//! Writes all of some bytes to an output, in as many writes as it needs; and flushes it after the last one.
+//! An output may accept fewer bytes than it is given, hence the loop, and no byte may be written twice.
+//! Keep it so that one turn of the loop changes nothing but the slice of bytes left.
 ghost use Rattle.dm_table.specs.Prelude.{ℕ, List, IsErr, OnErr, OnOk, OutputPast, written_since, IsClosedAfter, Wrote, IsBeginning};
 ghost use Rattle.std.specs.Prelude.{◌≡◌, ◌+◌};
 
 use crate::io::device_io::{OutFault, Output};
 
-/// Writes all of the bytes, in order. After a fault a beginning of them is written, and nothing is
-/// tried again. No write is asked for where there are no bytes. Takes no memory.
+/// Writes all of the bytes, in order. At a fault only a prefix of them has been written, and nothing is
+/// retried. Empty bytes cause no write. Allocates nothing.
 pub fn write_all<W: Output>(writer: &mut W, bytes: &[u8]) -> Result<(), OutFault>
     ensures wrote { Wrote (W.past writer.old) (W.past writer.new) result bytes.now }
     ensures err { OnErr result
@@ -21,17 +21,17 @@ pub fn write_all<W: Output>(writer: &mut W, bytes: &[u8]) -> Result<(), OutFault
     Ok(())
 }
 
-/// Ends an output after its last write: flushes it, once, unless a write failed.
+/// Finishes an output after its last write: flushes it once, unless a write failed.
 ///
 /// # Errors
 ///
 /// `OutFault` if a write failed before, or if the flush fails.
 #[tactic(auto, using(crate::proofs::io::WriteLemmas::closed_unflushed, crate::proofs::io::WriteLemmas::closed_flushed))]
 pub fn close<W: Output>(written: Result<(), OutFault>, output: &mut W) -> Result<(), OutFault>
-    // Wherever the text began.
+    // For every text that was being written, and wherever in the output's history it began.
     ensures closed { (start : OutputPast) (text : List ℕ) → Wrote start (W.past output.old) written text
         → IsClosedAfter start (W.past output.new) (IsErr result) text }
-    // Nothing is asked of an output after a write that failed.
+    // After a failed write, the output isn't called again.
     ensures untouched { OnErr written (IsErr result × (output.new ≡ output.old)) }
     ensures flushed { OnOk written ((W.past output.new).flushes ≡ (W.past output.old).flushes + 1) }
     ensures bytes { (W.past output.new).written ≡ (W.past output.old).written }

@@ -1,7 +1,7 @@
-//! Why a load was refused: a kind, and the place where it was found.
+//! Why a load was refused: the kind of fault, and the place where it was found.
 //!
-//! One type serves all readers and checks, so that a caller tells a user about any of them alike.
-//! A new kind has a word in `LoadKind::word`, and in `kind_word` of `specs/load/LoadMessage.antt`.
+//! One type serves all readers and checks, so that a caller can report any fault in the same way.
+//! A new kind needs a word in `LoadKind::word`, and in `kind_word` of `specs/load/LoadMessage.antt`.
 
 ghost use Rattle.dm_table.specs.Prelude.{Some, length, IsMemoryFault, fault_at, kind_word};
 ghost use Rattle.std.specs.Prelude.{◌≡◌, ◌+◌, ◌^◌, ◌<◌, ◌≤◌};
@@ -10,20 +10,20 @@ use crate::load::place::{Part, Place};
 use std::fmt;
 use thiserror::Error;
 
-/// What a check found.
+/// A kind of fault that a check of a load finds.
 #[derive(Clone, Copy, Debug, PartialEq, Eq, Error)]
 pub enum LoadKind {
     /// The part could not be read to its end.
     Read,
     /// The part has more than 1,048,576 bytes.
     Long,
-    /// A byte that is not text.
+    /// A byte that may not occur in a text.
     NotText,
-    /// A text that does not have the structure of its form.
+    /// A line or device without the structure of its form.
     Syntax,
-    /// A field that is not a number, an unknown target, or wrong arguments.
+    /// A field that should be a number and isn't, an unknown target, or wrong arguments.
     Field,
-    /// A text that is not the name of a device or of a disk.
+    /// A name that isn't valid for a device or for a disk.
     Name,
     /// A name that appears twice.
     Twice,
@@ -33,30 +33,30 @@ pub enum LoadKind {
     Gap,
     /// A line that starts before the end of the one before.
     Overlap,
-    /// A line that names a device or disk that is not there.
+    /// A line that names an unknown device or disk.
     Unknown,
-    /// A device that reaches itself.
+    /// A device that is, directly or through other devices, below itself.
     Cycle,
-    /// A device of too great a depth.
+    /// A device with too many levels of devices below it.
     Deep,
-    /// A line that passes the end of what lies below.
+    /// A line that maps sectors past the end of the device or disk below.
     Range,
-    /// Stripes that do not fit their line.
+    /// A striped line with a bad number of columns or chunk size, or a length that they don't divide.
     Stripe,
-    /// A snapshot, or the line of an origin, that does not fit its table or what it names.
+    /// A snapshot, or a snapshot-origin line, that doesn't fit its table or the devices that it names.
     Snapshot,
-    /// A store that cannot keep a snapshot's exceptions.
+    /// An exception store that cannot hold the exceptions of a snapshot.
     Store,
-    /// Extents that do not fit their volume.
+    /// Extents that don't fit their logical volume.
     Extents,
     /// A number or a count above its limit.
     Limit,
-    /// An allocation was refused.
+    /// Memory ran out: an allocation was refused.
     Memory,
 }
 
 impl LoadKind {
-    /// The word of the kind.
+    /// The word for the kind in a message.
     pub(crate) fn word(self) -> &'static str
         ensures word { result.now ≡ kind_word self }
         ensures short { length result.now ≤ 8 }
@@ -94,7 +94,7 @@ impl fmt::Display for LoadKind {
     }
 }
 
-/// A refused load: the kind, and its place. The number of `Read`, `Long` and `Memory` is 0.
+/// Why a load was refused: the kind of fault, and its place. The place's number is 0 for `Read`, `Long` and `Memory`.
 #[derive(Clone, Copy, Debug, PartialEq, Eq, Error)]
 #[error("{}: {kind} at {}", .at.part, .at.number)]
 pub struct LoadFault {
@@ -103,7 +103,7 @@ pub struct LoadFault {
 }
 
 impl LoadFault {
-    /// The fault of a kind at a number of a part: a line or device, from 1, or 0 for the part as a whole.
+    /// A fault at a line or device of a part, counted from 1, or at 0 for the part as a whole.
     pub(crate) fn at(part: Part, kind: LoadKind, number: u64) -> LoadFault
         ensures { result ≡ fault_at part kind number }
     {
@@ -113,15 +113,15 @@ impl LoadFault {
         }
     }
 
-    /// Out of memory while a part was read.
+    /// The fault for running out of memory while reading a part.
     pub fn memory(part: Part) -> LoadFault
         ensures { IsMemoryFault part result }
     {
         LoadFault::at(part, LoadKind::Memory, 0)
     }
 
-    /// The fault at the line or device of an index from 0, as places count from 1. Each index of a
-    /// slice of slices or vectors is below 2^63.
+    /// A fault at the line or device with this index, which counts from 0, while places count from 1. An
+    /// index into a slice of slices or vectors is always below 2^63.
     pub(crate) fn at_index(part: Part, kind: LoadKind, index: usize) -> LoadFault
         requires { index < 2 ^ 63 }
         ensures { result ≡ fault_at part kind (index + 1) }

@@ -1,7 +1,7 @@
-//! The message of a refused load: one line.
+//! The one-line message of a refused load.
 //!
-//! The words are fixed by `specs/load/LoadMessage.antt`, since users match on them. A new kind of refusal
-//! is an arm there and of `LoadKind::word`.
+//! The wording is fixed in `specs/load/LoadMessage.antt`, because users match on it. A new kind of fault needs
+//! an arm there and in `LoadKind::word`.
 
 ghost use Rattle.dm_table.specs.Prelude.{length, load_message, memory_message};
 ghost use Rattle.std.specs.Prelude.{◌≡◌, ◌≤◌};
@@ -10,13 +10,13 @@ use crate::load::load_fault::{LoadFault, LoadKind};
 use crate::words::number_text::{append, append_number};
 use arrayvec::ArrayVec;
 
-/// The message of a refused load, which has at most 96 bytes with its newline.
+/// The message of a refused load, at most 96 bytes including its newline.
 pub type LoadMessage = ArrayVec<u8, 96>;
 
 impl LoadFault {
-    /// The message of the refused load: the program's name, the part, the kind, and the number of
-    /// its place, except for a part that was not read. `Memory` names no part. Takes no
-    /// memory.
+    /// Builds the message of a refused load: the program's name, the part, the kind of fault, and the number
+    /// of its place; a part that could not be read, or is too long, has no number. `Memory` names no part.
+    /// Allocates nothing.
     #[tactic(auto, using(crate::proofs::load::FaultLemmas::part_short))]
     pub fn message(self) -> LoadMessage
         ensures { result.items ≡ load_message self }
@@ -42,7 +42,7 @@ impl LoadFault {
     }
 }
 
-/// The message of a run that is out of memory: one line, with its newline.
+/// The message for running out of memory: one line, with its newline.
 pub fn memory_message() -> &'static [u8]
     ensures message { result.now ≡ memory_message }
     ensures short { length result.now ≤ 16 }

@@ -1,26 +1,26 @@
-//! Where something stands in what was read: the part, and a number in it.
+//! A place in the texts of a load: a part, and a number of a line or device in it.
 //!
-//! Devices, lines and disks keep their place, so that a fault found later still names it.
-//! Add a part here when a load reads one more text.
+//! Devices, lines and disks keep their place, so that a fault found later can name it.
+//! A load that reads one more text needs one more variant of `Part`.
 
 ghost use Rattle.dm_table.specs.Prelude.{Some, part_word};
 ghost use Rattle.std.specs.Prelude.{◌≡◌};
 
 use std::fmt;
 
-/// What a load reads.
+/// A part of a load: one of the texts that it reads.
 #[derive(Clone, Copy, Debug, PartialEq, Eq)]
 pub enum Part {
-    /// The text of the tables, or the metadata of a volume group.
+    /// The tables, as table text or in the concise form, or the metadata of a volume group.
     Source,
     /// The disk list.
     Disks,
-    /// The list of the paths of disks.
+    /// The path list, which says where the disks' images are.
     Paths,
 }
 
 impl Part {
-    /// The word of the part.
+    /// The word for the part in a message.
     pub(crate) fn word(self) -> &'static str
         ensures { result.now ≡ part_word self }
     {
@@ -40,7 +40,7 @@ impl fmt::Display for Part {
     }
 }
 
-/// A place of a part: the number of a line, from 1, which in the concise form is that of a device, or
+/// A place in a part: the number of a line, counted from 1; in the concise form the number of a device; or
 /// 0 for the part as a whole.
 #[derive(Clone, Copy, Debug, PartialEq, Eq)]
 pub struct Place {

@@ -1,8 +1,8 @@
-//! What was read of a text so far: the values of its rows, and what is wrong with the others.
+//! Reads the lines of a text: collects the values of its rows, and the first fault of each kind.
 //!
-//! The checks of a text run one after another by their definition, so that a fault is known only at
-//! the end; a text with one has no values. A type that the lines of a text are read into implements
-//! `FromRows`, and `read_lines` reads a text into such values.
+//! The checks of a text are defined as running one after another, so which fault counts is known only at
+//! the end; a text with a fault gives no values. A type that lines are read into implements `FromRows`,
+//! and `read_lines` reads a text into values of that type.
 
 ghost use Rattle.dm_table.specs.Base.{ℕ, Bool, List, [], None, Ok, IfOk, OnOk, length, map};
 ghost use Rattle.dm_table.specs.words.Fields.{texts, lines_of, rest_of};
@@ -18,7 +18,7 @@ use crate::load::text_checks::check_text;
 use memchr::memchr;
 use std::alloc::{AllocError, Global};
 
-/// The values so far, and the faults. Where there are faults, the values are not returned.
+/// The values and the faults of the rows read so far. If there is a fault, the values aren't returned.
 #[derive(Drop)]
 pub(crate) struct Reading<T> {
     pub values: Vec<T>,
@@ -26,7 +26,7 @@ pub(crate) struct Reading<T> {
 }
 
 impl<T: Drop> Reading<T> {
-    /// Nothing is read yet.
+    /// A state with no values and no faults.
     pub(crate) fn new(alloc: Global) -> Reading<T>
         ensures values { result.values.items ≡ [] }
         ensures faults { result.faults ≡ no_faults }
@@ -37,7 +37,7 @@ impl<T: Drop> Reading<T> {
         }
     }
 
-    /// The values, or the first fault.
+    /// Returns the values, or the first fault if there is any.
     pub(crate) fn finish(self) -> Result<Vec<T>, LoadFault>
         ensures { result ≡ unless (first_noted self.faults) self.values }
     {
@@ -48,29 +48,29 @@ impl<T: Drop> Reading<T> {
     }
 }
 
-/// What the lines of a text are read into: disks, or devices, which take the lines of their name.
+/// A type that lines of a text are read into: a disk from one line, a device from all lines with its name.
 pub(crate) trait FromRows: Drop {
-    /// The fields of a line.
+    /// How a line is cut into fields.
     ghost row_of: { List ℕ → List (List ℕ) };
 
-    /// Whether fields are a row of this form.
+    /// Whether fields have the form of a row, else `Syntax`.
     ghost is_row: { List (List ℕ) → Bool };
 
-    /// Whether the values of a row are valid.
+    /// Whether the values in a row are valid, else `Field`.
     ghost has_values: { List (List ℕ) → Bool };
 
-    /// Whether the names in a row are valid.
+    /// Whether the names in a row are valid, else `Name`.
     ghost has_names: { List (List ℕ) → Bool };
 
-    /// The values after one more row, which has this number and no fault.
+    /// The list of values after one more row, which has this number and no fault.
     ghost with_row: { List Self → ℕ → List (List ℕ) → List Self };
 
-    /// Cuts a line into its fields, which replace those of the line before, so that one list serves all
+    /// Cuts a line into its fields, replacing the previous line's fields, so that one vector serves all
     /// lines.
     fn cut_line<'a>(row: &mut Vec<&'a [u8]>, line: &'a [u8]) -> Result<(), AllocError>
         ensures { OnOk result (texts row.new.items ≡ row_of line.now) };
 
-    /// Adds what row `number` of a text says to the values of the rows before it. After a fault the values
+    /// Adds what row `number` of a text says to the values of the rows before it. After a fault, the values
     /// may be anything.
     fn read_row(
         alloc: Global,
@@ -83,8 +83,8 @@ pub(crate) trait FromRows: Drop {
             (unless (row_fault is_row has_values has_names (texts row.now)) tt) };
 }
 
-/// The values of the lines of a text, or the first fault of the first check that finds any. One pass
-/// to check the text, one to read it.
+/// The values that the lines of a text say, or the first fault of the first check that finds any. Takes
+/// one pass to check the bytes and one to read the lines.
 pub(crate) fn read_lines<T: FromRows>(
     alloc: Global,
     part: Part,
@@ -100,8 +100,8 @@ pub(crate) fn read_lines<T: FromRows>(
     read_rows(alloc, part, text)
 }
 
-/// The values of the lines of a text of which each byte is text, or the first fault of the first check of rows
-/// that finds any. One pass.
+/// The values that the lines of a text say, or the first fault of the first check of rows that finds any. The
+/// bytes of the text have been checked before. One pass.
 pub(crate) fn read_rows<T: FromRows>(
     alloc: Global,
     part: Part,
@@ -118,8 +118,8 @@ pub(crate) fn read_rows<T: FromRows>(
     }
 }
 
-/// Reads each line where it stands, with one list of fields for all of them, and then what stands
-/// after the last newline.
+/// Reads each complete line in place, with one vector of fields for all lines, and notes a fault if an
+/// unterminated line follows.
 fn read_each<T: FromRows>(alloc: Global, part: Part, text: &[u8]) -> Result<Reading<T>, AllocError>
     ensures values { IfOk result (λ reading. first_noted reading.faults ≡ None
         → reading.values.items ≡ with_rows T.with_row [] 1 (map T.row_of (lines_of text.now))) }

@@ -1,8 +1,8 @@
-//! What is wrong with a row of fields, and the first such fault of each kind in a text.
+//! The fault of a row of fields, and the first fault of each kind in a text.
 //!
-//! By their definition the checks of a text run one after another, each over all rows. A row is read
-//! once all the same: the first fault of each kind is kept, and at the end the kinds take precedence
-//! in the order of the checks. A kind that is added here is added in `specs/load/RowFaults.antt` first.
+//! The checks of a text are defined as running one after another, each over all rows. Still, each row is
+//! read only once: the first fault of each kind is kept, and in the end the kind whose check comes first
+//! counts. A new kind is added to `specs/load/RowFaults.antt` first.
 
 ghost use Rattle.dm_table.specs.Prelude.{Some, OnOk, fault_at, no_faults, either, fault_in, noted_at, noted_rest, first_noted};
 ghost use Rattle.dm_table.specs.declared.load.row_faults.RowFault.TheVariants.{Memory};
@@ -12,16 +12,16 @@ use crate::load::load_fault::{LoadFault, LoadKind};
 use crate::load::place::Part;
 use std::alloc::{AllocError, AllocFailed};
 
-/// Why a row of fields, or a part of one, was not read.
+/// Why a row of fields, or a part of one, could not be read.
 #[derive(Clone, Copy)]
 pub(crate) enum RowFault {
-    /// The fields are not those of a row.
+    /// The fields don't have the form of a row.
     Syntax,
-    /// A field that is no number, an unknown target, or wrong arguments.
+    /// A field that should be a number and isn't, an unknown target, or wrong arguments.
     Field,
-    /// A text that is no name.
+    /// A name that isn't valid.
     Name,
-    /// An allocation was refused.
+    /// Memory ran out: an allocation was refused.
     Memory,
 }
 
@@ -41,7 +41,7 @@ impl<T: Drop> From<AllocFailed<T>> for RowFault {
     }
 }
 
-/// The first fault of each kind, so far.
+/// The first fault of each kind among the rows read so far.
 #[derive(Clone, Copy)]
 pub(crate) struct FirstFaults {
     pub syntax: Option<LoadFault>,
@@ -50,7 +50,7 @@ pub(crate) struct FirstFaults {
 }
 
 impl FirstFaults {
-    /// No fault yet.
+    /// No fault of any kind.
     pub(crate) fn new() -> FirstFaults
         ensures { result ≡ no_faults }
     {
@@ -61,8 +61,8 @@ impl FirstFaults {
         }
     }
 
-    /// Keeps the fault of row `number`, if it has one and it is the first of its kind.
-    /// Where memory ran out, nothing is read on.
+    /// Keeps the fault of row `number`, if it has one and no earlier row has one of that kind.
+    /// Returns an error if memory ran out, so that the caller stops reading.
     pub(crate) fn note(
         &mut self,
         part: Part,
@@ -82,7 +82,7 @@ impl FirstFaults {
         Ok(())
     }
 
-    /// Keeps the fault of what stands after the last newline, as line `number`, if anything does.
+    /// Keeps a `Syntax` fault at line `number` if the text ends with an unterminated line, `rest`.
     pub(crate) fn note_rest(&mut self, part: Part, number: u64, rest: &[u8])
         ensures { self.new ≡ noted_rest part self.old number rest.now }
     {
@@ -91,7 +91,7 @@ impl FirstFaults {
         }
     }
 
-    /// The first fault of the first kind that there is.
+    /// The fault that counts: `Syntax` before `Field` before `Name`.
     pub(crate) fn first(&self) -> Option<LoadFault>
         ensures { result ≡ first_noted self.now }
     {
@@ -105,7 +105,7 @@ impl FirstFaults {
     }
 }
 
-/// Keeps a fault of a kind, unless an earlier one is kept.
+/// Stores a fault of this kind, unless an earlier one is stored already.
 fn keep(first: &mut Option<LoadFault>, part: Part, kind: LoadKind, number: u64)
     ensures { first.new ≡ either first.old (Some (fault_at part kind number)) }
 {

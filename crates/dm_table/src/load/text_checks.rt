@@ -1,6 +1,6 @@
-//! The check that all texts share and that runs first: bytes that are no text.
+//! The first check of every text: whether all of its bytes may occur in a text.
 //!
-//! What it finds comes before what is wrong with a row, so a text is checked before its rows are
+//! A fault of this check takes precedence over faults of rows, so it runs before the rows are
 //! read.
 
 ghost use Rattle.dm_table.specs.Base.{ℕ, Bool, List, None, IfSome, Memory};
@@ -13,17 +13,17 @@ use crate::load::place::Part;
 use crate::words::fields::cut;
 use std::alloc::Global;
 
-/// Which pieces are text.
+/// A rule that says which lines, or other pieces of a text, have valid bytes.
 pub(crate) trait TextRule {
-    /// Whether a piece is.
+    /// Whether the bytes of a piece are valid.
     ghost is_text: { List ℕ → Bool };
 
-    /// Whether the bytes are.
+    /// Whether the bytes of a piece are valid.
     fn is_text(piece: &[u8]) -> bool
         ensures { result ≡ is_text piece.now };
 }
 
-/// The text of most parts: printable bytes.
+/// The rule for tables and disk lists: printable ASCII and newlines.
 struct Printable;
 
 impl TextRule for Printable {
@@ -34,21 +34,21 @@ impl TextRule for Printable {
     }
 }
 
-/// Refuses a text with a byte that is no text. The fault has the number of the piece with that byte; the
-/// text is cut at each byte `at`. One pass, and some more over a text that is refused.
+/// Refuses a text that has a byte other than printable ASCII and newlines. The fault has the number of the piece with
+/// that byte; bytes equal to `at` separate the pieces. One pass, and more only for a text that is refused.
 pub(crate) fn check_text(alloc: Global, part: Part, at: u8, text: &[u8]) -> Result<(), LoadFault>
     ensures { Answers part (λ done. done) result
         (unless (first_or (not_text part (parts_at at text.now)) None) tt) }
 {
-    // Most texts have no such byte, and the whole is asked faster than piece after piece.
+    // Most texts have no bad byte, and one test of the whole text is faster than a test of each piece.
     if is_printable(text) {
         return Ok(());
     }
     check_pieces::<Printable>(alloc, part, at, text)
 }
 
-/// Refuses a text with a piece that is no text. The fault has the number of the piece; the text is cut at
-/// each byte `at`.
+/// Refuses a text with a piece that the rule rejects. The fault has the number of that piece; bytes equal to
+/// `at` separate the pieces.
 pub(crate) fn check_pieces<R: TextRule>(
     alloc: Global,
     part: Part,
@@ -67,7 +67,7 @@ pub(crate) fn check_pieces<R: TextRule>(
     }
 }
 
-/// The first piece that is no text.
+/// The fault of the first piece that the rule rejects.
 fn first_untext<R: TextRule>(part: Part, pieces: &[&[u8]]) -> Option<LoadFault>
     ensures value { result ≡ first_or (untexts R.is_text part (texts pieces.now)) None }
     ensures kind { IfSome result (λ fault. fault.kind ≢ Memory) }
@@ -80,8 +80,8 @@ fn first_untext<R: TextRule>(part: Part, pieces: &[&[u8]]) -> Option<LoadFault>
     None
 }
 
-/// Whether each byte is a newline or one from 0x20 to 0x7E. It never stops early, so that many bytes
-/// are asked at once.
+/// Whether each byte is a newline or from 0x20 to 0x7E. The loop never stops early, so that the compiler
+/// can test many bytes at once.
 fn is_printable(text: &[u8]) -> bool
     ensures { result ≡ is_printable text.now }
 {

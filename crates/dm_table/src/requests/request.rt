@@ -1,14 +1,14 @@
-//! Requests: what a line of requests asks for, and why it is refused.
+//! The type of a request, as a request line gives it, and the faults of a line.
 //!
-//! A request borrows its device from its line, so that reading one takes no memory. A field that is
-//! added here is one of a line in `request_line`.
+//! A request borrows its device name from its line, so that reading a request allocates nothing. A new field
+//! of a request is also a new field of the line in `request_line`.
 
 ghost use Rattle.dm_table.specs.declared.requests.request.TheConstants.{MOST_SECTORS};
 ghost use Rattle.std.specs.Prelude.{◌≤◌};
 
 use thiserror::Error;
 
-/// The most sectors that one request may have.
+/// The largest length of a request, in sectors.
 pub const MOST_SECTORS: u64 = 1_048_576;
 
 /// Whether a request reads or writes.
@@ -18,7 +18,7 @@ pub enum Op {
     Write,
 }
 
-/// A request: `len` sectors of a device from `start` on. Its number is its line's, from 1.
+/// A request to read or write `len` sectors of a device from sector `start` on. Its number is its line's, from 1.
 #[derive(Clone, Copy, Debug)]
 pub struct Request<'a> {
     pub number: u64,
@@ -30,16 +30,16 @@ pub struct Request<'a> {
     ghost at_most: { len ≤ MOST_SECTORS },
 }
 
-/// What is wrong with a request line.
+/// Why a line is no request.
 #[derive(Clone, Copy, Debug, PartialEq, Eq, Error)]
 pub enum RequestFault {
-    /// Not four fields with single spaces between them, no `R` or `W`, or no device name.
+    /// The line isn't `R` or `W`, a valid device name and two more fields, with single spaces between them.
     #[error("form")]
     Form,
-    /// A start or a length that is no number.
+    /// The start or the length isn't a valid number.
     #[error("number")]
     Number,
-    /// A length of 0, or above `MOST_SECTORS`.
+    /// The length is 0, or more than `MOST_SECTORS`.
     #[error("length")]
     Length,
 }

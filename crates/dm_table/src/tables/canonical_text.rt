@@ -1,10 +1,10 @@
-//! A description as text: table text, and the concise form, each as the one text that it is
-//! written as.
+//! Writes devices as table text or in the concise form. Each form has one text for a given list of
+//! devices.
 //!
-//! Texts go to the output part by part, with no memory taken; an output that is slow for small
-//! writes wants a buffer before it. A line is one part, except the columns of a striped one and the
-//! newline. A new target is an arm in `line_head`; only one whose text has no greatest length, as a
-//! striped line's, is an arm here too.
+//! A text is written part by part, without allocating; an output that is slow for small writes should
+//! have a buffer in front of it. A line is one part, plus one for each column of a striped line and one for
+//! the newline. A new target needs an arm in `line_head`, and one here only if its text has no greatest
+//! length, like a striped line's.
 
 ghost use Rattle.dm_table.specs.Prelude.{length, map, flat_map, join_with_byte, column_text, body_text, columns_of, DescribesTable, DescribesConcise, ReadsBack, as_table, lines_text, table_text, flag_text, concise_device, concise_text, as_concise, Wrote, code};
 ghost use Rattle.std.specs.Prelude.{◌≡◌, ◌≤◌, ◌∷◌, ◌++◌};
@@ -14,7 +14,7 @@ use crate::io::writing::write_all;
 use crate::tables::line_head::{ColumnText, LineHead};
 use crate::tables::table::{Column, DeviceSpec, Line, Target};
 
-/// Writes the columns of a striped line, one after the other.
+/// Writes the columns of a striped line in order, each with a space before it.
 fn write_columns<W: Output>(writer: &mut W, columns: &[Column]) -> Result<(), OutFault>
     ensures { Wrote (W.past writer.old) (W.past writer.new) result (flat_map column_text columns.now) }
 {
@@ -24,7 +24,7 @@ fn write_columns<W: Output>(writer: &mut W, columns: &[Column]) -> Result<(), Ou
     Ok(())
 }
 
-/// Writes the columns of a target, which only a striped one has.
+/// Writes the columns of a target; only a striped one has any.
 fn write_columns_of<W: Output>(writer: &mut W, target: &Target) -> Result<(), OutFault>
     ensures { Wrote (W.past writer.old) (W.past writer.new) result
         (flat_map column_text (columns_of target.now)) }
@@ -35,7 +35,7 @@ fn write_columns_of<W: Output>(writer: &mut W, target: &Target) -> Result<(), Ou
     }
 }
 
-/// Writes the body of a line after a label: a name and what comes after it.
+/// Writes the body of a line, after a name and a mark such as `: ` or a comma.
 fn write_body<W: Output>(
     writer: &mut W,
     name: &[u8],
@@ -51,7 +51,7 @@ fn write_body<W: Output>(
     write_columns_of(writer, &line.target)
 }
 
-/// Writes the lines of a device as table text.
+/// Writes the lines of one device as table text.
 fn write_lines<W: Output>(writer: &mut W, name: &[u8], lines: &[Line]) -> Result<(), OutFault>
     requires { length name.now ≤ 127 }
     ensures { Wrote (W.past writer.old) (W.past writer.new) result (lines_text name.now lines.now) }
@@ -63,20 +63,20 @@ fn write_lines<W: Output>(writer: &mut W, name: &[u8], lines: &[Line]) -> Result
     Ok(())
 }
 
-/// Writes devices as table text: `NAME: START LEN TYPE ARGS` for each line in order. Whether a device
-/// is read-only is not said, since no table text can.
+/// Writes devices as table text: `NAME: START LEN TYPE ARGS` for each line, in order. Read-only flags are
+/// lost, because table text has none.
 ///
-/// After a fault a beginning of the text is written, and nothing is tried again. Takes no memory, and
+/// At a fault only a prefix of the text has been written, and nothing is retried. Allocates nothing, and
 /// makes a few writes for each line.
 pub fn write_table<W: Output>(devices: &[DeviceSpec], writer: &mut W) -> Result<(), OutFault>
-    // Where some table text says the devices, places and flags aside, the text written says them.
+    // If any table text describes these devices, apart from places and flags, the text written describes them.
     ensures reads_back { ReadsBack DescribesTable (as_table 1) table_text devices.now }
     ensures wrote { Wrote (W.past writer.old) (W.past writer.new) result (table_text devices.now) }
 {
     write_every_line(writer, devices)
 }
 
-/// Writes the lines of each device as table text.
+/// Writes the lines of all devices as table text.
 #[tactic(auto, using(crate::proofs::words::ByteLemmas::device_name_len))]
 fn write_every_line<W: Output>(writer: &mut W, devices: &[DeviceSpec]) -> Result<(), OutFault>
     ensures { Wrote (W.past writer.old) (W.past writer.new) result (table_text devices.now) }
@@ -91,7 +91,7 @@ fn write_every_line<W: Output>(writer: &mut W, devices: &[DeviceSpec]) -> Result
     Ok(())
 }
 
-/// Writes bodies, each after a comma.
+/// Writes the bodies of lines, with a comma before each.
 fn write_more_bodies<W: Output>(writer: &mut W, lines: &[Line]) -> Result<(), OutFault>
     ensures { Wrote (W.past writer.old) (W.past writer.new) result
         (flat_map (λ line. code "," ∷ body_text line) lines.now) }
@@ -102,7 +102,7 @@ fn write_more_bodies<W: Output>(writer: &mut W, lines: &[Line]) -> Result<(), Ou
     Ok(())
 }
 
-/// Writes bodies with commas between them.
+/// Writes the bodies of lines, with commas between them.
 fn write_bodies<W: Output>(writer: &mut W, lines: &[Line]) -> Result<(), OutFault>
     ensures { Wrote (W.past writer.old) (W.past writer.new) result
         (join_with_byte (code ",") (map body_text lines.now)) }
@@ -116,7 +116,7 @@ fn write_bodies<W: Output>(writer: &mut W, lines: &[Line]) -> Result<(), OutFaul
     }
 }
 
-/// Writes a device in the concise form, after what comes before it.
+/// Writes a device in the concise form, after the text `before`.
 fn write_device<W: Output>(
     writer: &mut W,
     before: &[u8],
@@ -130,7 +130,7 @@ fn write_device<W: Output>(
     write_bodies(writer, device.lines.as_slice())
 }
 
-/// What stands between a device's name and its lines: no uuid, no minor number, and the flag.
+/// The text between a device's name and its lines: an empty uuid, an empty minor number, and ro or rw.
 fn flag_text(ro: bool) -> &'static [u8]
     ensures { result.now ≡ flag_text ro }
 {
@@ -141,7 +141,7 @@ fn flag_text(ro: bool) -> &'static [u8]
     }
 }
 
-/// Writes devices, each after a semicolon.
+/// Writes devices in the concise form, with a semicolon before each.
 fn write_more_devices<W: Output>(writer: &mut W, devices: &[DeviceSpec]) -> Result<(), OutFault>
     ensures { Wrote (W.past writer.old) (W.past writer.new) result
         (flat_map (λ device. code ";" ∷ concise_device device) devices.now) }
@@ -152,7 +152,7 @@ fn write_more_devices<W: Output>(writer: &mut W, devices: &[DeviceSpec]) -> Resu
     Ok(())
 }
 
-/// Writes devices with semicolons between them.
+/// Writes devices in the concise form, with semicolons between them.
 fn write_devices<W: Output>(writer: &mut W, devices: &[DeviceSpec]) -> Result<(), OutFault>
     ensures { Wrote (W.past writer.old) (W.past writer.new) result
         (join_with_byte (code ";") (map concise_device devices.now)) }
@@ -166,20 +166,20 @@ fn write_devices<W: Output>(writer: &mut W, devices: &[DeviceSpec]) -> Result<()
     }
 }
 
-/// Writes devices in the concise form of dmsetup(8), with no uuid and no minor number: the devices with
-/// semicolons between them, each `NAME,,,FLAG,` and its lines with commas between them, and a newline.
+/// Writes devices in the concise form of dmsetup(8), with empty uuids and minor numbers: semicolons between
+/// devices, each `NAME,,,FLAG,` and its lines with commas between them, and a newline at the end.
 ///
-/// After a fault a beginning of the text is written, and nothing is tried again. Takes no memory, and
+/// At a fault only a prefix of the text has been written, and nothing is retried. Allocates nothing, and
 /// makes a few writes for each line.
 pub fn write_concise<W: Output>(devices: &[DeviceSpec], writer: &mut W) -> Result<(), OutFault>
-    // Where some concise text says the devices, places aside, the text written says them.
+    // If any text in the concise form describes these devices, apart from places, the text written describes them.
     ensures reads_back { ReadsBack DescribesConcise (as_concise 1) concise_text devices.now }
     ensures wrote { Wrote (W.past writer.old) (W.past writer.new) result (concise_text devices.now) }
 {
     write_ended(writer, devices)
 }
 
-/// Writes devices with semicolons between them, and a newline at the end.
+/// Writes devices in the concise form, with semicolons between them and a newline at the end.
 fn write_ended<W: Output>(writer: &mut W, devices: &[DeviceSpec]) -> Result<(), OutFault>
     ensures { Wrote (W.past writer.old) (W.past writer.new) result (concise_text devices.now) }
 {

@@ -1,8 +1,8 @@
-//! A device of the concise form: its label, which is a name, a uuid, a minor number and flags, and
+//! Reads a device in the concise form: its label, which is a name, a uuid, a minor number and flags, and
 //! the bodies of its lines, with commas between all of them.
 //!
-//! A device is cut and read once. Its label and each of its bodies may have a fault; the device's is
-//! the one whose check runs first. Bodies are read by `line_body`, which knows nothing of labels.
+//! A device is cut and read once. Its label and each of its bodies may have a fault; the one whose check
+//! runs first is the device's. `line_body` reads the bodies, and knows nothing of labels.
 
 ghost use Rattle.dm_table.specs.Prelude.{None, OnOk, IfOk, option_to_list, texts, Reads, lacks, is_uuid, is_minor, is_ro, is_flags, without_first_space, body_fields, is_label, has_label_values, has_label_names, line_in, earlier_of, fault_of_body, fault_of_label, bodies_reading, entries_reading, device_reading};
 ghost use Rattle.std.specs.Prelude.{◌≡◌, ◌++◌};
@@ -18,11 +18,11 @@ use memchr::memchr;
 use std::alloc::{AllocError, Global};
 use std::cmp::min;
 
-/// The most lines that room is taken for before they are read, since a text may have as many commas as bytes.
+/// The most lines to allocate for before reading them, since a text may consist of nothing but commas.
 const MOST_RESERVED: usize = 65536;
 
-/// The device that a text says, as device `number`. The lists are for its entries and for the fields
-/// of a body, so that they serve many devices.
+/// The device that a text says, as device `number`. The vectors, for its entries and for the fields of a
+/// body, are passed in so that all devices can share them.
 pub(crate) fn read_device<'a>(
     alloc: Global,
     entries: &mut Vec<&'a [u8]>,
@@ -36,7 +36,7 @@ pub(crate) fn read_device<'a>(
     read_entries(alloc, fields, lacks(b'\n', text), &*entries, number)
 }
 
-/// The device of entries, which stand on one line or do not.
+/// The device that entries say, as device `number`; on_a_line says that the entries contain no newline.
 fn read_entries<'a>(
     alloc: Global,
     fields: &mut Vec<&'a [u8]>,
@@ -63,7 +63,7 @@ fn read_entries<'a>(
     })
 }
 
-/// What is wrong with the label of entries, which stand on one line or do not.
+/// The fault of a device's label, if it has one; on_a_line says that the entries contain no newline.
 fn entry_label_fault(on_a_line: bool, entries: &[&[u8]]) -> Option<RowFault>
     ensures { result ≡ fault_of_label on_a_line (texts entries.now) }
 {
@@ -78,7 +78,7 @@ fn entry_label_fault(on_a_line: bool, entries: &[&[u8]]) -> Option<RowFault>
     }
 }
 
-/// Whether the first four entries have no space, and others follow.
+/// Whether the first four entries contain no space, and at least one more entry follows.
 fn is_label(entries: &[&[u8]]) -> bool
     ensures { result ≡ is_label (texts entries.now) }
 {
@@ -90,7 +90,7 @@ fn is_label(entries: &[&[u8]]) -> bool
     }
 }
 
-/// Whether the minor number and the flags are valid.
+/// Whether the minor number and the flags in a label are valid.
 fn has_label_values(entries: &[&[u8]]) -> bool
     ensures { result ≡ has_label_values (texts entries.now) }
 {
@@ -100,7 +100,7 @@ fn has_label_values(entries: &[&[u8]]) -> bool
     }
 }
 
-/// Whether the name and the uuid are valid.
+/// Whether the name and the uuid in a label are valid.
 fn has_label_names(entries: &[&[u8]]) -> bool
     ensures { result ≡ has_label_names (texts entries.now) }
 {
@@ -110,42 +110,42 @@ fn has_label_names(entries: &[&[u8]]) -> bool
     }
 }
 
-/// Whether no byte of the text is this one.
+/// Whether the byte `of` doesn't occur in a text.
 fn lacks(of: u8, text: &[u8]) -> bool
     ensures { result ≡ lacks of text.now }
 {
     memchr(of, text).is_none()
 }
 
-/// Whether a text may stand where the uuid does: up to 128 letters of names.
+/// Whether an entry is a valid uuid: up to 128 bytes that a device's name may contain.
 fn is_uuid(text: &[u8]) -> bool
     ensures { result ≡ is_uuid text.now }
 {
     text.len() <= 128 && are_device_bytes(text)
 }
 
-/// Whether a text may stand where the minor number does: a number, or nothing.
+/// Whether an entry is a valid minor number: a number, or empty.
 fn is_minor(text: &[u8]) -> bool
     ensures { result ≡ is_minor text.now }
 {
     text.is_empty() || number(text).is_some()
 }
 
-/// Whether a text may stand where the flags do: `ro`, `rw`, or nothing.
+/// Whether an entry is a valid list of flags: `ro`, `rw`, or empty.
 fn is_flags(text: &[u8]) -> bool
     ensures { result ≡ is_flags text.now }
 {
     text.is_empty() || is_ro(text) || text == b"rw".as_slice()
 }
 
-/// Whether flags say that the device is read-only.
+/// Whether flags say that a device is read-only.
 fn is_ro(text: &[u8]) -> bool
     ensures { result ≡ is_ro text.now }
 {
     text == b"ro".as_slice()
 }
 
-/// The lines of bodies, at the place of their device, whose label may have a fault.
+/// Reads the bodies of a device's lines, all at the device's place; `label` is the fault of its label.
 fn read_bodies<'a>(
     alloc: Global,
     fields: &mut Vec<&'a [u8]>,
@@ -167,7 +167,7 @@ fn read_bodies<'a>(
     }
 }
 
-/// Adds the line of a body to the lines, or says what is wrong with the body.
+/// Adds the line that a body says to the lines, or returns the fault of the body.
 fn add_line<'a>(
     alloc: Global,
     lines: &mut Table,
@@ -191,7 +191,7 @@ fn add_line<'a>(
     }
 }
 
-/// The fields without an empty first one.
+/// Fields without an empty first one, which a space before a body leaves.
 fn without_first_space<'s, 'a>(fields: &'s [&'a [u8]]) -> &'s [&'a [u8]]
     ensures { texts result.now ≡ without_first_space (texts fields.now) }
 {
@@ -201,7 +201,7 @@ fn without_first_space<'s, 'a>(fields: &'s [&'a [u8]]) -> &'s [&'a [u8]]
     }
 }
 
-/// Of two faults the one whose check runs first.
+/// Of two faults, the one whose check runs first.
 fn earlier_of(first: Option<RowFault>, other: Option<RowFault>) -> Option<RowFault>
     ensures { result ≡ earlier_of first other }
 {

@@ -1,9 +1,9 @@
-//! The concise form of tables: devices with semicolons between them, each with its flags and its
-//! lines, as dmsetup(8) has it.
+//! Reads tables in the concise form of dmsetup(8): devices separated by semicolons, each with its flags
+//! and its lines.
 //!
-//! The devices are read one after the other, each once, and what is wrong with them is kept until the
-//! end, where the checks take precedence in the order of the definitions. What a device says is read
-//! by `concise_device`; a new target type belongs in `line_body`.
+//! Devices are read in order, each once, and their faults are kept until the end, when the fault of the
+//! check that runs first is chosen. `concise_device` reads a single device; a new target type belongs in
+//! `line_body`.
 
 ghost use Rattle.dm_table.specs.Prelude.{None, Ok, IfOk, OnOk, option_to_list, Source, texts, Answers, unless, Reads, first_noted, no_faults, noted_rows, IsParsed, DescribesConcise, without_newline, parts_of, concise_checks, fault_of_device, device_in, devices_from, parts_reading};
 ghost use Rattle.dm_table.specs.tables.ConciseText.{entries as entries_of};
@@ -19,23 +19,23 @@ use crate::tables::table::DeviceSpec;
 use crate::words::fields::cut;
 use std::alloc::{AllocError, Global};
 
-/// The devices of a text in the concise form, in its order: `NAME,UUID,MINOR,FLAGS` and the lines of
-/// the device, with commas between all of them, and semicolons between devices. The uuid, the minor
+/// The devices in a text of the concise form, in order: `NAME,UUID,MINOR,FLAGS` and the lines of the
+/// device, with commas between all of them, and semicolons between devices. The uuid, the minor
 /// number and the flags may be empty; the first two are checked and then dropped, and a device is
-/// read-only where its flags are `ro`. A line is `START LEN TYPE ARGS`, as in table text, and may
-/// have a space before it and one after it. A newline may end the text. The place of a device, and
-/// of its lines, is its number, from 1. The form is that of dmsetup(8), without its escapes.
+/// read-only if its flags are `ro`. A line is `START LEN TYPE ARGS`, as in table text, and may have a
+/// space before it and one after it. A newline may end the text. The place of a device, and of its
+/// lines, is its number, from 1. The form is that of dmsetup(8), without its escapes.
 ///
-/// Otherwise the fault of the first of these checks that finds anything, at its first device, counted by
-/// the semicolons before it: `NotText`, a byte other than 0x20 to 0x7E and a newline; `Syntax`, fewer
+/// Otherwise the fault of the first of these checks that finds any, at its first device; devices are counted
+/// by the semicolons before them: `NotText`, a byte other than 0x20 to 0x7E and a newline; `Syntax`, fewer
 /// than five entries, a space in the first four, a newline before the end, or a line with fewer than
-/// three fields or more than single spaces between them; `Field`, a number that isn't one, flags other
-/// than `ro` and `rw`, an unknown target type or wrong arguments; `Name`, no name of a device or a
-/// disk, or no uuid, which has up to 128 of the bytes of a device's name. Or `Memory`, with number
-/// 0, if an allocation was refused. The time is linear in the text.
+/// three fields or more than one space between two; `Field`, a number that isn't one, flags other than
+/// `ro` and `rw`, an unknown target type or wrong arguments; `Name`, an invalid name of a device or disk,
+/// or an invalid uuid, which has up to 128 of the bytes of a device's name. Or `Memory`, with number
+/// 0, if an allocation was refused. Takes time linear in the length of the text.
 pub fn parse_concise(alloc: Global, text: &[u8]) -> Result<Vec<DeviceSpec>, LoadFault>
-    // A text is accepted as the devices that it describes, and a refusal is the first fault of the
-    // first check that finds any.
+    // An accepted text describes the devices returned; a refused one gives the first fault of the first
+    // check that finds any.
     ensures { IsParsed Source (DescribesConcise text.now) (concise_checks text.now) result }
 {
     let text = without_newline(text);
@@ -48,7 +48,7 @@ pub fn parse_concise(alloc: Global, text: &[u8]) -> Result<Vec<DeviceSpec>, Load
     }
 }
 
-/// The text without the newline at its end.
+/// The text without the newline at its end, if it has one.
 fn without_newline(text: &[u8]) -> &[u8]
     ensures { result.now ≡ without_newline text.now }
 {
@@ -68,7 +68,7 @@ fn parts_of(alloc: Global, text: &[u8]) -> Result<Vec<&[u8]>, AllocError>
     cut(alloc, b';', text)
 }
 
-/// The devices of parts whose bytes are text.
+/// The devices in the parts of a text, whose bytes have been checked before.
 fn read_parts(alloc: Global, parts: &[&[u8]]) -> Result<Vec<DeviceSpec>, LoadFault>
     ensures { Answers Source (λ v. v.items) result (parts_reading (texts parts.now)) }
 {
@@ -78,7 +78,7 @@ fn read_parts(alloc: Global, parts: &[&[u8]]) -> Result<Vec<DeviceSpec>, LoadFau
     }
 }
 
-/// Reads each device, with two lists of slices for all of them.
+/// Reads each part as a device, with two vectors of slices that all devices share.
 fn read_devices(alloc: Global, parts: &[&[u8]]) -> Result<Reading<DeviceSpec>, AllocError>
     ensures devices { IfOk result (λ reading. first_noted reading.faults ≡ None → reading.values.items
         ≡ devices_from 1 (texts parts.now)) }
@@ -103,7 +103,7 @@ fn read_devices(alloc: Global, parts: &[&[u8]]) -> Result<Reading<DeviceSpec>, A
     Ok(reading)
 }
 
-/// Reads the part that is device `number` of the text.
+/// Reads a part as device `number` of the text, and adds it to the devices.
 fn read_part<'a>(
     alloc: Global,
     devices: &mut Vec<DeviceSpec>,

@@ -1,9 +1,9 @@
-//! A listed disk: the bottom of every stack.
+//! A disk from the disk list. Disks are the lowest devices of every stack.
 
 use crate::load::place::Place;
 use crate::words::disk_name::DiskName;
 
-/// A disk of `len` sectors of 512 bytes, and the place that describes it.
+/// A disk of `len` sectors of 512 bytes, and its line in the disk list.
 #[derive(Debug, Drop)]
 pub struct Disk {
     pub name: DiskName,

@@ -1,9 +1,9 @@
-//! Disk lists: a line `NAME SECTORS` for each disk.
+//! Reads disk lists: a line `NAME SECTORS` for each disk.
 //!
-//! The lines are read one after the other, each once, and what is wrong with them is kept until the
-//! end, as in table text. A new column is a field of `Disk` and, in `specs/tables/DiskList.antt`, its text in
-//! `disk_line`, its place in `is_pair`, its value in `disk_in` and, if it is a name, its test in
-//! `has_name` and `disk_reading`.
+//! Lines are read in order, each once, and their faults are kept until the end, as for table text. A new
+//! column is a field of `Disk` and, in `specs/tables/DiskList.antt`, needs its text in `disk_line`, its form
+//! in `is_pair`, its value in `disk_in` and, if it is a name, its test in `has_name` and
+//! `disk_reading`.
 
 ghost use Rattle.dm_table.specs.Prelude.{option_to_list, Disks, fields, texts, Reads, IsParsed, DescribesDisks, disk_checks, disk_in, disk_reading, has_name, has_sectors, is_pair};
 ghost use Rattle.std.specs.Prelude.{◌++◌};
@@ -18,20 +18,20 @@ use crate::words::fields::cut_into;
 use crate::words::number;
 use std::alloc::{AllocError, Global};
 
-/// The disks of a disk list, in its order.
+/// The disks in a disk list, in order.
 ///
 /// The form is this project's own: a line `NAME SECTORS` for each disk, with one space between and
 /// a newline at the end. A length counts sectors of 512 bytes and is below 10^19. The place of a
 /// disk is its line, from 1.
 ///
-/// Each check runs over the whole text, and the first that finds anything gives the fault, at its
-/// first line: `NotText` for a byte that is neither a newline nor from 0x20 to 0x7E, `Syntax` for a line
-/// that is not two fields or that no newline ends, `Field` for a length that is not a number, `Name` for
-/// a name that no disk can have. `Memory`, of number 0, comes wherever an allocation was refused.
+/// Each check runs over the whole text, and the first that finds any fault reports its first line:
+/// `NotText` for a byte that is neither a newline nor from 0x20 to 0x7E, `Syntax` for a line that isn't
+/// two fields or isn't terminated by a newline, `Field` for a length that isn't a number, `Name` for an
+/// invalid disk name. `Memory`, with number 0, may come at any point if an allocation is refused.
 ///
-/// The time is linear in the text.
+/// Takes time linear in the length of the text.
 pub fn parse_disks(alloc: Global, text: &[u8]) -> Result<Vec<Disk>, LoadFault>
-    // A text is accepted as the disks that it describes, and a refusal is the first fault of the first check
+    // An accepted text describes the disks returned; a refused one gives the first fault of the first check
     // that finds any.
     ensures { IsParsed Disks (DescribesDisks text.now) (disk_checks text.now) result }
 {
@@ -64,8 +64,8 @@ impl FromRows for Disk {
     }
 }
 
-/// The disk that a row says, which is line `number` of a text. Of its faults, `Syntax` takes
-/// precedence over `Field`, and that over `Name`.
+/// The disk that a row says, as line `number` of the text. Of several faults, `Syntax` comes before `Field`,
+/// and `Field` before `Name`.
 fn read_disk(alloc: Global, row: &[&[u8]], number: u64) -> Result<Disk, RowFault>
     ensures { Reads (λ disk. disk) result (disk_reading number (texts row.now)) }
 {

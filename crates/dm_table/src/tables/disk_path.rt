@@ -1,4 +1,4 @@
-//! A listed path: where a disk lies.
+//! An entry of the path list: where a disk's image is.
 
 ghost use Rattle.std.specs.Prelude.{◌≡◌, ◌<◌, ◌^◌};
 
@@ -7,7 +7,7 @@ use crate::reserved::ReservedText;
 use crate::words::disk_name::DiskName;
 use std::marker::Model;
 
-/// Where a disk lies: in a file, from a sector of it on; and the place that describes it.
+/// Where a disk's image is: a file, the sector of it at which the disk begins, and the entry's line in the path list.
 #[derive(Debug, Drop)]
 pub struct DiskPath {
     pub disk: DiskName,
@@ -16,7 +16,7 @@ pub struct DiskPath {
     pub at: Place,
 }
 
-/// The sector of a file at which a disk begins. A clause sees its number, which is below 2^51.
+/// The sector of a file at which a disk begins. A contract sees its number, which is below 2^51.
 #[derive(Debug, Drop)]
 pub struct FirstSector {
     sector: u64,
@@ -34,7 +34,7 @@ impl Model for FirstSector {
 }
 
 impl FirstSector {
-    /// The sector of a number.
+    /// The sector with this number.
     pub(crate) fn new(sector: u64) -> FirstSector
         requires { sector < 2 ^ 51 }
         ensures { result ≡ sector }
@@ -42,7 +42,7 @@ impl FirstSector {
         FirstSector { sector }
     }
 
-    /// Its number.
+    /// The sector's number.
     pub fn number(&self) -> u64
         ensures is { result ≡ self.now }
         ensures near { result < 2 ^ 51 }

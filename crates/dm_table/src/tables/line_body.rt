@@ -1,9 +1,9 @@
-//! The body of a table's line: a start, a length, and a target with its arguments.
+//! Reads the body of a line of a table: a start, a length, and a target with its arguments.
 //!
-//! Each form of a table labels such bodies in its own way, and hands their fields over. They are read
-//! once into a line: what isn't one is refused as it is met. A new target type is an arm in
-//! `read_target`. In `specs/tables/LineBody.antt` it is an arm in `target_row` and one in `other_in`.
-//! What it names is an arm of `target_spans`, in `specs/tables/Span.antt`.
+//! Each form of a table puts its own label before a body, and passes the body's fields here. They are read
+//! once, directly into a line, up to the first fault. A new target type needs an arm in `read_target`; in
+//! `specs/tables/LineBody.antt`, an arm in `target_row` and one in `other_in`; and in
+//! `specs/tables/Span.antt`, an arm of `target_spans` for the devices that it names.
 
 ghost use Rattle.dm_table.specs.Base.{[], ℕ, Bool, List, Option, Ok, true, false, length, drop, is_some, nat_lt, MatchOption, list_all};
 ghost use Rattle.dm_table.specs.words.Fields.{texts};
@@ -22,7 +22,7 @@ use crate::words::disk_name::{DiskName, is_disk_name};
 use crate::words::number::number;
 use std::alloc::Global;
 
-/// Whether the fields are enough for a body, and none of them is empty.
+/// Whether there are enough fields for a body, none of them empty.
 pub(crate) fn is_body_row(fields: &[&[u8]]) -> bool
     ensures { result ≡ is_body_row (texts fields.now) }
 {
@@ -30,7 +30,7 @@ pub(crate) fn is_body_row(fields: &[&[u8]]) -> bool
     fields.len() >= 3 && filled
 }
 
-/// Whether none of these fields is empty.
+/// Whether none of the fields is empty.
 fn are_filled(fields: &[&[u8]]) -> bool
     ensures { result ≡ list_all (λ field. nat_lt 0 (length field)) (texts fields.now) }
 {
@@ -42,7 +42,7 @@ fn are_filled(fields: &[&[u8]]) -> bool
     true
 }
 
-/// What stands before the target of a line, and the place of the line.
+/// What comes before the target of a line, and the line's place.
 #[derive(Clone, Copy)]
 pub(crate) struct BodyHead {
     pub start: u64,
@@ -51,7 +51,7 @@ pub(crate) struct BodyHead {
 }
 
 impl BodyHead {
-    /// Adds the line of a target to the lines. It is made where it stays.
+    /// Appends a line with this target to the lines. The line is built in place.
     #[inline(always)]
     fn push(&self, alloc: Global, lines: &mut Table, target: Target) -> Result<(), RowFault>
         ensures { Reads (λ done. lines.new) result (Ok (lines.old ++ line_of self.now target ∷ [])) }
@@ -69,7 +69,7 @@ impl BodyHead {
     }
 }
 
-/// Adds the line of a body, at its place, to the lines. Of its faults, `Field` takes precedence over `Name`.
+/// Appends the line that a body says to the lines. Of several faults, `Field` comes before `Name`.
 pub(crate) fn read_body(
     alloc: Global,
     lines: &mut Table,
@@ -90,7 +90,7 @@ pub(crate) fn read_body(
     read_typed(alloc, lines, &BodyHead { start, len, at }, *kind, arguments)
 }
 
-/// Adds the line of a type and its arguments. The targets that most lines have are made where they stay.
+/// Appends a line with a target of this type. The most common targets are built in place.
 fn read_typed(
     alloc: Global,
     lines: &mut Table,
@@ -121,7 +121,7 @@ fn read_typed(
     }
 }
 
-/// Adds the line whose target the arguments of a linear line say.
+/// Appends the linear line with these arguments.
 fn read_linear(
     alloc: Global,
     lines: &mut Table,
@@ -141,7 +141,7 @@ fn read_linear(
     head.push(alloc, lines, Target::Linear { to, offset })
 }
 
-/// The target of a type with more arguments than a linear line, or fewer, and its arguments.
+/// The target of one of the rarer types, from its arguments.
 fn read_target(alloc: Global, kind: &[u8], arguments: &[&[u8]]) -> Result<Target, RowFault>
     ensures { Reads (λ target. target) result
         (reading_of has_target_names (other_in kind.now (texts arguments.now))) }
@@ -164,7 +164,7 @@ fn read_target(alloc: Global, kind: &[u8], arguments: &[&[u8]]) -> Result<Target
     }
 }
 
-/// The target that the arguments of a striped line say.
+/// The striped target with these arguments.
 fn read_striped(alloc: Global, arguments: &[&[u8]]) -> Result<Target, RowFault>
     ensures { Reads (λ target. target) result (reading_of has_target_names (striped_in (texts arguments.now))) }
 {
@@ -177,15 +177,15 @@ fn read_striped(alloc: Global, arguments: &[&[u8]]) -> Result<Target, RowFault>
     Arguments::read_all(alloc, others).map(|(chunk, columns)| Target::Striped { chunk, columns })
 }
 
-/// What a field is read into.
+/// A type that one argument of a target is read into.
 trait Argument: Drop {
-    /// What the field says.
+    /// The value that a field says.
     ghost said: { List ℕ → Option Self };
 
-    /// Whether it is no name, or a valid one.
+    /// Whether the value, if it is a name, is a valid one.
     ghost has_name: { Self → Bool };
 
-    /// Reads it.
+    /// Reads a field as a value.
     fn read(alloc: Global, field: &[u8]) -> Result<Self, RowFault>
         ensures { Reads (λ x. x) result (reading_of has_name (said field.now)) };
 }
@@ -233,15 +233,15 @@ impl Argument for DevRef {
     }
 }
 
-/// What fields are read into, one after the other.
+/// A list of types that the arguments of a target are read into, in order.
 trait Arguments: Drop {
-    /// What the fields say.
+    /// The values that the fields say.
     ghost said: { List (List ℕ) → Option Self };
 
-    /// Whether each name in it is valid.
+    /// Whether all names among the values are valid.
     ghost has_names: { Self → Bool };
 
-    /// Reads them. `Field` takes precedence over `Name`.
+    /// Reads all fields as values. Of several faults, `Field` comes before `Name`.
     fn read_all(alloc: Global, fields: &[&[u8]]) -> Result<Self, RowFault>
         ensures { Reads (λ x. x) result (reading_of has_names (said (texts fields.now))) };
 }
@@ -285,7 +285,7 @@ impl Arguments for Columns {
     }
 }
 
-/// What was read in two parts.
+/// Joins the results of reading two parts. If both fail, a `Name` fault of the first gives way to the second's fault.
 #[inline(always)]
 fn both<A: Drop, B: Drop>(
     first: Result<A, RowFault>,
@@ -306,8 +306,8 @@ fn both<A: Drop, B: Drop>(
     }
 }
 
-/// Whether the field is a number, and the others are two for each of so many columns and one more: nothing is
-/// doubled, so nothing wraps.
+/// Whether the number of columns fits the number of other fields: two for each column and one for the chunk. Halving
+/// the number of fields can't overflow, as doubling the count could.
 fn is_count(count: &[u8], others: usize) -> bool
     ensures { result ≡ is_count count.now others }
 {
@@ -317,7 +317,7 @@ fn is_count(count: &[u8], others: usize) -> bool
     }
 }
 
-/// The columns of fields that come in pairs, a name and a number. One pass.
+/// The columns in fields that come in pairs, a name and a number. One pass.
 fn read_columns(alloc: Global, fields: &[&[u8]]) -> Result<Columns, RowFault>
     ensures { Reads (λ columns. columns) result (columns_reading (texts fields.now)) }
 {
@@ -343,8 +343,8 @@ fn read_columns(alloc: Global, fields: &[&[u8]]) -> Result<Columns, RowFault>
     Ok(Columns::from_vec(columns))
 }
 
-/// The fault of columns in which this one comes before these fields: a field that is wrong takes
-/// precedence over a name.
+/// The fault of columns whose first one has `fault` and whose others are in `fields`: a bad field among these
+/// comes before a bad name.
 fn fault_before(fault: RowFault, fields: &[&[u8]]) -> RowFault
     ensures { result ≡ fault_before fault (texts fields.now) }
 {
@@ -354,7 +354,7 @@ fn fault_before(fault: RowFault, fields: &[&[u8]]) -> RowFault
     }
 }
 
-/// Whether the fields come in pairs, the second of each a number. One pass.
+/// Whether fields come in pairs, the second of each a number. One pass.
 fn are_columns(fields: &[&[u8]]) -> bool
     ensures { result ≡ is_some (columns_in (texts fields.now)) }
 {
@@ -368,7 +368,7 @@ fn are_columns(fields: &[&[u8]]) -> bool
     rest.is_empty()
 }
 
-/// The device of the stack, or the disk, that a text names.
+/// The device or disk that a field names: a device if it begins with `/dev/mapper/`, else a disk.
 fn read_dev(alloc: Global, text: &[u8]) -> Result<DevRef, RowFault>
     ensures { Reads (λ dev. dev) result (dev_reading text.now) }
 {
@@ -388,7 +388,7 @@ fn read_dev(alloc: Global, text: &[u8]) -> Result<DevRef, RowFault>
     }
 }
 
-/// What follows `/dev/mapper/`, where the text names a device of the stack.
+/// The text after `/dev/mapper/`, if a field begins with it and so names a device.
 fn device_name_in(text: &[u8]) -> Option<&[u8]>
     ensures { MatchOption result (names_device text.now ≡ false)
         (λ name. (names_device text.now ≡ true) × (name.now ≡ drop (length mapper) text.now)) }

@@ -1,8 +1,8 @@
-//! The line of a table as texts that put themselves into a block: all but the columns of a striped
-//! line, and one column.
+//! The parts of a line of a table, as texts that write themselves into a block: a line without its columns,
+//! and one column of a striped line.
 //!
-//! Such a text has a greatest length, and a striped line has none. A new target is an arm of
-//! `put_target` here; one whose text has no greatest length has arms in `specs/tables/LineHead.antt` too.
+//! Each part has a greatest length; a striped line as a whole has none. A new target needs an arm in
+//! `put_target`; if its text has no greatest length, it needs arms in `specs/tables/LineHead.antt` too.
 
 ghost use Rattle.dm_table.specs.Prelude.{length, decimal, IsPut, column_text, dev_text, kind_text, body_head, target_head};
 ghost use Rattle.std.specs.Prelude.{◌≡◌, ◌++◌, ◌+◌, ◌<◌, ◌≤◌};
@@ -12,7 +12,7 @@ use crate::io::text::Text;
 use crate::tables::table::{Column, DevRef, Line, StoreKind, Target};
 use std::marker::Model;
 
-/// A line after its label, without its columns.
+/// A line with the name and the mark before its body, but without its columns.
 #[derive(Drop)]
 pub(crate) struct LineHead<'a> {
     name: &'a [u8],
@@ -33,7 +33,7 @@ impl<'a> Model for LineHead<'a> {
 }
 
 impl<'a> LineHead<'a> {
-    /// A line after a label: a name and what comes after it.
+    /// A line after a name and a mark, such as `: ` or a comma.
     #[inline(always)]
     pub(crate) fn new(name: &'a [u8], mark: &'a [u8], line: &'a Line) -> LineHead<'a>
         requires name { length name.now ≤ 127 }
@@ -56,7 +56,7 @@ impl<'a> Text for LineHead<'a> {
     }
 }
 
-/// A column after a space.
+/// A column of a striped line, with a space before it.
 #[derive(Drop)]
 pub(crate) struct ColumnText<'a> {
     column: &'a Column,
@@ -72,7 +72,7 @@ impl<'a> Model for ColumnText<'a> {
 }
 
 impl<'a> ColumnText<'a> {
-    /// The text of a column.
+    /// The text for a column.
     #[inline(always)]
     pub(crate) fn new(column: &'a Column) -> ColumnText<'a>
         ensures text { result ≡ column_text column.now }
@@ -91,7 +91,7 @@ impl<'a> Text for ColumnText<'a> {
     }
 }
 
-/// Puts a body without its columns at an offset in a block, and returns where it ends.
+/// Writes a body without its columns into a block at offset `at`, and returns the offset after it.
 #[inline(always)]
 fn put_head(block: &mut [u8], at: usize, line: &Line) -> usize
     requires room { at + 700 ≤ length block.old }
@@ -104,7 +104,7 @@ fn put_head(block: &mut [u8], at: usize, line: &Line) -> usize
     put_target(block, at, &line.target)
 }
 
-/// Puts a target without its columns.
+/// Writes a target without its columns into a block at offset `at`, and returns the offset after it.
 #[inline(always)]
 fn put_target(block: &mut [u8], at: usize, target: &Target) -> usize
     requires room { at + 600 ≤ length block.old }
@@ -138,7 +138,7 @@ fn put_target(block: &mut [u8], at: usize, target: &Target) -> usize
     }
 }
 
-/// The flag of a kind of store.
+/// The letter for a kind of exception store.
 fn kind_text(kind: StoreKind) -> &'static [u8]
     ensures flag { result.now ≡ kind_text kind }
     ensures few { length result.now ≤ 1 }
@@ -150,7 +150,7 @@ fn kind_text(kind: StoreKind) -> &'static [u8]
     }
 }
 
-/// Puts a few bytes, and then a number.
+/// Writes up to 9 bytes, and then a number, into a block at offset `at`; returns the offset after them.
 #[inline(always)]
 fn put_number(block: &mut [u8], at: usize, before: &[u8], number: u64) -> usize
     requires room { at + 30 ≤ length block.old }
@@ -162,7 +162,7 @@ fn put_number(block: &mut [u8], at: usize, before: &[u8], number: u64) -> usize
     put_digits(block, at, number)
 }
 
-/// Puts a few bytes, and then the name of a lower device.
+/// Writes up to 16 bytes, and then a device or disk, into a block at offset `at`; returns the offset after them.
 #[inline(always)]
 fn put_dev(block: &mut [u8], at: usize, before: &[u8], dev: &DevRef) -> usize
     requires room { at + 271 ≤ length block.old }
@@ -174,7 +174,7 @@ fn put_dev(block: &mut [u8], at: usize, before: &[u8], dev: &DevRef) -> usize
     put_name(block, at, dev)
 }
 
-/// Puts the name of a lower device.
+/// Writes the text for a device or disk into a block at offset `at`, and returns the offset after it.
 #[tactic(auto, using(crate::proofs::words::ByteLemmas::device_name_len, crate::proofs::words::ByteLemmas::disk_name_len))]
 fn put_name(block: &mut [u8], at: usize, dev: &DevRef) -> usize
     requires room { at + 255 ≤ length block.old }

@@ -1,7 +1,7 @@
-//! Values in their order, that a clause sees as a list.
+//! A vector that a contract sees as a list of values.
 //!
-//! A contract compares lists, but not where a `Vec` lies in memory; so what others own holds this in
-//! place of a `Vec`.
+//! A contract can compare lists, but not where a `Vec` is in memory; so types that own vectors use this one
+//! in place of a `Vec`.
 
 ghost use Rattle.dm_table.specs.Prelude.{[], OnOk};
 ghost use Rattle.std.specs.Prelude.{◌≡◌, ◌++◌, ◌∷◌};
@@ -10,7 +10,7 @@ use crate::reserved::Reserved;
 use std::alloc::{AllocError, Global};
 use std::marker::Model;
 
-/// Values in their order. A clause sees them as a list.
+/// Values in order. A contract sees them as a list.
 #[derive(Debug, Drop)]
 pub struct Listed<T> {
     items: Reserved<T>,
@@ -25,7 +25,7 @@ impl<T> Model for Listed<T> {
 }
 
 impl<T> Listed<T> {
-    /// The values as one value, with no memory taken.
+    /// Wraps a vector. Allocates nothing.
     pub fn from_vec(items: Vec<T>) -> Listed<T>
         ensures { result ≡ items.items }
     {
@@ -34,14 +34,14 @@ impl<T> Listed<T> {
         }
     }
 
-    /// The values, with no memory taken.
+    /// Returns the values as a vector. Allocates nothing.
     pub fn into_vec(self) -> Vec<T>
         ensures { result.items ≡ self }
     {
         self.items.into_vec()
     }
 
-    /// The values in their order.
+    /// The values in order.
     pub fn as_slice(&self) -> &[T]
         ensures { result.now ≡ self.now }
     {
@@ -50,7 +50,7 @@ impl<T> Listed<T> {
 }
 
 impl<T: Drop> Listed<T> {
-    /// Adds a value at the end. Only who has an allocator may.
+    /// Appends a value. Only a caller with an allocator can do this.
     #[inline(always)]
     pub(crate) fn push(&mut self, alloc: Global, value: T) -> Result<(), AllocError>
         ensures { OnOk result (self.new ≡ self.old ++ value ∷ []) }

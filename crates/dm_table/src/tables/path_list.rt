@@ -1,7 +1,7 @@
-//! Lists of paths: a line `DISK PATH` for each disk that has an image.
+//! Reads path lists: a line `DISK PATH` for each disk that has an image file.
 //!
-//! A path may have spaces, and may end with the offset at which the disk begins in its file. The lines are
-//! read as those of a disk list are, but their text is UTF-8.
+//! A path may contain spaces, and may end with the offset at which the disk begins in its file. Lines are read
+//! as those of a disk list are, except that the text is UTF-8.
 
 ghost use Rattle.dm_table.specs.Prelude.{[], IfSome, length, option_map, option_to_list, Paths, Answers, IsParsed, Reads, has_name, is_pair, DescribesPaths, read_paths, after_equals, has_place, is_path_text, name_and_path, offset_in, path_checks, path_in, path_reading, place_in, texts};
 ghost use Rattle.dm_table.specs.tables.PathList.{place_of};
@@ -18,23 +18,23 @@ use crate::words::disk_name::{DiskName, is_disk_name};
 use memchr::{memchr, memrchr};
 use std::alloc::{AllocError, Global};
 
-/// Where the disks of a list of paths lie, in its order.
+/// The entries of a path list, in order: where the disks' images are.
 ///
 /// The form is this project's own: a line `DISK PATH` for each disk, with one space between and a newline at
-/// the end. The path is the rest of the line, and may have spaces. Where it ends with `?offset=` and 1 to 18
-/// digits, these are the bytes before the disk in the file that the path before that names.
+/// the end. The path is the whole line after that space, and may contain spaces. If it ends with `?offset=` and
+/// 1 to 18 digits, the file is what comes before that, and the digits are the byte offset of the disk in it.
 ///
-/// Each check runs over the whole text, and the first that finds anything gives the fault, at its first line:
+/// Each check runs over the whole text, and the first that finds any fault reports its first line:
 /// `NotText` for bytes that are not UTF-8, or a NUL; `Syntax` for a line without a name, a space and a path, or
-/// that no newline ends; `Field` for an offset that is no multiple of 512; `Name` for a name that no disk can
-/// have. `Memory`, of number 0, comes wherever an allocation was refused. That a disk is named twice, or is none
-/// of a stack, is no fault here.
+/// without a newline; `Field` for an offset that isn't a multiple of 512; `Name` for an invalid disk name.
+/// `Memory`, with number 0, may come at any point if an allocation is refused. It is no fault here if a disk is
+/// named twice, or isn't in any stack.
 ///
-/// The time is linear in the text.
+/// Takes time linear in the length of the text.
 pub fn parse_paths(alloc: Global, text: &[u8]) -> Result<Vec<DiskPath>, LoadFault>
-    // A text is accepted as what it describes, and a refusal is the first fault of the first check that finds any.
+    // An accepted text describes the entries returned; a refused one gives the first fault of the first check.
     ensures parsed { IsParsed Paths (DescribesPaths text.now) (path_checks text.now) result }
-    // What is promised of a reader determines this.
+    // The clause above determines the answer, except that memory may run out; this one gives it as a function.
     ensures read { Answers Paths (λ v. v.items) result (read_paths text.now) }
 {
     if let Err(fault) = check_pieces::<PathText>(alloc, Part::Paths, b'\n', text) {
@@ -43,7 +43,7 @@ pub fn parse_paths(alloc: Global, text: &[u8]) -> Result<Vec<DiskPath>, LoadFaul
     read_rows(alloc, Part::Paths, text)
 }
 
-/// The text of a line of paths.
+/// The rule for the bytes of a path list: UTF-8 without a NUL.
 struct PathText;
 
 impl TextRule for PathText {
@@ -84,7 +84,7 @@ impl FromRows for DiskPath {
     }
 }
 
-/// What stands before the first space of a line, and what after it.
+/// Cuts a line into the text before its first space and the text after it.
 fn cut_name(line: &[u8]) -> (&[u8], &[u8])
     ensures { name_and_path line.now ≡ texts (result.0 ∷ result.1 ∷ []) }
 {
@@ -97,8 +97,8 @@ fn cut_name(line: &[u8]) -> (&[u8], &[u8])
     }
 }
 
-/// Where a disk lies as a row says, which is line `number` of a text. Of its faults, `Syntax` takes
-/// precedence over `Field`, and that over `Name`.
+/// The entry that a row says, as line `number` of the text. Of several faults, `Syntax` comes before `Field`,
+/// and `Field` before `Name`.
 fn read_path(alloc: Global, row: &[&[u8]], number: u64) -> Result<DiskPath, RowFault>
     ensures { Reads (λ disk. disk) result (path_reading number (texts row.now)) }
 {
@@ -126,7 +126,7 @@ fn read_path(alloc: Global, row: &[&[u8]], number: u64) -> Result<DiskPath, RowF
     })
 }
 
-/// The path of a file, and the sector of it at which a disk begins, that a path says.
+/// The file that a path says, and the sector of it at which the disk begins.
 fn place_in(path: &[u8]) -> Option<(&str, u64)>
     ensures is { option_map (λ place. (place.0.now, place.1)) result ≡ place_in path.now }
     ensures near { IfSome result (λ place. place.1 < 2 ^ 51) }
@@ -141,7 +141,7 @@ fn place_in(path: &[u8]) -> Option<(&str, u64)>
     Some((file, byte / 512))
 }
 
-/// The path of a file, and the byte of it at which a disk begins, that a path says.
+/// The file that a path says, and the byte offset in it at which the disk begins.
 fn place_of(path: &[u8]) -> (&[u8], u64)
     ensures is { (result.0.now, result.1) ≡ place_of path.now }
     ensures near { result.1 < 10 ^ 18 }
@@ -154,7 +154,7 @@ fn place_of(path: &[u8]) -> (&[u8], u64)
     }
 }
 
-/// What stands after the last `=`.
+/// The text after the last `=`, or all of it if it has none.
 fn after_equals(text: &[u8]) -> &[u8]
     ensures is { result.now ≡ after_equals text.now }
     ensures short { length result.now ≤ length text.now }
@@ -165,7 +165,7 @@ fn after_equals(text: &[u8]) -> &[u8]
     }
 }
 
-/// The number that 1 to 18 digits spell.
+/// The byte offset that 1 to 18 digits spell.
 fn offset_in(digits: &[u8]) -> Option<u64>
     ensures is { result ≡ offset_in digits.now }
     ensures near { IfSome result (λ offset. offset < 10 ^ 18) }

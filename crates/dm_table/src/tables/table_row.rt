@@ -1,10 +1,10 @@
-//! The label of a row of table text, which stands before a line's body.
+//! The label of a row of table text: the field before a line's body.
 
 ghost use Rattle.dm_table.specs.Prelude.{name_in};
 ghost use Rattle.dm_table.specs.tables.TableText.{is_label};
 ghost use Rattle.std.specs.Prelude.{◌≡◌};
 
-/// Whether a field is a name and a colon after it.
+/// Whether a field is a label: a name with a colon after it.
 pub(crate) fn is_label(field: &[u8]) -> bool
     ensures { result ≡ is_label field.now }
 {
@@ -14,7 +14,7 @@ pub(crate) fn is_label(field: &[u8]) -> bool
     }
 }
 
-/// The name in a label: all before its last byte, which is a colon.
+/// The name in a label, which is all of it but the colon at its end.
 pub(crate) fn name_in(label: &[u8]) -> &[u8]
     ensures { result.now ≡ name_in label.now }
 {

@@ -1,8 +1,8 @@
-//! Table text: a line `NAME: START LEN TYPE ARGS` for each line of a table, as dmsetup(8) has it.
+//! Reads table text: a line `NAME: START LEN TYPE ARGS` for each line of a table, as in dmsetup(8).
 //!
-//! The lines are read one after the other, each once, into the devices so far, and what is wrong with
-//! them is kept until the end, where the checks take precedence in the order of the definitions. A
-//! new target type belongs in `line_body`.
+//! Lines are read in order, each once, and added to the devices so far; their faults are kept until
+//! the end, when the fault of the check that runs first is chosen. A new target type belongs in
+//! `line_body`.
 
 ghost use Rattle.dm_table.specs.Prelude.{Source, IsParsed, Reads, made_of, DescribesTable, is_row, table_checks, row_fields, texts, named_in, named_reading, alone, add_line, add_said};
 ghost use Rattle.dm_table.specs.tables.TableText.{has_values, has_names};
@@ -18,19 +18,19 @@ use crate::words::device_name::{Name, is_device_name};
 use crate::words::fields::cut_row;
 use std::alloc::{AllocError, Global};
 
-/// The devices of table text, in its order. Neighbouring lines of one name are one device, whose
+/// The devices in table text, in order. Neighbouring lines with the same name are one device, whose
 /// place is its first line; a line may end with one space; all devices are writable. Starts,
 /// lengths, chunks and offsets are sectors of 512 bytes, below 10^19. The form is that of
-/// dmsetup(8). A striped line counts its columns, and there may be none.
+/// dmsetup(8). A striped line says how many columns it has, and may have none.
 ///
-/// Otherwise the fault of the first of these checks that finds anything, at its first line: `NotText`,
-/// a byte that is neither a newline nor from 0x20 to 0x7E; `Syntax`, fewer than four fields with single
-/// spaces between them, a first field without a name and a colon, or no newline at the end; `Field`, a
-/// number that isn't one, an unknown target type or wrong arguments; `Name`, no name of a device or a
-/// disk. Or `Memory`, with number 0, if an allocation was refused. The time is linear in the text.
+/// Otherwise the fault of the first of these checks that finds any, at its first line: `NotText`, a
+/// byte that is neither a newline nor from 0x20 to 0x7E; `Syntax`, fewer than four fields with single
+/// spaces between them, a first field that isn't a name with a colon, or no newline at the end; `Field`,
+/// a number that isn't one, an unknown target type or wrong arguments; `Name`, an invalid name of a device
+/// or disk. Or `Memory`, with number 0, if an allocation was refused. Takes time linear in the length of the text.
 pub fn parse_table(alloc: Global, text: &[u8]) -> Result<Vec<DeviceSpec>, LoadFault>
-    // A text is accepted as the devices that it describes, and a refusal is the first fault of the
-    // first check that finds any.
+    // An accepted text describes the devices returned; a refused one gives the first fault of the first
+    // check that finds any.
     ensures { IsParsed Source (DescribesTable text.now) (table_checks text.now) result }
 {
     read_lines(alloc, Part::Source, text)
@@ -71,7 +71,7 @@ impl FromRows for DeviceSpec {
     }
 }
 
-/// Reads a body into a line of the last device, where that has this name, or else of a new one.
+/// Reads a body, and adds its line to the last device if that has this name, else to a new device.
 fn read_line(
     alloc: Global,
     devices: &mut Vec<DeviceSpec>,
@@ -91,7 +91,7 @@ fn read_line(
     Ok(())
 }
 
-/// Reads a body into the one line of a device.
+/// Reads a body, and returns a new device with that one line.
 fn read_device(
     alloc: Global,
     name: &[u8],

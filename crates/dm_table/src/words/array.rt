@@ -1,10 +1,10 @@
-//! Bytes whose number is known, as one value: they are compared, copied or read as a number in an
+//! Slices of a known length as arrays, which can be compared, copied or read as a number in an
 //! instruction or two.
 
 ghost use Rattle.dm_table.specs.Prelude.{length};
 ghost use Rattle.std.specs.Prelude.{◌≡◌};
 
-/// Bytes of a known length, as an array.
+/// A slice whose length is known to be `LEN`, as an array.
 #[inline(always)]
 pub fn as_array<const LEN: usize>(bytes: &[u8]) -> &[u8; LEN]
     requires { length bytes.now ≡ LEN }

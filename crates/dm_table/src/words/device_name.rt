@@ -1,6 +1,6 @@
-//! Names of devices.
+//! Valid names of devices.
 //!
-//! Their rule is this project's profile of what dmsetup(8) takes; change it in `specs/words/Name.antt` first.
+//! The rule is this project's own selection of what dmsetup(8) accepts; change it in `specs/words/Name.antt` first.
 
 ghost use Rattle.dm_table.specs.Prelude.{IfNone, IfSome, IsTrue, false, take, list_all, prefix_len, is_device_byte, is_device_name, ascii-device_name};
 ghost use Rattle.std.specs.Prelude.{◌≡◌};
@@ -10,7 +10,7 @@ use crate::words::name::{CheckedName, NameRule};
 /// The name of a device: 1 to 127 ASCII letters, digits and `#+-.:=@_`.
 pub type Name = CheckedName<DeviceNameRule>;
 
-/// The rule of the names of devices.
+/// The rule for device names.
 #[derive(Debug)]
 pub struct DeviceNameRule;
 
@@ -24,7 +24,7 @@ impl NameRule for DeviceNameRule {
     ghost ascii = { ascii-device_name };
 }
 
-/// Whether the bytes are the name of a device.
+/// Whether the bytes are a valid device name.
 pub(crate) fn is_device_name(bytes: &[u8]) -> bool
     ensures { result ≡ is_device_name bytes.now }
 {
@@ -34,8 +34,8 @@ pub(crate) fn is_device_name(bytes: &[u8]) -> bool
     }
 }
 
-/// How many bytes stand before a text's first byte that no device name has, where these are the
-/// name of a device. One pass over them.
+/// The length of the device name at the start of a text, up to the first byte that a device name may not
+/// contain, if it is a valid name. One pass over the name.
 pub(crate) fn leading_name(text: &[u8]) -> Option<usize>
     ensures len { IfSome result (λ len. len ≡ prefix_len is_device_byte text.now) }
     ensures name { IfSome result (λ len. IsTrue (is_device_name (take len text.now))) }
@@ -50,14 +50,14 @@ pub(crate) fn leading_name(text: &[u8]) -> Option<usize>
     }
 }
 
-/// Whether a device's name may have each of the bytes.
+/// Whether all of the bytes may occur in a device name.
 pub(crate) fn are_device_bytes(bytes: &[u8]) -> bool
     ensures { result ≡ list_all is_device_byte bytes.now }
 {
     bytes.iter().all(|byte| is_device_byte(*byte))
 }
 
-/// How many bytes stand before a text's first byte that no device name has.
+/// How many bytes come before a text's first byte that may not occur in a device name.
 fn leading_bytes(text: &[u8]) -> usize
     ensures { result ≡ prefix_len is_device_byte text.now }
 {
@@ -68,7 +68,7 @@ fn leading_bytes(text: &[u8]) -> usize
     len
 }
 
-/// Whether the name of a device may have a byte.
+/// Whether a byte may occur in a device name.
 fn is_device_byte(byte: u8) -> bool
     ensures { result ≡ is_device_byte byte }
 {

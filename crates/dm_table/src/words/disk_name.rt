@@ -1,6 +1,6 @@
-//! Names of disks.
+//! Valid names of disks.
 //!
-//! Their rule is this project's own, so that no disk is taken for a device; change it in
+//! The rule is this project's own, and excludes disk names that could be taken for a device; change it in
 //! `specs/words/Name.antt` first.
 
 ghost use Rattle.dm_table.specs.Prelude.{list_all, is_disk_byte, is_disk_name, names_device, ascii-disk_name};
@@ -12,7 +12,7 @@ use crate::words::name::{CheckedName, NameRule};
 /// with `/dev/mapper/`.
 pub type DiskName = CheckedName<DiskNameRule>;
 
-/// The rule of the names of disks.
+/// The rule for disk names.
 #[derive(Debug)]
 pub struct DiskNameRule;
 
@@ -26,7 +26,7 @@ impl NameRule for DiskNameRule {
     ghost ascii = { ascii-disk_name };
 }
 
-/// Whether the bytes are the name of a disk.
+/// Whether the bytes are a valid disk name.
 pub(crate) fn is_disk_name(bytes: &[u8]) -> bool
     ensures { result ≡ is_disk_name bytes.now }
 {
@@ -35,7 +35,7 @@ pub(crate) fn is_disk_name(bytes: &[u8]) -> bool
     1 <= bytes.len() && bytes.len() <= 255 && allowed && !device
 }
 
-/// Whether a disk's name may have each of the bytes. All are asked, so that many are asked together.
+/// Whether all of the bytes may occur in a disk name. The loop never stops early, so that many are tested at once.
 fn are_disk_bytes(bytes: &[u8]) -> bool
     ensures { result ≡ list_all is_disk_byte bytes.now }
 {
@@ -46,14 +46,14 @@ fn are_disk_bytes(bytes: &[u8]) -> bool
     allowed
 }
 
-/// Whether the name of a disk may have a byte.
+/// Whether a byte may occur in a disk name.
 fn is_disk_byte(byte: u8) -> bool
     ensures { result ≡ is_disk_byte byte }
 {
     33 <= byte && byte <= 126 && !(byte == b',' || byte == b';' || byte == b'\\')
 }
 
-/// Whether the bytes begin as the text of a device of the stack does.
+/// Whether a text begins with `/dev/mapper/`, so that it names a device and not a disk.
 pub(crate) fn names_device(bytes: &[u8]) -> bool
     ensures { result ≡ names_device bytes.now }
 {

@@ -1,9 +1,9 @@
-//! Texts cut at a byte: fields at spaces, devices of the concise form at semicolons.
+//! Cuts texts at a byte: lines into fields at spaces, the concise form into devices at semicolons.
 //!
-//! A text is cut once, and all checks look at its parts; the parts borrow the text. A form that
-//! cuts at another byte calls `cut` too.
+//! A text is cut once, and all checks use its parts, which borrow from the text. A form that needs another
+//! separator calls `cut` too.
 //!
-//! Short texts are cut by `marks` for speed alone; `cut_searched` would do for all.
+//! For speed alone, short texts are cut by `marks`; `cut_searched` would do for all.
 
 ghost use Rattle.dm_table.specs.Prelude.{IfOk, OnOk, length, ends_empty, parts_at, row_fields, texts, marks_of};
 ghost use Rattle.std.specs.Prelude.{◌≡◌, ◌++◌, ◌≤◌};
@@ -12,7 +12,7 @@ use crate::words::marks::marks;
 use memchr::memchr;
 use std::alloc::{AllocError, Global};
 
-/// The parts of a text between the bytes that are `at`. One pass over the text.
+/// The parts of a text between the bytes equal to `at`. One pass over the text.
 pub(crate) fn cut<'a>(alloc: Global, at: u8, text: &'a [u8]) -> Result<Vec<&'a [u8]>, AllocError>
     ensures { IfOk result (λ v. texts v.items ≡ parts_at at text.now) }
 {
@@ -21,7 +21,7 @@ pub(crate) fn cut<'a>(alloc: Global, at: u8, text: &'a [u8]) -> Result<Vec<&'a [
     Ok(parts)
 }
 
-/// Puts the parts of a text in place of those of another, so that one list serves many texts.
+/// Replaces the contents of `parts` with the parts of a text, so that one vector serves many texts.
 pub(crate) fn cut_into<'a>(
     parts: &mut Vec<&'a [u8]>,
     at: u8,
@@ -30,14 +30,14 @@ pub(crate) fn cut_into<'a>(
     ensures { OnOk result (texts parts.new.items ≡ parts_at at text.now) }
 {
     parts.clear();
-    // Of a short text a search for each part would cost more than the part.
+    // Searching a short text for each separator would cost more than handling the part does.
     match marks(at, text) {
         Some(marks) => cut_marked(parts, at, text, marks),
         None => cut_searched(parts, at, text),
     }
 }
 
-/// Adds the parts of a text between the bytes that are `at`, which have marks.
+/// Appends the parts of a text, given its separators as `marks`, one bit for each byte of the text.
 fn cut_marked<'a>(
     parts: &mut Vec<&'a [u8]>,
     _at: u8,
@@ -61,7 +61,7 @@ fn cut_marked<'a>(
     Ok(())
 }
 
-/// Adds the parts of a text between the bytes that are `at`, each found by a search.
+/// Appends the parts of a text, finding each separator with a search.
 fn cut_searched<'a>(parts: &mut Vec<&'a [u8]>, at: u8, text: &'a [u8]) -> Result<(), AllocError>
     ensures { OnOk result (texts parts.new.items ≡ texts parts.old.items ++ parts_at at text.now) }
 {
@@ -75,8 +75,8 @@ fn cut_searched<'a>(parts: &mut Vec<&'a [u8]>, at: u8, text: &'a [u8]) -> Result
     Ok(())
 }
 
-/// Puts the fields of a line in place of those of another, without the empty one that a space at
-/// its end leaves. One pass.
+/// Replaces the contents of `fields` with the fields of a line, without the empty last one that a space at
+/// the end of the line leaves. One pass.
 pub(crate) fn cut_row<'a>(fields: &mut Vec<&'a [u8]>, line: &'a [u8]) -> Result<(), AllocError>
     ensures { OnOk result (texts fields.new.items ≡ row_fields line.now) }
 {

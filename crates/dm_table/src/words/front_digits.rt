@@ -1,10 +1,10 @@
-//! Numbers at the front of a longer text: their digits are counted and read together.
+//! Reads a number at the front of a longer text: its digits are counted and converted together.
 //!
-//! Which digit is the last isn't asked digit by digit, since a processor foresees the end of few
-//! numbers. Sixteen bytes are read; a number of as many digits or more is left to `number`.
+//! The end of the number isn't found digit by digit, since a processor predicts few of those jumps right.
+//! Sixteen bytes are read at once; a number of sixteen digits or more is left to `number`.
 //!
-//! This is here for speed alone, as a part of *requests read where they stand* in RESULTS.md. It rests on sixteen
-//! bytes being there, whatever they are. Change it only if you measure small requests before and after.
+//! For speed alone; its gain is a part of *requests read where they stand* in RESULTS.md. The caller makes sure that
+//! sixteen bytes are there, whatever they are. Change it only if you measure small requests before and after.
 
 ghost use Rattle.dm_table.specs.Prelude.{IfSome, Some, get_or, length, map, take, number_from_digits, number_of};
 ghost use Rattle.dm_table.specs.declared.words.front_digits.TheConstants.{FRONT};
@@ -14,11 +14,11 @@ ghost use lib.Lanes.{Each1};
 use crate::words::array::as_array;
 use std::simd::prelude::*;
 
-/// How many bytes are read together.
+/// How many bytes are read at once.
 pub(crate) const FRONT: usize = 16;
 
-/// The number that the digits at the front of a longer text spell, and how many these are. `None` says
-/// nothing of a text.
+/// The number that the digits at the front of a text spell, and how many digits it has. `None` may also mean a
+/// number of sixteen digits or more, which this function doesn't read.
 #[inline(always)]
 pub(crate) fn read_front(text: &[u8]) -> Option<(u64, usize)>
     requires { FRONT ≤ length text.now }
@@ -34,7 +34,7 @@ pub(crate) fn read_front(text: &[u8]) -> Option<(u64, usize)>
     Some((number_ahead(&digits.to_array(), len), len))
 }
 
-/// Each byte less the digit zero.
+/// Each byte minus the byte of the digit zero, modulo 256.
 #[inline(always)]
 fn less_zero(text: &[u8; FRONT]) -> u8x16
     ensures { result ≡ map (λ byte. (byte + 208) % 256) text.now }
@@ -42,7 +42,7 @@ fn less_zero(text: &[u8; FRONT]) -> u8x16
     u8x16::from_array(*text) - u8x16::splat(b'0')
 }
 
-/// How many of the first bytes are below 10, unless all are.
+/// How many of the first bytes are below 10, or `None` if all are.
 #[inline(always)]
 fn digits_ahead(digits: u8x16) -> Option<usize>
     requires { length digits ≡ 16 }
@@ -56,7 +56,7 @@ fn digits_ahead(digits: u8x16) -> Option<usize>
     Some(others.trailing_zeros() as usize)
 }
 
-/// The number of the first `len` of some digits.
+/// The number that the first `len` digits spell.
 #[inline(always)]
 fn number_ahead(digits: &[u8; FRONT], len: usize) -> u64
     requires some { 1 ≤ len }
@@ -73,16 +73,16 @@ fn number_ahead(digits: &[u8; FRONT], len: usize) -> u64
     number_in_word(first, 8) * POWERS[more] + number_in_word(last, more)
 }
 
-/// The powers of ten up to the seventh.
+/// The powers of ten up to 10^7.
 static POWERS: [u64; 8] = [1, 10, 100, 1_000, 10_000, 100_000, 1_000_000, 10_000_000];
 
-/// The first byte of each four of a word.
+/// A mask for the lowest byte of each half of a word.
 const FIRST_OF_FOURS: u64 = 0x0000_00FF_0000_00FF;
 
-/// The number of the first `len` of eight digits.
+/// The number that the first `len` of eight digits spell.
 ///
-/// As a word, the digits are moved to its end, so that zeros stand before them. Then every second byte
-/// gets the value of two digits, and two products put these where they are added.
+/// The digits are shifted to the high end of a word, so that zeros come before them. Then every second byte
+/// gets the value of two digits, and two multiplications weigh and add the four pairs.
 #[inline(always)]
 fn number_in_word(digits: &[u8; 8], len: usize) -> u64
     requires some { 1 ≤ len }

@@ -1,8 +1,8 @@
-//! Names: texts that were checked once.
+//! Names: texts that have been checked once.
 //!
-//! A value of this type is a name by its type, so nothing above checks it again. There is one type
-//! for all names, and a rule for each kind of them: those of devices in `device_name`, and those of
-//! disks in `disk_name`.
+//! A value of this type is always a valid name, so no code above checks it again. There is one type
+//! for all names, and one rule for each kind of name: for devices in `device_name`, for disks in
+//! `disk_name`.
 
 ghost use Rattle.dm_table.specs.Base.{Some, Err, true, false, IsTrue, IfOk, OnOk, List, ℕ, Bool, IsAscii, string_bytes};
 ghost use Rattle.std.specs.Prelude.{◌≡◌, ◌↔◌};
@@ -13,31 +13,31 @@ use std::fmt;
 use std::marker::{Model, PhantomData};
 use thiserror::Error;
 
-/// Why a text was not taken as a name.
+/// Why a text was not accepted as a name.
 #[derive(Clone, Copy, Debug, PartialEq, Eq, Error)]
 pub enum CheckFault {
-    /// It is not such a name.
+    /// The text isn't a valid name of this kind.
     #[error("the text is no name")]
     Form,
-    /// An allocation was refused.
+    /// Memory ran out: an allocation was refused.
     #[error("out of memory")]
     Memory,
 }
 
-/// Which texts are names of one kind: of devices, or of disks.
+/// A rule that says which texts are names of one kind: of devices, or of disks.
 pub trait NameRule {
-    /// Whether a text is one.
+    /// Whether a text is a valid name.
     ghost is_name: { List ℕ → Bool };
 
-    /// Whether the bytes are one.
+    /// Whether the bytes are a valid name.
     fn is_name(bytes: &[u8]) -> bool
         ensures { result ≡ is_name bytes.now };
 
-    /// Such a text is ASCII.
+    /// A valid name is ASCII.
     ghost ascii: { (text : List ℕ) → IsTrue (is_name text) → IsAscii text };
 }
 
-/// A text that is a name by its rule.
+/// A valid name by the rule `R`, in memory of its own.
 #[derive(Debug, Drop)]
 pub struct CheckedName<R: NameRule> {
     text: ReservedText,
@@ -56,10 +56,10 @@ impl<R: NameRule> Model for CheckedName<R> {
 }
 
 impl<R: NameRule> CheckedName<R> {
-    /// A copy of the text as a name of this kind.
+    /// Makes a name of this kind from a text, which is copied.
     ///
-    /// Cost: reads the text twice, and takes memory once, for a text that is a name. `Form` if it is
-    /// not one, and `Memory` if the allocation was refused.
+    /// Cost: reads the text twice, and allocates once if it is a valid name. Returns `Form` if it isn't one,
+    /// and `Memory` if the allocation was refused.
     pub fn new(alloc: Global, text: &str) -> Result<CheckedName<R>, CheckFault>
         ensures kept { IfOk result (λ name. name ≡ text.now) }
         ensures form { (result ≡ Err CheckFault.Form) ↔ (R.is_name text.now ≡ false) }
@@ -77,7 +77,7 @@ impl<R: NameRule> CheckedName<R> {
         }
     }
 
-    /// The name of these bytes, which have passed the test. Fails only where memory runs out.
+    /// Makes a name from bytes that are known to be valid. Fails only if memory runs out.
     pub(crate) fn of_bytes(alloc: Global, bytes: &[u8]) -> Result<CheckedName<R>, AllocError>
         requires { IsTrue (R.is_name bytes.now) }
         ensures { IfOk result (λ name. name ≡ bytes.now) }
@@ -88,25 +88,25 @@ impl<R: NameRule> CheckedName<R> {
         })
     }
 
-    /// A copy of the name, which is not tested again.
+    /// A copy of the name, without checking it again.
     ///
-    /// Cost: reads the text once, and takes memory once. Fails only if the allocation was refused.
+    /// Cost: reads the text once, and allocates once. Fails only if the allocation was refused.
     pub fn copy(&self, alloc: Global) -> Result<CheckedName<R>, AllocError>
         ensures { IfOk result (λ copy. copy ≡ self.now) }
     {
         CheckedName::of_bytes(alloc, self.as_str().as_bytes())
     }
 
-    /// The text of the name.
+    /// The name as a `str`.
     pub fn as_str(&self) -> &str
         ensures text { result.now ≡ self.now }
-        // A value is a name by its type.
+        // Every value of this type is a valid name.
         ensures name { IsTrue (R.is_name self.now) }
     {
         self.text.as_str()
     }
 
-    /// The text of the name, with no memory taken.
+    /// The name as a string. Allocates nothing.
     pub fn into_string(self) -> String
         ensures { string_bytes result ≡ self }
     {
@@ -122,11 +122,11 @@ impl<R: NameRule> fmt::Display for CheckedName<R> {
     }
 }
 
-/// These ASCII bytes as a text.
+/// ASCII bytes as a `str`.
 pub(crate) fn ascii_str(bytes: &[u8]) -> &str
     requires { IsAscii bytes.now }
     ensures { result.now ≡ bytes.now }
 {
-    // ASCII is UTF-8, which the proof shows, so that no pass over the bytes is needed.
+    // ASCII is UTF-8, as the proof shows, so the bytes needn't be checked.
     unsafe { str::from_utf8_unchecked(bytes) }
 }

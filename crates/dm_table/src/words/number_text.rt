@@ -1,17 +1,17 @@
-//! Texts of a fixed capacity, put together with no memory taken.
+//! Texts of a fixed capacity, built without allocating.
 //!
-//! Lines and messages have a greatest length by their limits, so a buffer on the stack holds any of
-//! them. A caller shows that there is room: nothing is ever cut off.
+//! Lines and messages have a greatest length, so a buffer on the stack holds any of them. Callers prove
+//! that there is room: no text is ever cut off.
 
 ghost use Rattle.dm_table.specs.Prelude.{length, decimal};
 ghost use Rattle.std.specs.Prelude.{◌≡◌, ◌++◌, ◌+◌, ◌≤◌};
 
 use arrayvec::ArrayVec;
 
-/// The most digits of a number of 64 bits.
+/// The most decimal digits of a 64-bit number.
 pub(crate) const MOST_DIGITS: usize = 20;
 
-/// Appends bytes to a text that has room for them.
+/// Appends bytes to a text, which must have room for them.
 pub fn append<const CAPACITY: usize>(text: &mut ArrayVec<u8, CAPACITY>, bytes: &[u8])
     requires { length text.old.items + length bytes.now ≤ CAPACITY }
     ensures text { text.new.items ≡ text.old.items ++ bytes.now }
@@ -22,7 +22,7 @@ pub fn append<const CAPACITY: usize>(text: &mut ArrayVec<u8, CAPACITY>, bytes: &
     };
 }
 
-/// Appends a number, in decimal digits, to a text that has room for any.
+/// Appends a number in decimal to a text, which must have room for any number.
 pub fn append_number<const CAPACITY: usize>(text: &mut ArrayVec<u8, CAPACITY>, number: u64)
     requires { length text.old.items + MOST_DIGITS ≤ CAPACITY }
     ensures text { text.new.items ≡ text.old.items ++ decimal number }

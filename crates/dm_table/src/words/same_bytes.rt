@@ -1,18 +1,18 @@
-//! Short texts compared at once.
+//! Compares short texts without a loop.
 //!
-//! Texts of any length are compared in a loop, and those of a known length in an instruction or two.
-//! Most names are short, and their first and last bytes, which may overlap, are all that they have.
+//! Texts of unknown length are compared in a loop, texts of a known length in an instruction or two. Most
+//! names are short enough that their first and last bytes, which may overlap, cover all of the name.
 //!
-//! This is here for speed alone: RESULTS.md has its gain as *short names compared at once*. It rests on the
-//! compiler, which compares arrays of a known length in an instruction or two. Change it only if you measure small
-//! requests and loads by names before and after.
+//! For speed alone: RESULTS.md has its gain as *short names compared at once*. It relies on the compiler to
+//! compare arrays of a known length in an instruction or two. Change it only if you measure small requests and
+//! loads by names before and after.
 
 ghost use Rattle.dm_table.specs.Prelude.{length, OnTrue, OnFalse};
 ghost use Rattle.std.specs.Prelude.{◌≡◌, ◌≢◌, ◌*◌, ◌≤◌};
 
 use crate::words::array::as_array;
 
-/// Whether two texts have the same bytes. It is quickest for texts of up to 16 bytes.
+/// Whether two texts are equal. Fastest for texts of up to 16 bytes.
 #[inline(always)]
 pub fn are_same(left: &[u8], right: &[u8]) -> bool
     ensures same { OnTrue result (left.now ≡ right.now) }
@@ -38,9 +38,9 @@ pub fn are_same(left: &[u8], right: &[u8]) -> bool
     left == right
 }
 
-/// Whether two texts of one length have the same bytes, by their first ones and their last ones, of
-/// which there are enough that each byte is one of them. Both are compared whatever the first ones
-/// say, since a jump costs more.
+/// Whether two texts of equal length are equal, by comparing their first and their last `LEN` bytes, which
+/// together cover all of each text. Both comparisons always run, since a jump
+/// would cost more.
 #[inline(always)]
 fn ends_same<const LEN: usize>(left: &[u8], right: &[u8]) -> bool
     requires sizes { length left.now ≡ length right.now }
@@ -55,7 +55,7 @@ fn ends_same<const LEN: usize>(left: &[u8], right: &[u8]) -> bool
     fronts & ends
 }
 
-/// Whether two texts of a known length have the same bytes.
+/// Whether two texts of `LEN` bytes, a length known at compile time, are equal.
 #[inline(always)]
 fn known_same<const LEN: usize>(left: &[u8], right: &[u8]) -> bool
     requires left { length left.now ≡ LEN }
