@@ -1,4 +1,4 @@
--- The words of std and of the crates below that this crate cites, and its types, from one place.
+-- The names from std and from lower crates, and the types, that this crate's definitions use.
 pub use Rattle.lvm_text.specs.Std.{All, AllPairs, BTreeMap, Bool, Err, List, None, Ok, Option, Result, Some, [], bytes_eq, codes, digits_value, drop, false, get_by, get_or, is_ascii_alphanumeric, is_ascii_digit, is_none, is_some, length, list_all, list_any, map, max, nat_cmp, nat_le, nat_lt, not, option_and_then, option_map, refl, slice_cmp, suc, take, true, unwrap_or, ℕ}
 pub use Rattle.lvm_text.specs.declared.fault.TextFault.{TextFault}
 pub use Rattle.lvm_text.specs.declared.fault.TextFault.TheVariants.{Deep, KeyTwice, Memory, Number, Syntax, Token}

@@ -1,4 +1,4 @@
--- The grammar of a text by its tokens, and the beginnings of its texts.
+-- The grammar of a text in terms of its tokens, and which tokens begin a text.
 use Rattle.lvm_text.specs.Base.{ℕ, Bool, true, false, not, nat_le, nat_lt, List, [], length, Option, Some, None, list_all, is_ascii_digit, digits_value}
 use Rattle.lvm_text.specs.Bytes.{code}
 use Rattle.lvm_text.specs.Token.{Token, Word, Text, Open, Close, ListOpen, ListClose, Equals, Comma, TokenAtLine}
@@ -6,38 +6,38 @@ use Rattle.lvm_text.specs.Tree as tree
 use Rattle.lvm_text.specs.Tree.{Values, Nothing, Section, Single, Several}
 use Rattle.std.specs.Prelude.{◌≡◌, ◌^◌, ◌⊎◌, ◌&&◌, ◌==◌, ◌∷◌, ◌++◌, if◌then◌else◌}
 
--- digits alone
+-- the word consists of digits only, or is empty
 abbrev pub are_digits : List ℕ → Bool
 are_digits = list_all is_ascii_digit
 
--- the integer of a word: 1 to 19 digits, below 2^63
+-- the integer that a word spells: 1 to 19 digits, below 2^63
 unfoldable pub number_of : List ℕ → Option ℕ
 number_of word = if are_digits word && (nat_le (length word) 19 && nat_lt (digits_value 10 word) (2 ^ 63)) then Some (digits_value 10 word) else None
 
--- a word that may be a key: one that begins with no hyphen
+-- the word may be a key: it isn't empty, and doesn't begin with a hyphen
 abbrev pub is_key : List ℕ → Bool
 is_key [] = false
 is_key (b ∷ bs) = not (b == code "-")
 
--- what a token is as a scalar: a word of digits alone, whose value has no limit, or a string
+-- a token as a scalar: a word of digits only, however large its value, or a string
 abbrev pub scalar_of : Token → Option tree.Scalar
 scalar_of (Word w) = if are_digits w then Some (tree.Int (digits_value 10 w)) else None
 scalar_of (Text t) = Some (tree.Text t)
 scalar_of _ = None
 
--- Texts, where `scalar` says what a token is as a scalar
+-- How tokens are read; `scalar` says what a token is as a scalar
 
--- after a scalar of a list: a comma and a scalar for each of these, the closing bracket, and more
+-- the other scalars of a list, after its first: a comma and a scalar for each, then the closing bracket, and then `more`
 abbrev pub ReadsMoreBy : (Token → Option tree.Scalar) → List TokenAtLine → List tree.Scalar → List TokenAtLine → Type 0
 ReadsMoreBy scalar ts [] more = (c : ℕ) × (ts ≡ (ListClose, c) ∷ more)
 ReadsMoreBy scalar ts (s ∷ ss) more = (c n : ℕ) × (t : Token) × (a : List TokenAtLine) × (ts ≡ (Comma, c) ∷ (t, n) ∷ a) × (scalar t ≡ Some s) × ReadsMoreBy scalar a ss more
 
--- after an opening bracket: these scalars, the closing bracket, and more
+-- a list, after its opening bracket: the scalars, then the closing bracket, and then `more`
 abbrev pub ReadsListBy : (Token → Option tree.Scalar) → List TokenAtLine → List tree.Scalar → List TokenAtLine → Type 0
 ReadsListBy scalar ts [] more = (c : ℕ) × (ts ≡ (ListClose, c) ∷ more)
 ReadsListBy scalar ts (s ∷ ss) more = (n : ℕ) × (t : Token) × (a : List TokenAtLine) × (ts ≡ (t, n) ∷ a) × (scalar t ≡ Some s) × ReadsMoreBy scalar a ss more
 
--- the tokens are these values, and then more
+-- the tokens are these values, followed by the tokens `more`
 abbrev pub ReadsBy : (Token → Option tree.Scalar) → List TokenAtLine → Values → List TokenAtLine → Type 0
 ReadsBy scalar ts Nothing more = ts ≡ more
 ReadsBy scalar ts (Section k n inner rest) more =
@@ -47,29 +47,29 @@ ReadsBy scalar ts (Single k n s rest) more =
 ReadsBy scalar ts (Several k n ss rest) more =
     (is_key k ≡ true) × (e o : ℕ) × (a b : List TokenAtLine) × (ts ≡ (Word k, n) ∷ (Equals, e) ∷ (ListOpen, o) ∷ a) × ReadsListBy scalar a ss b × ReadsBy scalar b rest more
 
--- more scalars of a list, as the grammar has them
+-- the other scalars of a list, after its first, by the grammar's notion of a scalar
 abbrev pub ReadsMore : List TokenAtLine → List tree.Scalar → List TokenAtLine → Type 0
 ReadsMore = ReadsMoreBy scalar_of
 
--- after an opening bracket: a list, as the grammar has scalars
+-- a list, after its opening bracket, by the grammar's notion of a scalar
 abbrev pub ReadsList : List TokenAtLine → List tree.Scalar → List TokenAtLine → Type 0
 ReadsList = ReadsListBy scalar_of
 
--- values, as the grammar has scalars
+-- the tokens are these values, followed by the tokens `more`, by the grammar's notion of a scalar
 abbrev pub Reads : List TokenAtLine → Values → List TokenAtLine → Type 0
 Reads = ReadsBy scalar_of
 
--- the tokens are a text: these values and no more
+-- the tokens are a complete text, with these values
 abbrev pub IsText : List TokenAtLine → Values → Type 0
 IsText ts v = Reads ts v []
 
--- the tokens are the beginning of a text: some tokens complete them
+-- the tokens are the beginning of some text: other tokens can complete them
 pub record BeginsText (ts : List TokenAtLine) : Type 0 where
   pub more : List TokenAtLine
   pub values : Values
   pub text : IsText (ts ++ more) values
 
--- the tokens before are the beginning of a text, and with this one they are none
+-- the token on this line is the first with which the tokens so far are no beginning of a text any more
 pub record IsBreak (ts : List TokenAtLine) (line : ℕ) : Type 0 where
   pub before : List TokenAtLine
   pub token : Token
@@ -78,11 +78,11 @@ pub record IsBreak (ts : List TokenAtLine) (line : ℕ) : Type 0 where
   pub begun : BeginsText before
   pub broken : ¬ (BeginsText (before ++ (token, line) ∷ []))
 
--- the tokens are the beginning of a text and no text
+-- the tokens are the beginning of a text, but not a complete text
 pub record IsUnfinished (ts : List TokenAtLine) : Type 0 where
   pub begun : BeginsText ts
   pub unfinished : (v : Values) → ¬ (IsText ts v)
 
--- the line of a fault of syntax, where end is the line of the end of the text
+-- the line of a syntax fault: that of the first token that can't follow, or `end` if the text is only incomplete
 abbrev pub IsSyntaxLine : List TokenAtLine → ℕ → ℕ → Type 0
 IsSyntaxLine ts end line = IsBreak ts line ⊎ (IsUnfinished ts × (line ≡ end))

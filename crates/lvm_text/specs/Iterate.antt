@@ -1,4 +1,4 @@
--- The sections that are left of an iteration.
+-- The sections that an iterator has still to return.
 use Rattle.lvm_text.specs.Base.{ℕ, List, drop}
 use Rattle.lvm_text.specs.Tree.{Tree}
 use Rattle.lvm_text.specs.View.{sections_in}
@@ -6,10 +6,10 @@ use Rattle.lvm_text.specs.declared.tree.Section.{Section}
 use Rattle.lvm_text.specs.declared.lookup.Sections.{Sections}
 use denote.Ref.{Bor}
 
--- a key and its section, as an item shows them
+-- a key and its section, as the iterator returns them
 abbrev pub item_view : Bor (List ℕ) × Bor Section → List ℕ × Tree
 item_view item = (item.0.now, item.1.now)
 
--- the keys and sections that are left, in source order
+-- the keys and sections that the iterator has still to return, in source order
 abbrev pub sections_left : Sections → List (List ℕ × Tree)
 sections_left s = sections_in (drop s.at s.entries.now)

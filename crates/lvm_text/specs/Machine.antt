@@ -1,4 +1,4 @@
--- The stages of a parser. That they say which tokens can still become a text is proved, not assumed.
+-- The stages of a parser. It is proved, not assumed, that they say which tokens can still become a text.
 use Rattle.lvm_text.specs.Base.{ℕ, suc, Bool, false, List, [], Option, Some, None, is_some, option_and_then, nat_lt}
 use Rattle.lvm_text.specs.Token.{Token, Word, Open, Close, ListOpen, ListClose, Equals, Comma, TokenAtLine}
 use Rattle.lvm_text.specs.Grammar.{scalar_of, is_key}
@@ -6,15 +6,15 @@ use Rattle.lvm_text.specs.declared.syntax.Stage.{Stage}
 use Rattle.lvm_text.specs.declared.syntax.Stage.TheVariants as at
 use Rattle.std.specs.Prelude.{◌-◌, ◌==◌, ◌∷◌, if◌then◌else◌}
 
--- the open sections, and how far a value was read
+-- how many sections are open, and how far the current value has been read
 abbrev pub State : Type 0
 State = ℕ × Stage
 
--- the next state, if a token is a scalar
+-- the next state, if the token is a scalar
 abbrev pub scalar_then : Token → State → Option State
 scalar_then t next = if is_some (scalar_of t) then Some next else None
 
--- the state after a token, if it may stand here
+-- the state after a token, or None if the token may not come here; `d` is how many sections are open
 abbrev pub stage_after : ℕ → Stage → Token → Option State
 stage_after d at.Key (Word w) = if is_key w then Some (d, at.AfterKey) else None
 stage_after d at.Key Close = if nat_lt 0 d then Some (d - 1, at.Key) else None
@@ -31,12 +31,12 @@ stage_after d at.After Comma = Some (d, at.Next)
 stage_after d at.After _ = None
 stage_after d at.Next t = scalar_then t (d, at.After)
 
--- the state after the tokens, if none of them is refused
+-- the state after all of the tokens, or None if one of them may not come
 abbrev pub run : ℕ → Stage → List TokenAtLine → Option State
 run d p [] = Some (d, p)
 run d p (t ∷ ts) = option_and_then (λ s. run s.0 s.1 ts) (stage_after d p t.0)
 
--- a stage where a text may end
+-- a text may end at this stage: no section is open and no value is unfinished
 abbrev pub is_over : ℕ → Stage → Bool
 is_over d at.Key = d == 0
 is_over d _ = false

@@ -1,15 +1,15 @@
--- Where the keys of a section stand.
+-- The positions of keys among the entries of a section.
 use Rattle.lvm_text.specs.Base.{ℕ, List, [], drop, Option, Some, None, bytes_eq, nat_cmp, slice_cmp, BTreeMap, get_by}
 use Rattle.lvm_text.specs.declared.index.TheConstants.{FEW}
 use Rattle.lvm_text.specs.declared.tree.Entry.{Entry}
 use Rattle.std.specs.Prelude.{◌≡◌, ◌+◌, ◌∷◌, if◌then◌else◌}
 use denote.Ref.{Bor}
 
--- the position of the first entry with a key, where the first entry of all has the position `first`
+-- the position of the first entry with this key, where positions count from `first`
 abbrev pub position_of : List ℕ → ℕ → List Entry → Option ℕ
 position_of key first [] = None
 position_of key first (e ∷ es) = if bytes_eq e.key.now key then Some first else position_of key (first + 1) es
 
--- the index has the positions of the keys after the first few entries, and no other key
+-- the index gives the position of each key that comes after the first FEW entries, and has no other keys
 abbrev pub Finds : BTreeMap (Bor (List ℕ)) ℕ → List Entry → Type 0
 Finds index es = (key : List ℕ) → get_by (λ k. slice_cmp nat_cmp key k.now) index ≡ position_of key FEW (drop FEW es)

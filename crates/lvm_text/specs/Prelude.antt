@@ -1,4 +1,4 @@
--- The words that contracts cite, here and in crates above, from one place.
+-- The names that contracts use, in this crate and in crates above, in one place.
 pub use Rattle.lvm_text.specs.Base.{Err, List, None, Ok, Some, [], digits_value, drop, false, is_none, is_some, length, option_map, suc, take, true, ℕ}
 pub use Rattle.lvm_text.specs.Build.{IsTwice, IsTwiceInside, ReadsLeaf, ReadsScalars, ReadsValue, ReadsValues, ShowsScalar, before, begins_key, bounded_of, is_comma, is_list_open, is_open, item_of, left, scalar_first}
 pub use Rattle.lvm_text.specs.Bytes.{code}

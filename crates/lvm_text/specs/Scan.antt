@@ -1,21 +1,21 @@
--- How many bytes an element of a text takes.
+-- The element at the front of a text, and how many bytes it has.
 use Rattle.lvm_text.specs.Base.{ℕ, suc, Bool, false, List, [], take, drop, Option, Some, None, option_map}
 use Rattle.lvm_text.specs.Bytes.{code}
 use Rattle.lvm_text.specs.Token.{Token, Word, Text, Open, Close, ListOpen, ListClose, Equals, Comma}
 use Rattle.lvm_text.specs.Spelling.{Element, White, Comment, Lexeme, is_white, is_word_byte, is_escapable}
 use Rattle.std.specs.Prelude.{◌&&◌, ◌==◌, ◌∷◌, if◌then◌else◌}
 
--- up to the newline
+-- how many bytes come before the first newline, if there is one
 abbrev pub newline_at : List ℕ → Option ℕ
 newline_at [] = None
 newline_at (b ∷ bs) = if b == code "\n" then Some 0 else option_map suc (newline_at bs)
 
--- up to a byte of no word
+-- how many bytes at the front may occur in a word
 abbrev pub leading_word_bytes : List ℕ → ℕ
 leading_word_bytes [] = 0
 leading_word_bytes (b ∷ bs) = if is_word_byte b then suc (leading_word_bytes bs) else 0
 
--- up to the closing quote
+-- how many bytes of a string come before its closing quote; None if it isn't closed, or has a newline or a bad escape
 abbrev pub raw_length : List ℕ → Option ℕ
 raw_length [] = None
 raw_length (b ∷ []) = if b == code "\"" then Some 0 else None
@@ -25,31 +25,31 @@ raw_length (b ∷ c ∷ bs) =
     else if b == code "\n" then None
     else option_map suc (raw_length (c ∷ bs))
 
--- a backslash before a byte that may follow one
+-- the bytes begin with a backslash and a byte that may follow one
 abbrev pub is_escape : List ℕ → Bool
 is_escape [] = false
 is_escape (b ∷ []) = false
 is_escape (b ∷ c ∷ bs) = b == code "\\" && is_escapable c
 
--- a sign, and none for any other byte
+-- the token for one of the signs { } [ ] = , and None for any other byte
 abbrev pub sign_of : ℕ → Option Token
 sign_of b =
     if b == code "{" then Some Open else if b == code "}" then Some Close else if b == code "[" then Some ListOpen
     else if b == code "]" then Some ListClose else if b == code "=" then Some Equals else if b == code "," then Some Comma else None
 
--- a comment, from after its hash, and what comes after it
+-- a comment and the bytes after its newline; `bs` are the bytes after its #
 abbrev pub comment_from : List ℕ → Option (Element × List ℕ)
 comment_from bs = option_map (λ n. (Comment (take n bs), drop (suc n) bs)) (newline_at bs)
 
--- a string, from after its opening quote, and what comes after it
+-- a string and the bytes after its closing quote; `bs` are the bytes after its opening quote
 abbrev pub string_from : List ℕ → Option (Element × List ℕ)
 string_from bs = option_map (λ n. (Lexeme (Text (take n bs)), drop (suc n) bs)) (raw_length bs)
 
--- a word, and what comes after it
+-- the word at the front, and the bytes after it
 abbrev pub word_from : List ℕ → Element × List ℕ
 word_from bs = (Lexeme (Word (take (leading_word_bytes bs) bs)), drop (leading_word_bytes bs) bs)
 
--- the element that begins with this byte before these, and what comes after it
+-- the element that begins with byte b, which `bs` follow, and the bytes after the element
 abbrev pub element_from : ℕ → List ℕ → Option (Element × List ℕ)
 element_from b bs =
     if is_white b then Some (White b, bs)
@@ -58,7 +58,7 @@ element_from b bs =
     else if is_word_byte b then Some (word_from (b ∷ bs))
     else option_map (λ t. (Lexeme t, bs)) (sign_of b)
 
--- the element at the front, and what comes after it
+-- the element at the front of a text, and the bytes after it; None at the end, and if no element begins here
 unfoldable pub element_at : List ℕ → Option (Element × List ℕ)
 element_at [] = None
 element_at (b ∷ bs) = element_from b bs

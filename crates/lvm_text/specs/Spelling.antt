@@ -1,60 +1,60 @@
--- How a text spells its tokens, with white space and comments between them.
+-- How a text is cut into tokens, with white space and comments between them.
 use Rattle.lvm_text.specs.Base.{ℕ, Bool, true, false, not, List, [], suc, list_all, is_ascii_alphanumeric}
 use Rattle.lvm_text.specs.Bytes.{code}
 use Rattle.lvm_text.specs.Token.{Token, Word, Text, Open, Close, ListOpen, ListClose, Equals, Comma, TokenAtLine}
 use Rattle.std.specs.Prelude.{◌≡◌, ◌≢◌, ◌+◌, ◌&&◌, ◌||◌, ◌==◌, ◌∷◌, ◌++◌, if◌then◌else◌}
 
--- The bytes
+-- Classes of bytes
 
--- a space, a tab or a newline
+-- the byte is a space, a tab or a newline
 abbrev pub is_white : ℕ → Bool
 is_white b = b == code " " || (b == code "\t" || b == code "\n")
 
--- a letter, a digit or one of _ + . -
+-- the byte may occur in a word: a letter, a digit or one of _ + . -
 abbrev pub is_word_byte : ℕ → Bool
 is_word_byte b = is_ascii_alphanumeric b || (b == code "_" || (b == code "+" || (b == code "." || b == code "-")))
 
--- a newline
+-- the byte is a newline
 abbrev pub is_newline : ℕ → Bool
 is_newline b = b == code "\n"
 
--- how many newlines there are
+-- how many newlines the bytes have
 abbrev pub newlines : List ℕ → ℕ
 newlines [] = 0
 newlines (b ∷ bs) = if is_newline b then suc (newlines bs) else newlines bs
 
--- a quote or a backslash, which a string has only after a backslash
+-- the byte is a quote or a backslash, which a string contains only after a backslash
 abbrev pub is_escapable : ℕ → Bool
 is_escapable b = b == code "\"" || b == code "\\"
 
--- any other byte of a string
+-- the byte may occur in a string without a backslash before it
 abbrev pub is_plain : ℕ → Bool
 is_plain b = not (b == code "\"" || (b == code "\\" || b == code "\n"))
 
--- the raw text of a string
+-- the bytes are the raw text of a string, between its quotes and with its backslashes
 abbrev pub is_raw : List ℕ → Bool
 is_raw [] = true
 is_raw (b ∷ []) = is_plain b
 is_raw (b ∷ c ∷ bs) = (is_plain b && is_raw (c ∷ bs)) || (b == code "\\" && (is_escapable c && is_raw bs))
 
--- no newline
+-- the bytes contain no newline
 abbrev pub is_line : List ℕ → Bool
 is_line bs = list_all (λ b. not (is_newline b)) bs
 
--- the first byte may stand in a word
+-- the first byte, if there is one, may occur in a word
 abbrev pub begins_word : List ℕ → Bool
 begins_word [] = false
 begins_word (b ∷ bs) = is_word_byte b
 
--- The elements
+-- The elements of a text
 
--- a white byte, a comment without its sign and its newline, or a token
+-- a white byte, a comment without its # and its newline, or a token
 pub data Element : Type 0 where
   White : ℕ → Element
   Comment : List ℕ → Element
   Lexeme : Token → Element
 
--- the bytes of a token
+-- the bytes that spell a token
 abbrev pub token_spelling : Token → List ℕ
 token_spelling (Word w) = w
 token_spelling (Text t) = code "\"" ∷ (t ++ code "\"" ∷ [])
@@ -65,65 +65,65 @@ token_spelling ListClose = code "]" ∷ []
 token_spelling Equals = code "=" ∷ []
 token_spelling Comma = code "," ∷ []
 
--- the bytes of an element
+-- the bytes that spell an element
 abbrev pub spelling : Element → List ℕ
 spelling (White b) = b ∷ []
 spelling (Comment c) = code "#" ∷ (c ++ code "\n" ∷ [])
 spelling (Lexeme t) = token_spelling t
 
--- a longest run of word bytes, before what comes after
+-- w is a word that ends where it must: it isn't empty, and `after` doesn't begin with another byte of a word
 pub record IsWord (w after : List ℕ) : Type 0 where
   pub some : w ≢ []
   pub bytes : list_all is_word_byte w ≡ true
   pub longest : begins_word after ≡ false
 
--- a token, where these bytes come after it
+-- the token is valid when the bytes `after` follow it
 abbrev pub IsToken : Token → List ℕ → Type 0
 IsToken (Word w) after = IsWord w after
 IsToken (Text t) after = is_raw t ≡ true
 IsToken _ after = Unit {0}
 
--- an element, where these bytes come after it
+-- the element is valid when the bytes `after` follow it
 abbrev pub IsElement : Element → List ℕ → Type 0
 IsElement (White b) after = is_white b ≡ true
 IsElement (Comment c) after = is_line c ≡ true
 IsElement (Lexeme t) after = IsToken t after
 
--- an element, whatever comes after it
+-- the element is valid for some bytes after it
 abbrev pub SomeElement : Element → Type 0
 SomeElement p = (after : List ℕ) × IsElement p after
 
--- the text is an element, and then what comes after
+-- the text begins with this element, and `after` follows
 abbrev pub Begins : List ℕ → Element → List ℕ → Type 0
 Begins text p after = (text ≡ spelling p ++ after) × IsElement p after
 
--- the text is these elements, and then the rest
+-- the text consists of these elements, and `rest` follows
 abbrev pub Cut : List ℕ → List Element → List ℕ → Type 0
 Cut text [] rest = text ≡ rest
 Cut text (p ∷ ps) rest = (after : List ℕ) × Begins text p after × Cut after ps rest
 
--- nothing is left but a comment that the end of the text ends
+-- the bytes are empty, or a comment without a newline, as the end of a text may have
 abbrev pub is_end : List ℕ → Bool
 is_end [] = true
 is_end (b ∷ bs) = b == code "#" && is_line bs
 
--- the line after the elements, from line n on
+-- the line number after the elements, which begin on line n
 abbrev pub line_after : ℕ → List Element → ℕ
 line_after n [] = n
 line_after n (p ∷ ps) = line_after (n + newlines (spelling p)) ps
 
--- an element's token, before those of later elements
+-- the token of an element with its line, in front of later tokens; white bytes and comments add none
 abbrev pub put_token : Element → ℕ → List TokenAtLine → List TokenAtLine
 put_token (Lexeme t) n later = (t, n) ∷ later
 put_token (White b) n later = later
 put_token (Comment c) n later = later
 
--- the tokens of the elements, each with its line, from line n on
+-- the tokens of the elements, each with its line; the first element is on line n
 abbrev pub tokens_from : ℕ → List Element → List TokenAtLine
 tokens_from n [] = []
 tokens_from n (p ∷ ps) = put_token p n (tokens_from (n + newlines (spelling p)) ps)
 
--- the text spells these tokens
+-- the text can be cut into elements whose tokens are these
 pub record Spells (text : List ℕ) (ts : List TokenAtLine) : Type 0 where
   pub elements : List Element
   pub rest : List ℕ
@@ -131,7 +131,7 @@ pub record Spells (text : List ℕ) (ts : List TokenAtLine) : Type 0 where
   pub end : is_end rest ≡ true
   pub tokens : ts ≡ tokens_from 1 elements
 
--- at this line begins something that is no white space, no comment and no token
+-- after some elements, on this line, comes neither white space nor a comment nor a token
 pub record IsBadToken (text : List ℕ) (line : ℕ) : Type 0 where
   pub elements : List Element
   pub rest : List ℕ

@@ -1,7 +1,7 @@
 -- The tokens of a text.
 use Rattle.lvm_text.specs.Base.{ℕ, List}
 
--- a word, the raw text between quotes, or one of the signs { } [ ] = ,
+-- a word, the raw text between two quotes, or one of the signs { } [ ] = ,
 pub data Token : Type 0 where
   Word : List ℕ → Token
   Text : List ℕ → Token
@@ -12,6 +12,6 @@ pub data Token : Type 0 where
   Equals : Token
   Comma : Token
 
--- a token and the line where it begins
+-- a token and the line on which it begins
 abbrev pub TokenAtLine : Type 0
 TokenAtLine = Token × ℕ

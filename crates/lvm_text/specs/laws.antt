@@ -1,4 +1,4 @@
--- Laws of the tree, with their proofs: a section inside another is smaller, and a tree is told by its code.
--- They stand among the definitions because the type of a section cites them.
+-- Proved laws of trees: an inner section is smaller than the outer one, and a tree can be recovered from its code.
+-- They are kept with the specs because the type of a section cites them.
 pub mod TreeCode
 pub mod TreeFalls

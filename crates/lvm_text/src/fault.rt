@@ -6,26 +6,26 @@ ghost use Rattle.std.specs.Prelude.{◌≡◌};
 use std::alloc::{AllocError, AllocFailed};
 use thiserror::Error;
 
-/// Why a text is refused, and at which line of it, from 1.
+/// Why a text is refused, and the line of the fault, counted from 1.
 #[derive(Clone, Copy, Debug, PartialEq, Eq, Error)]
 pub enum TextFault {
-    /// What begins here is no token, no comment and no white space.
+    /// On this line begins something that is no token, no comment and no white space.
     #[error("line {0}: no token")]
     Token(u64),
-    /// With the token here, the tokens so far can't become a text. Where only the end is missing, the line
-    /// is one more than the text has newlines.
+    /// The tokens up to and including one on this line can't become a text. If only the end is missing, the line
+    /// is one more than the number of newlines.
     #[error("line {0}: wrong syntax")]
     Syntax(u64),
-    /// An earlier key of the same section equals the key here.
+    /// A key on this line equals an earlier key of the same section.
     #[error("line {0}: a key for the second time")]
     KeyTwice(u64),
-    /// The brace here opens level 17; the top is level 0.
+    /// A brace on this line opens level 17; the top of the text is level 0.
     #[error("line {0}: sections too deep")]
     Deep(u64),
-    /// The integer here has more than 19 digits or is 2^63 or more.
+    /// An integer on this line has more than 19 digits or is 2^63 or more.
     #[error("line {0}: an integer out of range")]
     Number(u64),
-    /// An allocation was refused.
+    /// Memory ran out: an allocation was refused.
     #[error("out of memory")]
     Memory,
 }

@@ -1,7 +1,7 @@
-//! The positions of a section's keys.
-//! The first few entries are looked at one by one, and an index has the positions of the later ones in about
-//! `log n` steps: metadata is mostly small sections, and an index for each of them would take most of its
-//! memory. What an index has is `Finds` in `specs/Positions`; change that first.
+//! Finds the position of a key among the entries of a section.
+//! The first few entries are compared one by one, and an index gives the positions of the others in about
+//! `log n` steps: metadata has mostly small sections, and an index for each would take most of the memory. What
+//! an index contains is `Finds` in `specs/Positions`; change that first.
 
 ghost use Rattle.lvm_text.specs.Prelude.{None, [], OnOk, Finds, position_of};
 ghost use Rattle.std.specs.Prelude.{◌≡◌, ◌∷◌, ◌++◌};
@@ -10,10 +10,10 @@ use crate::tree::Entry;
 use std::alloc::AllocError;
 use std::collections::BTreeMap;
 
-/// How many entries of a section are not in its index.
+/// How many entries at the front of a section are not in its index.
 pub(crate) const FEW: usize = 8;
 
-/// The position of the first of these entries with a key.
+/// The position of the first of these entries that has this key.
 fn position_among(entries: &[Entry<'_>], key: &str) -> Option<usize>
     ensures { result ≡ position_of key.now 0 entries.now }
 {
@@ -25,7 +25,7 @@ fn position_among(entries: &[Entry<'_>], key: &str) -> Option<usize>
     None
 }
 
-/// The position of a key in a section.
+/// The position of a key in a section, or `None` if the section doesn't have it.
 pub(crate) fn position_of(
     entries: &[Entry<'_>],
     index: &BTreeMap<&str, usize>,
@@ -40,7 +40,7 @@ pub(crate) fn position_of(
     }
 }
 
-/// Adds an entry, whose key none has yet, after the others.
+/// Appends an entry, whose key must be new in the section.
 pub(crate) fn add_entry<'a>(
     entries: &mut Vec<Entry<'a>>,
     index: &mut BTreeMap<&'a str, usize>,

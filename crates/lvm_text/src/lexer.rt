@@ -1,5 +1,5 @@
-//! How a text is cut into tokens: element by element, from its front to its end.
-//! White bytes and comments are dropped here; their newlines say on which line the next token begins.
+//! Cuts a text into tokens, element by element from front to end.
+//! White bytes and comments are dropped; their newlines are counted for the lines of the tokens.
 
 ghost use Rattle.lvm_text.specs.Prelude.{[], MatchResult, OnOk, Spells, SomeElement, newlines, spelling, put_token, IsTokenFault, views, element_view};
 ghost use Rattle.std.specs.Prelude.{◌≡◌, ◌++◌};
@@ -22,7 +22,7 @@ fn newlines(element: Element<'_>) -> u64
     }
 }
 
-/// Keeps an element's token, if it has one.
+/// Appends an element's token with its line; white bytes and comments have none.
 fn keep<'a>(
     tokens: &mut Vec<TokenAtLine<'a>>,
     element: Element<'a>,
@@ -37,7 +37,7 @@ fn keep<'a>(
     }
 }
 
-/// The tokens of a text, or the line where something begins that is none.
+/// The tokens of a text, or the line on which something begins that is no element.
 pub(crate) fn tokens_of(alloc: Global, text: &str) -> Result<Vec<TokenAtLine<'_>>, TextFault>
     ensures { MatchResult result (λ v. Spells text.now (views v.items)) (IsTokenFault text.now) }
 {
@@ -51,7 +51,7 @@ pub(crate) fn tokens_of(alloc: Global, text: &str) -> Result<Vec<TokenAtLine<'_>
         keep(&mut tokens, element, line)?;
         line += newlines(element);
         rest = after;
-        // Most elements are white bytes, so these are taken in a loop of their own.
+        // Most elements are white bytes, so a loop of their own skips them.
         while let Some((byte, after)) = white_at(rest) {
             line += newlines(Element::White(byte));
             rest = after;

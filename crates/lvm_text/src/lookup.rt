@@ -1,5 +1,5 @@
-//! What a section answers: its line, the node of a key, and the sections inside it.
-//! A key is found by its position in `index`; sections are found by going over the entries.
+//! Lookups in a section: its line, the node of a key, and the inner sections.
+//! A key is found by its position in `index`; inner sections are found by iterating over the entries.
 
 ghost use Rattle.lvm_text.specs.Prelude.{option_map};
 ghost use Rattle.std.specs.Prelude.{◌≡◌};
@@ -14,14 +14,14 @@ impl<'a> Section<'a> {
     ghost use Rattle.lvm_text.specs.Iterate.{sections_left};
     ghost use Rattle.std.specs.Prelude.{◌≢◌};
 
-    /// The line of the section's key, from 1; 1 for the top.
+    /// The line of the section's key, counted from 1; 1 for the top of the text.
     pub fn line(&self) -> u64
         ensures { result ≡ self.now.line }
     {
         self.line
     }
 
-    /// The node of a key, and `None` exactly where the section has none.
+    /// The node of a key, or `None` if the section doesn't have the key.
     ///
     /// Cost: at most 8 comparisons with the first keys, and about `log n` with the `n` others.
     pub fn get(&self, key: &str) -> Option<&Node<'a>>
@@ -31,12 +31,12 @@ impl<'a> Section<'a> {
         Some(&self.entries[at].node)
     }
 
-    /// The keys that hold sections, each with its section, in source order. Each step looks at the keys up to
-    /// the next.
+    /// The keys that hold sections, each with its section, in source order. Each step passes over the keys up to
+    /// the next section.
     pub fn sections(&self) -> Sections<'_, 'a>
         ensures sections { sections_left result ≡ sections_of self.now.values }
-        // By its type, a section's keys differ, so the section that comes with a key is the one that `get`
-        // finds.
+        // The keys of a section all differ, so the section that comes with a key is the one that `get`
+        // finds for it.
         ensures differ { AllPairs (λ j k. j ≢ k) (keys_of self.now.values) }
         ensures found { All (IsFound self.now.values) (sections_of self.now.values) }
     {

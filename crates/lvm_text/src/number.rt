@@ -1,18 +1,18 @@
-//! Integers of a text.
-//! Leading zeros are allowed. 19 digits bound the work, and a `u64` holds their value, which then has to be
-//! below 2^63. A sign or a decimal point would be a change of `scalar_of` in `specs/Grammar`.
+//! Reads the integers of a text.
+//! Leading zeros are allowed. The limit of 19 digits keeps the value within a `u64`; it then has to be below 2^63.
+//! To allow a sign or a decimal point, change `scalar_of` in `specs/Grammar`.
 
 ghost use Rattle.lvm_text.specs.Prelude.{length, IsTrue, digits_value, are_digits, number_of};
 ghost use Rattle.std.specs.Prelude.{◌≡◌, ◌≤◌};
 
-/// Whether a word has digits alone.
+/// Whether a word consists of digits only.
 pub(crate) fn are_digits(word: &[u8]) -> bool
     ensures { result ≡ are_digits word.now }
 {
     word.iter().all(|byte| byte.is_ascii_digit())
 }
 
-/// The value of at most 19 digits.
+/// The value of at most 19 digits, which fits a `u64`.
 fn value_of(word: &[u8]) -> u64
     requires digits { IsTrue (are_digits word.now) }
     requires short { length word.now ≤ 19 }
@@ -25,7 +25,7 @@ fn value_of(word: &[u8]) -> u64
     value
 }
 
-/// The integer that a word is: 1 to 19 digits, below 2^63.
+/// The integer that a word spells, if it has 1 to 19 digits and is below 2^63.
 #[tactic(auto, unfolding(crate::specs::Grammar::number_of))]
 pub(crate) fn number_of(word: &[u8]) -> Option<u64>
     ensures { result ≡ number_of word.now }

@@ -1,6 +1,6 @@
-//! The reading of a whole text: tokens, then their checks, then the tree.
-//! Each check goes over the whole text before the next begins, since the order of the checks, and not that of
-//! the lines, decides which fault is returned. A new check goes between two of these.
+//! Reads a whole text: tokens, then their checks, then the tree.
+//! Each check runs over the whole text before the next begins, because the order of the checks, not of the lines,
+//! decides which fault is returned. A new check belongs between two of these.
 
 ghost use Rattle.lvm_text.specs.Prelude.{Ok, Err, IfOk, IfErr, Values, newlines, IsText, views, Describes, HasFault, TreeOf, Memory};
 ghost use Rattle.std.specs.Prelude.{◌≡◌, ◌≢◌, ◌+◌};
@@ -14,7 +14,7 @@ use crate::token::TokenAtLine;
 use crate::tree::Section;
 use std::alloc::Global;
 
-/// The line of the end of some bytes: one more than they have newlines.
+/// The number of the last line of a text: one more than its number of newlines.
 pub fn end_line(bytes: &[u8]) -> u64
     ensures { result ≡ 1 + newlines bytes.now }
 {
@@ -27,7 +27,7 @@ pub fn end_line(bytes: &[u8]) -> u64
     line
 }
 
-/// The tree of tokens that are a text, or the fault of the first check that finds one.
+/// The tree of tokens that are a text by the grammar, or the fault of the first check that finds one.
 fn tree_of<'a>(alloc: Global, tokens: &[TokenAtLine<'a>]) -> Result<Section<'a>, TextFault>
     ensures { (v : Values) → IsText (views tokens.now) v → TreeOf (views tokens.now) v result }
 {
@@ -41,7 +41,7 @@ fn tree_of<'a>(alloc: Global, tokens: &[TokenAtLine<'a>]) -> Result<Section<'a>,
     Ok(section)
 }
 
-/// The tree that a text says, or its fault.
+/// Reads a text as a tree, or returns its fault.
 pub(crate) fn read(alloc: Global, text: &str) -> Result<Section<'_>, TextFault>
     ensures accepted { IfOk result (Describes text.now) }
     ensures fault { IfErr result (λ f. f ≢ Memory → HasFault text.now f) }

@@ -1,34 +1,34 @@
-//! How many bytes a comment, a word or a string takes.
-//! Each is found by one look at each byte, since a text may be one long word. A new form of token begins
-//! here, with its length.
+//! Finds where a comment, a word or a string in a text ends.
+//! Each byte is read once, since a text may be one long word. A new kind of token needs a function here that finds
+//! its length.
 
 ghost use Rattle.lvm_text.specs.Prelude.{None, is_none, is_white, is_word_byte, is_end, newline_at, leading_word_bytes, raw_length, is_escape};
 ghost use Rattle.std.specs.Prelude.{◌≡◌};
 
 use memchr::{memchr, memchr3};
 
-/// Whether a byte is white space.
+/// Whether a byte is a space, a tab or a newline.
 pub(crate) fn is_white(byte: u8) -> bool
     ensures { result ≡ is_white byte }
 {
     byte == b' ' || byte == b'\t' || byte == b'\n'
 }
 
-/// Whether a byte may stand in a word.
+/// Whether a byte may occur in a word.
 pub(crate) fn is_word_byte(byte: u8) -> bool
     ensures { result ≡ is_word_byte byte }
 {
     byte.is_ascii_alphanumeric() || matches!(byte, b'_' | b'+' | b'.' | b'-')
 }
 
-/// How many bytes stand before the first newline.
+/// How many bytes come before the first newline, or `None` if there is none.
 pub(crate) fn newline_at(bytes: &[u8]) -> Option<usize>
     ensures { result ≡ newline_at bytes.now }
 {
     memchr(b'\n', bytes)
 }
 
-/// How many word bytes stand at the front.
+/// How many bytes at the front may occur in a word.
 pub(crate) fn leading_word_bytes(bytes: &[u8]) -> usize
     ensures { result ≡ leading_word_bytes bytes.now }
 {
@@ -40,7 +40,7 @@ pub(crate) fn leading_word_bytes(bytes: &[u8]) -> usize
     bytes.len()
 }
 
-/// Whether the text begins with a backslash before a quote or a backslash.
+/// Whether the bytes begin with a backslash and then a quote or a backslash.
 fn is_escape(bytes: &[u8]) -> bool
     ensures { result ≡ is_escape bytes.now }
 {
@@ -50,7 +50,7 @@ fn is_escape(bytes: &[u8]) -> bool
     }
 }
 
-/// How many bytes stand before the quote that closes a string, if one does.
+/// How many bytes of a string come before its closing quote; `None` if it isn't closed or has a bad byte.
 pub(crate) fn raw_length(bytes: &[u8]) -> Option<usize>
     ensures { result ≡ raw_length bytes.now }
 {
@@ -68,7 +68,7 @@ pub(crate) fn raw_length(bytes: &[u8]) -> Option<usize>
     None
 }
 
-/// Whether nothing is left but a comment that the end of the text ends.
+/// Whether the bytes are empty, or a comment without a newline, as the end of a text may have.
 pub(crate) fn is_end(bytes: &[u8]) -> bool
     ensures { result ≡ is_end bytes.now }
 {

@@ -1,6 +1,6 @@
-//! The grammar of a text, as the stages at which a parser may stand in it.
-//! Sections may nest without bound here, so the number of open ones takes the place of a stack. A new form of
-//! value is a stage and its steps; the proof then asks how a text can go on from there.
+//! Checks the syntax of a text with a state machine over its tokens.
+//! Depth isn't limited by this check, so it counts open sections instead of keeping a stack. A new form of value
+//! needs a new stage and its transitions; the proof then asks how a text can continue from that stage.
 
 ghost use Rattle.lvm_text.specs.Prelude.{Some, is_some, MatchOption, scalar_of, is_key, IsSyntaxLine, stage_after, run, is_over, newlines, token_view, views, Key};
 ghost use Rattle.std.specs.Prelude.{◌≡◌, ◌<◌, ◌+◌, ◌^◌};
@@ -9,24 +9,24 @@ use crate::number::are_digits;
 use crate::reading::end_line;
 use crate::token::{Token, TokenAtLine};
 
-/// How far a value was read, or that the next one may begin.
+/// How far a value has been read, or that a new one may begin.
 #[derive(Clone, Copy, PartialEq, Eq)]
 enum Stage {
-    /// Before a key or a closing brace.
+    /// A key or a closing brace may come.
     Key,
-    /// After a key.
+    /// A key has been read.
     AfterKey,
-    /// After an equals sign.
+    /// A key and an equals sign have been read.
     Content,
-    /// After an opening bracket.
+    /// The opening bracket of a list has been read.
     First,
-    /// After a comma.
+    /// A comma in a list has been read.
     Next,
-    /// After a scalar of a list.
+    /// A scalar of a list has been read.
     After,
 }
 
-/// Whether a word may be a key.
+/// Whether a word may be a key: it isn't empty, and doesn't begin with a hyphen.
 fn is_key(word: &str) -> bool
     ensures { result ≡ is_key word.now }
 {
@@ -34,7 +34,7 @@ fn is_key(word: &str) -> bool
     !bytes.is_empty() && bytes[0] != b'-'
 }
 
-/// Whether a token may be a scalar.
+/// Whether a token may be a scalar: a word of digits, or a string.
 fn is_scalar(token: Token<'_>) -> bool
     ensures { result ≡ is_some (scalar_of (token_view token.entry)) }
 {
@@ -45,7 +45,7 @@ fn is_scalar(token: Token<'_>) -> bool
     }
 }
 
-/// The open sections and the stage after a token, if it may stand here.
+/// How many sections are open, and the stage, after a token; `None` if the token may not come here.
 fn stage_after(depth: u64, stage: Stage, token: Token<'_>) -> Option<(u64, Stage)>
     requires { depth < 2 ^ 63 }
     ensures { result ≡ stage_after depth stage (token_view token.entry) }
@@ -64,7 +64,7 @@ fn stage_after(depth: u64, stage: Stage, token: Token<'_>) -> Option<(u64, Stage
     }
 }
 
-/// Whether a text may end here.
+/// Whether a text may end here: no section is open and no value is unfinished.
 fn is_over(depth: u64, stage: Stage) -> bool
     ensures { result ≡ is_over depth stage }
 {
@@ -74,8 +74,8 @@ fn is_over(depth: u64, stage: Stage) -> bool
     }
 }
 
-/// The line of a fault of syntax in the tokens of a text: the line of the first token that no text has in its
-/// place, or that of the end of a text that is unfinished.
+/// The line of a text's syntax fault, if it has one: the line of the first token that may not come where it does, or
+/// the last line if the text is only incomplete.
 pub(crate) fn syntax_line(tokens: &[TokenAtLine<'_>], text: &str) -> Option<u64>
     ensures { MatchOption result (run 0 Key (views tokens.now) ≡ Some (0, Key))
         (IsSyntaxLine (views tokens.now) (1 + newlines text.now)) }

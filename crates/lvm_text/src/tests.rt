@@ -1,11 +1,11 @@
-//! Results that come from outside the proofs: two fixtures, a text in the style of a real backup, and odd
-//! bytes. Each public call is made here with enough memory. A new case is a row of `HELD`: what a text holds,
+//! Expected results from outside the proofs: a small volume group, a text in the style of a real backup, and odd
+//! bytes. Each public call is made here with enough memory. A new case is a row of `HELD`: what a text contains,
 //! or why it is refused. Large and deep texts are tested on the built program (`tests/outside`).
 
 use crate::{Node, Section, TextFault, Value, parse};
 use std::alloc::{AllocError, Global};
 
-/// A group of two volumes.
+/// A volume group with two logical volumes.
 const GROUP: &str = r#"contents = "Text Format Volume Group"
 version = 1
 vg0 {
@@ -69,12 +69,12 @@ const BACKUP: &str =
     }\n\
     # the end, without a newline";
 
-/// Ten keys, of which an index has those after the eighth, and a section beside them.
+/// Ten keys, so that the last two are in the index, the tenth of them a section.
 const TEN: &str = "a = 1 b = 2 c = 3 d = 4 e = 5 f = 6 g = 7 h = 8 i = 9 j { h = 11 }";
 
 const MANY_LETTERS: &str = "1 = 2 0 { } a-b.c+d_e = [1, \"x\"]# end";
 
-/// A text, a path of keys in it, and what it has there, or why the text is refused.
+/// A text, a path of keys in it, and what is there, or why the text is refused.
 static HELD: [(&str, &str, &str); 70] = [
     ("", "", "1:"),
     ("a = 1 b { c = \"x\" }", "", "1: b 1"),
@@ -154,7 +154,7 @@ static HELD: [(&str, &str, &str); 70] = [
     (BACKUP, "vg format", "14: text lvm2"),
     (BACKUP, "vg flags", "16: []"),
     (BACKUP, "vg tags", "17: [Text(\"a\"), Text(\"b\")]"),
-    // Refused.
+    // Texts that are refused.
     ("a = [1, ]", "", "Syntax(1)"),
     ("a = -1", "", "Syntax(1)"),
     ("-a = 1", "", "Syntax(1)"),
@@ -168,7 +168,7 @@ static HELD: [(&str, &str, &str); 70] = [
     ("a { x = 1 x = 2 }\na = 1", "", "KeyTwice(1)"),
     ("a = 1\na {\nx = 1 x = 2 }", "", "KeyTwice(2)"),
     ("a = 1 a = 1\nb = [99999999999999999999]", "", "Number(2)"),
-    // Odd bytes.
+    // Texts with unusual bytes.
     ("a = 1\r\n", "", "Token(1)"),
     ("\n\x0b", "", "Token(2)"),
     ("a = \"\0\"", "", "1:"),
@@ -187,7 +187,7 @@ static HELD: [(&str, &str, &str); 70] = [
     ("a\n \x0b", "", "Token(2)"),
 ];
 
-/// The node under a path of keys with spaces between them, one inside the other.
+/// The node at a path of keys, which are separated by spaces and lead from section to inner section.
 fn find<'s, 'a>(top: &'s Section<'a>, path: &str) -> Option<&'s Node<'a>> {
     let mut section = Some(top);
     let mut found = None;
@@ -204,7 +204,7 @@ fn find<'s, 'a>(top: &'s Section<'a>, path: &str) -> Option<&'s Node<'a>> {
     found
 }
 
-/// A section as rows say it: its line, and each section in it with its own.
+/// A section in the notation of `HELD`: its line, and the key and line of each section in it.
 fn section_text(alloc: Global, section: &Section<'_>) -> Result<String, AllocError> {
     let mut text = format!(in alloc; "{}:", section.line())?;
     for (key, inside) in section.sections() {
@@ -213,7 +213,7 @@ fn section_text(alloc: Global, section: &Section<'_>) -> Result<String, AllocErr
     Ok(text)
 }
 
-/// A node as rows say it: its line and its value.
+/// A node in the notation of `HELD`: its line and its value.
 fn node_text(alloc: Global, node: &Node<'_>) -> Result<String, AllocError> {
     let line = node.line();
     match &node.value {
@@ -224,7 +224,7 @@ fn node_text(alloc: Global, node: &Node<'_>) -> Result<String, AllocError> {
     }
 }
 
-/// What a text holds under a path of keys, or at its top where the path is empty; or its fault.
+/// What a text contains at a path of keys, or at its top if the path is empty; or why the text is refused.
 fn held(alloc: Global, text: &str, path: &str) -> Result<String, AllocError> {
     let top = match parse(alloc, text) {
         Ok(top) => top,

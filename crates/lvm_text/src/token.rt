@@ -1,7 +1,7 @@
-//! The tokens of a text, each with the line where it begins.
-//! A new token is a variant here and a case of `element_at`.
+//! The tokens of a text, each with the line on which it begins.
+//! A new kind of token is a variant here and a case in `element_at`.
 
-/// A token.
+/// A token of a text: a word, the raw text of a string, or a sign.
 #[derive(Clone, Copy)]
 pub(crate) enum Token<'a> {
     Word(&'a str),
@@ -14,7 +14,7 @@ pub(crate) enum Token<'a> {
     Comma,
 }
 
-/// A token, and the line where it begins.
+/// A token, and the line on which it begins.
 #[derive(Clone, Copy)]
 pub(crate) struct TokenAtLine<'a> {
     pub(crate) token: Token<'a>,

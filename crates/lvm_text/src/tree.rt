@@ -1,20 +1,20 @@
 //! The tree of a text: sections of keys, and what each key holds, as slices of the text.
-//! A section is a list of entries in source order and an index of their keys; contracts see its line and its
-//! values alone. What is true of every section is `IsSection` in `specs/Sound`: change that first.
+//! A section has its entries in source order, and an index of their keys; contracts see only its line and its
+//! values. The invariant of sections is `IsSection` in `specs/Sound`: change that first.
 
 ghost use Rattle.std.specs.Prelude.{◌≡◌};
 
 use std::collections::BTreeMap;
 use std::marker::Model;
 
-/// An integer or a string.
+/// An integer, or the raw text of a string.
 #[derive(Debug, Drop)]
 pub enum Scalar<'a> {
     Int(u64),
     Text(&'a str),
 }
 
-/// What a key holds.
+/// What a key holds: a section, an integer, a string, or a list of scalars.
 #[cycle(tree)]
 #[derive(Debug, Drop)]
 pub enum Value<'a> {
@@ -24,7 +24,7 @@ pub enum Value<'a> {
     List(Vec<Scalar<'a>>),
 }
 
-/// A value and the line of its key.
+/// What a key holds, and the line of the key.
 #[cycle(tree)]
 #[derive(Debug, Drop)]
 pub struct Node<'a> {
@@ -39,7 +39,7 @@ pub(crate) struct Entry<'a> {
     pub(crate) node: Node<'a>,
 }
 
-/// The values of a section, in source order.
+/// A section of a text: its keys and what they hold, in source order.
 #[cycle(tree)]
 #[derive(Debug, Drop)]
 pub struct Section<'a> {
@@ -74,7 +74,7 @@ impl<'a> Model for Section<'a> {
 impl Node<'_> {
     ghost use Rattle.lvm_text.specs.View.{node_view};
 
-    /// The line of the node's key, from 1.
+    /// The line of the node's key, counted from 1.
     pub fn line(&self) -> u64
         ensures { result ≡ (node_view self.now).line }
     {

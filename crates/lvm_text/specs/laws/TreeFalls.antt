@@ -1,4 +1,4 @@
--- A section inside another is smaller.
+-- An inner section has fewer values than the section around it, so that recursion over sections ends.
 use Rattle.lvm_text.specs.Base.{ℕ, max, List, []}
 use Rattle.std.proofs.Common.{arith}
 use Rattle.lvm_text.specs.Tree.{Values, size_of}
