@@ -1,32 +1,32 @@
--- Where a name is cut: at a hyphen that has no neighbour left to pair with.
+-- Where a device name is cut into its parts: at each single hyphen, as hyphens inside a part are doubled.
 use Rattle.lvm_volume.specs.Base.{ℕ, suc, List, [], take, drop, Option, Some, None, is_none, option_and_then, code}
 use Rattle.lvm_volume.specs.Names.{NameParts}
 use Rattle.std.specs.Prelude.{◌==◌, ◌∷◌, if◌then◌else◌}
 
--- up to a hyphen that no hyphen follows, where pairs of them are passed over
+-- how many bytes come before the first single hyphen; pairs of hyphens are skipped
 abbrev pub slice_length : List ℕ → ℕ
 slice_length [] = 0
 slice_length (b ∷ []) = if b == code "-" then 0 else 1
 slice_length (b ∷ c ∷ bs) = if b == code "-" then (if c == code "-" then suc (suc (slice_length bs)) else 0) else suc (slice_length (c ∷ bs))
 
--- what comes after a hyphen at the front
+-- the bytes after a hyphen at the front, or None if they don't begin with one
 abbrev pub after_hyphen : List ℕ → Option (List ℕ)
 after_hyphen [] = None
 after_hyphen (b ∷ bs) = if b == code "-" then Some bs else None
 
--- the part at the front, and what comes after the hyphen that ends it, if there is one
+-- the part of a name before its first single hyphen, or all of it
 abbrev pub first_slice : List ℕ → List ℕ
 first_slice bs = take (slice_length bs) bs
 
--- what comes after that part and its hyphen, or none where no hyphen ends it
+-- the bytes after the first single hyphen of a name, or None if it has none
 abbrev pub later_slices : List ℕ → Option (List ℕ)
 later_slices bs = after_hyphen (drop (slice_length bs) bs)
 
--- a group and a volume, and a layer if more comes after them
+-- the parts of a name whose bytes after the volume are `rest`, if there are any: a layer without another single hyphen
 abbrev pub with_layer : List ℕ → List ℕ → Option (List ℕ) → Option NameParts
 with_layer vg lv None = Some (record { vg = vg; lv = lv; layer = None })
 with_layer vg lv (Some rest) = if is_none (later_slices rest) then Some (record { vg = vg; lv = lv; layer = Some (first_slice rest) }) else None
 
--- the slices of a name between such hyphens, if there are two or three
+-- the parts of a name between its single hyphens, with hyphens still doubled, if there are two or three
 abbrev pub slices_of : List ℕ → Option NameParts
 slices_of name = option_and_then (λ rest. with_layer (first_slice name) (first_slice rest) (later_slices rest)) (later_slices name)

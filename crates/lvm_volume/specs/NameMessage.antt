@@ -1,13 +1,13 @@
--- The messages of names that are not built, or have no parts.
+-- The messages for parts that no device name can be built from.
 use Rattle.lvm_volume.specs.Base.{ℕ, List, codes, memory_message, NameFault, Letter, HyphenFirst, Empty, Long}
 use Rattle.lvm_volume.specs.declared.fault.NameFault.TheVariants.{Memory}
 use Rattle.std.specs.Prelude.{◌++◌}
 
--- a message about a name, with this word
+-- a message about a name, with this word for the fault
 abbrev pub name_refusal : List ℕ → List ℕ
 name_refusal word = codes "dmremap: name: " ++ word ++ codes "\n"
 
--- the message of a name that was not built
+-- the message for a fault of the parts of a name; out of memory has the same message as elsewhere
 abbrev pub name_message : NameFault → List ℕ
 name_message Letter = name_refusal (codes "letter")
 name_message HyphenFirst = name_refusal (codes "hyphen")

@@ -1,4 +1,4 @@
--- The words that contracts cite, here and in crates above, from one place.
+-- The names that contracts use, in this crate and in crates above, in one place.
 pub use Rattle.dm_table.specs.Prelude.{Answers}
 pub use Rattle.dm_table.specs.Std.{IfErr, IfNone, IfOk, IfSome, IsTrue, MatchOption, MatchResult, OnOk, result_err}
 pub use Rattle.lvm_text.specs.Prelude.{content_view, item_view, node_view, scalar_view}

@@ -1,4 +1,4 @@
--- The fields that are read, and what is found at them.
+-- The fields of a metadata text that are read, and the faults found at them.
 pub mod Checks
 pub mod Fields
 pub mod Kinds

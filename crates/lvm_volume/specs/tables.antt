@@ -1,3 +1,3 @@
--- The checks of a group in their order, and the devices and disks that a group is.
+-- The checks of a group in order, and the devices and disks that a group gives.
 pub mod GroupRef
 pub mod Tables

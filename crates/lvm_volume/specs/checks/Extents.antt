@@ -1,4 +1,4 @@
--- The checks of a group beyond its fields: names of disks, segments that name nothing, how extents lie, and snapshots.
+-- The checks of a group after those of its fields: disk names, what segments refer to, snapshots, and how extents are used.
 use Rattle.lvm_volume.specs.Base.{ℕ, Bool, false, not, List, [], Option, Some, None, nat_lt, length, map, min, slice_index, list_any, Source, LoadKind, Name, Unknown, Extents, LoadFault, faults_by, is_disk_name, Stripe, SegmentType, Zero, Error, Striped, Snapshot, Segment, Physical}
 use Rattle.dm_table.specs.declared.load.place.Place.{Place}
 use Rattle.dm_table.specs.declared.load.load_fault.LoadKind.TheVariants as loads
@@ -8,129 +8,129 @@ use Rattle.lvm_volume.specs.group.Group.{Group}
 use Rattle.lvm_volume.specs.group.Roles.{is_bad_snapshot, roles_of}
 use Rattle.std.specs.Prelude.{◌+◌, ◌*◌, ◌/◌, ◌%◌, ◌&&◌, ◌||◌, ◌==◌, ◌∷◌, ◌++◌, if◌then◌else◌}
 
--- the place of a line of the source
+-- the place of a line in the metadata text
 abbrev pub source_line : ℕ → Place
 source_line line = record { part = Source; number = line }
 
--- a fault where a test hits
+-- one fault of this kind on a line, if the test is true
 abbrev pub hit : Bool → LoadKind → ℕ → List LoadFault
 hit bad kind line = if bad then source_faults kind line else []
 
--- Names: a physical volume whose disk gets no name of a disk. A key is a word, so this is one of more than 255 bytes.
+-- Name: a physical volume whose disk gets no valid name. Its key is a word, so it must have more than 255 bytes.
 abbrev pub name_faults : List Physical → List LoadFault
 name_faults physicals = faults_by Name (λ physical. source_line physical.line) (λ physical. not (is_disk_name physical.disk)) physicals
 
--- The first segment in the text that a test finds. It is the one at the least line, whatever its number in its volume
+-- The first segment in the text for which a test is true: the one on the least line, whatever its number in its volume
 
--- the lesser of a line and one that may be missing
+-- the lesser of a line and another one, if there is another
 abbrev pub lesser : ℕ → Option ℕ → ℕ
 lesser line None = line
 lesser line (Some other) = min line other
 
--- the least line of a segment that the test finds, or of those after them
+-- the least line among `later` and the lines of segments for which the test is true
 abbrev pub least_line : (Segment → Bool) → List Segment → Option ℕ → Option ℕ
 least_line test [] later = later
 least_line test (segment ∷ segments) later = if test segment then Some (lesser segment.line (least_line test segments later)) else least_line test segments later
 
--- the least line of a segment of any volume that a test finds; the test knows whether the segment is the only one of its volume
+-- the least line of a segment, in any volume, for which the test is true; `alone` says that its volume has no other segment
 abbrev pub least_line_of : ((alone : Bool) → Segment → Bool) → List Volume → Option ℕ
 least_line_of test [] = None
 least_line_of test (volume ∷ volumes) = least_line (test (length volume.segments == 1)) volume.segments (least_line_of test volumes)
 
--- the fault at a line of the source, if there is one
+-- one fault of this kind on the line, if there is a line
 abbrev pub at_line : LoadKind → Option ℕ → List LoadFault
 at_line kind None = []
 at_line kind (Some line) = source_faults kind line
 
--- Unknown: a stripe that names no physical volume, or a snapshot that names no volume
+-- Unknown: a stripe on an unknown physical volume, or a snapshot of or on an unknown logical volume
 
--- the stripes of a segment: none but for a striped one
+-- the stripes of a segment; only a striped one has any
 abbrev pub stripes_of : SegmentType → List Stripe
 stripes_of (Striped stripe_size stripes) = stripes
 stripes_of Zero = []
 stripes_of Error = []
 stripes_of (Snapshot chunk_size origin store) = []
 
--- the positions of the volumes that a segment names: only a snapshot's names any
+-- the positions of the volumes that a segment refers to; only a snapshot refers to any, its origin and its store
 abbrev pub volumes_named : SegmentType → List ℕ
 volumes_named (Snapshot chunk_size origin store) = origin ∷ store ∷ []
 volumes_named (Striped stripe_size stripes) = []
 volumes_named Zero = []
 volumes_named Error = []
 
--- a segment that names a physical volume or a volume that is not there, where there are this many of each
+-- the segment refers to a physical or logical volume that doesn't exist; `physicals` and `volumes` say how many do
 abbrev pub is_unknown : (physicals volumes : ℕ) → Segment → Bool
 is_unknown physicals volumes segment =
     list_any (λ stripe. not (nat_lt stripe.physical physicals)) (stripes_of segment.target) || list_any (λ position. not (nat_lt position volumes)) (volumes_named segment.target)
 
--- the least line of such a segment
+-- the fault of the first segment in the text that refers to a physical or logical volume that doesn't exist
 abbrev pub unknown_faults : Group → List LoadFault
 unknown_faults group = at_line Unknown (least_line_of (λ alone. is_unknown (length group.physicals) (length group.volumes)) group.volumes)
 
--- Snapshot: a snapshot that its group can't have
+-- Snapshot: a snapshot that doesn't fit the other volumes of its group
 
--- the least line of a snapshot's segment that the group can't have
+-- the fault of the first segment in the text that is a snapshot which doesn't fit the other volumes
 abbrev pub snapshot_faults_in : List Volume → List LoadFault
 snapshot_faults_in volumes = at_line loads.Snapshot (least_line_of (is_bad_snapshot volumes (roles_of volumes)) volumes)
 
--- the least line of a snapshot's segment that a group can't have
+-- the fault of the first segment in a group's text that is a snapshot which doesn't fit the other volumes
 abbrev pub snapshot_faults : Group → List LoadFault
 snapshot_faults group = snapshot_faults_in group.volumes
 
 -- Extents: physical volumes that are longer than their device
 
--- a physical volume whose extents end after its size, in sectors
+-- the extents of a physical volume end beyond the size of its device, in sectors
 abbrev pub is_too_long : ℕ → Physical → Bool
 is_too_long extent_size physical = nat_lt physical.size (physical.start + physical.count * extent_size)
 
--- the physical volumes whose extents do
+-- one fault for each physical volume whose extents end beyond the size of its device
 abbrev pub size_faults : ℕ → List Physical → List LoadFault
 size_faults extent_size physicals = faults_by Extents (λ physical. source_line physical.line) (is_too_long extent_size) physicals
 
--- Extents: what the stripes of segments use
+-- Extents: the extents that the stripes of segments use
 
--- extents of a physical volume, from the first to before the end
+-- a range of extents on a physical volume: from `first` up to but not including `end`
 pub record Claim : Type 0 where
   pub physical : ℕ
   pub first : ℕ
   pub end : ℕ
 
--- the extents of a physical volume from the first one up to an end
+-- a range of extents on a physical volume, from its three fields
 abbrev pub claim_on : (physical first end : ℕ) → Claim
 claim_on physical first end = record { physical = physical; first = first; end = end }
 
--- two claims have an extent in common
+-- two ranges of extents have an extent of one physical volume in common
 abbrev pub meets : Claim → Claim → Bool
 meets a b = a.physical == b.physical && (nat_lt a.first b.end && nat_lt b.first a.end)
 
--- how many extents a physical volume has
+-- how many extents the physical volume at position i has
 abbrev pub extents_at : List Physical → ℕ → ℕ
 extents_at physicals i = slice_index (map (λ physical. physical.count) physicals) i
 
--- the number of parts that a segment is divided into
+-- how many parts a segment's extents are divided into: the number of its stripes, or 1
 abbrev pub parts_of : SegmentType → ℕ
 parts_of (Striped stripe_size stripes) = length stripes
 parts_of Zero = 1
 parts_of Error = 1
 parts_of (Snapshot chunk_size origin store) = 1
 
--- the claims of a segment, each of as many extents
+-- the ranges of extents that a segment uses, all of the same length, one for each stripe
 abbrev pub claims_of : Segment → List Claim
 claims_of segment =
     map (λ stripe. claim_on stripe.physical stripe.extent (stripe.extent + segment.count / parts_of segment.target)) (stripes_of segment.target)
 
--- a claim that passes the end of its physical volume, or meets one of these or an earlier one
+-- a range extends beyond its physical volume, or overlaps one in `used` or an earlier one in the list
 abbrev pub have_clash : List Physical → List Claim → List Claim → Bool
 have_clash physicals used [] = false
 have_clash physicals used (claim ∷ claims) =
     nat_lt (extents_at physicals claim.physical) claim.end || (list_any (meets claim) used || have_clash physicals (claim ∷ used) claims)
 
--- these and the claims after them
+-- the ranges in use after more ranges were added
 abbrev pub used_by : List Claim → List Claim → List Claim
 used_by used [] = used
 used_by used (claim ∷ claims) = used_by (claim ∷ used) claims
 
--- the segment doesn't start at the end of the one before, is empty or not divided by its stripes, or its claims clash
+-- the segment doesn't start where the one before ends, is empty, isn't divided evenly by its stripes, or uses extents twice
 abbrev pub is_misplaced : List Physical → List Claim → ℕ → Segment → Bool
 is_misplaced physicals used end segment =
     not (segment.start == end)
@@ -138,19 +138,19 @@ is_misplaced physicals used end segment =
     || (parts_of segment.target == 0
     || (not (segment.count % parts_of segment.target == 0) || have_clash physicals used (claims_of segment))))
 
--- the segments of a volume, the first of which starts at this extent
+-- one fault for each misplaced segment of a volume, where the next segment has to start at extent `end`
 abbrev pub segment_faults : List Physical → List Claim → ℕ → List Segment → List LoadFault
 segment_faults physicals used end [] = []
 segment_faults physicals used end (segment ∷ segments) =
     hit (is_misplaced physicals used end segment) Extents segment.line
     ++ segment_faults physicals (used_by used (claims_of segment)) (segment.start + segment.count) segments
 
--- what is used after these segments
+-- the ranges in use after those of the segments were added
 abbrev pub used_after : List Claim → List Segment → List Claim
 used_after used [] = used
 used_after used (segment ∷ segments) = used_after (used_by used (claims_of segment)) segments
 
--- the faults of the segments of volumes, where what those before use is used
+-- one fault for each misplaced segment of the volumes, where the ranges `used` are in use before
 abbrev pub volume_faults : List Physical → List Claim → List Volume → List LoadFault
 volume_faults physicals used [] = []
 volume_faults physicals used (volume ∷ volumes) =

@@ -1,11 +1,11 @@
--- What a check of segments finds.
+-- Which segments a `SegmentCheck` finds fault with.
 use Rattle.lvm_volume.specs.Base.{Bool, Segment}
 use Rattle.lvm_volume.specs.declared.checks.segment_check.SegmentCheck.{SegmentCheck}
 use Rattle.lvm_volume.specs.declared.checks.segment_check.SegmentCheck.TheVariants.{Unknown, Snapshot}
 use Rattle.lvm_volume.specs.checks.Extents.{is_unknown}
 use Rattle.lvm_volume.specs.group.Roles.{is_bad_snapshot}
 
--- whether it finds a segment, which is alone in its volume or not
+-- the check finds fault with the segment; `alone` says that its volume has no other segment
 abbrev pub test_of : SegmentCheck → (alone : Bool) → Segment → Bool
 test_of (Unknown physicals volumes) alone segment = is_unknown physicals volumes segment
 test_of (Snapshot volumes all) alone segment = is_bad_snapshot volumes.now all.now alone segment

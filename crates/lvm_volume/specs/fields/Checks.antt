@@ -1,9 +1,9 @@
--- The two checks that look at fields.
+-- The two checks of the fields of a metadata text.
 use Rattle.lvm_volume.specs.Base.{ℕ}
 
--- which check looks at a field
+-- a check of fields: for presence and content, or for limits
 pub data Check : Type 0 where
-  -- each field is there, and holds what it may
+  -- each field that is required is there, and its content is valid
   Fields : Check
-  -- integers are at most 2^50, numbers of extents also in sectors, where an extent has this many
+  -- integers are at most 2^50; numbers of extents, times the extent size in sectors, too
   Limits : (extent_size : ℕ) → Check

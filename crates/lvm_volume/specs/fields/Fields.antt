@@ -1,4 +1,4 @@
--- The fields of a group's metadata that are read, and what each may hold (vgcfgbackup(8), lvm.conf(5)).
+-- The fields of a volume group's metadata that are read, and their valid content (vgcfgbackup(8), lvm.conf(5)).
 use Rattle.lvm_volume.specs.Base.{ℕ, Bool, true, false, not, List, [], Option, Some, None, Result, Ok, Err, nat_lt, is_some, bytes_eq, codes, decimal, length, flat_map, list_any, list_all, range_with_len, Tree, Content, Inner, Whole, Items, Scalar, Int, Text, Shown, node_of, sections_of, scalar_views, Source, LoadKind, LoadFault, IsMemoryFault, fault_at, first_or}
 use Rattle.dm_table.specs.declared.load.load_fault.LoadKind.TheVariants as loads
 use Rattle.lvm_volume.specs.fields.Kinds as kinds
@@ -8,27 +8,27 @@ use Rattle.lvm_text.specs.declared.tree.Scalar.{Scalar as code_scalar}
 use Rattle.std.specs.Prelude.{◌≡◌, ◌⊎◌, ◌*◌, ◌&&◌, ◌||◌, ◌==◌, ◌∷◌, ◌++◌, if◌then◌else◌}
 use denote.Ref.{Bor}
 
--- The tables
+-- The tables of fields
 
--- a key, what it may hold, and where it is asked for
+-- a field: its key, its kind of content, and the condition on which it is required
 pub record Field : Type 0 where
   pub key : List ℕ
   pub kind : Kind
   pub when : Condition
 
--- a field: its key, what it has to hold, and when it is asked for
+-- a field, from its three parts
 abbrev pub field : List ℕ → Kind → Condition → Field
 field key kind when = record { key = key; kind = kind; when = when }
 
--- a field that is always asked for
+-- a field that is always required
 abbrev pub always : List ℕ → Kind → Field
 always key kind = field key kind Always
 
--- the fields of the whole text
+-- the fields at the top of the text
 abbrev pub top_fields : List Field
 top_fields = always (codes "contents") kinds.Title ∷ always (codes "version") kinds.Version ∷ []
 
--- the fields of a volume group's section
+-- the fields in a volume group's section
 abbrev pub group_fields : List Field
 group_fields =
     always (codes "extent_size") kinds.Positive
@@ -36,7 +36,7 @@ group_fields =
     ∷ field (codes "logical_volumes") kinds.Section Given
     ∷ []
 
--- the fields of a physical volume's section
+-- the fields in a physical volume's section
 abbrev pub physical_fields : List Field
 physical_fields =
     always (codes "device") kinds.Text
@@ -45,15 +45,15 @@ physical_fields =
     ∷ always (codes "pe_count") kinds.Extents
     ∷ []
 
--- the fields of a volume's section, apart from its segments
+-- the fields in a logical volume's section, apart from its segments
 abbrev pub volume_fields : List Field
 volume_fields = always (codes "status") kinds.Texts ∷ always (codes "segment_count") kinds.Number ∷ []
 
--- segment number i of a volume
+-- the field of segment number i in a logical volume's section
 abbrev pub segment_field : ℕ → Field
 segment_field i = always (codes "segment" ++ decimal i) kinds.Section
 
--- the fields of a segment's section, in the order in which they are checked
+-- the fields in a segment's section, in the order in which they are checked
 abbrev pub segment_fields : List Field
 segment_fields =
     always (codes "start_extent") kinds.Extents
@@ -67,73 +67,73 @@ segment_fields =
     ∷ field (codes "cow_store") kinds.Text Snapshot
     ∷ []
 
--- What a section holds under a key
+-- What a section has under a key
 
--- the integer, or 0
+-- the integer in a content, or 0 if it holds none
 abbrev pub number_in : Content → ℕ
 number_in (Whole (Int n)) = n
 number_in _ = 0
 
--- the string, or an empty one
+-- the string in a content, or an empty one if it holds none
 abbrev pub text_in : Content → List ℕ
 text_in (Whole (Text text)) = text
 text_in _ = []
 
--- the elements of the list, or none
+-- the elements of the list in a content, or none if it holds no list
 abbrev pub items_in : Content → List Scalar
 items_in (Items items) = items
 items_in _ = []
 
--- the sections in the section, by their keys, or none
+-- the keys and sections inside the section in a content, or none if it holds no section
 abbrev pub sections_in : Content → List (List ℕ × Tree)
 sections_in (Inner tree) = sections_of tree.values
 sections_in _ = []
 
--- the section, or none
+-- the section in a content, as a list of at most one
 abbrev pub section_in : Content → List Tree
 section_in (Inner tree) = tree ∷ []
 section_in _ = []
 
--- what a node that may be missing holds
+-- what `view` gives for the content of a node, or `other` if there is no node
 abbrev pub held : {X : Type 0} → X → (Content → X) → Option Shown → X
 held other view None = other
 held other view (Some shown) = view shown.content
 
--- the integer of a key, or 0
+-- the integer under a key, or 0 if there is none
 abbrev pub number_at : List ℕ → Tree → ℕ
 number_at key tree = held 0 number_in (node_of key tree.values)
 
--- the string of a key, or an empty one
+-- the string under a key, or an empty one if there is none
 abbrev pub text_at : List ℕ → Tree → List ℕ
 text_at key tree = held [] text_in (node_of key tree.values)
 
--- the elements of the list of a key, or none
+-- the elements of the list under a key, or none if there is no list
 abbrev pub items_at : List ℕ → Tree → List Scalar
 items_at key tree = held [] items_in (node_of key tree.values)
 
--- the sections in the section of a key, or none
+-- the keys and sections inside the section under a key, or none if there is no section
 abbrev pub sections_at : List ℕ → Tree → List (List ℕ × Tree)
 sections_at key tree = held [] sections_in (node_of key tree.values)
 
--- the section of a key, if there is one
+-- the section under a key, as a list of at most one
 abbrev pub section_at : List ℕ → Tree → List Tree
 section_at key tree = held [] section_in (node_of key tree.values)
 
--- the segments of a volume, from 1 on
+-- the segments of a volume in the order of their numbers, from segment1 on
 abbrev pub segments_of : Tree → List Tree
 segments_of volume = flat_map (λ i. section_at (codes "segment" ++ decimal i) volume) (range_with_len 1 (number_at (codes "segment_count") volume))
 
--- Where a field is asked for
+-- Where a field is required
 
--- a segment of type striped
+-- the segment is of type striped
 abbrev pub is_striped : Tree → Bool
 is_striped segment = bytes_eq (text_at (codes "type") segment) (codes "striped")
 
--- a segment of type snapshot
+-- the segment is of type snapshot
 abbrev pub is_snapshot : Tree → Bool
 is_snapshot segment = bytes_eq (text_at (codes "type") segment) (codes "snapshot")
 
--- whether a field is asked for in a section
+-- the field is required in this section, or, with Given, is there
 abbrev pub is_asked : Condition → List ℕ → Tree → Bool
 is_asked Always key tree = true
 is_asked Given key tree = is_some (node_of key tree.values)
@@ -141,44 +141,44 @@ is_asked Striped key tree = is_striped tree
 is_asked Several key tree = is_striped tree && nat_lt 1 (number_at (codes "stripe_count") tree)
 is_asked Snapshot key tree = is_snapshot tree
 
--- What a field may hold
+-- What content a field may have
 
--- a string that passes a test
+-- the content is a string that passes the test
 abbrev pub is_text_with : (List ℕ → Bool) → Content → Bool
 is_text_with test (Whole (Text text)) = test text
 is_text_with test _ = false
 
--- an integer that passes a test
+-- the content is an integer that passes the test
 abbrev pub is_number_with : (ℕ → Bool) → Content → Bool
 is_number_with test (Whole (Int n)) = test n
 is_number_with test _ = false
 
--- a list whose elements pass a test
+-- the content is a list whose elements pass the test
 abbrev pub is_list_with : (List Scalar → Bool) → Content → Bool
 is_list_with test (Items items) = test items
 is_list_with test _ = false
 
--- a section
+-- the content is a section
 abbrev pub is_section : Content → Bool
 is_section (Inner tree) = true
 is_section _ = false
 
--- a string
+-- the scalar is a string
 abbrev pub is_text : Scalar → Bool
 is_text (Text text) = true
 is_text (Int n) = false
 
--- the types of segments
+-- the string is a type of segment that is supported
 abbrev pub is_type : List ℕ → Bool
 is_type text = bytes_eq text (codes "striped") || (bytes_eq text (codes "zero") || (bytes_eq text (codes "error") || bytes_eq text (codes "snapshot")))
 
--- strings and integers in turn
+-- the list consists of pairs of a string and an integer
 abbrev pub are_pairs : List Scalar → Bool
 are_pairs [] = true
 are_pairs (Text name ∷ Int extent ∷ items) = are_pairs items
 are_pairs _ = false
 
--- what a field of a kind may hold in a section
+-- the content is valid for a field of this kind in the section `tree`
 abbrev pub fits : Kind → Tree → Content → Bool
 fits kinds.Title tree content = is_text_with (λ text. bytes_eq text (codes "Text Format Volume Group")) content
 fits kinds.Version tree content = is_number_with (λ n. n == 1) content
@@ -191,23 +191,23 @@ fits kinds.TypeWord tree content = is_text_with is_type content
 fits kinds.Stripes tree content = is_list_with (λ items. are_pairs items && 2 * number_at (codes "stripe_count") tree == length items) content
 fits kinds.Section tree content = is_section content
 
--- What is in the limits: 2^50, for numbers of extents also in sectors
+-- The limit for numbers: 2^50, for numbers of extents also when counted in sectors
 
 -- the greatest number of sectors or extents: 2^50
 abbrev pub most : ℕ
 most = 1125899906842624
 
--- a field that counts extents, so that it is limited in sectors too
+-- the kind is a number of extents, which is limited when counted in sectors, too
 abbrev pub counts_extents : Kind → Bool
 counts_extents kinds.Extents = true
 counts_extents _ = false
 
--- an integer over the limit
+-- the scalar is an integer over the limit
 abbrev pub is_far_scalar : Scalar → Bool
 is_far_scalar (Text text) = false
 is_far_scalar (Int n) = nat_lt most n
 
--- a number over the limit, or, of extents of this many sectors, one over it in sectors; or a list with an integer over it
+-- the content is a number over the limit, or a number of extents over it when counted in sectors, or a list with an integer over it
 abbrev pub is_far : ℕ → Kind → Content → Bool
 is_far extent_size kind (Whole (Int n)) = nat_lt most n || (counts_extents kind && nat_lt most (n * extent_size))
 is_far extent_size kind (Whole (Text text)) = false
@@ -216,93 +216,93 @@ is_far extent_size kind (Inner tree) = false
 
 -- What a check finds at the fields of a section
 
--- the first of some faults
+-- the first of a list of faults, if there is one
 abbrev pub first_of : List LoadFault → Option LoadFault
 first_of faults = first_or faults None
 
--- a check passed where this is nothing, and else failed with it, save that out of memory may stand in its place
+-- a check's result: passed if `found` is None, else failed with that fault, or failed because memory ran out
 abbrev pub IsChecked : {X : Type 0} → Result X LoadFault → (found : Option LoadFault) → Type 0
 IsChecked (Ok done) found = found ≡ None
 IsChecked (Err fault) found = (found ≡ Some fault) ⊎ IsMemoryFault Source fault
 
--- one fault, at a line of the text
+-- one fault on a line of the metadata text, as a list
 abbrev pub source_faults : LoadKind → ℕ → List LoadFault
 source_faults kind line = fault_at Source kind line ∷ []
 
--- the kind of the fault that a check finds
+-- the kind of fault that a check reports
 abbrev pub load_kind : Check → LoadKind
 load_kind Fields = loads.Field
 load_kind (Limits extent_size) = loads.Limit
 
--- what a check finds wrong at a field
+-- the check finds this content wrong for a field of this kind
 abbrev pub is_wrong : Check → Kind → Tree → Content → Bool
 is_wrong Fields kind tree content = not (fits kind tree content)
 is_wrong (Limits extent_size) kind tree content = is_far extent_size kind content
 
--- a missing field, which only the check of fields finds
+-- the fault of a missing field, which only the check Fields reports
 abbrev pub missing : Check → ℕ → List LoadFault
 missing Fields line = source_faults loads.Field line
 missing (Limits extent_size) line = []
 
--- what is found at a key: a missing one at the line of the section, another at its own
+-- the faults at one key: on the section's line if the key is missing, else on the key's own line
 abbrev pub node_faults : Check → Kind → Tree → Option Shown → List LoadFault
 node_faults check kind tree None = missing check tree.line
 node_faults check kind tree (Some shown) = if is_wrong check kind tree shown.content then source_faults (load_kind check) shown.line else []
 
--- what a check finds at a field of a section
+-- the faults that a check finds at one field of a section
 unfoldable pub field_faults : Check → Tree → Field → List LoadFault
 field_faults check tree f = if is_asked f.when f.key tree then node_faults check f.kind tree (node_of f.key tree.values) else []
 
 -- The order of the fields
 
--- what a check finds at fields of a section, in their order
+-- the faults that a check finds at the fields of a section, in order
 abbrev pub fields_faults : Check → Tree → List Field → List LoadFault
 fields_faults check tree fields = flat_map (field_faults check tree) fields
 
--- a volume: its fields, each of its segments as a field, and then the fields of each segment
+-- the faults at a volume: at its fields, at its segments' keys, and then at the fields of each segment
 unfoldable pub volume_faults : Check → Tree → List LoadFault
 volume_faults check volume =
     fields_faults check volume volume_fields
     ++ (flat_map (λ i. field_faults check volume (segment_field i)) (range_with_len 1 (number_at (codes "segment_count") volume))
     ++ flat_map (λ segment. fields_faults check segment segment_fields) (segments_of volume))
 
--- what a check finds at the fields of all physical volumes
+-- the faults that a check finds at the fields of all physical volumes
 abbrev pub physicals_faults : Check → List (List ℕ × Tree) → List LoadFault
 physicals_faults check physicals = flat_map (λ physical. fields_faults check physical.1 physical_fields) physicals
 
--- what a check finds at the fields of all volumes and their segments
+-- the faults that a check finds at the fields of all logical volumes and their segments
 abbrev pub volumes_faults : Check → List (List ℕ × Tree) → List LoadFault
 volumes_faults check volumes = flat_map (λ volume. volume_faults check volume.1) volumes
 
--- a group: its fields, its physical volumes, and then its volumes
+-- the faults at a group: at its own fields, at its physical volumes, and then at its logical volumes
 unfoldable pub group_faults : Check → Tree → List LoadFault
 group_faults check group =
     fields_faults check group group_fields
     ++ (physicals_faults check (sections_at (codes "physical_volumes") group)
     ++ volumes_faults check (sections_at (codes "logical_volumes") group))
 
--- the one section at the top
+-- the faults at the groups of a text: it must have exactly one, and a second one is a fault on that one's line
 unfoldable pub one_group_faults : Check → ℕ → List (List ℕ × Tree) → List LoadFault
 one_group_faults check line [] = missing check line
 one_group_faults check line (group ∷ []) = group_faults check group.1
 one_group_faults check line (group ∷ second ∷ more) = missing check second.1.line
 
--- the faults of all fields that are read
+-- the faults that a check finds in a metadata text, at all fields that are read
 abbrev pub faults_of_fields : Check → Tree → List LoadFault
 faults_of_fields check top = fields_faults check top top_fields ++ one_group_faults check top.line (sections_of top.values)
 
--- Sections and lists as the code has them
+-- Sections and lists as contracts see them
 
--- the sections inside one that may be missing, with their keys
+-- the keys and sections inside a section, or none if it is missing
 abbrev pub inner_sections : Option (Bor Tree) → List (List ℕ × Tree)
 inner_sections None = []
 inner_sections (Some section) = sections_of section.now.values
 
--- the section that a reference shows
+-- the section behind a reference
 abbrev pub section_view : Bor Tree → Tree
 section_view section = section.now
 
--- the scalars of a list that may be missing
+-- the elements of a list, or none if it is missing
 abbrev pub items_view : Option (Bor (List code_scalar)) → List Scalar
 items_view None = []
 items_view (Some items) = scalar_views items.now

@@ -1,36 +1,36 @@
--- What fields may hold, and where they are asked for.
+-- The kinds of content that fields may have, and the conditions on which fields are required.
 
--- what a field may hold
+-- the kind of content that a field may have
 pub data Kind : Type 0 where
-  -- the string that says what the text is
+  -- the string "Text Format Volume Group", which says what the text is
   Title : Kind
-  -- the integer 1
+  -- the integer 1, the only version known
   Version : Kind
   -- any integer
   Number : Kind
   -- an integer of 1 or more
   Positive : Kind
-  -- a number of extents: any integer, limited by its sectors too
+  -- a number of extents: any integer, with a limit that also counts in sectors
   Extents : Kind
-  -- a string
+  -- any string
   Text : Kind
   -- a list of strings
   Texts : Kind
-  -- the type of a segment
+  -- the type of a segment: one of the words that are supported
   TypeWord : Kind
-  -- as many pairs of a string and an integer as the section has stripes
+  -- a list of pairs of a string and an integer, as many as stripe_count says
   Stripes : Kind
   -- a section
   Section : Kind
 
--- where a field is asked for
+-- the condition on which a field is required
 pub data Condition : Type 0 where
   Always : Condition
-  -- where the key is there
+  -- not required; checked if it is there
   Given : Condition
-  -- in a striped segment
+  -- required in a striped segment
   Striped : Condition
-  -- in a segment of two stripes or more
+  -- required in a striped segment with two stripes or more
   Several : Condition
-  -- in a segment of a snapshot
+  -- required in a snapshot segment
   Snapshot : Condition

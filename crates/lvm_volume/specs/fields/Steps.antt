@@ -1,4 +1,4 @@
--- One pass for both checks of fields: what a step of it comes to.
+-- The effect of a step of a reader that runs both checks of fields in one pass.
 use Rattle.lvm_volume.specs.Base.{ℕ, List, [], Option, Some, None, codes, flat_map, range_with_len, Tree, node_of, Source, LoadFault, IsMemoryFault}
 use Rattle.lvm_volume.specs.declared.fields.reader.FieldReader.{FieldReader}
 use Rattle.lvm_volume.specs.declared.fields.reader.NumberKind.{NumberKind}
@@ -9,36 +9,36 @@ use Rattle.lvm_volume.specs.fields.Kinds.{Kind}
 use Rattle.lvm_volume.specs.fields.Fields.{Field, always, field, field_faults, fields_faults, first_of, node_faults, segment_field, segment_fields}
 use Rattle.std.specs.Prelude.{◌≡◌, ◌⊎◌, ◌∷◌}
 
--- what was found before, or else the first of these
+-- the fault found before, else the first of the new ones
 abbrev pub or_first : Option LoadFault → List LoadFault → Option LoadFault
 or_first None faults = first_of faults
 or_first (Some fault) faults = Some fault
 
--- a reader that has found these too
+-- the reader after it has found these faults over the limit, of which it keeps only the first ever
 abbrev pub after : FieldReader → List LoadFault → FieldReader
 after reader faults = record { extent_size = reader.extent_size; excess = or_first reader.excess faults }
 
--- what two checks find in one pass: it fails with the first fault of fields, or for want of memory; else there is no such
--- fault, and the reader keeps the first of the limits
+-- the effect of reading some fields: it fails with the first fault of the check Fields, or because memory ran out; else there is no
+-- such fault, and the reader has noted the first fault of the check Limits
 pub record IsStep (faults : Check → List LoadFault) (old new : FieldReader) (failed : Option LoadFault) : Type 0 where
   pub passed : failed ≡ None → (faults Fields ≡ []) × (new ≡ after old (faults (Limits old.extent_size)))
   pub failed_at : (fault : LoadFault) → failed ≡ Some fault → (first_of (faults Fields) ≡ Some fault) ⊎ IsMemoryFault Source fault
 
--- a step that reads no number finds this, whatever the reader has found
+-- the effect of reading fields without numbers: it fails like IsStep, and never changes the reader
 abbrev pub IsPlainStep : (faults : Check → List LoadFault) → (failed : Option LoadFault) → Type 0
 IsPlainStep faults failed = (reader : FieldReader) → IsStep faults reader reader failed
 
--- what is found at a key that is asked for
+-- the faults that a check finds at a required key, by the kind of content that it may have
 abbrev pub at_key : Kind → List ℕ → Tree → Check → List LoadFault
 at_key kind key tree check = node_faults check kind tree (node_of key tree.values)
 
--- numbers by their kind
+-- the kind of content for a kind of number
 abbrev pub number_kind : NumberKind → Kind
 number_kind numbers.Any = kinds.Number
 number_kind numbers.Positive = kinds.Positive
 number_kind numbers.Extents = kinds.Extents
 
--- the fields of a segment that depend on its type
+-- the fields of a segment that come after its type and depend on it
 abbrev pub later_fields : List Field
 later_fields =
     field (codes "stripe_count") kinds.Positive kinds.Striped
@@ -53,10 +53,10 @@ later_fields =
 abbrev pub type_fields : List Field
 type_fields = always (codes "type") kinds.TypeWord ∷ later_fields
 
--- what a check finds at the fields of segments
+-- the faults that a check finds at the fields of the segments
 abbrev pub segments_faults : List Tree → Check → List LoadFault
 segments_faults segments check = flat_map (λ segment. fields_faults check segment segment_fields) segments
 
--- what a check finds at the fields of a volume that hold its segments, where there are this many
+-- the faults that a check finds at the keys segment1 and on of a volume, of which there must be `count`
 abbrev pub numbers_faults : Tree → ℕ → Check → List LoadFault
 numbers_faults volume count check = flat_map (λ i. field_faults check volume (segment_field i)) (range_with_len 1 count)

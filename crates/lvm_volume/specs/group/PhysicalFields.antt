@@ -1,10 +1,10 @@
--- What the section of a physical volume says, before its disk has a name.
+-- The fields of a physical volume as its section says them, before its disk has a name.
 use Rattle.lvm_volume.specs.Base.{ℕ, List, codes, map, Physical}
 use Rattle.lvm_volume.specs.declared.group.physical.PhysicalFields as code
 use Rattle.lvm_volume.specs.fields.Fields.{number_at}
 use Rattle.lvm_volume.specs.group.Group.{Keyed, chosen, device_of, is_shared}
 
--- what is read of a physical volume, before its disk has a name
+-- the fields of a physical volume, before its disk has a name
 pub record Fields : Type 0 where
   pub key : List ℕ
   pub device : List ℕ
@@ -13,7 +13,7 @@ pub record Fields : Type 0 where
   pub count : ℕ
   pub line : ℕ
 
--- what a section with its key says
+-- the fields that a section with its key says
 abbrev pub fields_of : Keyed → Fields
 fields_of physical = record {
   key = physical.0;
@@ -24,18 +24,18 @@ fields_of physical = record {
   line = physical.1.line;
 }
 
--- the fields of a physical volume, from those that the code has
+-- the fields of a physical volume, as contracts see them
 abbrev pub fields_view : code.PhysicalFields → Fields
 fields_view fields = record { key = fields.key.now; device = fields.device.now; size = fields.size; start = fields.start; count = fields.count; line = fields.line }
 
--- the physical volume, where these are the devices of all
+-- the physical volume with a name for its disk; `devices` are the devices of all physical volumes
 abbrev pub with_disk_name : List (List ℕ) → Fields → Physical
 with_disk_name devices fields = record { disk = chosen (is_shared devices fields.device) fields.key fields.device; size = fields.size; start = fields.start; count = fields.count; line = fields.line }
 
--- their devices, in their order
+-- the devices of all physical volumes, in order
 abbrev pub devices_in : List Fields → List (List ℕ)
 devices_in = map (λ fields. fields.device)
 
--- the physical volumes of a group
+-- all physical volumes of a group, with names for their disks
 abbrev pub all_named : List Fields → List Physical
 all_named all = map (with_disk_name (devices_in all)) all

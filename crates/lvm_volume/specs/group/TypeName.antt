@@ -1,17 +1,17 @@
--- The words of the types of segments.
+-- The types of segments that are supported, and their words in a metadata text.
 use Rattle.lvm_volume.specs.Base.{ℕ, List, Option, Some, None, bytes_eq, codes}
 use Rattle.lvm_volume.specs.declared.group.segment.TypeName.{TypeName}
 use Rattle.lvm_volume.specs.declared.group.segment.TypeName.TheVariants.{Striped, Zero, Error, Snapshot}
 use Rattle.std.specs.Prelude.{if◌then◌else◌}
 
--- the word of a segment type
+-- the word for a type of segment
 abbrev pub type_text : TypeName → List ℕ
 type_text Striped = codes "striped"
 type_text Zero = codes "zero"
 type_text Error = codes "error"
 type_text Snapshot = codes "snapshot"
 
--- the type that a word names
+-- the type of segment that a word stands for
 abbrev pub named_type : List ℕ → Option TypeName
 named_type word =
     if bytes_eq word (codes "striped") then Some Striped
