@@ -1,4 +1,4 @@
-//! The checks of a group beyond its fields: what segments name, how extents lie, and snapshots.
+//! The checks of a group after those of its fields: what segments refer to, how extents are used, and snapshots.
 
 pub(crate) mod extents;
 pub(crate) mod segment_check;

@@ -1,6 +1,6 @@
-//! Why no name is built of a group, a volume and a layer, and the message that tells it.
-//! A part is checked for `Empty`, `Letter` and `HyphenFirst`, in this order, and the whole for `Long` after that.
-//! A new reason is a variant here, an arm of `part_fault` in `specs/Names` and a word of `specs/NameMessage`.
+//! Why no name can be built for a logical volume or a layer of it, and the message that says so.
+//! Each part is checked for `Empty`, `Letter` and `HyphenFirst`, in this order, and then the whole name for `Long`.
+//! A new fault is a variant here, an arm of `part_fault` in `specs/Names` and a word in `specs/NameMessage`.
 
 ghost use Rattle.lvm_volume.specs.Prelude.{name_message};
 ghost use Rattle.std.specs.Prelude.{◌≡◌};
@@ -8,10 +8,10 @@ ghost use Rattle.std.specs.Prelude.{◌≡◌};
 use dm_table::memory_message;
 use thiserror::Error;
 
-/// Why a name was not built.
+/// Why no name can be built from its parts.
 #[derive(Clone, Copy, Debug, PartialEq, Eq, Error)]
 pub enum NameFault {
-    /// A part has a byte that no part has, or the layer begins with an underscore.
+    /// A part has a byte that no part may contain, or the layer begins with an underscore.
     #[error("a letter that no part of a name has")]
     Letter,
     /// A part begins with a hyphen.
@@ -23,14 +23,14 @@ pub enum NameFault {
     /// The name has more than 127 bytes.
     #[error("more than 127 bytes")]
     Long,
-    /// An allocation was refused.
+    /// Memory ran out: an allocation was refused.
     #[error("out of memory")]
     Memory,
 }
 
 impl NameFault {
-    /// The message of a name that was not built: one line, with its newline. `Memory` has that of a run that
-    /// is out of memory. Takes no memory.
+    /// The message for the fault: one line, with its newline. `Memory` has the message for any run that is out of
+    /// memory. Allocates nothing.
     pub fn message(self) -> &'static [u8]
         ensures { result.now ≡ name_message self }
     {

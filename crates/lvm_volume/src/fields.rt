@@ -1,4 +1,4 @@
-//! Fields of a metadata text: what each may hold, and a reader of them that makes both checks in one pass.
+//! The fields of a metadata text: their valid content, and a reader that runs both checks of fields in one pass.
 
 pub(crate) mod fits;
 pub(crate) mod reader;

@@ -1,6 +1,6 @@
-//! The tables and disks of groups, with the line of the text that each is from, as no command prints them.
+//! The devices and disks of groups, with the text lines that they come from, which no command prints.
 //!
-//! Why a text is refused is tested on the built program (`tests/outside`).
+//! Refused texts are tested on the built program (`tests/outside`).
 
 use crate::{DiskFault, OwnedFault, Owners, VolumeGroup, parse_owned, text_fault};
 use dm_table::{
@@ -10,7 +10,7 @@ use lvm_text::{TextFault, parse};
 use std::alloc::{AllocError, Global};
 use std::process::Abort;
 
-/// One volume on one physical volume.
+/// A group with one logical volume on one physical volume.
 const ONE: &str = r#"contents = "Text Format Volume Group"
 version = 1
 vg0 {
@@ -39,7 +39,7 @@ vg0 {
 }
 "#;
 
-/// What stands in place of line 24 of `ONE` where there is a second volume, of two stripes, in lines 25 to 36.
+/// Replaces line 24 of `ONE`, which adds a second volume with two stripes on lines 25 to 36.
 const SECOND: &str = r#"    }
     lv-1 {
       status = ["READ"]
@@ -54,7 +54,7 @@ const SECOND: &str = r#"    }
       }
     }"#;
 
-/// What stands there if the second volume is the store of a snapshot of the first, in lines 25 to 35, and its record in lines 36 to 47.
+/// Replaces line 24 of `ONE`, which adds a snapshot of the first volume: its store on lines 25 to 35, its record after.
 const SNAPSHOT: &str = r#"    }
     snap {
       status = ["READ", "WRITE", "VISIBLE"]
@@ -87,8 +87,8 @@ fn tables_of(rt: &impl Abort, alloc: Global, text: &str) -> (Vec<DeviceSpec>, Ve
     group.tables(alloc).expect(rt, "tables")
 }
 
-/// Asserts how devices are written in the concise form, and the numbers of the lines of the text that each of
-/// them and its lines are from.
+/// Asserts how devices are written in the concise form, and the numbers of the text lines that the devices and
+/// their lines come from.
 fn check_devices(
     rt: &impl Abort,
     alloc: Global,
@@ -107,7 +107,7 @@ fn check_devices(
     }
 }
 
-/// Asserts the names and the lengths of disks, and the numbers of the lines that they are from.
+/// Asserts the names and the lengths of disks, and the numbers of the text lines that they come from.
 fn check_disks(rt: &impl Abort, disks: &[Disk], wanted: &[(&str, u64, u64)]) {
     assert_eq!(rt; disks.len(), wanted.len());
     for (disk, &(name, len, number)) in disks.iter().zip(wanted) {
@@ -118,7 +118,7 @@ fn check_disks(rt: &impl Abort, disks: &[Disk], wanted: &[(&str, u64, u64)]) {
     }
 }
 
-/// A text with a line, from 1, in place of one of its own.
+/// A text with its line `number`, counted from 1, replaced.
 fn with_line(alloc: Global, text: &str, number: usize, new: &str) -> Result<String, AllocError> {
     let mut changed = String::new(alloc);
     for (index, line) in text.lines().enumerate() {
@@ -128,15 +128,15 @@ fn with_line(alloc: Global, text: &str, number: usize, new: &str) -> Result<Stri
     Ok(changed)
 }
 
-/// A row of what a text says of disks: a name, a length, and the number of the line that it is from.
+/// What is expected of a disk: its name, its length in sectors, and the number of its text line.
 type DiskRow = (&'static str, u64, u64);
 
 const ON_DEVICE: &[DiskRow] = &[("/dev/sda1", 1_050_624, 6)];
 
 const ON_KEY: &[DiskRow] = &[("pv0", 1_050_624, 6)];
 
-/// A line of `ONE` and what stands in its place, where line 0 is none; its device in the concise form, and
-/// its disks.
+/// A line of `ONE` and its replacement, or 0 for none; then the device in the concise form, and the disks, of the
+/// changed text.
 static OF_ONE: [(usize, &str, &str, &[DiskRow]); 14] = [
     (
         0,
@@ -219,8 +219,8 @@ static OF_ONE: [(usize, &str, &str, &[DiskRow]); 14] = [
     ),
 ];
 
-/// What stands in place of line 24 of `ONE`, which then has several devices: those in the concise form, and the
-/// numbers of the lines of the text that each of them and its lines are from.
+/// A replacement for line 24 of `ONE`, which adds volumes; then the devices in the concise form, and the numbers of
+/// the text lines that each device and its lines come from.
 static OF_SEVERAL: [(&str, &str, &[(u64, u64)]); 2] = [
     (
         SECOND,
@@ -238,7 +238,7 @@ static OF_SEVERAL: [(&str, &str, &[(u64, u64)]); 2] = [
     ),
 ];
 
-/// Asserts what a text says of devices and of disks.
+/// Asserts the devices and the disks of a text.
 fn check_tables(
     rt: &impl Abort,
     alloc: Global,
@@ -275,11 +275,11 @@ fn several_devices(rt: HostRuntime) {
     }
 }
 
-/// Line 7 of `ONE` with the id of an image, as a text has it.
+/// Line 7 of `ONE` with the id of an image, with dashes as metadata texts have it.
 const OWNED: &str =
     "device = \"/dev/sda1\" id = \"abcdef-ghij-klmn-opqr-stuv-wxyz-012345\" type = \"raid1\"";
 
-/// Line 7 of `ONE` for a physical volume that was missing; below, for some that lay elsewhere.
+/// Line 7 of `ONE` for a physical volume that was missing; below, for some with other devices.
 const MISSING: &str =
     "device = \"/dev/md0\" flags = [\"X\", \"MISSING\"] id = \"abcdefghijklmnopqrstuvwxyz012345\"";
 
@@ -289,8 +289,8 @@ const ON_MD: &str = "device = \"/dev/md\" id = \"abcdefghijklmnopqrstuvwxyz01234
 
 const ON_MAPPER: &str = "device = \"/dev/mapper/md0\" id = \"abcdefghijklmnopqrstuvwxyz012345\"";
 
-/// A line of `ONE` and what stands in its place; its device in the concise form, or why there is none, where an image
-/// with an id has the disk `sdb`.
+/// A line of `ONE` and its replacement; then the device in the concise form, or the fault, if an image with an id has
+/// the disk `sdb`.
 static OF_OWNED: [(usize, &str, Result<&str, OwnedFault>); 7] = [
     (7, OWNED, Ok("vg0-lv0,,,rw,0 204800 linear sdb 2048\n")),
     (
@@ -298,7 +298,7 @@ static OF_OWNED: [(usize, &str, Result<&str, OwnedFault>); 7] = [
         "type = \"raid1\"",
         Err(OwnedFault::Disk(0, DiskFault::Foreign)),
     ),
-    // A disk that was missing, before it lay on an array of another name, and one of its own name.
+    // A missing disk, which counts before an array of another name; two on such arrays, and one that isn't on any.
     (7, MISSING, Err(OwnedFault::Disk(0, DiskFault::Missing))),
     (7, ON_ARRAY, Err(OwnedFault::Disk(0, DiskFault::Array))),
     (7, ON_MD, Err(OwnedFault::Disk(0, DiskFault::Array))),
@@ -316,7 +316,7 @@ static OF_OWNED: [(usize, &str, Result<&str, OwnedFault>); 7] = [
     ),
 ];
 
-/// Asserts what a text gives where an image has an id.
+/// Asserts the result of a text if images have these ids.
 fn check_owned(
     rt: &impl Abort,
     alloc: Global,

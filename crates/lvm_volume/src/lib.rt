@@ -1,10 +1,10 @@
-//! LVM2 volume groups as tables of the device mapper, and the names of their volumes.
-//! From the tree of a group's metadata text it makes the devices and disks of the group, or finds the first
-//! thing that is wrong with it; and it builds and splits the names under which the device mapper knows the
-//! volumes of a group. The rules are those of lvm(8), dmsetup(8) and of metadata as vgcfgbackup(8) writes it.
+//! LVM2 volume groups as device-mapper tables, and the device names of their logical volumes.
+//! From the tree of a group's metadata text, this crate makes the devices and disks of the group, or finds the
+//! first fault in it; and it builds and splits the names under which the device mapper knows the volumes of a
+//! group. The rules are those of lvm(8), dmsetup(8) and of metadata as vgcfgbackup(8) writes it.
 //!
-//! `metadata` goes from bytes to tables. A `volume_group` is what a text says (`group`) once its fields were
-//! looked at (`fields`) and no other check found anything (`checks`); `tables` makes devices and disks of it.
+//! `metadata` goes from bytes to tables. A `volume_group` is what a text says (`group`) after its fields have been
+//! checked (`fields`) and no other check has found a fault (`checks`); `tables` makes devices and disks from it.
 #![tactic(auto)]
 
 mod checks;

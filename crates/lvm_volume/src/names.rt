@@ -1,6 +1,6 @@
-//! Names of volumes: a group, a volume and perhaps a layer, with each hyphen of a part doubled, joined by
-//! hyphens. That tells the hyphen that ends a part from those inside it, so a name splits in one way: a
-//! clause of `split_name` says so. To change what a part may be, change `specs/Names` first.
+//! Device names of logical volumes: a group, a volume and perhaps a layer, with each hyphen inside a part doubled,
+//! joined by single hyphens. So a hyphen that ends a part differs from those inside it, and a name splits in one way
+//! only, as a clause of `split_name` says. To change which parts are valid, change `specs/Names` first.
 
 ghost use Rattle.lvm_volume.specs.Prelude.{ℕ, List, IfOk, IfSome, IfNone, OnOk, length, option_map, IsTrue, list_all, string_bytes, NameParts, name_parts, is_letter, begins_with, part_fault, layer_fault, or_later, doubled, undoubled, fault_of, joined, built, Returns, with_hyphen, Builds, IsSplit, IsSpaced, parts_view, spaced, undoubled_parts, slice_length, first_slice, later_slices, slices_of};
 ghost use Rattle.std.specs.Prelude.{◌≡◌, ◌++◌, ◌<◌, ◌^◌};
@@ -9,7 +9,7 @@ use crate::fault::NameFault;
 use dm_table::{CheckFault, Name};
 use std::alloc::{AllocError, Global};
 
-/// The parts of a name, as slices of it: their hyphens are doubled.
+/// The parts of a name, as slices of it, in which hyphens are still doubled.
 #[derive(Clone, Copy, Debug, PartialEq, Eq)]
 pub struct Parts<'a> {
     pub vg: &'a str,
@@ -17,28 +17,28 @@ pub struct Parts<'a> {
     pub layer: Option<&'a str>,
 }
 
-/// Whether a part of a name may have a byte.
+/// Whether a byte may occur in a part of a name.
 fn is_letter(byte: u8) -> bool
     ensures { result ≡ is_letter byte }
 {
     byte.is_ascii_alphanumeric() || matches!(byte, b'+' | b'_' | b'.' | b'-')
 }
 
-/// Whether a part begins with a byte.
+/// Whether a part begins with this byte.
 fn begins_with(part: &[u8], byte: u8) -> bool
     ensures { result ≡ begins_with byte part.now }
 {
     !part.is_empty() && part[0] == byte
 }
 
-/// Whether a part has only bytes that it may have.
+/// Whether all bytes of a part may occur in one.
 fn are_letters(part: &[u8]) -> bool
     ensures { result ≡ list_all is_letter part.now }
 {
     part.iter().all(|byte| is_letter(*byte))
 }
 
-/// What is wrong with a group or a volume.
+/// The fault of a volume group's or logical volume's name, if it has one.
 fn part_fault(part: &[u8]) -> Option<NameFault>
     ensures { result ≡ part_fault part.now }
 {
@@ -55,7 +55,7 @@ fn part_fault(part: &[u8]) -> Option<NameFault>
     }
 }
 
-/// What is wrong with a layer.
+/// The fault of a layer's name, if it has one.
 fn layer_fault(layer: Option<&str>) -> Option<NameFault>
     ensures { result ≡ layer_fault (option_map (λ l. l.now) layer.entry) }
 {
@@ -67,7 +67,7 @@ fn layer_fault(layer: Option<&str>) -> Option<NameFault>
     }
 }
 
-/// The first fault of the parts in their order.
+/// The first fault of the parts, in order.
 fn parts_fault(vg: &str, lv: &str, layer: Option<&str>) -> Option<NameFault>
     ensures { result ≡ or_later (part_fault vg.now) (or_later (part_fault lv.now)
         (layer_fault (option_map (λ l. l.now) layer.entry))) }
@@ -81,7 +81,7 @@ fn parts_fault(vg: &str, lv: &str, layer: Option<&str>) -> Option<NameFault>
     layer_fault(layer)
 }
 
-/// The length of a part with each hyphen doubled.
+/// The length in bytes of a part with each hyphen doubled.
 #[tactic(auto, using(crate::proofs::NameLengths::length_doubled))]
 fn doubled_length(part: &str) -> u128
     ensures len { result ≡ length (doubled part.now) }
@@ -91,7 +91,7 @@ fn doubled_length(part: &str) -> u128
     u128::from(part.len() as u64) + u128::from(hyphens as u64)
 }
 
-/// The length of a layer and the hyphen before it, with the other hyphens doubled.
+/// The length in bytes of a layer with each hyphen doubled, plus one for the hyphen before it; 0 without a layer.
 fn layer_length(layer: Option<&str>) -> u128
     ensures len { result ≡ length (with_hyphen (option_map doubled (option_map (λ l. l.now) layer.entry))) }
     ensures small { result < 2 ^ 66 }
@@ -102,7 +102,7 @@ fn layer_length(layer: Option<&str>) -> u128
     }
 }
 
-/// Why no name is built of these parts, if none is. Takes no memory.
+/// Why no name can be built from these parts, if so. Allocates nothing.
 pub(crate) fn name_fault(vg: &str, lv: &str, layer: Option<&str>) -> Option<NameFault>
     ensures { result ≡ fault_of (name_parts vg.now lv.now layer.entry) }
 {
@@ -116,7 +116,7 @@ pub(crate) fn name_fault(vg: &str, lv: &str, layer: Option<&str>) -> Option<Name
     }
 }
 
-/// Adds a part with each hyphen doubled.
+/// Appends a part with each hyphen doubled.
 fn push_doubled(text: &mut String, part: &str) -> Result<(), AllocError>
     requires { IsTrue (list_all is_letter part.now) }
     ensures { OnOk result (string_bytes text.new ≡ string_bytes text.old ++ doubled part.now) }
@@ -130,7 +130,7 @@ fn push_doubled(text: &mut String, part: &str) -> Result<(), AllocError>
     Ok(())
 }
 
-/// The parts with their hyphens doubled, joined by one hyphen.
+/// The parts with their hyphens doubled, joined by single hyphens.
 fn joined(alloc: Global, vg: &str, lv: &str, layer: Option<&str>) -> Result<String, AllocError>
     requires vg { IsTrue (list_all is_letter vg.now) }
     requires lv { IsTrue (list_all is_letter lv.now) }
@@ -148,12 +148,12 @@ fn joined(alloc: Global, vg: &str, lv: &str, layer: Option<&str>) -> Result<Stri
     Ok(text)
 }
 
-/// The device mapper's name of a volume, or of a layer of it.
+/// Builds the device-mapper name of a logical volume, or of a layer of it.
 ///
-/// The parts are checked in their order, each whether it is empty (`Empty`), has a byte that no part has
-/// (`Letter`, also for a layer that begins with an underscore) and begins with a hyphen (`HyphenFirst`); then
-/// the whole for more than 127 bytes (`Long`). `Memory` is returned only where an allocation was refused.
-/// Source: lvm(8), "Valid names"; which letters a part has there is this project's profile.
+/// The parts are checked in order: each may not be empty (`Empty`), have a byte that no part may have (`Letter`,
+/// also for a layer that begins with an underscore) or begin with a hyphen (`HyphenFirst`). Then the whole name may
+/// not have more than 127 bytes (`Long`). `Memory` is returned only if an allocation was refused.
+/// Source: lvm(8), "Valid names"; which bytes are allowed is this project's own selection.
 pub fn build_name(alloc: Global, vg: &str, lv: &str, layer: Option<&str>) -> Result<Name, NameFault>
     ensures { Returns result (built (name_parts vg.now lv.now layer.entry)) }
 {
@@ -163,7 +163,7 @@ pub fn build_name(alloc: Global, vg: &str, lv: &str, layer: Option<&str>) -> Res
     let Ok(text) = joined(alloc, vg, lv, layer) else {
         return Err(NameFault::Memory);
     };
-    // Each letter is one of a device's name, so its length alone can be wrong.
+    // All of these bytes may occur in a device name, so only the length can be invalid.
     match Name::new(alloc, text.as_str()) {
         Ok(name) => Ok(name),
         Err(CheckFault::Form) => Err(NameFault::Long),
@@ -171,7 +171,7 @@ pub fn build_name(alloc: Global, vg: &str, lv: &str, layer: Option<&str>) -> Res
     }
 }
 
-/// How many bytes of a name come before the first hyphen that pairs with no other.
+/// How many bytes of a name come before its first single hyphen.
 fn slice_length(bytes: &[u8]) -> usize
     ensures { result ≡ slice_length bytes.now }
 {
@@ -188,7 +188,7 @@ fn slice_length(bytes: &[u8]) -> usize
     at
 }
 
-/// The part at the front of a name, and what comes after the hyphen that ends it, if there is one.
+/// The part of a name before its first single hyphen, and the text after that hyphen, if there is one.
 fn cut(name: &str) -> (&str, Option<&str>)
     ensures first { result.0.now ≡ first_slice name.now }
     ensures later { option_map (λ later. later.now) result.1 ≡ later_slices name.now }
@@ -197,7 +197,7 @@ fn cut(name: &str) -> (&str, Option<&str>)
     (first, rest.strip_prefix('-'))
 }
 
-/// The slices of a name that are a group, a volume and perhaps a layer, whatever is wrong with them.
+/// The two or three slices of a name between its single hyphens, valid or not; `None` for any other number.
 fn slices_of(name: &str) -> Option<Parts<'_>>
     ensures { option_map parts_view result ≡ slices_of name.now }
 {
@@ -221,14 +221,14 @@ fn slices_of(name: &str) -> Option<Parts<'_>>
     })
 }
 
-/// The parts of a name, as slices of it with their hyphens doubled, and `None` exactly where no parts build
-/// it. `undouble` gives each part back. Takes no memory.
+/// Splits a name into its parts, as slices in which hyphens are still doubled; `None` exactly if no parts build
+/// this name. `undouble` turns a slice into its part. Allocates nothing.
 ///
 /// Source: dmsetup(8), splitname.
 pub fn split_name(name: &str) -> Option<Parts<'_>>
     ensures some { IfSome result (λ slices. IsSplit name.now (parts_view slices)) }
     ensures none { IfNone result ((p : NameParts) → ¬ (Builds p name.now)) }
-    // A name splits in one way.
+    // A name splits in one way only.
     ensures one { (p q : NameParts) → Builds p name.now → Builds q name.now → p ≡ q }
 {
     let parts = slices_of(name)?;
@@ -239,8 +239,8 @@ pub fn split_name(name: &str) -> Option<Parts<'_>>
     }
 }
 
-/// A text in which, from the left, each two neighbouring hyphens have become one: of a slice of a name, its
-/// part. Fails only when out of memory.
+/// A text with each pair of hyphens, taken from the left, replaced by one: turns a slice of a name into its part.
+/// Fails only if memory runs out.
 pub fn undouble(alloc: Global, text: &str) -> Result<String, AllocError>
     ensures text { IfOk result (λ s. string_bytes s ≡ undoubled text.now) }
     ensures part { (part : List ℕ) → text.now ≡ doubled part → IfOk result (λ s. string_bytes s ≡ part) }
@@ -270,8 +270,8 @@ fn spaced(alloc: Global, slices: Parts<'_>) -> Result<String, AllocError>
     Ok(text)
 }
 
-/// The parts of a name with single spaces between them, and `None` exactly where no parts build it.
-/// Fails only when out of memory.
+/// The parts of a name with single spaces between them; `None` exactly if no parts build this name.
+/// Fails only if memory runs out.
 ///
 /// Source: dmsetup(8), splitname.
 pub fn spaced_parts(alloc: Global, name: &str) -> Result<Option<String>, AllocError>

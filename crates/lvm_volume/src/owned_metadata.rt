@@ -1,8 +1,8 @@
-//! Texts of metadata where images have some of the physical volumes: each of these is named by the disk that lies in
-//! its image.
+//! Reads a metadata text when images with some of its physical volumes are at hand: these are named after the disks in
+//! the images.
 //!
-//! That an image is of another group, or that its disk isn't to be taken, is asked once the text is read, before any
-//! check of its group: else a fault of the group would hide it.
+//! Whether an image belongs to another group, or its disk can't be used, is decided once the text has been read, before
+//! the group is checked: otherwise a fault of the group would hide it.
 
 ghost use Rattle.lvm_volume.specs.Prelude.{owners_view, Gives, GivesOneThing, OwnedAnswers, owned_tables};
 ghost use Rattle.std.specs.Prelude.{◌≡◌};
@@ -16,30 +16,30 @@ use dm_table::{DeviceSpec, Disk, LoadFault};
 use lvm_text::{Section, parse};
 use std::alloc::Global;
 
-/// Why a text of metadata gives no tables, where images have some of its physical volumes.
+/// Why a metadata text gives no devices and disks when images have some of its physical volumes.
 #[derive(Clone, Copy, Debug, PartialEq, Eq, Drop)]
 pub enum OwnedFault {
-    /// The disk of this number, from 0, isn't taken for the physical volume of its id.
+    /// The disk with this number, counted from 0, can't be used for the physical volume with its id.
     Disk(usize, DiskFault),
-    /// The text is refused.
+    /// The text is refused, as it would be without images.
     Load(LoadFault),
 }
 
-/// The devices and disks that a text of LVM2 metadata describes, where images have some of its physical volumes: the
-/// disk of each of these has the name of the disk that lies in its image. Otherwise the name is that of
-/// `parse_metadata`, whose checks are made of these names alone.
+/// The devices and disks that an LVM2 metadata text describes when images have some of its physical volumes: the disk
+/// of each of these gets the name of the disk in its image. The others get the name that `parse_metadata` gives them;
+/// its checks, too, use only the names that it gives.
 ///
-/// `Disk` is found in a text that can be read, before its group is checked: the first disk that has a fault. Apart from
-/// it, faults are those of `parse_metadata`.
+/// `Disk` is returned for a text that can be read, before its group is checked, at the first disk that can't be used.
+/// The other faults are those of `parse_metadata`.
 ///
-/// Cost: that of `parse_metadata`, and a comparison for each id of an image and each of the text.
+/// Cost: that of `parse_metadata`, and one comparison for each pair of an image's id and an id in the text.
 pub fn parse_owned(
     alloc: Global,
     source: &[u8],
     owners: &Owners<'_>,
 ) -> Result<(Vec<DeviceSpec>, Vec<Disk>), OwnedFault>
     ensures given { OwnedAnswers (λ tables. (tables.0.items, tables.1.items)) (Gives (owners_view owners.now) source.now) result }
-    // Every text gives tables, or a fault, and only these.
+    // Every text has exactly one result: devices and disks, or one fault.
     ensures one { GivesOneThing (owners_view owners.now) source.now }
 {
     let text = match utf8_text(source) {
@@ -52,7 +52,7 @@ pub fn parse_owned(
     }
 }
 
-/// The tables of the group of a tree, or why it gives none.
+/// The devices and disks of the group in a tree, or the fault.
 fn owned_tables(
     alloc: Global,
     top: &Section<'_>,

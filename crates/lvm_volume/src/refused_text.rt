@@ -1,4 +1,4 @@
-//! The faults of a metadata text, as faults of a load.
+//! Turns the faults of a metadata text into faults of a load.
 
 ghost use Rattle.lvm_volume.specs.Prelude.{text_fault};
 ghost use Rattle.std.specs.Prelude.{◌≡◌};
@@ -7,7 +7,7 @@ use crate::fields::source_line::{memory_fault, source_fault};
 use dm_table::{LoadFault, LoadKind};
 use lvm_text::TextFault;
 
-/// The fault of a load for a fault of the metadata text, at its line of the source.
+/// The fault of a load for a fault of the metadata text, on the same line.
 pub fn text_fault(fault: TextFault) -> LoadFault
     ensures { result ≡ text_fault fault }
 {

@@ -1,5 +1,5 @@
-//! Rows of names. Each public call is made here with enough memory, but for `spaced_parts`: the tests of
-//! `dmremap` make it, by the command `splitname`. More names are built and split by the built program
+//! Expected device names. Each public call is made here with enough memory, except `spaced_parts`: the tests of
+//! `dmremap` make it, through the command `splitname`. More names are tested on the built program
 //! (`tests/outside`).
 
 use crate::{NameFault, build_name, split_name, undouble};
@@ -12,7 +12,7 @@ const NAME_OF_127: &str =
     "abcdefghijklmnopqrstuvwxyzabcdefghijklmnopqrstuvwxyz01234567890-abcdefghijklmnop\
     qrstuvwxyzabcdefghijklmnopqrstuvwxyz01234567890";
 
-/// A group, a volume and a layer, and the name that is built of them.
+/// A group, a volume and a layer, and the name that is built from them, or the fault.
 static BUILT: [(&str, &str, Option<&str>, Result<&str, NameFault>); 14] = [
     ("a-", "b", None, Ok("a---b")),
     ("vg0", "lv-1", None, Ok("vg0-lv--1")),
@@ -40,7 +40,7 @@ fn built(rt: HostRuntime) {
     }
 }
 
-/// A part of a name, and what it says.
+/// A slice of a name, and its part.
 static UNDOUBLED: [(&str, &str); 5] = [
     ("", ""),
     ("a--", "a-"),
@@ -57,7 +57,7 @@ fn undoubled(rt: HostRuntime) {
     }
 }
 
-/// A name, and its parts as they stand in it.
+/// A name and its slices: group, volume and layer, with hyphens still doubled.
 static SLICES: [(&str, &str, &str, Option<&str>); 2] = [
     ("a---b", "a--", "b", None),
     ("a-b--c-d", "a", "b--c", Some("d")),
@@ -74,7 +74,7 @@ fn slices(rt: HostRuntime) {
     }
 }
 
-/// A fault, its text, and the message of the program.
+/// A fault, its text, and the program's message for it.
 static MESSAGES: [(NameFault, &str, &[u8]); 5] = [
     (
         NameFault::Letter,

@@ -1,8 +1,8 @@
-//! Volume groups: what the metadata of a group says, once no check finds a fault in it.
+//! Volume groups: what the metadata of a group says, after all checks have passed.
 //!
-//! A `VolumeGroup` exists only where that is so, and its type keeps what tables rest on: numbers that fit 64
-//! bits in sectors, stripes of physical volumes that are there, and snapshots of volumes that are origins. A
-//! new check takes its place here and in `group_checks` of `specs/tables/Tables.antt`.
+//! The type `VolumeGroup` keeps what making tables needs: numbers fit 64 bits when counted in sectors, stripes are on
+//! physical volumes that exist, and the origins of snapshots have the role of origins. A new check is added here
+//! and in `group_checks` of `specs/tables/Tables.antt`.
 
 ghost use Rattle.lvm_volume.specs.Prelude.{ℕ, List, Source, Answers, first_fault, unless, IsChecked, group_of, group_with, checks_of_parts, group_checks};
 
@@ -18,7 +18,7 @@ use lvm_text::Section;
 use std::alloc::{AllocError, Global};
 use std::marker::Model;
 
-/// A volume group, with its physical volumes and its volumes.
+/// A volume group that has passed all checks, with its physical volumes and its logical volumes.
 #[derive(Debug, Drop)]
 pub struct VolumeGroup {
     pub(crate) name: Key,
@@ -39,7 +39,7 @@ impl Model for VolumeGroup {
         (group_with g.name g.extent_size g.physicals.items g.volumes.items) };
 }
 
-/// The physical volumes and the volumes of a group, before they are checked together.
+/// The physical and logical volumes of a group, before they are checked together.
 #[derive(Drop)]
 pub(crate) struct Parts {
     physicals: Vec<Physical>,
@@ -47,21 +47,21 @@ pub(crate) struct Parts {
 }
 
 impl VolumeGroup {
-    /// The volume group that a metadata text describes, from the top of its tree.
+    /// Reads the volume group that a metadata text describes, from the top of its tree.
     ///
-    /// The checks run over the whole text one after the other, and the first that finds anything gives the
-    /// fault, at the first place in its order, in which the segments of a volume go by their numbers: `Field`
-    /// for a field that is missing or not what it may be, `Limit` for an integer above 2^50, also where
-    /// extents are counted in sectors, `Name` for a physical volume whose disk gets no name, `Unknown` for a
-    /// stripe of no physical volume and a snapshot of no volume or on none, `Extents` for physical volumes
-    /// longer than their device and segments that are misplaced or use an extent twice, `Snapshot` for a
-    /// snapshot beside other segments, one of or on a volume that is itself the record of a snapshot, one on
-    /// an origin or on another one's store, and one that hasn't as many extents as its origin.
-    /// `Memory` is returned only where an allocation was refused.
+    /// The checks run over the whole text one after the other, and the first that finds a fault reports its first one,
+    /// with a volume's segments in the order of their numbers, but for `Unknown` and `Snapshot` of their lines: `Field`
+    /// for a field that is missing or invalid, `Limit` for an integer above 2^50, for numbers of extents also in
+    /// sectors, `Name` for a physical volume whose disk gets no name, `Unknown` for a stripe on an unknown physical
+    /// volume and a snapshot with an unknown origin or store, `Extents` for physical volumes longer than their
+    /// device and for segments that are misplaced or use an extent twice, `Snapshot` for a snapshot beside other
+    /// segments in its volume, one whose origin or store is itself the record of a snapshot, one whose store is an
+    /// origin or another snapshot's store, and one that hasn't as many extents as its origin.
+    /// `Memory` is returned only if an allocation was refused.
     ///
     /// Cost: near-linear in the text. Source: vgcfgbackup(8), lvm.conf(5); the limits are this project's own.
     pub fn read(alloc: Global, top: &Section<'_>) -> Result<VolumeGroup, LoadFault>
-        // The group of the text exactly where no check finds anything, else the first fault, unless memory
+        // Returns the group of the text exactly if no check finds a fault, else the first fault, unless memory
         // runs out.
         ensures { Answers Source (λ group. group) result
             (unless (first_fault (group_checks top.now)) (group_of top.now)) }
@@ -87,7 +87,7 @@ impl VolumeGroup {
     }
 }
 
-/// The checks of what segments name, of extents, and of snapshots, in this order.
+/// Checks what segments refer to, how extents are used, and snapshots, in this order.
 fn check_parts(alloc: Global, extent_size: u64, parts: &Parts) -> Result<(), LoadFault>
     ensures { (name : List ℕ) → IsChecked result (first_fault (checks_of_parts
         (group_with name extent_size parts.now.physicals.items parts.now.volumes.items))) }

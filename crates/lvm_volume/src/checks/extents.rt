@@ -1,7 +1,7 @@
-//! The check of how extents lie: physical volumes within their devices, segments one after the other, and no
-//! extent of a physical volume in two stripes.
+//! Checks how extents are used: physical volumes fit their devices, the segments of a volume follow each other, and no
+//! extent of a physical volume is in two stripes.
 //!
-//! What stripes use is listed by physical volume (`used`), over all volumes in the order of the text.
+//! The ranges in use are kept for each physical volume (`used`), over all logical volumes in the order of the text.
 
 ghost use Rattle.lvm_volume.specs.Prelude.{[], List, None, Some, true, false, not, nat_lt, length, IfOk, OnOk, result_err, list_any, IsChecked, first_of, Claim, claim_on, extents_at, is_misplaced, is_too_long, meets, segment_faults, size_faults, used_after, used_by, Claimed, Holds, claims_by};
 ghost use Rattle.lvm_volume.specs.checks.Extents as spec;
@@ -29,22 +29,22 @@ pub(crate) fn check_sizes(extent_size: u64, physicals: &[Physical]) -> Result<()
     Ok(())
 }
 
-/// Whether a physical volume is longer than its device. 128 bits hold a product of two numbers of 64, and one
-/// more number.
+/// Whether a physical volume is longer than its device. The end may not fit 64 bits, so it is computed with
+/// 128.
 fn is_too_long(extent_size: u64, physical: &Physical) -> bool
     ensures { result ≡ is_too_long extent_size physical.now }
 {
     u128::from(physical.size) < end_of(physical.start, physical.count, extent_size)
 }
 
-/// The sector at which `count` extents from `start` on end.
+/// The sector after `count` extents, the first of which is at sector `start`.
 fn end_of(start: u64, count: u64, extent_size: u64) -> u128
     ensures { result ≡ start + count * extent_size }
 {
     u128::from(start) + u128::from(count) * u128::from(extent_size)
 }
 
-/// Fails at the first segment that is misplaced.
+/// Fails at the first segment that is misplaced, or uses extents that another stripe uses.
 ///
 /// Cost: near-linear in segments and stripes.
 pub(crate) fn check_extents(
@@ -60,7 +60,7 @@ pub(crate) fn check_extents(
     check_volumes(physicals, &mut maps, volumes)
 }
 
-/// Fails at the first segment that is misplaced, beside nothing that was used before.
+/// Fails at the first misplaced segment; no extents are in use before.
 fn check_volumes(
     physicals: &[Physical],
     maps: &mut [BTreeMap<u64, u64>],
@@ -76,7 +76,7 @@ fn check_volumes(
     Ok(())
 }
 
-/// For each physical volume nothing that is used.
+/// For each physical volume, an empty map of ranges in use.
 fn maps_of(alloc: Global, physicals: usize) -> Result<Vec<BTreeMap<u64, u64>>, AllocError>
     ensures held { IfOk result (λ maps. Holds maps.items []) }
     ensures len { IfOk result (λ maps. length maps.items ≡ physicals) }
@@ -88,7 +88,7 @@ fn maps_of(alloc: Global, physicals: usize) -> Result<Vec<BTreeMap<u64, u64>>, A
     Ok(maps)
 }
 
-/// Fails at the first of a volume's segments that is misplaced, beside what was used before.
+/// Fails at the first misplaced segment of one volume, given the ranges that earlier volumes use.
 fn check_segments(
     physicals: &[Physical],
     maps: &mut [BTreeMap<u64, u64>],
@@ -114,7 +114,7 @@ fn check_segments(
     Ok(())
 }
 
-/// Whether a segment is misplaced after one that ends at this extent. It claims its extents where it isn't.
+/// Whether a segment doesn't start at extent `end`, is badly divided, or clashes. If it is fine, it claims its extents.
 fn is_misplaced(
     physicals: &[Physical],
     maps: &mut [BTreeMap<u64, u64>],
@@ -145,7 +145,7 @@ fn is_misplaced(
     }
 }
 
-/// Whether one of the stripes clashes. Each claims its extents up to one that does.
+/// Whether one of the stripes clashes. Stripes claim their extents in order, up to one that clashes.
 fn claim_all(
     physicals: &[Physical],
     maps: &mut [BTreeMap<u64, u64>],
@@ -169,8 +169,8 @@ fn claim_all(
     Ok(false)
 }
 
-/// Whether `share` extents of a stripe pass the end of its physical volume; nothing is added up, so nothing
-/// wraps.
+/// Whether `share` extents of a stripe extend beyond its physical volume. It subtracts rather than adds, so that
+/// nothing can overflow.
 fn passes_physical_end(physicals: &[Physical], stripe: &Stripe, share: u64) -> bool
     requires { 0 < share }
     ensures value { result
@@ -184,7 +184,7 @@ fn passes_physical_end(physicals: &[Physical], stripe: &Stripe, share: u64) -> b
     }
 }
 
-/// Claims extents of a physical volume, unless one of them is used.
+/// Claims a range of extents of a physical volume, unless one of them is in use; returns whether it did.
 fn claim_extents(
     maps: &mut [BTreeMap<u64, u64>],
     physical: usize,

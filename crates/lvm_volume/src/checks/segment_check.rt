@@ -1,8 +1,8 @@
-//! The checks of what segments name: that each stripe names a physical volume of the group and each snapshot
-//! two of its volumes, and that these are an origin and a store of its own.
+//! Checks what segments refer to: each stripe names a physical volume of the group, and each snapshot names two of
+//! its logical volumes, which can be its origin and its own store.
 //!
-//! The fault is the first in the text, where segments may stand in any order, so it is the one at the least
-//! line.
+//! The fault is at the first segment in the text. Segments may be there in any order, so this is the one on the
+//! least line, not the one with the least number.
 
 ghost use Rattle.lvm_volume.specs.Prelude.{None, length, not, nat_lt, result_err, list_any, Unknown, IsChecked, first_of, at_line, is_unknown, least_line, least_line_of, snapshot_faults_in, test_of, is_bad_snapshot, is_bad_target};
 ghost use Rattle.std.specs.Prelude.{◌≡◌, ◌==◌};
@@ -16,22 +16,22 @@ use crate::group::volume::Volume;
 use dm_table::{LoadFault, LoadKind};
 use std::alloc::Global;
 
-/// What a segment is checked for.
+/// A check of one segment.
 #[derive(Drop)]
 enum SegmentCheck<'g> {
-    /// It names a physical volume or a volume that isn't among these many.
+    /// The segment refers to a physical or logical volume that doesn't exist; the numbers say how many do.
     Unknown {
         physicals: usize,
         volumes: usize,
     },
-    /// It is a snapshot that these volumes, with their roles, can't have.
+    /// The segment is a snapshot that doesn't fit these volumes and their roles.
     Snapshot {
         volumes: &'g [Volume],
         roles: &'g [Role],
     },
 }
 
-/// Fails at the first segment in the text that names a physical volume or a volume that isn't there.
+/// Fails at the first segment in the text that refers to a physical or logical volume that doesn't exist.
 pub(crate) fn check_targets(physicals: &[Physical], volumes: &[Volume]) -> Result<(), LoadFault>
     ensures { result_err result ≡ first_of (at_line Unknown
         (least_line_of (λ alone. is_unknown (length physicals.now) (length volumes.now)) volumes.now)) }
@@ -43,7 +43,7 @@ pub(crate) fn check_targets(physicals: &[Physical], volumes: &[Volume]) -> Resul
     check_least(LoadKind::Unknown, least_line_of(&check, volumes))
 }
 
-/// Fails at the first snapshot in the text that the volumes can't have.
+/// Fails at the first segment in the text that is a snapshot which doesn't fit the other volumes.
 ///
 /// Cost: linear in the volumes and their segments.
 pub(crate) fn check_snapshots(alloc: Global, volumes: &[Volume]) -> Result<(), LoadFault>
@@ -59,7 +59,7 @@ pub(crate) fn check_snapshots(alloc: Global, volumes: &[Volume]) -> Result<(), L
     check_least(LoadKind::Snapshot, least_line_of(&check, volumes))
 }
 
-/// Fails at a line, if there is one, with the fault of a kind.
+/// Fails with a fault of this kind if there is a line for it.
 fn check_least(kind: LoadKind, line: Option<u64>) -> Result<(), LoadFault>
     ensures { result_err result ≡ first_of (at_line kind line) }
 {
@@ -69,7 +69,7 @@ fn check_least(kind: LoadKind, line: Option<u64>) -> Result<(), LoadFault>
     }
 }
 
-/// The least line of a segment that a check finds.
+/// The least line of a segment, in any volume, that the check finds fault with.
 fn least_line_of(check: &SegmentCheck<'_>, volumes: &[Volume]) -> Option<u64>
     ensures { result ≡ least_line_of (test_of check.now) volumes.now }
 {
@@ -82,7 +82,7 @@ fn least_line_of(check: &SegmentCheck<'_>, volumes: &[Volume]) -> Option<u64>
     least
 }
 
-/// The least line of a segment of this volume that a check finds, or of others that were looked at before.
+/// The least line among `others` and the lines of this volume's segments that the check finds fault with.
 fn least_line(check: &SegmentCheck<'_>, segments: &[Segment], others: Option<u64>) -> Option<u64>
     ensures { result ≡ least_line (test_of check.now (length segments.now == 1)) segments.now others }
 {
@@ -108,7 +108,7 @@ fn lesser(line: u64, other: Option<u64>) -> u64
     }
 }
 
-/// Whether a check finds a segment, which is alone in its volume or not.
+/// Whether the check finds fault with a segment; `alone` says that its volume has no other segment.
 fn is_hit(check: &SegmentCheck<'_>, alone: bool, segment: &Segment) -> bool
     ensures { result ≡ test_of check.now alone segment.now }
 {
@@ -120,7 +120,7 @@ fn is_hit(check: &SegmentCheck<'_>, alone: bool, segment: &Segment) -> bool
     }
 }
 
-/// Whether a segment names a physical volume or a volume that isn't there.
+/// Whether a segment refers to a physical or logical volume that doesn't exist.
 fn is_unknown(physicals: usize, volumes: usize, segment: &Segment) -> bool
     ensures { result ≡ is_unknown physicals volumes segment.now }
 {
@@ -131,14 +131,14 @@ fn is_unknown(physicals: usize, volumes: usize, segment: &Segment) -> bool
     }
 }
 
-/// Whether a stripe is on a physical volume that is not there.
+/// Whether one of the stripes is on a physical volume that doesn't exist.
 fn has_unknown(physicals: usize, stripes: &[Stripe]) -> bool
     ensures { result ≡ list_any (λ stripe. not (nat_lt stripe.physical physicals)) stripes.now }
 {
     stripes.iter().any(|stripe| !(stripe.physical < physicals))
 }
 
-/// Whether a segment is a snapshot that these volumes, with their roles, can't have.
+/// Whether a segment is a snapshot that doesn't fit these volumes; `alone` says that its volume has no other segment.
 fn is_bad_snapshot(volumes: &[Volume], roles: &[Role], alone: bool, segment: &Segment) -> bool
     ensures { result ≡ is_bad_snapshot volumes.now roles.now alone segment.now }
 {

@@ -1,7 +1,7 @@
-//! The extents of a physical volume that stripes use, as ranges that have nothing in common.
+//! The extents of a physical volume that are in use, as ranges that don't overlap.
 //!
-//! Ranges are in a map by their first extent. Of those that begin before the end of a new one only the last
-//! can reach into it. So one look-up decides, and the check of extents is near-linear.
+//! The ranges are in a map by their first extent. Of the ranges that begin before the end of a new one, only the
+//! last can overlap it, so one look-up decides, and the check of all extents is near-linear.
 
 ghost use Rattle.lvm_volume.specs.Prelude.{List, ℕ, true, not, IfOk, list_any, HasRanges, reaches};
 ghost use Rattle.std.specs.Prelude.{◌≡◌, ◌<◌, ◌∷◌};
@@ -9,8 +9,8 @@ ghost use Rattle.std.specs.Prelude.{◌≡◌, ◌<◌, ◌∷◌};
 use std::alloc::{AllocError, Global};
 use std::collections::BTreeMap;
 
-/// Takes the extents from `first` to before `end`, and returns whether none of them was used before.
-/// What is used stays as it was where one was.
+/// Claims the extents from `first` up to but not including `end`, and returns whether they were all free.
+/// If one of them was in use, nothing changes.
 ///
 /// Cost: about `log n` steps at `n` ranges.
 pub(crate) fn take(used: &mut BTreeMap<u64, u64>, first: u64, end: u64) -> Result<bool, AllocError>
@@ -27,7 +27,7 @@ pub(crate) fn take(used: &mut BTreeMap<u64, u64>, first: u64, end: u64) -> Resul
     Ok(true)
 }
 
-/// Whether an extent from the first to before the end is used.
+/// Whether an extent from `first` up to but not including `end` is in use.
 fn is_used(used: &BTreeMap<u64, u64>, first: u64, end: u64) -> bool
     requires { first < end }
     ensures { (ranges : List (ℕ × ℕ)) → HasRanges used.now ranges

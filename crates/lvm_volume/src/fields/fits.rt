@@ -1,13 +1,13 @@
-//! Whether lists are what their fields may hold, and whether integers are in the limits.
+//! Tests of content: whether lists are valid for their fields, and whether integers are within the limits.
 //!
-//! A limit that changes here changes in `specs/fields/Fields.antt` alike.
+//! Change a limit here and in `specs/fields/Fields.antt` together.
 
 ghost use Rattle.lvm_volume.specs.Prelude.{nat_lt, list_all, list_any, scalar_view, scalar_views, are_pairs, is_far_scalar, is_text, most};
 ghost use Rattle.std.specs.Prelude.{◌≡◌, ◌==◌, ◌*◌};
 
 use lvm_text::Scalar;
 
-/// The greatest number of sectors: 2^50.
+/// The greatest number of sectors or extents: 2^50.
 pub(crate) const MOST: u64 = 1 << 50;
 
 /// Whether a scalar is a string.
@@ -32,7 +32,7 @@ pub(crate) fn are_texts(items: &[Scalar<'_>]) -> bool
     true
 }
 
-/// Whether strings and integers stand in turn. One pass.
+/// Whether a list consists of pairs of a string and an integer. One pass.
 pub(crate) fn are_pairs(items: &[Scalar<'_>]) -> bool
     ensures { result ≡ are_pairs (scalar_views items.now) }
 {
@@ -43,14 +43,14 @@ pub(crate) fn are_pairs(items: &[Scalar<'_>]) -> bool
     rest.is_empty()
 }
 
-/// Whether a number is half of a length: nothing is doubled, so nothing wraps.
+/// Whether a number is half of a length. It halves rather than doubles, so that nothing can overflow.
 pub(crate) fn is_half(number: u64, len: usize) -> bool
     ensures { result ≡ (2 * number == len) }
 {
     len % 2 == 0 && len as u64 / 2 == number
 }
 
-/// Whether a product is above the limit, also where it passes 64 bits.
+/// Whether a product is above the limit, even if it doesn't fit 64 bits.
 pub(crate) fn is_far_product(count: u64, size: u64) -> bool
     ensures { result ≡ nat_lt most (count * size) }
 {
@@ -60,7 +60,7 @@ pub(crate) fn is_far_product(count: u64, size: u64) -> bool
     }
 }
 
-/// Whether an integer of a list is above the limit.
+/// Whether a list has an integer above the limit.
 pub(crate) fn has_far(items: &[Scalar<'_>]) -> bool
     ensures { result ≡ list_any is_far_scalar (scalar_views items.now) }
 {

@@ -1,8 +1,8 @@
-//! Fields as they are read: each is looked up once, and what it holds is handed on where it may hold that.
+//! Reads the fields of a metadata text: looks each up once, and returns its content if it is valid.
 //!
-//! There are two checks of fields, each of the whole text before the next one begins: whether they are there and
-//! fit, and whether their integers are in the limits. One pass makes both: it stops at the first field that does
-//! not fit, and keeps the first integer above its limit until the end (`IsStep` in `specs/fields/Steps.antt`).
+//! Fields have two checks, each defined over the whole text before the next begins: whether they are there and
+//! valid, and whether their integers are within the limits. One pass does both: it stops at the first invalid
+//! field, and keeps the first integer above its limit until the end (`IsStep` in `specs/fields/Steps.antt`).
 
 ghost use Rattle.lvm_volume.specs.Prelude.{[], ℕ, Bool, List, false, None, Some, IfErr, IfOk, MatchResult, codes, result_err, Tree, node_of, content_view, node_view, scalar_views, Source, fault_at, field, field_faults, inner_sections, is_far, number_at, text_at, items_at, section_at, sections_at, source_faults, FieldReader, IsPlainStep, IsStep, after, at_key, number_kind};
 ghost use Rattle.std.specs.Prelude.{◌≡◌, ◌∷◌, if◌then◌else◌};
@@ -16,19 +16,19 @@ use crate::fields::source_line::source_fault;
 use dm_table::{LoadFault, LoadKind};
 use lvm_text::{Node, Scalar, Section, Value};
 
-/// What a number may be.
+/// Which numbers a field may have.
 #[derive(Clone, Copy)]
 pub(crate) enum NumberKind {
     /// Any integer.
     Any,
     /// An integer of 1 or more.
     Positive,
-    /// A number of extents: any integer, limited by its sectors too.
+    /// A number of extents: any integer, with a limit that also counts in sectors.
     Extents,
 }
 
 impl NumberKind {
-    /// Whether a number is one of the kind.
+    /// Whether a number is valid for a field of this kind.
     fn has(self, number: u64) -> bool
         ensures { (section : Tree) → result ≡ spec.fits (number_kind self) section (tree.Whole (tree.Int number)) }
     {
@@ -38,7 +38,7 @@ impl NumberKind {
         }
     }
 
-    /// Whether a number is above 2^50, one of extents of this size also in sectors.
+    /// Whether a number is above 2^50; a number of extents also if it is above that in sectors.
     fn is_far(self, extent_size: u64, number: u64) -> bool
         ensures { result ≡ is_far extent_size (number_kind self) (tree.Whole (tree.Int number)) }
     {
@@ -49,7 +49,7 @@ impl NumberKind {
     }
 }
 
-/// A reader of a group's fields: the sectors of an extent, and the first integer above its limit that it read.
+/// The state while a group's fields are read: the extent size in sectors, and the first integer above its limit.
 #[derive(Clone, Copy, Drop)]
 pub(crate) struct FieldReader {
     pub extent_size: u64,
@@ -57,7 +57,7 @@ pub(crate) struct FieldReader {
 }
 
 impl FieldReader {
-    /// A reader that has read the size of a group's extents, and nothing else.
+    /// A reader that has read a group's extent size, and nothing else.
     pub(crate) fn of_group(group: &Section<'_>) -> Result<FieldReader, LoadFault>
         ensures passed { IfOk result (λ reader. (reader.extent_size ≡ number_at (codes "extent_size") group.now)
             × IsStep (at_key kinds.Positive (codes "extent_size") group.now)
@@ -76,7 +76,7 @@ impl FieldReader {
         })
     }
 
-    /// The number of a key.
+    /// The number under a key that is required. Notes a fault if it is above its limit.
     pub(crate) fn number(
         &mut self,
         section: &Section<'_>,
@@ -95,7 +95,7 @@ impl FieldReader {
         Ok(number)
     }
 
-    /// Keeps an integer above its limit, at this line, if it is the first.
+    /// Keeps a fault for an integer above its limit, on this line, unless there is an earlier one.
     pub(crate) fn note(&mut self, is_far: bool, line: u64)
         ensures { self.new ≡ after self.old (if is_far then source_faults loads.Limit line else []) }
     {
@@ -105,7 +105,7 @@ impl FieldReader {
     }
 }
 
-/// What a key holds, or that the key is missing.
+/// The node of a key, or a fault if the key is missing.
 pub(crate) fn node_at<'s, 'a>(
     section: &'s Section<'a>,
     key: &str,
@@ -121,21 +121,21 @@ pub(crate) fn node_at<'s, 'a>(
     }
 }
 
-/// A field that is missing in the section at this line.
+/// The fault of a field that is missing in the section on this line.
 pub(crate) fn missing(line: u64) -> LoadFault
     ensures { result ≡ fault_at Source loads.Field line }
 {
     source_fault(LoadKind::Field, line)
 }
 
-/// A field that doesn't hold what it may.
+/// The fault of a field whose content isn't valid.
 pub(crate) fn wrong(node: &Node<'_>) -> LoadFault
     ensures { result ≡ fault_at Source loads.Field (node_view node.now).line }
 {
     source_fault(LoadKind::Field, node.line())
 }
 
-/// The integer of a field.
+/// The integer that a field has, or a fault if it has something else.
 pub(crate) fn integer_of(node: &Node<'_>) -> Result<u64, LoadFault>
     ensures { MatchResult result
         (λ number. content_view node.now.value ≡ tree.Whole (tree.Int number))
@@ -148,7 +148,7 @@ pub(crate) fn integer_of(node: &Node<'_>) -> Result<u64, LoadFault>
     }
 }
 
-/// The string of a field.
+/// The string that a field has, or a fault if it has something else.
 pub(crate) fn text_of<'a>(node: &Node<'a>) -> Result<&'a str, LoadFault>
     ensures { MatchResult result
         (λ text. content_view node.now.value ≡ tree.Whole (tree.Text text.now))
@@ -161,7 +161,7 @@ pub(crate) fn text_of<'a>(node: &Node<'a>) -> Result<&'a str, LoadFault>
     }
 }
 
-/// The list of a field.
+/// The list that a field has, or a fault if it has something else.
 pub(crate) fn items_of<'s, 'a>(node: &'s Node<'a>) -> Result<&'s [Scalar<'a>], LoadFault>
     ensures { MatchResult result
         (λ items. content_view node.now.value ≡ tree.Items (scalar_views items.now))
@@ -174,7 +174,7 @@ pub(crate) fn items_of<'s, 'a>(node: &'s Node<'a>) -> Result<&'s [Scalar<'a>], L
     }
 }
 
-/// The section of a field.
+/// The section that a field has, or a fault if it has something else.
 fn section_of<'s, 'a>(node: &'s Node<'a>) -> Result<&'s Section<'a>, LoadFault>
     ensures { MatchResult result
         (λ section. content_view node.now.value ≡ tree.Inner section.now)
@@ -187,7 +187,7 @@ fn section_of<'s, 'a>(node: &'s Node<'a>) -> Result<&'s Section<'a>, LoadFault>
     }
 }
 
-/// The string of a key.
+/// The string under a key that is required.
 pub(crate) fn text_at<'a>(section: &Section<'a>, key: &str) -> Result<&'a str, LoadFault>
     ensures step { IsPlainStep (at_key kinds.Text key.now section.now) (result_err result) }
     ensures value { IfOk result (λ text. text.now ≡ text_at key.now section.now) }
@@ -195,7 +195,7 @@ pub(crate) fn text_at<'a>(section: &Section<'a>, key: &str) -> Result<&'a str, L
     text_of(node_at(section, key)?)
 }
 
-/// The strings of a key.
+/// The list of strings under a key that is required.
 #[tactic(auto, using(crate::proofs::fields::TextLemmas::none_far))]
 pub(crate) fn texts_at<'s, 'a>(
     section: &'s Section<'a>,
@@ -212,7 +212,7 @@ pub(crate) fn texts_at<'s, 'a>(
     Ok(items)
 }
 
-/// The section of a key.
+/// The section under a key that is required.
 pub(crate) fn section_at<'s, 'a>(
     section: &'s Section<'a>,
     key: &str,
@@ -224,7 +224,7 @@ pub(crate) fn section_at<'s, 'a>(
     section_of(node_at(section, key)?)
 }
 
-/// The section of a key that may be missing.
+/// The section under a key, or `None` if the key is missing.
 #[tactic(auto, unfolding(crate::specs::fields::Fields::field_faults))]
 pub(crate) fn section_if_given<'s, 'a>(
     section: &'s Section<'a>,

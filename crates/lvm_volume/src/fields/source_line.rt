@@ -1,6 +1,6 @@
-//! Lines of the source: the place of what stands on one, and a fault there.
+//! Places and faults on a line of the metadata text.
 //!
-//! The place of each fault, device, line and disk of metadata is made here. Lines count from 1; a fault of
+//! The place of each fault, device, line and disk of metadata is made here. Lines count from 1; running out of
 //! memory has no line.
 
 ghost use Rattle.lvm_volume.specs.Prelude.{Source, IsMemoryFault, fault_at, source_line};
@@ -8,7 +8,7 @@ ghost use Rattle.std.specs.Prelude.{◌≡◌};
 
 use dm_table::{LoadFault, LoadKind, Part, Place};
 
-/// The place of a line.
+/// The place of a line in the metadata text.
 pub(crate) fn source_line(line: u64) -> Place
     ensures { result ≡ source_line line }
 {
@@ -18,14 +18,14 @@ pub(crate) fn source_line(line: u64) -> Place
     }
 }
 
-/// Out of memory while the source was read.
+/// The fault for running out of memory while reading the metadata text.
 pub(crate) fn memory_fault() -> LoadFault
     ensures { IsMemoryFault Source result }
 {
     LoadFault::memory(Part::Source)
 }
 
-/// A fault at a line.
+/// A fault on a line of the metadata text.
 pub(crate) fn source_fault(kind: LoadKind, line: u64) -> LoadFault
     ensures { result ≡ fault_at Source kind line }
 {

@@ -1,4 +1,4 @@
-//! The fields of a group: what its text says, once both checks of fields found nothing.
+//! Reads the fields of a volume group's metadata, and runs both checks of fields.
 
 ghost use Rattle.lvm_volume.specs.Prelude.{None, Some, MatchResult, map, IfOk, codes, result_err, item_view, sections_of, first_or, Fields, Limits, IsChecked, faults_of_fields, fields_faults, first_of, group_faults, group_fields, inner_sections, number_at, physicals_faults, sections_at, top_fields, volumes_faults, IsPlainStep, IsStep, at_key, FieldReader, first_section, group_of, IsSaid, volumes_said, fields_of, fields_view};
 ghost use Rattle.std.specs.Prelude.{◌≡◌};
@@ -17,8 +17,8 @@ use dm_table::LoadFault;
 use lvm_text::Section;
 use std::alloc::Global;
 
-/// A group as its text says it: its key, the sectors of an extent, its physical volumes, whose disks have no
-/// names yet, and its volumes.
+/// A volume group as its text says it: its key, the extent size in sectors, its physical volumes, whose disks have no
+/// names yet, and its logical volumes.
 #[derive(Drop)]
 pub(crate) struct GroupFields<'a> {
     pub name: &'a str,
@@ -27,9 +27,9 @@ pub(crate) struct GroupFields<'a> {
     pub volumes: Vec<Volume>,
 }
 
-/// The fields of the group of a text, or the first fault of a check of fields.
+/// Reads the fields of the volume group in a text, or returns the first fault of the first check that finds one.
 ///
-/// Cost: near-linear in the values of the sections that are read.
+/// Cost: near-linear in the number of values in the sections that are read.
 pub(crate) fn read_fields<'a>(
     alloc: Global,
     top: &Section<'a>,
@@ -49,7 +49,7 @@ pub(crate) fn read_fields<'a>(
     }
 }
 
-/// Fails where the text isn't one of a volume group, in the version that is known.
+/// Fails unless the text is the metadata of a volume group, in the version that is known.
 fn check_head(top: &Section<'_>) -> Result<(), LoadFault>
     ensures { IsPlainStep (λ check. fields_faults check top.now top_fields) (result_err result) }
 {
@@ -57,7 +57,7 @@ fn check_head(top: &Section<'_>) -> Result<(), LoadFault>
     check_version(top)
 }
 
-/// Fails where the text isn't one of a volume group.
+/// Fails unless the text says that it is the metadata of a volume group.
 fn check_title_field(top: &Section<'_>) -> Result<(), LoadFault>
     ensures { IsPlainStep (at_key kinds.Title (codes "contents") top.now) (result_err result) }
 {
@@ -69,7 +69,7 @@ fn check_title_field(top: &Section<'_>) -> Result<(), LoadFault>
     }
 }
 
-/// Fails where the text is in another version.
+/// Fails unless the text has version 1, the only one known.
 fn check_version(top: &Section<'_>) -> Result<(), LoadFault>
     ensures { IsPlainStep (at_key kinds.Version (codes "version") top.now) (result_err result) }
 {
@@ -81,8 +81,8 @@ fn check_version(top: &Section<'_>) -> Result<(), LoadFault>
     }
 }
 
-/// The fields of a group before those of its parts: a reader that knows the size of its extents, and the
-/// sections of its physical volumes and of its volumes.
+/// A group's own fields: a reader that knows the extent size, and the sections of the physical volumes and of the
+/// logical volumes.
 #[derive(Clone, Copy, Drop)]
 struct GroupHead<'s, 'a> {
     reader: FieldReader,
@@ -90,7 +90,7 @@ struct GroupHead<'s, 'a> {
     volumes: Option<&'s Section<'a>>,
 }
 
-/// The fields of a group before those of its parts.
+/// Reads a group's own fields, without those of its physical and logical volumes.
 fn head_of<'s, 'a>(group: &'s Section<'a>) -> Result<GroupHead<'s, 'a>, LoadFault>
     ensures step { (old new : FieldReader) → MatchResult result
         (λ head. IsStep (λ check. fields_faults check group.now group_fields)
@@ -112,7 +112,7 @@ fn head_of<'s, 'a>(group: &'s Section<'a>) -> Result<GroupHead<'s, 'a>, LoadFaul
     })
 }
 
-/// The fields of the group that a section with its key says.
+/// Reads all fields of the group that a section with its key says.
 #[tactic(auto, unfolding(crate::specs::fields::Fields::group_faults))]
 fn group_fields<'a>(
     alloc: Global,
@@ -138,7 +138,7 @@ fn group_fields<'a>(
     }
 }
 
-/// The fields of the physical volumes inside a section.
+/// Reads the fields of all physical volumes in a section.
 fn physicals_of<'a>(
     alloc: Global,
     reader: &mut FieldReader,
@@ -155,7 +155,7 @@ fn physicals_of<'a>(
     fields_in(alloc, reader, &sections)
 }
 
-/// The volumes inside a section, if it is there, of a group with its physical volumes inside another.
+/// Reads all logical volumes in a section, if the group has one; their stripes name the physical volumes.
 fn volumes_of<'a>(
     alloc: Global,
     reader: &mut FieldReader,

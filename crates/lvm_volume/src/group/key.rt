@@ -1,4 +1,4 @@
-//! The key of a section, copied so that it outlives the text. A clause sees it as its bytes.
+//! A copy of a section's key, which outlives the text. A contract sees its bytes.
 
 ghost use Rattle.lvm_volume.specs.Prelude.{IfOk};
 ghost use Rattle.std.specs.Prelude.{◌≡◌};
@@ -6,7 +6,7 @@ ghost use Rattle.std.specs.Prelude.{◌≡◌};
 use std::alloc::{AllocError, Global};
 use std::marker::Model;
 
-/// A copy of a key.
+/// A copy of a section's key.
 #[derive(Debug, Drop)]
 pub(crate) struct Key {
     text: String,
@@ -21,7 +21,7 @@ impl Model for Key {
 }
 
 impl Key {
-    /// A copy of a key; it takes memory once.
+    /// Copies a key; allocates once.
     pub(crate) fn new(alloc: Global, key: &str) -> Result<Key, AllocError>
         ensures { IfOk result (λ copy. copy ≡ key.now) }
     {
@@ -30,7 +30,7 @@ impl Key {
         })
     }
 
-    /// The key as a text.
+    /// The key as a `str`.
     pub(crate) fn as_str(&self) -> &str
         ensures { result.now ≡ self.now }
     {

@@ -1,5 +1,5 @@
-//! Physical volumes by the disks whose images have them: an image's header has an id, and so has the section of a
-//! physical volume. Where no image has its id, a physical volume keeps the name that it has without images.
+//! Assigns disks to physical volumes by id: the header of a disk's image has an id, and so has each physical volume's
+//! section. A physical volume whose id no image has keeps the name that it has without images.
 
 ghost use Rattle.lvm_volume.specs.Prelude.{[], List, ℕ, IfOk, false, bytes_eq, codes, length, map, option_map, slice_index_or, unwrap_or, item_view, inner_sections, sections_at, first_section, all_owned, disk_fault, id_in, lay_elsewhere, letters_of, name_by, owned_group, owner_of, physicals_of, section_of, untaken, ids_view, owners_view};
 ghost use Rattle.std.specs.Prelude.{◌≡◌, ◌∷◌};
@@ -12,25 +12,25 @@ use dm_table::{DiskName, DiskPath};
 use lvm_text::Section;
 use std::alloc::{AllocError, Global};
 
-/// Ids that images have, as their headers have them, and the disks that lie in these images, in one order.
+/// The ids in the headers of images, and the disks in these images, in the same order.
 #[derive(Clone, Copy)]
 pub struct Owners<'a> {
     pub ids: &'a [[u8; 32]],
     pub disks: &'a [DiskPath],
 }
 
-/// Why a disk isn't taken for the physical volume of its id.
+/// Why a disk can't be used for the physical volume with its id.
 #[derive(Clone, Copy, Debug, PartialEq, Eq, Drop)]
 pub enum DiskFault {
-    /// No physical volume of the text has its id.
+    /// No physical volume in the text has the id of the disk's image.
     Foreign,
-    /// It was missing when the text was written, and may be older than the text.
+    /// The physical volume was missing when the text was written, so the disk may be older than the text.
     Missing,
-    /// It lay on an array then, and has another name than that.
+    /// The physical volume was on an md array when the text was written, and the disk isn't named like the array.
     Array,
 }
 
-/// The physical volumes of a text, with their keys.
+/// The physical volumes in a text, with their keys.
 pub(crate) fn physicals_of<'s, 'a>(
     alloc: Global,
     top: &'s Section<'a>,
@@ -44,7 +44,7 @@ pub(crate) fn physicals_of<'s, 'a>(
     }
 }
 
-/// The section of the physical volumes of the first group.
+/// The section that has the physical volumes of the first group.
 fn physicals_in<'s, 'a>(groups: &[(&'a str, &'s Section<'a>)]) -> Option<&'s Section<'a>>
     ensures { sections_at (codes "physical_volumes") (first_section (map item_view groups.now)).1
         ≡ inner_sections result }
@@ -55,7 +55,7 @@ fn physicals_in<'s, 'a>(groups: &[(&'a str, &'s Section<'a>)]) -> Option<&'s Sec
     }
 }
 
-/// The ids of physical volumes, as their text has them.
+/// The ids of physical volumes as the text has them, with dashes; empty where there is none.
 pub(crate) fn ids_of<'a>(
     alloc: Global,
     physicals: &[(&'a str, &Section<'a>)],
@@ -69,7 +69,7 @@ pub(crate) fn ids_of<'a>(
     Ok(ids)
 }
 
-/// Whether a text has the letters of an id, with dashes between them or without.
+/// Whether a text is this id, apart from dashes in the text.
 fn has_letters(text: &str, id: &[u8]) -> bool
     ensures { result ≡ bytes_eq id.now (letters_of text.now) }
 {
@@ -83,7 +83,7 @@ fn has_letters(text: &str, id: &[u8]) -> bool
     rest.len() == 0
 }
 
-/// What comes after a letter of a text, where an id begins with it; a dash is none.
+/// The part of an id that is left after a byte of the text; a dash in the text uses up nothing. `None` if they differ.
 #[tactic(auto, unfolding(crate::specs::group::Owners::letters_of))]
 fn after_letter(id: &[u8], letter: u8) -> Option<&[u8]>
     ensures { (more : List ℕ) → bytes_eq id.now (letters_of (letter ∷ more))
@@ -98,7 +98,7 @@ fn after_letter(id: &[u8], letter: u8) -> Option<&[u8]>
     }
 }
 
-/// The section of the physical volume of an id.
+/// The section of the physical volume with this id.
 fn section_of<'s, 'a>(
     physicals: &[(&'a str, &'s Section<'a>)],
     id: &[u8],
@@ -113,7 +113,7 @@ fn section_of<'s, 'a>(
     None
 }
 
-/// Whether a physical volume lay on an array when its text was written, and the name of its disk is another.
+/// Whether a physical volume was on an md array when its text was written, and its disk now has a different name.
 fn lay_elsewhere(name: &str, physical: &Section<'_>) -> bool
     ensures { result ≡ lay_elsewhere name.now physical.now }
 {
@@ -121,7 +121,7 @@ fn lay_elsewhere(name: &str, physical: &Section<'_>) -> bool
     device.as_bytes().starts_with(b"/dev/md") && device != name
 }
 
-/// Why the disk of a name isn't taken for the physical volume that has its id.
+/// Why the disk with this name can't be used for the physical volume with its id, if so.
 fn disk_fault(name: &str, physical: Option<&Section<'_>>) -> Option<DiskFault>
     ensures { result ≡ disk_fault name.now (option_map (λ section. section.now) physical.entry) }
 {
@@ -139,7 +139,7 @@ fn disk_fault(name: &str, physical: Option<&Section<'_>>) -> Option<DiskFault>
     }
 }
 
-/// The name of the disk of a number, or an empty one.
+/// The name of the disk with this number, or an empty one if there is none.
 fn name_of<'a>(disks: &'a [DiskPath], disk: usize) -> &'a str
     ensures { result.now ≡ slice_index_or (map (λ path. path.disk) disks.now) disk [] }
 {
@@ -149,7 +149,7 @@ fn name_of<'a>(disks: &'a [DiskPath], disk: usize) -> &'a str
     }
 }
 
-/// The first disk that isn't taken for the physical volume of its id.
+/// The first disk that can't be used for the physical volume with its id, with the reason.
 pub(crate) fn first_untaken<'s, 'a>(
     owners: &Owners<'_>,
     physicals: &[(&'a str, &'s Section<'a>)],
@@ -166,7 +166,7 @@ pub(crate) fn first_untaken<'s, 'a>(
     None
 }
 
-/// The first of the images' ids whose letters a text has.
+/// The number of the first image whose id is this text, apart from dashes.
 fn owner_of(owners: &[[u8; 32]], id: &str) -> Option<usize>
     ensures { result ≡ owner_of owners.now (letters_of id.now) }
 {
@@ -178,7 +178,7 @@ fn owner_of(owners: &[[u8; 32]], id: &str) -> Option<usize>
     None
 }
 
-/// A copy of the name of the disk whose image has an id, or else of another name.
+/// A copy of the name of the disk whose image has this id, or of `other` if there is none.
 fn name_by(
     alloc: Global,
     owners: &Owners<'_>,
@@ -196,7 +196,7 @@ fn name_by(
     }
 }
 
-/// Physical volumes with these ids, by the names of the disks whose images have them.
+/// Copies physical volumes, each renamed to the disk whose image has its id, if there is one.
 fn all_owned(
     alloc: Global,
     owners: &Owners<'_>,
@@ -218,7 +218,7 @@ fn all_owned(
     Ok(all)
 }
 
-/// A group whose physical volumes have these ids, by the names of the disks whose images have them.
+/// A group with its physical volumes renamed to the disks whose images have their ids, where there is one.
 pub(crate) fn owned_group(
     alloc: Global,
     owners: &Owners<'_>,

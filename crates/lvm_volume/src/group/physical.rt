@@ -1,8 +1,8 @@
-//! Physical volumes, as their sections say them, and the names of their disks.
+//! Physical volumes as their sections say them, and the names of their disks.
 //!
-//! The device that metadata gives is a hint, and two physical volumes may give the same. So a disk is named
-//! by its device only where that is a path that no other physical volume gives, and else by the key. The rule
-//! is `chosen` in `specs/group/Group.antt`.
+//! The device in a section is only a hint, and two physical volumes may have the same one. So a disk is named
+//! after its device only if that is an absolute path that no other physical volume has, and else after the key.
+//! The rule is `chosen` in `specs/group/Group.antt`.
 
 ghost use Rattle.lvm_volume.specs.Prelude.{Err, List, [], ℕ, None, false, true, map, nat_lt, unwrap_or, IfOk, result_err, nat_cmp, slice_cmp, get_by, item_view, Source, Answers, unless, is_disk_name, fields_faults, first_of, physical_fields, physicals_faults, IsStep, name_faults, chosen, Counts, all_named, fields_of, fields_view, with_disk_name, devices_in};
 ghost use Rattle.dm_table.specs.declared.words.name.CheckFault.TheVariants.{Form};
@@ -15,8 +15,8 @@ use lvm_text::Section;
 use std::alloc::{AllocError, Global};
 use std::collections::BTreeMap;
 
-/// A physical volume as its section says it: its key, its device, the sectors of that, the sector where its
-/// extents begin, how many there are, and the line of the key.
+/// A physical volume as its section says it: its key, its device, the device's size in sectors, the sector at which
+/// its extents begin, how many there are, and the line of the key.
 #[derive(Clone, Copy, Drop)]
 pub(crate) struct PhysicalFields<'a> {
     pub key: &'a str,
@@ -27,8 +27,8 @@ pub(crate) struct PhysicalFields<'a> {
     pub line: u64,
 }
 
-/// A physical volume: the name of its disk, the sectors of that, the sector where its extents begin, how many
-/// there are, and the line of its key.
+/// A physical volume: the name of its disk, the disk's size in sectors, the sector at which its extents begin, how
+/// many there are, and the line of its key.
 #[derive(Debug, Drop)]
 pub(crate) struct Physical {
     pub disk: DiskName,
@@ -38,7 +38,7 @@ pub(crate) struct Physical {
     pub line: u64,
 }
 
-/// The fields of physical volumes that sections say.
+/// Reads the fields of the physical volumes in these sections.
 pub(crate) fn fields_in<'s, 'a>(
     alloc: Global,
     reader: &mut FieldReader,
@@ -61,7 +61,7 @@ pub(crate) fn fields_in<'s, 'a>(
     Ok(all)
 }
 
-/// The fields of a physical volume that a section says.
+/// Reads the fields of one physical volume.
 fn fields_of<'a>(
     reader: &mut FieldReader,
     key: &'a str,
@@ -85,9 +85,9 @@ fn fields_of<'a>(
     })
 }
 
-/// The physical volumes with the names of their disks, or the first whose disk gets no name.
+/// Names the disks of all physical volumes, or fails at the first one that gets no valid name.
 ///
-/// Cost: near-linear, with memory for each name.
+/// Cost: near-linear; allocates for each name.
 pub(crate) fn named_physicals(
     alloc: Global,
     all: &[PhysicalFields<'_>],
@@ -110,7 +110,7 @@ pub(crate) fn named_physicals(
     Ok(physicals)
 }
 
-/// How often each device is there.
+/// How many physical volumes have each device.
 fn counts_of<'a>(
     alloc: Global,
     all: &[PhysicalFields<'a>],
@@ -124,7 +124,7 @@ fn counts_of<'a>(
     Ok(counts)
 }
 
-/// Whether a device is there more than once.
+/// Whether more than one physical volume has this device.
 fn is_shared(counts: &BTreeMap<&str, usize>, device: &str) -> bool
     ensures { result ≡ nat_lt 1 (unwrap_or (get_by (λ k. slice_cmp nat_cmp device.now k.now) counts.now) 0) }
 {
@@ -134,8 +134,8 @@ fn is_shared(counts: &BTreeMap<&str, usize>, device: &str) -> bool
     }
 }
 
-/// The name of a disk: the device, where it is a path that no other physical volume gives and may be a disk's
-/// name, and else the key.
+/// The name for a disk: the device, if it is an absolute path, valid as a disk name and not shared, else the
+/// key.
 #[tactic(auto, unfolding(crate::specs::group::Group::chosen))]
 fn disk_name(alloc: Global, shared: bool, key: &str, device: &str) -> Result<DiskName, CheckFault>
     ensures named { IfOk result (λ name. name ≡ chosen shared key.now device.now) }
@@ -152,7 +152,7 @@ fn disk_name(alloc: Global, shared: bool, key: &str, device: &str) -> Result<Dis
     DiskName::new(alloc, key)
 }
 
-/// The physical volume of these fields, unless its disk gets no name.
+/// Makes a physical volume of its fields, or fails if its disk gets no valid name.
 fn with_disk_name(
     alloc: Global,
     counts: &BTreeMap<&str, usize>,

@@ -1,7 +1,7 @@
-//! The positions of physical volumes and of volumes by their keys, so that what names one finds it at about
-//! the same cost however many there are.
+//! The positions of physical and logical volumes by their keys, so that a reference to one is resolved at about the
+//! same cost however many there are.
 //!
-//! The keys of a section all differ, so each is new to the set. A clause sees the keys in source order.
+//! The keys in a section all differ, so each is new when it is added. A contract sees the keys in source order.
 
 ghost use Rattle.lvm_volume.specs.Prelude.{[], false, IfOk, OnOk, bytes_eq, list_any, sections_of, keys_in, position_of, texts};
 ghost use Rattle.std.specs.Prelude.{◌≡◌, ◌++◌, ◌∷◌};
@@ -11,13 +11,13 @@ use lvm_text::Section;
 use std::alloc::{AllocError, Global};
 use std::marker::Model;
 
-/// The positions of keys.
+/// The keys in a section, with their positions.
 #[derive(Drop)]
 pub(crate) struct Positions<'a> {
     keys: IndexSet<&'a str>,
 }
 
-/// The positions of a group's physical volumes, and those of its volumes.
+/// The positions of a group's physical volumes, and of its logical volumes.
 #[derive(Drop)]
 pub(crate) struct GroupPositions<'a> {
     pub physicals: Positions<'a>,
@@ -34,7 +34,7 @@ impl<'a> Model for Positions<'a> {
 }
 
 impl<'a> Positions<'a> {
-    /// The positions of the sections inside a section.
+    /// The positions of the sections inside a section, by their keys.
     fn new(alloc: Global, section: &Section<'a>) -> Result<Positions<'a>, AllocError>
         ensures { IfOk result (λ positions. positions ≡ keys_in (sections_of section.now.values)) }
     {
@@ -45,7 +45,7 @@ impl<'a> Positions<'a> {
         Ok(Positions { keys })
     }
 
-    /// The position of a key, or the number of keys where it is none of them.
+    /// The position of a key, or the number of keys if it isn't one of them.
     pub(crate) fn position_of(&self, key: &str) -> usize
         ensures { result ≡ position_of self.now key.now }
     {
@@ -57,7 +57,7 @@ impl<'a> Positions<'a> {
 }
 
 impl<'a> GroupPositions<'a> {
-    /// The positions of what is inside the sections of a group's physical volumes and of its volumes.
+    /// The positions of a group's physical and logical volumes, from the two sections that contain them.
     pub(crate) fn new(
         alloc: Global,
         physicals: &Section<'a>,
@@ -75,7 +75,7 @@ impl<'a> GroupPositions<'a> {
     }
 }
 
-/// Adds a key after the others, of which it is none.
+/// Appends a key, which must differ from the others.
 fn add_key<'a>(keys: &mut IndexSet<&'a str>, key: &'a str) -> Result<(), AllocError>
     requires { list_any (bytes_eq key.now) (texts keys.old.keys) ≡ false }
     ensures { OnOk result (texts keys.new.keys ≡ texts keys.old.keys ++ key.now ∷ []) }

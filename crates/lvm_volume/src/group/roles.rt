@@ -1,8 +1,8 @@
-//! What the volumes of a group are to its snapshots.
+//! The roles that the volumes of a group have for its snapshots.
 //!
-//! A volume whose only segment is a snapshot is the record of one: no device, but what says which volume is
-//! its origin and which its store. The roles of all volumes are found in one pass over their records; the
-//! check of snapshots, the names of devices and the devices themselves follow from them.
+//! A volume whose only segment is of type snapshot is a record: it makes no device, but says which volume is the
+//! origin of the snapshot and which its store. The roles of all volumes are found in one pass over the records; the
+//! check of snapshots, the names of devices and the devices themselves depend on them.
 
 ghost use Rattle.lvm_volume.specs.Prelude.{[], IfOk, extents_of, is_record, is_store, name_at, recorded, role_at, roles_among, roles_of, segments_at, changed, record_list, with_origin, with_store};
 ghost use Rattle.std.specs.Prelude.{◌≡◌};
@@ -13,7 +13,7 @@ use crate::group::segment::{Segment, SegmentType};
 use crate::group::volume::Volume;
 use std::alloc::{AllocError, Global};
 
-/// A snapshot as its record says it: the sectors of a chunk, the positions of its origin and its store among
+/// A snapshot as its record says it: the chunk size in sectors, the positions of its origin and its store among
 /// the volumes of the group, and the line of the record's segment.
 #[derive(Clone, Copy, Debug, Drop)]
 pub(crate) struct Record {
@@ -23,18 +23,18 @@ pub(crate) struct Record {
     pub line: u64,
 }
 
-/// What a volume is to the snapshots of its group.
+/// The role that a volume has for the snapshots of its group.
 #[derive(Clone, Copy, Debug, Drop)]
 pub(crate) enum Role {
     /// Neither an origin, nor a store, nor a record.
     Plain,
-    /// The origin of a snapshot or of several.
+    /// The origin of one or more snapshots.
     Origin,
-    /// The store of this snapshot.
+    /// The exception store of this snapshot.
     Store(Record),
-    /// The record of a snapshot.
+    /// The record of a snapshot, which says its origin and its store.
     Record,
-    /// A store that is also an origin, or the store of several snapshots: a check refuses it.
+    /// A store that is also an origin, or the store of several snapshots: the check of snapshots refuses it.
     Clashing,
 }
 
@@ -46,14 +46,14 @@ impl Role {
         matches!(self, Role::Record)
     }
 
-    /// Whether the volume is the store of a snapshot.
+    /// Whether the volume is the store of exactly one snapshot, and nothing else.
     pub(crate) fn is_store(self) -> bool
         ensures { result ≡ is_store self }
     {
         matches!(self, Role::Store(_))
     }
 
-    /// The role with one more snapshot that has the volume as its origin.
+    /// The role after one more snapshot that has this volume as its origin.
     fn with_origin(self) -> Role
         ensures { result ≡ with_origin self }
     {
@@ -64,7 +64,7 @@ impl Role {
         }
     }
 
-    /// The role with one more snapshot that has the volume as its store.
+    /// The role after one more snapshot that has this volume as its store.
     fn with_store(self, snapshot: Record) -> Role
         ensures { result ≡ with_store snapshot self }
     {
@@ -76,7 +76,7 @@ impl Role {
     }
 }
 
-/// The snapshot that a volume of these segments records, if it is a record.
+/// The snapshot that a volume with these segments is the record of, if it is a record.
 fn recorded(segments: &[Segment]) -> Option<Record>
     ensures { record_list result ≡ recorded segments.now }
 {
@@ -98,7 +98,7 @@ fn recorded(segments: &[Segment]) -> Option<Record>
     }
 }
 
-/// The roles of volumes, in their order.
+/// The roles of all volumes of a group, in order.
 ///
 /// Cost: linear in the volumes.
 pub(crate) fn roles_of(alloc: Global, volumes: &[Volume]) -> Result<Vec<Role>, AllocError>
@@ -116,7 +116,7 @@ pub(crate) fn roles_of(alloc: Global, volumes: &[Volume]) -> Result<Vec<Role>, A
     Ok(roles)
 }
 
-/// The roles of volumes where nothing has an origin or a store yet.
+/// The roles of all volumes before any snapshot is looked at: each is a record or plain.
 fn first_roles(alloc: Global, volumes: &[Volume]) -> Result<Vec<Role>, AllocError>
     ensures { IfOk result (λ roles. roles.items ≡ roles_among [] volumes.now) }
 {
@@ -127,7 +127,7 @@ fn first_roles(alloc: Global, volumes: &[Volume]) -> Result<Vec<Role>, AllocErro
     Ok(roles)
 }
 
-/// The role of a volume before the snapshots of its group were looked at.
+/// The role of a volume before any snapshot is looked at: a record, or plain.
 fn first_role(volume: &Volume) -> Role
     ensures { result ≡ spec.unless_recorded (recorded volume.now.segments) roles.Plain }
 {
@@ -137,7 +137,7 @@ fn first_role(volume: &Volume) -> Role
     }
 }
 
-/// Adds to the roles that a snapshot has the volume at a position as its origin.
+/// Updates the role of the origin of a snapshot, which is the volume at `position`.
 fn add_origin(roles: &mut Vec<Role>, position: usize)
     ensures { roles.new.items ≡ changed with_origin position 0 roles.old.items }
 {
@@ -146,7 +146,7 @@ fn add_origin(roles: &mut Vec<Role>, position: usize)
     }
 }
 
-/// Adds to the roles that a snapshot has its store.
+/// Updates the role of the store of a snapshot.
 fn add_store(roles: &mut Vec<Role>, snapshot: Record)
     ensures { roles.new.items ≡ changed (with_store snapshot) snapshot.store 0 roles.old.items }
 {
@@ -155,7 +155,7 @@ fn add_store(roles: &mut Vec<Role>, snapshot: Record)
     }
 }
 
-/// The role of the volume at a position.
+/// The role of the volume at a position; `Plain` past the end.
 pub(crate) fn role_at(roles: &[Role], position: usize) -> Role
     ensures { result ≡ role_at roles.now position }
 {
@@ -165,7 +165,7 @@ pub(crate) fn role_at(roles: &[Role], position: usize) -> Role
     }
 }
 
-/// The segments of the volume at a position.
+/// The segments of the volume at a position; none past the end.
 pub(crate) fn segments_at(volumes: &[Volume], position: usize) -> &[Segment]
     ensures { result.now ≡ segments_at volumes.now position }
 {
@@ -175,7 +175,7 @@ pub(crate) fn segments_at(volumes: &[Volume], position: usize) -> &[Segment]
     }
 }
 
-/// The key of the volume at a position.
+/// The key of the volume at a position; empty past the end.
 pub(crate) fn name_at(volumes: &[Volume], position: usize) -> &str
     ensures { result.now ≡ name_at volumes.now position }
 {
@@ -185,7 +185,7 @@ pub(crate) fn name_at(volumes: &[Volume], position: usize) -> &str
     }
 }
 
-/// The extents of a volume of these segments.
+/// How many extents a volume with these segments has.
 pub(crate) fn extents_of(segments: &[Segment]) -> u128
     ensures { result ≡ extents_of segments.now }
 {

@@ -1,7 +1,7 @@
-//! Segments of a volume, as their sections say them, with physical volumes and volumes by their positions.
+//! Segments of a logical volume as their sections say them; they refer to other volumes by position.
 //!
-//! What they say is not checked here. A new type of segment is a variant of `SegmentType`, a word of the
-//! field `type`, and an arm where segments are checked and where they become lines.
+//! Whether these references are valid is not checked here. A new type of segment is a variant of `SegmentType`, a
+//! word of the field `type`, and an arm where segments are checked and where they become lines.
 
 ghost use Rattle.lvm_volume.specs.Prelude.{[], ℕ, List, MatchOption, IfOk, codes, map, result_err, scalar_view, scalar_views, field, field_faults, fields_faults, items_at, number_at, section_view, segment_fields, text_at, IsPlainStep, IsStep, at_key, later_fields, segments_faults, type_fields, named_type, type_text, segment_of, snapshot_in, striped_in, stripes_in, target_of};
 ghost use Rattle.std.specs.Prelude.{◌≡◌, ◌+◌, ◌∷◌};
@@ -18,8 +18,8 @@ use dm_table::{Listed, LoadFault};
 use lvm_text::{Scalar, Section};
 use std::alloc::{AllocError, Global};
 
-/// A stripe: the position of its physical volume among those of the group, or their number where it names
-/// none of them, and the first extent.
+/// A stripe: the position of its physical volume in the group, and its first extent there. The position is the number
+/// of physical volumes if the stripe names none of them.
 #[derive(Clone, Copy, Debug)]
 pub(crate) struct Stripe {
     pub physical: usize,
@@ -29,8 +29,8 @@ pub(crate) struct Stripe {
 /// The stripes of a segment, in order.
 pub(crate) type Stripes = Listed<Stripe>;
 
-/// What a segment's extents are mapped to. The sizes of a stripe's pieces and of a snapshot's chunks are in
-/// sectors.
+/// A segment's type, with the stripes or volumes that it refers to. A striped segment's `stripe_size` and a snapshot's
+/// `chunk_size` are in sectors.
 #[derive(Debug, Drop)]
 pub(crate) enum SegmentType {
     Zero,
@@ -39,8 +39,8 @@ pub(crate) enum SegmentType {
         stripe_size: u64,
         stripes: Stripes,
     },
-    /// A snapshot of a volume with another one as its store: their positions among the volumes of the group,
-    /// or the number of volumes where it names none of them.
+    /// A snapshot: the positions of its origin and its store among the volumes of the group. A position is the number
+    /// of volumes if the snapshot names none of them.
     Snapshot {
         chunk_size: u64,
         origin: usize,
@@ -48,7 +48,7 @@ pub(crate) enum SegmentType {
     },
 }
 
-/// A segment: its first extent in the volume, how many there are, and the line of its key.
+/// A segment: its first extent in the volume, how many extents it has, and the line of its key.
 #[derive(Debug, Drop)]
 pub(crate) struct Segment {
     pub start: u64,
@@ -58,7 +58,7 @@ pub(crate) struct Segment {
 }
 
 impl Segment {
-    /// The extent of the volume at which it ends.
+    /// The extent of the volume after the segment's last one.
     pub(crate) fn end(&self) -> u128
         ensures { result ≡ self.now.start + self.now.count }
     {
@@ -66,10 +66,10 @@ impl Segment {
     }
 }
 
-/// The segments of a volume, from 1 on.
+/// The segments of a volume, in the order of their numbers.
 pub(crate) type Segments = Listed<Segment>;
 
-/// The stripes that a list says, pair by pair. One pass, with a look-up for each.
+/// The stripes that a list of pairs says. One pass, with one look-up per stripe.
 fn stripes_of(
     alloc: Global,
     positions: &Positions<'_>,
@@ -92,7 +92,7 @@ fn stripes_of(
     Ok(stripes)
 }
 
-/// A string and an integer.
+/// A pair of a string and an integer, if the two scalars are that.
 fn pair<'a>(first: &Scalar<'a>, second: &Scalar<'a>) -> Option<(&'a str, u64)>
     ensures { MatchOption result
         ((keys : List (List ℕ)) (items : List tree.Scalar)
@@ -106,7 +106,7 @@ fn pair<'a>(first: &Scalar<'a>, second: &Scalar<'a>) -> Option<(&'a str, u64)>
     }
 }
 
-/// The types of segments.
+/// The types of segments that are supported.
 #[derive(Clone, Copy)]
 pub(crate) enum TypeName {
     Striped,
@@ -115,7 +115,7 @@ pub(crate) enum TypeName {
     Snapshot,
 }
 
-/// The type that a word names.
+/// The type of segment that a word stands for.
 fn type_named(word: &str) -> Option<TypeName>
     ensures { result ≡ named_type word.now }
 {
@@ -145,7 +145,7 @@ fn type_at(segment: &Section<'_>) -> Result<TypeName, LoadFault>
     }
 }
 
-/// What a segment's extents are mapped to, by its type.
+/// Reads what comes after the type of a segment and depends on it.
 fn target_at(
     alloc: Global,
     reader: &mut FieldReader,
@@ -164,7 +164,7 @@ fn target_at(
     }
 }
 
-/// The stripes of a striped segment, with the size of their pieces.
+/// Reads a striped segment: its stripes, and the stripe size.
 fn striped(
     alloc: Global,
     reader: &mut FieldReader,
@@ -185,7 +185,7 @@ fn striped(
     })
 }
 
-/// The stripes of a segment, of which it has this many.
+/// Reads the stripes of a segment; `parts` is how many it must have.
 fn stripes_at(
     alloc: Global,
     reader: &mut FieldReader,
@@ -211,7 +211,7 @@ fn stripes_at(
     }
 }
 
-/// The size of the pieces of a segment of this many stripes. One alone needs none, and has 0 if none is given.
+/// Reads the stripe size of a segment with `parts` stripes. A single stripe needs none, and 0 is used if there is none.
 fn stripe_size_at(
     reader: &mut FieldReader,
     segment: &Section<'_>,
@@ -230,7 +230,7 @@ fn stripe_size_at(
     }
 }
 
-/// A snapshot, with its volumes by their positions.
+/// Reads a snapshot segment, which refers to its origin and its store by their keys.
 fn snapshot(
     reader: &mut FieldReader,
     positions: &Positions<'_>,
@@ -251,7 +251,7 @@ fn snapshot(
     })
 }
 
-/// The segment that a section says.
+/// Reads the segment in a section.
 fn segment_of(
     alloc: Global,
     reader: &mut FieldReader,
@@ -273,7 +273,7 @@ fn segment_of(
     })
 }
 
-/// The segments that sections say.
+/// Reads the segments in these sections.
 pub(crate) fn segments_in(
     alloc: Global,
     reader: &mut FieldReader,

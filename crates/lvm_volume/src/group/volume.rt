@@ -1,4 +1,4 @@
-//! Volumes, as their sections say them.
+//! Logical volumes as their sections say them.
 
 ghost use Rattle.lvm_volume.specs.Prelude.{codes, decimal, map, IfOk, OnOk, result_err, flat_map, list_any, range_with_len, string_bytes, item_view, scalar_view, scalar_views, fields_faults, items_at, number_at, section_at, section_view, volume_faults, volume_fields, volumes_faults, IsPlainStep, IsStep, numbers_faults, is_text_of, is_writable, lists, volume_of};
 ghost use Rattle.std.specs.Prelude.{◌≡◌, ◌++◌, ◌+◌, ◌||◌};
@@ -13,7 +13,7 @@ use dm_table::LoadFault;
 use lvm_text::{Scalar, Section};
 use std::alloc::{AllocError, Global};
 
-/// A volume: its key, whether it is read-only, its segments, and the line of its key.
+/// A logical volume: its key, whether it is read-only, its segments, and the line of its key.
 #[derive(Debug, Drop)]
 pub(crate) struct Volume {
     pub name: Key,
@@ -22,7 +22,7 @@ pub(crate) struct Volume {
     pub line: u64,
 }
 
-/// The volumes that sections say.
+/// Reads the logical volumes in these sections.
 pub(crate) fn volumes_in(
     alloc: Global,
     reader: &mut FieldReader,
@@ -46,7 +46,7 @@ pub(crate) fn volumes_in(
     Ok(volumes)
 }
 
-/// The volume that a section with its key says.
+/// Reads the logical volume in a section with its key.
 fn volume_of(
     alloc: Global,
     reader: &mut FieldReader,
@@ -72,14 +72,14 @@ fn volume_of(
     })
 }
 
-/// The fields of a volume before its segments.
+/// A logical volume's own fields, without its segments.
 #[derive(Clone, Copy)]
 struct VolumeHead {
     is_writable: bool,
     segment_count: u64,
 }
 
-/// The fields of a volume before its segments.
+/// Reads a logical volume's own fields, without its segments.
 fn head_of(reader: &mut FieldReader, volume: &Section<'_>) -> Result<VolumeHead, LoadFault>
     ensures step { IsStep (λ check. fields_faults check volume.now volume_fields) reader.old reader.new
         (result_err result) }
@@ -94,8 +94,8 @@ fn head_of(reader: &mut FieldReader, volume: &Section<'_>) -> Result<VolumeHead,
     })
 }
 
-/// The sections of a volume's segments, from 1 on. It stops at the first whose key is missing, or holds no
-/// section, so that no count makes it long.
+/// The sections of a volume's segments, from segment1 on. Stops at the first that is missing or is no section, so
+/// that a large count in the text costs nothing.
 fn segment_sections<'s, 'a>(
     alloc: Global,
     volume: &'s Section<'a>,
@@ -119,7 +119,7 @@ fn segment_sections<'s, 'a>(
     Ok(sections)
 }
 
-/// Puts the key of segment number `i` of a volume in place of another, so that one text serves all of them.
+/// Replaces `key` with the key of segment number `i`, so that one string serves all segments.
 fn put_segment_key(key: &mut String, i: u64) -> Result<(), AllocError>
     ensures { OnOk result (string_bytes key.new ≡ codes "segment" ++ decimal i) }
 {
@@ -127,8 +127,8 @@ fn put_segment_key(key: &mut String, i: u64) -> Result<(), AllocError>
     write!(key, "segment{i}")
 }
 
-/// Whether a volume of this status may be written. lvm2 writes a locked right among the flags, as of every
-/// volume of a group with a system id.
+/// Whether a volume with this status may be written. lvm2 can write the right as WRITE_LOCKED, in the status or in
+/// the flags, as it does for all volumes of a group with a system id.
 fn is_writable(status: &[Scalar<'_>], volume: &Section<'_>) -> bool
     requires { scalar_views status.now ≡ items_at (codes "status") volume.now }
     ensures { result ≡ is_writable volume.now }
@@ -138,7 +138,7 @@ fn is_writable(status: &[Scalar<'_>], volume: &Section<'_>) -> bool
         || lists(volume, "flags", "WRITE_LOCKED")
 }
 
-/// Whether the list of a key has a string. A key that is missing, or holds no list, has none.
+/// Whether the list under a key contains this string; false if the key is missing or has no list.
 pub(crate) fn lists(section: &Section<'_>, key: &str, word: &str) -> bool
     ensures { result ≡ lists key.now word.now section.now }
 {
@@ -148,7 +148,7 @@ pub(crate) fn lists(section: &Section<'_>, key: &str, word: &str) -> bool
     }
 }
 
-/// Whether one of the items is a string.
+/// Whether a list contains this string.
 fn has_text(items: &[Scalar<'_>], word: &str) -> bool
     ensures { result ≡ list_any (is_text_of word.now) (scalar_views items.now) }
 {
@@ -160,7 +160,7 @@ fn has_text(items: &[Scalar<'_>], word: &str) -> bool
     false
 }
 
-/// Whether an item is a string.
+/// Whether a scalar is this string.
 fn is_text_of(item: &Scalar<'_>, word: &str) -> bool
     ensures { result ≡ is_text_of word.now (scalar_view item.now) }
 {

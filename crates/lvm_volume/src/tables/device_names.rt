@@ -1,7 +1,7 @@
-//! The names of devices: of a volume, and of the layer that an origin and a store have.
+//! The names of devices: of logical volumes, and of the layers that origins and stores have.
 //!
-//! Their parts are all looked at before any device is made, so that the first in the order of the text is refused,
-//! whichever devices name it in their lines.
+//! All names are checked before any device is made, so that the first volume in the text without a valid name is
+//! refused, whichever lines refer to it.
 
 ghost use Rattle.lvm_volume.specs.Prelude.{[], None, Some, IfOk, result_err, flat_map, zip, first_of, Returns, built, fault_of, IsNamed, device_name, device_parts, layer_text, unnamed_layer, unnamed_volume};
 ghost use Rattle.std.specs.Prelude.{◌≡◌, ◌∷◌};
@@ -14,17 +14,17 @@ use crate::names::{build_name, name_fault};
 use dm_table::{LoadFault, LoadKind, Name};
 use std::alloc::{AllocError, Global};
 
-/// A layer of a volume, below it in the stack.
+/// A hidden layer of a volume, below the visible device.
 #[derive(Clone, Copy, Debug, Drop)]
 pub(crate) enum Layer {
-    /// What an origin has: its snapshots are of it.
+    /// The layer of an origin, which its snapshots share.
     Real,
-    /// What a store has: it holds the chunks that its snapshot took.
+    /// The layer of a store, which holds the exceptions of its snapshot.
     Cow,
 }
 
 impl Layer {
-    /// The layer as it ends a name.
+    /// The word for the layer at the end of a device name.
     fn text(self) -> &'static str
         ensures { result.now ≡ layer_text self }
     {
@@ -35,8 +35,8 @@ impl Layer {
     }
 }
 
-/// Fails at the first volume of a group with a device that gets no name, by the roles of the volumes. Takes no
-/// memory.
+/// Fails at the first volume for which a device name can't be built, for itself or for its layer. Allocates
+/// nothing.
 pub(crate) fn check_names(group: &str, roles: &[Role], volumes: &[Volume]) -> Result<(), LoadFault>
     ensures { result_err result
         ≡ first_of (flat_map (unnamed_volume group.now) (zip roles.now volumes.now)) }
@@ -47,7 +47,7 @@ pub(crate) fn check_names(group: &str, roles: &[Role], volumes: &[Volume]) -> Re
     Ok(())
 }
 
-/// Fails at a volume with a device that gets no name.
+/// Fails if a device of this volume gets no name.
 #[tactic(auto, unfolding(crate::specs::tables::Tables::unnamed_volume))]
 fn check_volume(group: &str, role: Role, volume: &Volume) -> Result<(), LoadFault>
     ensures { result_err result ≡ first_of (unnamed_volume group.now (role, volume.now)) }
@@ -60,7 +60,7 @@ fn check_volume(group: &str, role: Role, volume: &Volume) -> Result<(), LoadFaul
     }
 }
 
-/// Fails at a volume with a layer, where one of the two gets no name.
+/// Fails if no name can be built for a volume's layer, or for the volume itself.
 fn check_layer(group: &str, volume: &Volume, layer: Layer) -> Result<(), LoadFault>
     ensures { result_err result
         ≡ first_of (flat_map (unnamed_layer group.now volume.now) (Some layer ∷ None ∷ [])) }
@@ -69,7 +69,7 @@ fn check_layer(group: &str, volume: &Volume, layer: Layer) -> Result<(), LoadFau
     check_device(group, volume, None)
 }
 
-/// Fails at a volume that gets no name, or of which a layer gets none.
+/// Fails if no name can be built for a volume, or for the given layer of it.
 fn check_device(group: &str, volume: &Volume, layer: Option<Layer>) -> Result<(), LoadFault>
     ensures { result_err result ≡ first_of (unnamed_layer group.now volume.now layer) }
 {
@@ -79,7 +79,7 @@ fn check_device(group: &str, volume: &Volume, layer: Option<Layer>) -> Result<()
     Ok(())
 }
 
-/// Why a volume gets no name, or a layer of it, if it gets none.
+/// Why no name can be built for a volume, or for a layer of it, if so.
 fn device_name_fault(group: &str, volume: &str, layer: Option<Layer>) -> Option<NameFault>
     ensures { result ≡ fault_of (device_parts group.now volume.now layer) }
 {
@@ -89,7 +89,7 @@ fn device_name_fault(group: &str, volume: &str, layer: Option<Layer>) -> Option<
     }
 }
 
-/// The name of a volume, or of a layer of it, of whose parts a name is built.
+/// The device name of a volume, or of a layer of it, whose parts are known to be valid.
 pub(crate) fn name_of(
     alloc: Global,
     group: &str,
@@ -101,12 +101,12 @@ pub(crate) fn name_of(
 {
     match built_name(alloc, group, volume, layer) {
         Ok(name) => Ok(name),
-        // A name is built of these parts, so what fails is memory.
+        // The parts are known to be valid, so only memory can have run out.
         Err(_) => Err(AllocError),
     }
 }
 
-/// What `build_name` gives for a volume, or for a layer of it.
+/// The result of `build_name` for a volume, or for a layer of it.
 fn built_name(
     alloc: Global,
     group: &str,

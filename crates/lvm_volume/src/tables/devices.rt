@@ -1,8 +1,8 @@
-//! The devices of volumes, by their roles.
+//! Makes the devices of logical volumes, by their roles.
 //!
-//! A snapshot is over a layer of its origin and over one of its store, so that the volumes themselves keep
-//! their names (lvm(8); what `dmsetup table` prints of a group with snapshots). A new role is an arm in
-//! `add_devices`, and in `devices_by` and `layers_of` of `specs/tables/Tables.antt`.
+//! A snapshot maps to a layer of its origin and a layer of its store, so that the visible volumes keep their names
+//! (lvm(8); what `dmsetup table` prints for a group with snapshots). A new role needs an arm in `add_devices`, and
+//! in `devices_by` and `layers_of` of `specs/tables/Tables.antt`.
 
 ghost use Rattle.lvm_volume.specs.Prelude.{None, Some, IfOk, OnOk, AllByRecursion, flat_map, zip, Real, Cow, group_view, extents_of, name_at, segments_at, AreSegmentsIn, IsMadeIn, IsNamed, device_name, length_of, origin_line, over_device, own_device, snapshot_line};
 ghost use Rattle.lvm_volume.specs.tables.Tables.{devices_in};
@@ -18,7 +18,7 @@ use crate::tables::lines::lines_of;
 use dm_table::{DevRef, DeviceSpec, Line, Name, StoreKind, Table, Target};
 use std::alloc::{AllocError, Global};
 
-/// A group that devices are made of: its name, the sectors of an extent, its physical volumes and its
+/// The group that devices are made from: its name, the extent size in sectors, its physical volumes and its logical
 /// volumes.
 #[derive(Drop)]
 pub(crate) struct GroupRef<'g> {
@@ -28,7 +28,7 @@ pub(crate) struct GroupRef<'g> {
     pub volumes: &'g [Volume],
 }
 
-/// The devices of the volumes, in their order, by their roles.
+/// The devices of all volumes, in order, by their roles.
 pub(crate) fn devices_of(
     alloc: Global,
     group: &GroupRef<'_>,
@@ -45,7 +45,7 @@ pub(crate) fn devices_of(
     Ok(devices)
 }
 
-/// Adds the devices of a volume.
+/// Appends the devices of one volume.
 #[tactic(auto, unfolding(crate::specs::tables::Tables::devices_in))]
 fn add_devices(
     alloc: Global,
@@ -73,7 +73,7 @@ fn add_devices(
     Ok(())
 }
 
-/// The name of a volume, or of a layer of it.
+/// The device name of a volume, or of a layer of it.
 fn volume_name(
     alloc: Global,
     group: &GroupRef<'_>,
@@ -86,7 +86,7 @@ fn volume_name(
     name_of(alloc, group.name, volume.name.as_str(), layer)
 }
 
-/// The device of a volume's own segments: the volume itself, or a layer of it.
+/// The device with the lines for a volume's segments: the volume itself, or its layer.
 fn own_device(
     alloc: Global,
     group: &GroupRef<'_>,
@@ -112,7 +112,7 @@ fn own_device(
     })
 }
 
-/// The device of an origin over its layer.
+/// The visible device of an origin, over its layer `real`.
 fn origin_device(
     alloc: Global,
     group: &GroupRef<'_>,
@@ -128,7 +128,7 @@ fn origin_device(
     over_device(alloc, group, volume, origin_line(group, volume, real))
 }
 
-/// The device of a snapshot whose store is this volume.
+/// The visible device of a snapshot, whose store is `volume`.
 fn snapshot_device(
     alloc: Global,
     group: &GroupRef<'_>,
@@ -148,7 +148,7 @@ fn snapshot_device(
     over_device(alloc, group, volume, line)
 }
 
-/// The device of a volume over its layer, of one line.
+/// The visible device of an origin or snapshot, with its one line.
 fn over_device(
     alloc: Global,
     group: &GroupRef<'_>,
@@ -168,7 +168,7 @@ fn over_device(
     })
 }
 
-/// The line of an origin, over its layer.
+/// The line of an origin's visible device, over its layer `real`.
 fn origin_line(group: &GroupRef<'_>, volume: &Volume, real: Name) -> Line
     requires len { length_of (group_view group.now) volume.now.segments < 2 ^ 64 }
     requires name { real ≡ device_name group.now.name.now volume.now.name (Some Real) }
@@ -184,7 +184,7 @@ fn origin_line(group: &GroupRef<'_>, volume: &Volume, real: Name) -> Line
     }
 }
 
-/// The line of a snapshot whose store is this volume, over the layers of its origin and of the volume.
+/// The line of a snapshot whose store is `volume`: over the origin's layer `real` and the store's layer `cow`.
 fn snapshot_line(
     alloc: Global,
     group: &GroupRef<'_>,
@@ -216,7 +216,7 @@ fn snapshot_line(
     })
 }
 
-/// The sectors of a volume of these segments.
+/// The length in sectors of a volume with these segments.
 fn length_of(extent_size: u64, segments: &[Segment]) -> u64
     requires { extents_of segments.now * extent_size < 2 ^ 64 }
     ensures { result ≡ extents_of segments.now * extent_size }

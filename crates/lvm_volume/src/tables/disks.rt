@@ -1,4 +1,4 @@
-//! The disks of physical volumes.
+//! Makes the disks of physical volumes.
 
 ghost use Rattle.lvm_volume.specs.Prelude.{IfOk, map, physical_disk};
 ghost use Rattle.std.specs.Prelude.{◌≡◌};
@@ -8,7 +8,7 @@ use crate::group::physical::Physical;
 use dm_table::Disk;
 use std::alloc::{AllocError, Global};
 
-/// The disks of physical volumes.
+/// The disks of the physical volumes, in order.
 pub(crate) fn disks_of(alloc: Global, physicals: &[Physical]) -> Result<Vec<Disk>, AllocError>
     ensures { IfOk result (λ v. v.items ≡ map physical_disk physicals.now) }
 {

@@ -1,7 +1,7 @@
-//! The lines of segments: one for each, in the sectors of physical volumes.
+//! Makes the lines of a volume's table: one for each segment, in sectors.
 //!
-//! The checks of a group have passed, so each product fits 64 bits, and each stripe is on a physical volume
-//! of the group. A new type of segment is an arm in `line_target`, here and in `specs/tables/Tables.antt`.
+//! The checks of the group have passed, so each product fits 64 bits, and each stripe is on a physical volume of the
+//! group. A new type of segment needs an arm in `line_target`, here and in `specs/tables/Tables.antt`.
 
 ghost use Rattle.lvm_volume.specs.Prelude.{IfOk, map, AllByRecursion, stripes_of, IsSegmentIn, IsStripeIn, column_of, columns_target, line_of, line_target};
 ghost use Rattle.std.specs.Prelude.{◌≡◌};
@@ -12,7 +12,7 @@ use crate::group::segment::{Segment, SegmentType, Stripe};
 use dm_table::{Column, Columns, DevRef, Line, Table, Target};
 use std::alloc::{AllocError, Global};
 
-/// The lines of segments.
+/// The lines for the segments of a volume.
 pub(crate) fn lines_of(
     alloc: Global,
     extent_size: u64,
@@ -29,7 +29,7 @@ pub(crate) fn lines_of(
     Ok(Table::from_vec(lines))
 }
 
-/// The line of a segment.
+/// The line for one segment.
 #[tactic(auto, unfolding(crate::specs::tables::Tables::line_of))]
 fn line_of(
     alloc: Global,
@@ -48,7 +48,7 @@ fn line_of(
     })
 }
 
-/// What becomes of the sectors of a segment.
+/// The target for a segment.
 fn line_target(
     alloc: Global,
     extent_size: u64,
@@ -71,7 +71,7 @@ fn line_target(
     }
 }
 
-/// One column is linear, others are striped.
+/// A linear target for a single column, else a striped one.
 fn columns_target(stripe_size: u64, mut columns: Vec<Column>) -> Target
     ensures { result ≡ columns_target stripe_size columns.items }
 {
@@ -89,7 +89,7 @@ fn columns_target(stripe_size: u64, mut columns: Vec<Column>) -> Target
     }
 }
 
-/// The columns of stripes.
+/// The columns for the stripes of a segment.
 fn columns_of(
     alloc: Global,
     extent_size: u64,
@@ -106,7 +106,7 @@ fn columns_of(
     Ok(columns)
 }
 
-/// The column of a stripe.
+/// The column for a stripe: its disk, and the sector of it at which the stripe begins.
 fn column_of(
     alloc: Global,
     extent_size: u64,
