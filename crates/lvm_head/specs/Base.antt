@@ -1,4 +1,4 @@
--- The words of std and of the crates below that this crate cites, and its types, from one place.
+-- The names from std and from lower crates, and the types, that this crate's definitions use.
 pub use Rattle.dm_table.specs.Prelude.{memory_message}
 pub use Rattle.dm_table.specs.Std.{All, Bool, Err, List, None, Ok, Option, Result, Some, [], bit_xor, bytes_eq, codes, drop, false, fold, length, list_any, map, nat_le, nat_lt, not, range_with_len, slice_index, slice_range, slice_split, suc, take, true, zero, ℕ}
 pub use Rattle.lvm_head.specs.declared.area.Area.{Area}

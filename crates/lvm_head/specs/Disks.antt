@@ -1,36 +1,36 @@
--- What disks hold.
+-- The contents of disks, sector by sector.
 use Rattle.lvm_head.specs.Base.{ℕ, List, Result, Ok, Err, length, slice_range, ReadFault, HeadFault, Unread}
 use Rattle.std.specs.Prelude.{◌≡◌, ◌<◌, ◌+◌, ◌*◌}
 
--- what each sector of a disk holds, or that it can't be read
+-- the content of each sector of a disk, or that the sector can't be read
 abbrev pub Sectors : Type 0
 Sectors = (sector : ℕ) → Result (List ℕ) ReadFault
 
--- what each sector of each disk holds
+-- the content of each sector of each disk
 abbrev pub Contents : Type 0
 Contents = (disk : ℕ) → Sectors
 
--- the bytes of the sector with this index among sectors in a row
+-- the bytes of sector number `index` in a block of consecutive sectors
 abbrev pub sector_in : (bytes : List ℕ) → (index : ℕ) → List ℕ
 sector_in bytes index = slice_range bytes (512 * index) (512 * index + 512)
 
--- what a read of some sectors in a row says of them: each holds its part of what was read; where one alone was asked for, it can't be read, and of more a fault says nothing
+-- what a read of consecutive sectors shows: on success the content of each; on failure, that the sector can't be read if it was one, and nothing if more
 abbrev pub AreRead : Sectors → (from : ℕ) → Result (Unit {0}) ReadFault → (bytes : List ℕ) → Type 0
 AreRead sectors from (Ok done) bytes = (i : ℕ) → 512 * i < length bytes → sectors (from + i) ≡ Ok (sector_in bytes i)
 AreRead sectors from (Err fault) bytes = length bytes ≡ 512 → sectors from ≡ Err fault
 
--- what a read of one sector says of it
+-- the content of a sector, as a read of that sector alone shows it
 abbrev pub answer : {F : Type 0} → Result (Unit {0}) F → (bytes : List ℕ) → Result (List ℕ) F
 answer (Ok done) bytes = Ok bytes
 answer (Err fault) bytes = Err fault
 
--- one step after another, up to the first fault
+-- the next step with the value of the one before, or the first fault
 infixl 10 ◌>>=◌
 abbrev pub ◌>>=◌ : {X Y F : Type 0} → Result X F → (X → Result Y F) → Result Y F
 Ok value >>= next = next value
 Err fault >>= next = Err fault
 
--- a sector that a head needs
+-- the content of a sector that the head needs; it is a fault if the sector can't be read
 abbrev pub needed : Result (List ℕ) ReadFault → Result (List ℕ) HeadFault
 needed (Ok bytes) = Ok bytes
 needed (Err fault) = Err Unread

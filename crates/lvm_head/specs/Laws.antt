@@ -1,4 +1,4 @@
--- What holds of all heads: what is read of a head is what it spells.
+-- The law about heads: reading a head gives exactly what the head spells.
 use Rattle.lvm_head.specs.Base.{[], ℕ, true, false, List, None, Result, Ok, length, slice_index, All, Any, Area, Location, HeadFault}
 use Rattle.lvm_head.specs.Areas.{is_header, is_near, is_none, is_within, location_in, ring_place}
 use Rattle.lvm_head.specs.Disks.{Sectors}
@@ -10,7 +10,7 @@ use Rattle.std.specs.Prelude.{◌≡◌, ◌↔◌, ◌⊎◌, ◌<◌, ◌≤�
 
 -- ---- a label
 
--- the first sector has no partition table, and neither it nor sector 8 a superblock of an array
+-- the first sector has no partition table, and neither it nor sector 8 is the superblock of an array
 pub record IsUndivided (sectors : Sectors) : Type 0 where
   pub first : List ℕ
   pub later : List ℕ
@@ -20,7 +20,7 @@ pub record IsUndivided (sectors : Sectors) : Type 0 where
   pub alone : is_member first ≡ false
   pub alone_later : is_member later ≡ false
 
--- the label is a sound one of the first four sectors, and none before it is taken for one
+-- the label is a valid one in sectors 0 to 3, and no sector before it is regarded as a label
 pub record IsTheLabel (sectors : Sectors) (label : List ℕ) : Type 0 where
   pub place : ℕ
   pub inside : place < 4
@@ -31,17 +31,17 @@ pub record IsTheLabel (sectors : Sectors) (label : List ℕ) : Type 0 where
 
 -- ---- a text
 
--- the first bytes of a function are these
+-- the first `count` values of `byte` are these bytes, and none of them is a fault
 pub record HasBytes (byte : ℕ → Result ℕ HeadFault) (count : ℕ) (bytes : List ℕ) : Type 0 where
   pub len : length bytes ≡ count
   pub are : (i : ℕ) → i < count → byte i ≡ Ok (slice_index bytes i)
 
--- a text ends with a newline, or a NUL comes after it
+-- the text is these bytes if they end with a newline, or these bytes without a NUL at their end
 pub data IsEnded (text bytes : List ℕ) : Type 0 where
   AtNul : bytes ≡ text ++ 0 ∷ [] → IsEnded text bytes
   AtNewline : bytes ≡ text → (before : List ℕ) → text ≡ before ++ 10 ∷ [] → IsEnded text bytes
 
--- a location spells a text: where the ring has it lie its bytes and what ends it, and they have its sum
+-- the location spells a text: its bytes in the ring have its checksum, and are the text, perhaps with a NUL after it
 pub record SpellsText (sectors : Sectors) (start : ℕ) (location : Location) (text : List ℕ) : Type 0 where
   pub some : is_none location ≡ false
   pub within : is_within location ≡ true
@@ -51,7 +51,7 @@ pub record SpellsText (sectors : Sectors) (start : ℕ) (location : Location) (t
   pub sum : sum_of bytes ≡ location.sum
   pub ends : IsEnded text bytes
 
--- an area spells a text, or none, which is []: it has a sound header
+-- the area has a valid header and spells the text, or no text, which is []
 pub record SpellsArea (sectors : Sectors) (text : List ℕ) (area : Area) : Type 0 where
   pub header : List ℕ
   pub near : is_near area ≡ true
@@ -61,7 +61,7 @@ pub record SpellsArea (sectors : Sectors) (text : List ℕ) (area : Area) : Type
 
 -- ---- a head
 
--- a head spells an id and a text: its label has the id, each of its areas spells the text, or none, and one does if there is a text
+-- a head spells an id and a text: its label has the id, each area spells the text or none, and at least one area spells the text if it isn't []
 pub record SpellsHead (sectors : Sectors) (said : Said) : Type 0 where
   pub undivided : IsUndivided sectors
   pub label : List ℕ
@@ -72,6 +72,6 @@ pub record SpellsHead (sectors : Sectors) (said : Said) : Type 0 where
   pub each : All (λ area. SpellsArea sectors [] area ⊎ SpellsArea sectors said.text area) areas
   pub some : (said.text ≡ []) ⊎ Any (SpellsArea sectors said.text) areas
 
--- what is spelled is read, and what is read is spelled
+-- for all sectors, `head_of` gives what the head spells, and nothing else
 abbrev pub ReadsBack : Type 0
 ReadsBack = (sectors : Sectors) (said : Said) → (head_of sectors ≡ Ok said) ↔ SpellsHead sectors said

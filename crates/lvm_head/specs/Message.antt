@@ -1,8 +1,8 @@
--- The message of a refused head.
+-- The message for a refused head.
 use Rattle.lvm_head.specs.Base.{ℕ, List, codes, memory_message, HeadFault, Unread, Partitions, Array, Label, Header, Long, Text, Differ, Twice, Foreign, Missing, Ends, Memory}
 use Rattle.std.specs.Prelude.{◌++◌}
 
--- the word of a fault
+-- the word for a fault in messages
 abbrev pub fault_word : HeadFault → List ℕ
 fault_word Unread = codes "read"
 fault_word Partitions = codes "partitions"
@@ -18,7 +18,7 @@ fault_word Missing = codes "missing"
 fault_word Ends = codes "ends"
 fault_word Memory = codes "memory"
 
--- the line that names the disk and the fault
+-- the message line, which names the disk and the fault; out of memory has the same message as elsewhere
 abbrev pub head_message : (disk : List ℕ) → HeadFault → List ℕ
 head_message disk Memory = memory_message
 head_message disk fault = codes "dmremap: disk " ++ disk ++ codes ": " ++ fault_word fault ++ codes "\n"

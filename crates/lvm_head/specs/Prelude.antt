@@ -1,4 +1,4 @@
--- The words that contracts cite, here and in crates above, from one place.
+-- The names that contracts use, in this crate and in crates above, in one place.
 pub use Rattle.dm_table.specs.Std.{IfErr, IfOk, OnOk}
 pub use Rattle.lvm_head.specs.Areas.{is_header, is_near, is_none, is_within, location_in, ring_place}
 pub use Rattle.lvm_head.specs.Base.{Err, Ok, [], bytes_eq, false, length, list_any, map, nat_le, nat_lt, not, slice_index, slice_range, slice_split, true, ℕ}

@@ -1,15 +1,15 @@
--- The sums of labels, headers and texts (lvm2's calc_crc): CRC-32 with zlib's polynomial, bit by bit, the lowest first. The first sum is another, and the last one isn't inverted.
+-- The checksums of labels, headers and texts (calc_crc in lvm2): CRC-32 with zlib's polynomial, lowest bit first, another initial value and no final inversion.
 use Rattle.lvm_head.specs.Base.{ℕ, List, bit_xor, fold}
 use Rattle.std.specs.Prelude.{◌/◌, ◌%◌, ◌*◌}
 
--- one bit
+-- the checksum after one bit
 unfoldable pub sum_bit : (sum : ℕ) → ℕ
 sum_bit sum = bit_xor (sum / 2) (sum % 2 * 0xEDB88320)
 
--- one byte
+-- the checksum after one more byte
 unfoldable pub sum_byte : (sum byte : ℕ) → ℕ
 sum_byte sum byte = sum_bit (sum_bit (sum_bit (sum_bit (sum_bit (sum_bit (sum_bit (sum_bit (bit_xor sum byte))))))))
 
--- the sum of bytes
+-- the checksum of bytes
 abbrev pub sum_of : (bytes : List ℕ) → ℕ
 sum_of bytes = fold sum_byte 0xF597A6CF bytes

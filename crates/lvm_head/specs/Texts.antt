@@ -1,15 +1,15 @@
--- The text of a metadata area.
+-- The metadata text in a metadata area.
 use Rattle.lvm_head.specs.Base.{ℕ, zero, suc, not, List, [], Result, Ok, Err, length, take, nat_lt, slice_index, Area, Location, HeadFault, Header, Long, Text}
 use Rattle.lvm_head.specs.Areas.{is_header, is_near, is_none, is_within, location_in, ring_place}
 use Rattle.lvm_head.specs.Disks.{Sectors, ◌>>=◌, needed}
 use Rattle.lvm_head.specs.Sums.{sum_of}
 use Rattle.std.specs.Prelude.{◌-◌, ◌/◌, ◌%◌, ◌==◌, ◌∷◌, ◌++◌, if◌then◌else◌}
 
--- a byte of a disk
+-- the byte at a place on a disk, or a fault if its sector can't be read
 abbrev pub byte_at : Sectors → (place : ℕ) → Result ℕ HeadFault
 byte_at sectors place = needed (sectors (place / 512)) >>= (λ sector. Ok (slice_index sector (place % 512)))
 
--- the first bytes of a function, if all can be read
+-- the first `count` values of `byte` as a list, or the first fault among them
 unfoldable pub gathered : (ℕ → Result ℕ HeadFault) → (count : ℕ) → Result (List ℕ) HeadFault
 gathered byte zero = Ok []
 gathered byte (suc number) = gathered byte number >>= (λ bytes. byte number >>= (λ next. Ok (bytes ++ next ∷ [])))
@@ -20,11 +20,11 @@ ring_bytes sectors start location count = gathered (λ number. byte_at sectors (
 abbrev pub last_byte : (bytes : List ℕ) → ℕ
 last_byte bytes = slice_index bytes (length bytes - 1)
 
--- the text that bytes are: they end with a NUL, which isn't of the text, or with a newline
+-- the text in the bytes: without the NUL that ends them, or with the newline that does; any other end is a fault
 abbrev pub ended : (bytes : List ℕ) → Result (List ℕ) HeadFault
 ended bytes = if last_byte bytes == 0 then Ok (take (length bytes - 1) bytes) else (if last_byte bytes == 10 then Ok bytes else Err Text)
 
--- the text at a location in an area that begins here: [] if there is none
+-- the text at a location in the area that begins at byte `start`, or [] if the location says none
 abbrev pub text_at : Sectors → (start : ℕ) → Location → Result (List ℕ) HeadFault
 text_at sectors start location =
     if is_none location then Ok []
@@ -33,7 +33,7 @@ text_at sectors start location =
     else (if location.size == 0 then Err Text
     else (ring_bytes sectors start location location.size >>= (λ bytes. if sum_of bytes == location.sum then ended bytes else Err Text)))))
 
--- the text of an area, which begins with its header
+-- the text of an area, whose header is in its first sector
 abbrev pub area_text : Sectors → Area → Result (List ℕ) HeadFault
 area_text sectors area =
     if is_near area then (needed (sectors (area.start / 512)) >>= (λ header. if is_header area header then text_at sectors area.start (location_in header) else Err Header))

@@ -1,4 +1,4 @@
-//! Metadata areas, and where their texts lie.
+//! Metadata areas: their headers, and where in them the texts are.
 
 ghost use Rattle.lvm_head.specs.Prelude.{ℕ, true, false, length, is_header, is_near, is_none, is_within, location_in, ring_place, eight_at};
 ghost use Rattle.lvm_head.specs.declared.disks.TheConstants.{MOST_BYTES, SECTOR};
@@ -8,26 +8,26 @@ use crate::disks::{MOST_BYTES, SECTOR};
 use crate::numbers::{eight_at, four_at};
 use crate::sums::sum_of;
 
-/// ` LVM2 x[` and `5A%r0N*>`.
+/// The magic bytes ` LVM2 x[` and `5A%r0N*>` of a header.
 const MAGIC: u64 = 0x5B78_2032_4D56_4C20;
 
 const MORE_MAGIC: u64 = 0x3E2A_4E30_7225_4135;
 
-/// The version that is read.
+/// The only version of headers that is read.
 const VERSION: u32 = 1;
 
-/// The last byte at which an area may begin, and the most bytes of one.
+/// The largest start of an area, and its largest size, in bytes.
 const FARTHEST: u64 = 0x200_0000_0000_0000;
 
-/// An area: its first byte, and how many it has.
+/// A metadata area: its first byte on the disk, and its size in bytes.
 #[derive(Clone, Copy, Debug, Default, PartialEq, Eq, Drop)]
 pub(crate) struct Area {
     pub start: u64,
     pub size: u64,
 }
 
-/// Where the header of an area says that its text is: so many bytes, from a byte of the area on, in a ring that ends
-/// with this byte of it.
+/// Where the text of an area is, as the area's header says: `size` bytes from offset `offset` of the area on, in a ring
+/// buffer that ends at offset `ring`.
 #[derive(Clone, Copy, Debug, PartialEq, Eq, Drop)]
 pub(crate) struct Location {
     pub ring: u64,
@@ -37,7 +37,7 @@ pub(crate) struct Location {
     pub flags: u32,
 }
 
-/// Whether an area begins with a sector, and lies where disks may have sectors.
+/// Whether an area begins on a sector boundary, and its start and its size are at most `FARTHEST`.
 pub(crate) fn is_near(area: Area) -> bool
     ensures is { result ≡ is_near area }
     ensures start { result ≡ true → area.start ≤ 2 ^ 57 }
@@ -46,7 +46,7 @@ pub(crate) fn is_near(area: Area) -> bool
     area.start % 512 == 0 && area.start <= FARTHEST && area.size <= FARTHEST
 }
 
-/// Whether a sector is the sound header of an area.
+/// Whether a sector is a valid header of the area.
 pub(crate) fn is_header(sector: &[u8], area: Area) -> bool
     requires { length sector.now ≡ SECTOR }
     ensures is { result ≡ is_header area sector.now }
@@ -60,7 +60,7 @@ pub(crate) fn is_header(sector: &[u8], area: Area) -> bool
         && eight_at(sector, 32) <= area.size
 }
 
-/// Where the text is that is in force.
+/// The location of the text in force, from the area's header.
 pub(crate) fn location_in(sector: &[u8]) -> Location
     requires { length sector.now ≡ SECTOR }
     ensures { result ≡ location_in sector.now }
@@ -74,14 +74,14 @@ pub(crate) fn location_in(sector: &[u8]) -> Location
     }
 }
 
-/// Whether there is no text: the area is to be ignored, or has none yet.
+/// Whether the location says no text: the area is to be ignored, or has no text yet.
 pub(crate) fn is_none(location: Location) -> bool
     ensures { result ≡ is_none location }
 {
     location.flags % 2 == 1 || location.offset == 0
 }
 
-/// Whether a text lies in its ring, after the header.
+/// Whether the text begins in the ring, after the header, and fits into it without overlapping itself.
 pub(crate) fn is_within(location: Location) -> bool
     requires { location.ring ≤ 2 ^ 58 }
     ensures { result ≡ is_within location }
@@ -92,7 +92,7 @@ pub(crate) fn is_within(location: Location) -> bool
         && location.size + 512 <= location.ring
 }
 
-/// Where the byte of a number of a text lies on its disk.
+/// The place on the disk of byte `number` of a text, in bytes.
 pub(crate) fn ring_place(start: u64, location: Location, number: u64) -> u64
     requires start { start ≤ 2 ^ 58 }
     requires ring { location.ring ≤ 2 ^ 58 }
@@ -108,7 +108,7 @@ pub(crate) fn ring_place(start: u64, location: Location, number: u64) -> u64
     }
 }
 
-/// How many bytes of a text lie in a row from one on, before the ring's end, and in sectors that one read can give.
+/// How many bytes of a text, from byte `number` on, are consecutive on the disk and can be read in one read.
 pub(crate) fn row_len(start: u64, location: Location, number: u64) -> u64
     requires start { start ≤ 2 ^ 58 }
     requires ring { location.ring ≤ 2 ^ 58 }

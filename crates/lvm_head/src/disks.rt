@@ -1,8 +1,8 @@
-//! Disks that are read by sectors of 512 bytes.
+//! The trait `Disks`, for disks that are read in sectors of 512 bytes.
 //!
-//! What disks hold can't be said beforehand. So a clause says what was seen: which contents agree with all that was
-//! read so far, and these are exactly the ones that agree with each read. If a disk gives other bytes for a sector
-//! than it gave before, none do.
+//! What a disk holds can't be known in advance. So a clause speaks of what was seen: of all contents that the disks may
+//! have, those that agree with every read so far. If a disk returns other bytes for a sector than before, no contents
+//! agree.
 
 ghost use Rattle.lvm_head.specs.Base.{List, length};
 ghost use Rattle.dm_table.specs.declared.tables.disk_path.DiskPath.{DiskPath};
@@ -12,23 +12,23 @@ ghost use Rattle.std.specs.Prelude.{◌≡◌, ◌≤◌, ◌%◌, ◌^◌};
 /// The bytes of a sector.
 pub const SECTOR: usize = 512;
 
-/// The most bytes of one read.
+/// The most bytes that one read may ask for.
 pub const MOST_BYTES: usize = 65_536;
 
-/// A sector that can't be read, or that comes after the end.
+/// The fault of a read: a sector can't be read, or is past the end of the disk.
 #[derive(Clone, Copy, Debug, PartialEq, Eq, Drop)]
 pub struct ReadFault;
 
-/// Disks, each named by its number.
+/// Disks that can be read, each known by its number.
 pub trait Disks {
-    /// Where the disks lie, by their numbers, if a list says that. No read changes it.
+    /// The entries of the disks in a path list, by number, if there is such a list. No read changes it.
     ghost listed: { Self → List DiskPath };
 
-    /// Contents of all disks that agree with all that was read so far. All contents do before the first read, and
-    /// whoever makes disks promises that.
+    /// Holds for the contents of all disks that agree with every read so far. Before the first read it has to hold for
+    /// all contents, which an implementation must make sure of.
     ghost IsSeen: { Self → Contents → Type 0 };
 
-    /// Reads whole sectors of a disk, from a sector of it on. After a fault the slice may hold anything.
+    /// Reads whole sectors of a disk, from number `sector` on. After a fault the slice may hold anything.
     fn read(&mut self, disk: usize, sector: u64, into: &mut [u8]) -> Result<(), ReadFault>
         requires whole { length into.old % SECTOR ≡ 0 }
         requires some { SECTOR ≤ length into.old }

@@ -1,4 +1,4 @@
-//! Why a head is refused.
+//! Why the head of a disk is refused.
 
 ghost use Rattle.lvm_head.specs.Prelude.{Memory};
 ghost use Rattle.std.specs.Prelude.{◌≡◌};
@@ -9,44 +9,44 @@ use thiserror::Error;
 /// Why the head of a disk is refused.
 #[derive(Clone, Copy, Debug, PartialEq, Eq, Error)]
 pub enum HeadFault {
-    /// A sector of it can't be read.
+    /// A sector of the head can't be read.
     #[error("a sector that can't be read")]
     Unread,
-    /// The first sector has a partition table, so the disk isn't a physical volume: partitions of it may be.
+    /// The first sector has a partition table, so that not the disk but its partitions may be physical volumes.
     #[error("a partition table")]
     Partitions,
-    /// The disk is a member of an array. A text may say so too, which is found where it is read.
+    /// The disk is a member of an md array; or the metadata text says so, which is found where the text is read.
     #[error("a member of an array")]
     Array,
-    /// None of the first four sectors is a label, or the first that is taken for one isn't sound.
+    /// None of the first four sectors is a label, or the first that lvm2 regards as one isn't valid.
     #[error("no label")]
     Label,
-    /// The lists in its header don't end, or list more than two metadata areas; the header of an area isn't sound, or
-    /// a text lies past its ring.
+    /// The lists in the header don't end, or name more than two metadata areas; or the header of an area isn't valid;
+    /// or a text doesn't fit into its ring.
     #[error("a header that isn't sound")]
     Header,
-    /// A text has more than 1,048,576 bytes.
+    /// The metadata text has more than 1,048,576 bytes.
     #[error("a text of more than 1,048,576 bytes")]
     Long,
-    /// A text has another sum, or another end.
+    /// The metadata text has a wrong checksum, or ends with neither a newline nor a NUL.
     #[error("a text with another sum or end")]
     Text,
-    /// Another area or an earlier disk has another text.
+    /// The metadata text differs from that of another area or of an earlier disk.
     #[error("another text than before")]
     Differ,
-    /// An earlier disk has the same id.
+    /// An earlier disk has the same physical volume id.
     #[error("the id of an earlier disk")]
     Twice,
-    /// The text has no physical volume of its id. This is found where the text is read.
+    /// The metadata text has no physical volume with the disk's id. This is found where the text is read.
     #[error("an id that its text doesn't have")]
     Foreign,
-    /// Its text says that it was missing when the text was written. This is found where the text is read.
+    /// The metadata text says that the physical volume was missing. This is found where the text is read.
     #[error("a disk that was missing")]
     Missing,
-    /// It ends before its text says. This is found once the text is loaded.
+    /// The disk is shorter than the metadata text says. This is found once the text has been loaded.
     #[error("a disk that ends before")]
     Ends,
-    /// An allocation was refused.
+    /// Memory ran out: an allocation was refused.
     #[error("out of memory")]
     Memory,
 }
@@ -67,7 +67,7 @@ impl<T: Drop> From<AllocFailed<T>> for HeadFault {
     }
 }
 
-/// The first disk whose head is refused, and why.
+/// The first disk whose head is refused, counted from 0, and why.
 #[derive(Clone, Copy, Debug, PartialEq, Eq, Drop)]
 pub struct HeadRefusal {
     pub disk: usize,

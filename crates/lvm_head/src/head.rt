@@ -1,4 +1,4 @@
-//! The head of one disk.
+//! Reads the head of one disk.
 
 ghost use Rattle.lvm_head.specs.Prelude.{[], Contents, Returns, areas_text, head_of, same_text};
 ghost use Rattle.std.specs.Prelude.{◌≡◌};
@@ -11,7 +11,7 @@ use crate::text::read_area;
 use std::alloc::Global;
 use std::marker::Model;
 
-/// What the head of a disk says: the id of its physical volume, and the text of its group, or an empty one.
+/// What the head of a disk says: the id of its physical volume, and the metadata text of its group, or an empty one.
 #[derive(Debug, Drop)]
 pub(crate) struct Head {
     pub id: [u8; 32],
@@ -26,7 +26,7 @@ impl Model for Head {
     ghost view = { λ head. record { id = head.id; text = head.text.items } };
 }
 
-/// The text of two, of which each may be empty.
+/// The common text of two, each of which may be empty for no text; fails if both have one and they differ.
 pub(crate) fn same_text(text: Vec<u8>, next: Vec<u8>) -> Result<Vec<u8>, HeadFault>
     ensures { Returns (λ text. text.items) result (same_text text.items next.items) }
 {
@@ -42,7 +42,7 @@ pub(crate) fn same_text(text: Vec<u8>, next: Vec<u8>) -> Result<Vec<u8>, HeadFau
     Ok(text)
 }
 
-/// Reads the text that all areas have that have one.
+/// Reads the texts of all areas of a disk, and returns the one they have in common, or an empty one if none has any.
 fn read_areas<D: Disks>(
     alloc: Global,
     disks: &mut D,
@@ -68,7 +68,7 @@ fn read_areas<D: Disks>(
     Ok(text)
 }
 
-/// Reads the head of a disk.
+/// Reads the head of a disk: checks that it is a whole physical volume, then reads its label and its areas.
 pub(crate) fn read_head<D: Disks>(
     alloc: Global,
     disks: &mut D,

@@ -1,4 +1,4 @@
-//! The heads of the disks of a group.
+//! Reads the heads of all disks of a group.
 
 ghost use Rattle.lvm_head.specs.Prelude.{Err, IfErr, IfOk, Ok, list_any, bytes_eq, Contents, Returns, heads_of, joined, Memory};
 ghost use Rattle.std.specs.Prelude.{◌≡◌, ◌≢◌, ◌<◌};
@@ -9,7 +9,7 @@ use crate::head::{Head, read_head, same_text};
 use std::alloc::Global;
 use std::marker::Model;
 
-/// What the heads of disks say: the id of the physical volume of each, and the text of their group, or an empty one.
+/// What the heads of several disks say: each physical volume's id, and their group's metadata text, or an empty one.
 #[derive(Debug, Drop)]
 pub struct Heads {
     pub ids: Vec<[u8; 32]>,
@@ -24,14 +24,14 @@ impl Model for Heads {
     ghost view = { λ heads. record { ids = heads.ids.items; text = heads.text.items } };
 }
 
-/// Whether an id is one of these.
+/// Whether an id is in the list.
 fn has_id(ids: &[[u8; 32]], id: [u8; 32]) -> bool
     ensures { result ≡ list_any (bytes_eq id) ids.now }
 {
     ids.contains(&id)
 }
 
-/// What heads say with one more.
+/// Adds the head of one more disk; fails if its text differs or its id is there already.
 fn joined(heads: Heads, head: Head) -> Result<Heads, HeadFault>
     ensures { Returns (λ heads. heads) result (joined heads head) }
 {
@@ -48,18 +48,18 @@ fn joined(heads: Heads, head: Head) -> Result<Heads, HeadFault>
     Ok(Heads { ids, text })
 }
 
-/// Reads the heads of the first disks, which are the physical volumes of one group.
+/// Reads the heads of disks 0 to `count` - 1, which are the physical volumes of one group.
 ///
-/// Label, header and areas of each are read, with all their sums, and each text that is in force. All texts have to
-/// be equal. A disk that has partitions, or is a member of an array, is refused.
+/// The label, header and areas of each disk are read with all their checksums, and each text in force. All texts
+/// must be equal. A disk that has partitions, or is a member of an md array, is refused.
 ///
-/// Cost: linear in the sectors of labels and texts, with a comparison of ids for each two disks. At most two texts
-/// are held at once, of at most 1 MiB each.
+/// Cost: linear in the sectors of labels and texts, and one comparison of ids for each pair of disks. At most two texts
+/// are in memory at once, of at most 1 MiB each.
 ///
 /// # Errors
 ///
-/// The first disk whose head is refused, with the first of its faults in the order of `HeadFault`. `Memory` where an
-/// allocation was refused.
+/// The first disk whose head is refused, with the first fault met while the head is read. `Memory` if an allocation
+/// was refused.
 pub fn read_heads<D: Disks>(
     alloc: Global,
     disks: &mut D,

@@ -1,4 +1,4 @@
-//! The label of a physical volume, and the header in its sector.
+//! The label of a physical volume, and the header in the label's sector.
 
 ghost use Rattle.lvm_head.specs.Prelude.{true, IfOk, length, map, slice_split, Contents, Returns, area_at, areas_in, has_sectors, header_at, id_of, is_entry, is_member, is_partitioned, is_sound, is_taken, label_of, pairs_of, undivided};
 ghost use Rattle.lvm_head.specs.declared.disks.TheConstants.{SECTOR};
@@ -13,22 +13,22 @@ use arrayvec::ArrayVec;
 use std::alloc::{AllocError, Global};
 use std::marker::Model;
 
-/// `LABELONE`.
+/// The bytes `LABELONE`, with which a label begins.
 const LABEL: u64 = 0x454E_4F4C_4542_414C;
 
-/// `LVM2 001`.
+/// The bytes `LVM2 001`, which say what kind of label it is.
 const KIND: u64 = 0x3130_3020_324D_564C;
 
-/// The magic number of a member of an array (md).
+/// The magic number with which the superblock of an md array's member begins.
 const MEMBER: u32 = 0xA92B_4EFC;
 
-/// The pairs that a header has room for.
+/// The most pairs that a header has room for.
 const MOST_PAIRS: usize = 27;
 
-/// The most metadata areas: lvm2 makes one or two.
+/// The most metadata areas of a disk: lvm2 makes one or two.
 const MOST_AREAS: usize = 2;
 
-/// Whether a partition of a table in a sector has sectors.
+/// Whether the partition table entry at `at` describes a partition: its number of sectors isn't 0.
 fn has_sectors(sector: &[u8], at: usize) -> bool
     requires { at + 16 ≤ length sector.now }
     ensures { result ≡ has_sectors sector.now at }
@@ -36,7 +36,7 @@ fn has_sectors(sector: &[u8], at: usize) -> bool
     four_at(sector, at + 12) != 0
 }
 
-/// Whether a partition of a table in a sector begins as one does.
+/// Whether the partition table entry at `at` begins as a valid one does, with 0 or 0x80.
 fn is_entry(sector: &[u8], at: usize) -> bool
     requires { at < length sector.now }
     ensures { result ≡ is_entry sector.now at }
@@ -44,7 +44,7 @@ fn is_entry(sector: &[u8], at: usize) -> bool
     sector[at] % 128 == 0
 }
 
-/// Whether the first sector has a partition table.
+/// Whether the first sector of a disk has a partition table.
 fn is_partitioned(sector: &[u8]) -> bool
     requires { length sector.now ≡ SECTOR }
     ensures { result ≡ is_partitioned sector.now }
@@ -61,7 +61,7 @@ fn is_partitioned(sector: &[u8]) -> bool
             || has_sectors(sector, 494))
 }
 
-/// Whether a sector begins as the superblock of an array does.
+/// Whether a sector begins like the superblock of an md array's member.
 fn is_member(sector: &[u8]) -> bool
     requires { length sector.now ≡ SECTOR }
     ensures { result ≡ is_member sector.now }
@@ -69,7 +69,7 @@ fn is_member(sector: &[u8]) -> bool
     four_at(sector, 0) == MEMBER
 }
 
-/// Refuses a disk that is divided into partitions, or a member of an array.
+/// Refuses a disk that has partitions or is a member of an md array.
 pub(crate) fn undivided<D: Disks>(disks: &mut D, disk: usize) -> Result<(), HeadFault>
     ensures listed { D.listed disks.new ≡ D.listed disks.old }
     ensures still { (held : Contents) → D.IsSeen disks.new held → D.IsSeen disks.old held }
@@ -92,7 +92,7 @@ pub(crate) fn undivided<D: Disks>(disks: &mut D, disk: usize) -> Result<(), Head
     Ok(())
 }
 
-/// The sector of a sound label. A clause sees its bytes.
+/// The sector of a valid label. A contract sees its bytes.
 #[derive(Debug, Drop)]
 pub(crate) struct Label {
     sector: [u8; SECTOR],
@@ -111,7 +111,7 @@ impl Model for Label {
 }
 
 impl Label {
-    /// Reads the label of a disk: the first of the first four sectors that is taken for one.
+    /// Reads the label of a disk: the first of sectors 0 to 3 that lvm2 regards as one.
     pub(crate) fn read<D: Disks>(disks: &mut D, disk: usize) -> Result<Label, HeadFault>
         ensures listed { D.listed disks.new ≡ D.listed disks.old }
         ensures still { (held : Contents) → D.IsSeen disks.new held → D.IsSeen disks.old held }
@@ -134,7 +134,7 @@ impl Label {
         Err(HeadFault::Label)
     }
 
-    /// Where the header begins.
+    /// Where the header begins in the label's sector, in bytes.
     fn header_at(&self) -> usize
         ensures is { result ≡ header_at self.now }
         ensures after { 32 ≤ result }
@@ -143,7 +143,7 @@ impl Label {
         four_at(&self.sector, 20) as usize
     }
 
-    /// The id of the physical volume: 32 letters, without dashes.
+    /// The id of the physical volume: 32 characters, without dashes.
     pub(crate) fn id(&self) -> [u8; 32]
         ensures { result ≡ id_of self.now }
     {
@@ -153,7 +153,7 @@ impl Label {
         id
     }
 
-    /// The pair of a number.
+    /// The pair with this number in the header's lists: the start and the size of an area.
     fn area_at(&self, number: usize) -> Area
         requires { number < (472 - header_at self.now) / 16 }
         ensures { result ≡ area_at self.now number }
@@ -165,7 +165,7 @@ impl Label {
         }
     }
 
-    /// All pairs up to the end of the sector.
+    /// All pairs that fit between the header's fixed part and the end of the sector.
     pub(crate) fn pairs(&self) -> ArrayVec<Area, MOST_PAIRS>
         ensures { result.items ≡ pairs_of self.now }
     {
@@ -177,7 +177,7 @@ impl Label {
     }
 }
 
-/// The metadata areas among the pairs of a header.
+/// The metadata areas among the pairs of a header: the second list.
 pub(crate) fn areas_of(alloc: Global, pairs: &[Area]) -> Result<&[Area], HeadFault>
     ensures { Returns (λ areas. areas.now) result (areas_in (slice_split (λ area. area.start == 0) pairs.now)) }
 {
@@ -188,14 +188,14 @@ pub(crate) fn areas_of(alloc: Global, pairs: &[Area]) -> Result<&[Area], HeadFau
     }
 }
 
-/// The lists that pairs form: a pair that begins at 0 ends one.
+/// Cuts pairs into lists: a pair that begins at 0 ends a list.
 fn lists_of(alloc: Global, pairs: &[Area]) -> Result<Vec<&[Area]>, AllocError>
     ensures { IfOk result (λ lists. map (λ list. list.now) lists.items ≡ slice_split (λ area. area.start == 0) pairs.now) }
 {
     pairs.split(|area| area.start == 0).collect(alloc)
 }
 
-/// Whether lvm2 takes a sector for a label.
+/// Whether lvm2 regards a sector as a label; `place` is the sector's number.
 fn is_taken(sector: &[u8], place: u64) -> bool
     requires { length sector.now ≡ SECTOR }
     ensures { result ≡ is_taken place sector.now }
@@ -205,7 +205,7 @@ fn is_taken(sector: &[u8], place: u64) -> bool
             || (eight_at(sector, 8) == place && four_at(sector, 16) == sum_of(&sector[20..512])))
 }
 
-/// Whether a sector that is taken for a label is sound.
+/// Whether a sector that lvm2 regards as a label is valid.
 fn is_sound(sector: &[u8]) -> bool
     requires { length sector.now ≡ SECTOR }
     ensures is { result ≡ is_sound sector.now }

@@ -1,8 +1,8 @@
-//! The law of what heads say. It does nothing: its contract is the law.
+//! The law about heads, as the contract of a function that does nothing.
 
 ghost use Rattle.lvm_head.specs.Prelude.{ReadsBack};
 
-/// What a head spells is read, and what is read is spelled.
+/// A theorem: reading a head gives exactly what the head spells.
 pub fn heads_read_back()
     ensures { ReadsBack }
 {}

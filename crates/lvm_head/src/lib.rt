@@ -1,7 +1,7 @@
-//! The head of an LVM2 physical volume: its label, its header, and the metadata text of its group, read from disks
-//! by sectors.
+//! Reads the head of an LVM2 physical volume: its label, its header, and the metadata text of its group. Disks are
+//! read in sectors.
 //!
-//! `specs/Heads.antt` defines what the head of a disk says by its sectors, and what the heads of a group do.
+//! `specs/Heads.antt` defines what the head of a disk says, from its sectors, and what the heads of a group say;
 //! `read_heads` reads them.
 #![tactic(auto)]
 

@@ -1,6 +1,6 @@
-//! The message of a refused head: one line.
+//! The one-line message for a refused head.
 //!
-//! The words are fixed by `specs/Message.antt`, since users match on them.
+//! The words are fixed in `specs/Message.antt`, because users match on them.
 
 ghost use Rattle.lvm_head.specs.Prelude.{length, fault_word, head_message};
 ghost use Rattle.std.specs.Prelude.{◌≡◌, ◌≤◌};
@@ -9,11 +9,11 @@ use crate::fault::HeadFault;
 use arrayvec::ArrayVec;
 use dm_table::{DiskName, append, memory_message};
 
-/// The message of a refused head, which has at most 282 bytes with its newline.
+/// The message for a refused head, at most 282 bytes including its newline.
 pub type HeadMessage = ArrayVec<u8, 282>;
 
 impl HeadFault {
-    /// The word that messages have for it.
+    /// The word for the fault in messages.
     fn word(self) -> &'static str
         ensures word { result.now ≡ fault_word self }
         ensures short { length result.now ≤ 10 }
@@ -35,8 +35,8 @@ impl HeadFault {
         }
     }
 
-    /// The line that says it of a disk: the disk's name, and the word. `Memory` has that of a run that is out of
-    /// memory. Takes no memory.
+    /// The message line: the disk's name, and the word for the fault. `Memory` has the message for any run that is out
+    /// of memory. Allocates nothing.
     #[tactic(auto, using(dm_table::proofs::ByteLemmas::disk_name_len))]
     pub fn message(self, disk: &DiskName) -> HeadMessage
         ensures { result.items ≡ head_message disk.now self }

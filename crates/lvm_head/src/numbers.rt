@@ -1,11 +1,11 @@
-//! Numbers in a sector, the least significant byte first.
+//! Little-endian numbers in a sector.
 
 ghost use Rattle.lvm_head.specs.Prelude.{length, eight_at, four_at};
 ghost use Rattle.std.specs.Prelude.{◌≡◌, ◌+◌, ◌≤◌};
 
 use byteorder::{ByteOrder, LittleEndian};
 
-/// The number of four bytes, from a byte on.
+/// The little-endian number in the 4 bytes from offset `at` on.
 #[inline(always)]
 #[tactic(auto, unfolding(crate::specs::Numbers::four_at))]
 pub(crate) fn four_at(bytes: &[u8], at: usize) -> u32
@@ -15,7 +15,7 @@ pub(crate) fn four_at(bytes: &[u8], at: usize) -> u32
     LittleEndian::read_u32(&bytes[at..])
 }
 
-/// The number of eight bytes, from a byte on.
+/// The little-endian number in the 8 bytes from offset `at` on.
 #[inline(always)]
 #[tactic(auto, unfolding(crate::specs::Numbers::eight_at))]
 pub(crate) fn eight_at(bytes: &[u8], at: usize) -> u64

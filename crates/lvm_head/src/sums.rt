@@ -1,12 +1,12 @@
-//! The sums of labels, headers and texts: CRC-32 with zlib's polynomial, another first value, and no inversion.
+//! The checksums of labels, headers and texts: CRC-32 with zlib's polynomial, another initial value, and no inversion.
 
 ghost use Rattle.lvm_head.specs.Prelude.{sum_byte, sum_of};
 ghost use Rattle.std.specs.Prelude.{◌≡◌};
 
-/// The sum of no bytes.
+/// The checksum of no bytes.
 const FIRST_SUM: u32 = 0xF597_A6CF;
 
-/// What eight steps make of each number below 256.
+/// For each value of a byte, the effect of eight single-bit steps on it.
 static EIGHT_STEPS: [u32; 256] = [
     0x00000000, 0x77073096, 0xee0e612c, 0x990951ba, 0x076dc419, 0x706af48f, 0xe963a535, 0x9e6495a3,
     0x0edb8832, 0x79dcb8a4, 0xe0d5e91e, 0x97d2d988, 0x09b64c2b, 0x7eb17cbd, 0xe7b82d07, 0x90bf1d91,
@@ -42,7 +42,7 @@ static EIGHT_STEPS: [u32; 256] = [
     0xb3667a2e, 0xc4614ab8, 0x5d681b02, 0x2a6f2b94, 0xb40bbe37, 0xc30c8ea1, 0x5a05df1b, 0x2d02ef8d,
 ];
 
-/// The sum after one more byte.
+/// The checksum after one more byte.
 #[inline(always)]
 fn sum_byte(sum: u32, byte: u8) -> u32
     ensures { result ≡ sum_byte sum byte }
@@ -50,9 +50,9 @@ fn sum_byte(sum: u32, byte: u8) -> u32
     sum / 256 ^ EIGHT_STEPS[((sum ^ u32::from(byte)) % 256) as usize]
 }
 
-/// The sum of bytes.
+/// The checksum of bytes.
 ///
-/// Cost: a look into a table of 1 KiB for each byte.
+/// Cost: one look-up in a table of 1 KiB for each byte.
 pub fn sum_of(bytes: &[u8]) -> u32
     ensures { result ≡ sum_of bytes.now }
 {

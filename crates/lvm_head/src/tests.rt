@@ -1,4 +1,4 @@
-//! Heads in memory, and what is read of them.
+//! Expected results for heads of disks in memory.
 
 ghost use Rattle.lvm_head.specs.Prelude.{[], ℕ, Err, Ok, length, nat_le, nat_lt, not, slice_range};
 ghost use Rattle.std.specs.Prelude.{◌≡◌, ◌+◌, ◌*◌, ◌==◌, ◌&&◌, if◌then◌else◌};
@@ -8,11 +8,11 @@ use dm_table::DiskName;
 use std::alloc::Global;
 use std::process::Abort;
 
-/// The sectors of a disk.
+/// How many sectors each disk has.
 const SECTORS: usize = 16;
 
-/// Disks in memory, one after the other, of which the last may end anywhere. One sector of all can't be read, and each is
-/// read alone: more of them at once fail, as they may.
+/// Disks in memory, one after the other; the last one may end early. Sector number `bad`, counted over all disks,
+/// can't be read. Reads of more than one sector fail, as the trait allows.
 #[derive(Drop)]
 struct MemoryDisks<'a> {
     bytes: &'a [u8],
@@ -42,26 +42,26 @@ impl Disks for MemoryDisks<'_> {
     }
 }
 
-/// A number that is written into a disk: where, in how many bytes, and which.
+/// A number to write into a disk: its offset, its width in bytes, and its value.
 type Change = (usize, usize, u64);
 
-/// A disk: the sector of its label, the offset of the texts in their rings, the texts of its two areas, of which it
-/// lists the first, and what is changed before sums are made.
+/// A disk: the sector of its label, the offset of the texts in their areas, the texts of its two areas, of which the
+/// label lists the first, and numbers to change before the checksums are made.
 type Row = (usize, usize, [&'static str; 2], &'static [Change]);
 
-/// Where its two areas begin.
+/// The bytes of a disk at which its two areas begin.
 const AREAS: [usize; 2] = [2048, 4608];
 
-/// The bytes of an area.
+/// The size of an area in bytes.
 const AREA: usize = 2048;
 
-/// `LABELONE`.
+/// The bytes `LABELONE`.
 const NAME: u64 = 0x454E_4F4C_4542_414C;
 
-/// `LVM2 001`.
+/// The bytes `LVM2 001`.
 const KIND: u64 = 0x3130_3020_324D_564C;
 
-/// The numbers of a label and of its header, from the beginning of its sector on.
+/// The numbers in the sector of a label, with those of its header.
 const LABEL: [Change; 9] = [
     (0, 8, NAME),
     (20, 4, 32),
@@ -74,7 +74,7 @@ const LABEL: [Change; 9] = [
     (112, 8, 2048),
 ];
 
-/// Those of the header of an area.
+/// The numbers in the header of an area that are the same for all areas.
 const HEADER: [Change; 4] = [
     (4, 8, 0x5B78_2032_4D56_4C20),
     (12, 8, 0x3E2A_4E30_7225_4135),
@@ -82,7 +82,7 @@ const HEADER: [Change; 4] = [
     (32, 8, 2048),
 ];
 
-/// A disk as a row has it.
+/// Writes the disk that a row describes.
 fn write_disk(rt: &impl Abort, disk: &mut [u8], row: &Row) {
     let (sector, offset, texts, changes) = row;
     let label = sector.wrapping_mul(SECTOR);
@@ -98,7 +98,7 @@ fn write_disk(rt: &impl Abort, disk: &mut [u8], row: &Row) {
     seal(rt, disk, label.wrapping_add(16), 20, label);
 }
 
-/// Writes an area with a text.
+/// Writes an area with a header and a text.
 fn write_area(rt: &impl Abort, disk: &mut [u8], start: usize, offset: usize, text: &[u8]) {
     write(rt, disk, start, &HEADER);
     write(
@@ -122,7 +122,7 @@ fn write_area(rt: &impl Abort, disk: &mut [u8], start: usize, offset: usize, tex
     }
 }
 
-/// Writes numbers from a byte on, the least significant byte first.
+/// Writes little-endian numbers, whose offsets count from `from`.
 fn write(rt: &impl Abort, disk: &mut [u8], from: usize, changes: &[Change]) {
     for (at, width, number) in changes {
         let bytes = number.to_le_bytes();
@@ -133,7 +133,7 @@ fn write(rt: &impl Abort, disk: &mut [u8], from: usize, changes: &[Change]) {
     }
 }
 
-/// Writes the sum of the bytes of a sector from one on.
+/// Writes, at offset `at`, the checksum of a sector's bytes from offset `from` on.
 fn seal(rt: &impl Abort, disk: &mut [u8], at: usize, from: usize, sector: usize) {
     let sum = {
         let bytes = disk.get(sector.wrapping_add(from)..sector.wrapping_add(SECTOR));
@@ -142,7 +142,7 @@ fn seal(rt: &impl Abort, disk: &mut [u8], at: usize, from: usize, sector: usize)
     write(rt, disk, at, &[(0, 4, u64::from(sum))]);
 }
 
-/// Disks as rows have them.
+/// The disks that rows describe, one after the other.
 fn disks_of(rt: &impl Abort, alloc: Global, rows: &[Row]) -> Vec<u8> {
     let mut bytes = Vec::new(alloc);
     for row in rows {
@@ -153,7 +153,7 @@ fn disks_of(rt: &impl Abort, alloc: Global, rows: &[Row]) -> Vec<u8> {
     bytes
 }
 
-/// Compares what is read of the first disks with the text, or the refusal, that a row wants.
+/// Compares what is read from the first `count` disks with the text, or the refusal, that a row expects.
 fn compare(
     rt: &impl Abort,
     alloc: Global,
@@ -175,13 +175,13 @@ fn compare(
     }
 }
 
-/// The texts of both areas in most rows.
+/// The texts of both areas of most disks.
 const TEXTS: [&str; 2] = ["ab\n\0", "ab\n\0"];
 
-/// Single disks, and the text or the fault of each.
+/// Single disks, and the text or the fault that each gives.
 static ROWS: [(Row, Result<&str, HeadFault>); 51] = [
     ((1, 512, TEXTS, &[]), Ok("ab\n")),
-    // The label: its sector, its words, and where its header begins.
+    // The label: its sector, its magic words, and where its header begins.
     ((0, 512, TEXTS, &[]), Ok("ab\n")),
     ((3, 512, TEXTS, &[]), Ok("ab\n")),
     ((12, 512, TEXTS, &[]), Err(HeadFault::Label)),
@@ -190,10 +190,10 @@ static ROWS: [(Row, Result<&str, HeadFault>); 51] = [
     ((1, 512, TEXTS, &[(532, 4, 31)]), Err(HeadFault::Label)),
     ((1, 512, TEXTS, &[(532, 4, 473)]), Err(HeadFault::Label)),
     ((1, 512, TEXTS, &[(543, 1, 0x32)]), Err(HeadFault::Label)),
-    // What lvm2 takes for a label, though it isn't one: `LVM2 001` alone. With `LABELONE` the sum has to be right.
+    // Sectors that lvm2 regards as labels, though they aren't: `LVM2 001` alone. With `LABELONE`, the checksum counts.
     ((1, 512, TEXTS, &[(24, 8, KIND)]), Err(HeadFault::Label)),
     ((1, 512, TEXTS, &[(0, 8, NAME), (24, 8, KIND)]), Ok("ab\n")),
-    // A partition table, and three that are none: without sectors, with another first byte, and without 55 AA.
+    // Partition tables, and three that are none: without sectors, with a bad first byte, and without 55 AA.
     (
         (1, 512, TEXTS, &[(458, 4, 1), (510, 2, 0xAA55)]),
         Err(HeadFault::Partitions),
@@ -216,7 +216,7 @@ static ROWS: [(Row, Result<&str, HeadFault>); 51] = [
         (1, 512, TEXTS, &[(458, 4, 1), (510, 2, 0xAB55)]),
         Ok("ab\n"),
     ),
-    // The superblock of an array, in sector 0 or 8.
+    // The superblock of an md array's member, in sector 0 or 8.
     (
         (1, 512, TEXTS, &[(0, 4, 0xA92B_4EFC)]),
         Err(HeadFault::Array),
@@ -225,7 +225,7 @@ static ROWS: [(Row, Result<&str, HeadFault>); 51] = [
         (1, 512, TEXTS, &[(4096, 4, 0xA92B_4EFC)]),
         Err(HeadFault::Array),
     ),
-    // The lists: no pair, both empty in the last two pairs, and the second without an end.
+    // The lists of areas: no pair at all, both empty in the last two pairs, and the second one without an end.
     ((1, 512, TEXTS, &[(532, 4, 472)]), Err(HeadFault::Header)),
     ((1, 512, TEXTS, &[(532, 4, 440), (984, 8, 8192)]), Ok("")),
     (
@@ -251,7 +251,7 @@ static ROWS: [(Row, Result<&str, HeadFault>); 51] = [
         ),
         Err(HeadFault::Header),
     ),
-    // An area: its place, and each number of its header.
+    // An area: its start, and each number of its header.
     ((1, 512, TEXTS, &[(616, 8, 2049)]), Err(HeadFault::Header)),
     (
         (1, 512, TEXTS, &[(616, 8, 0x200_0000_0000_0200)]),
@@ -267,7 +267,7 @@ static ROWS: [(Row, Result<&str, HeadFault>); 51] = [
     ((1, 512, TEXTS, &[(2068, 4, 2)]), Err(HeadFault::Header)),
     ((1, 512, TEXTS, &[(2072, 8, 4096)]), Err(HeadFault::Header)),
     ((1, 512, TEXTS, &[(2080, 8, 2049)]), Err(HeadFault::Header)),
-    // Where the text is: nowhere, at the ring's edges, too long, and around the ring.
+    // Where the text is: nowhere, at the ring's edges, too long, and around the ring's end.
     ((1, 512, TEXTS, &[(2088, 8, 0)]), Ok("")),
     ((1, 512, TEXTS, &[(2096, 8, 0)]), Err(HeadFault::Text)),
     ((1, 512, TEXTS, &[(2108, 4, 1)]), Ok("")),
@@ -296,12 +296,12 @@ static ROWS: [(Row, Result<&str, HeadFault>); 51] = [
     ),
     ((1, 2044, TEXTS, &[]), Ok("ab\n")),
     ((1, 2045, TEXTS, &[]), Ok("ab\n")),
-    // Its sum and its end.
+    // The checksum of the text, and how the text ends.
     ((1, 512, TEXTS, &[(2104, 4, 0)]), Err(HeadFault::Text)),
     ((1, 512, ["ab\r", ""], &[]), Err(HeadFault::Text)),
     ((1, 512, ["ab\n", ""], &[]), Ok("ab\n")),
     ((1, 512, ["ab\0", ""], &[]), Ok("ab")),
-    // Two areas.
+    // Labels that list two areas.
     (
         (1, 512, TEXTS, &[(632, 8, 4608), (640, 8, 2048)]),
         Ok("ab\n"),
@@ -335,7 +335,7 @@ static ROWS: [(Row, Result<&str, HeadFault>); 51] = [
     ),
 ];
 
-/// A second disk after a plain one, and the text that both have, or the fault.
+/// A second disk after a plain one, and the text that both have, or the fault of the second.
 static PAIRS: [(Row, Result<&str, HeadFault>); 4] = [
     ((1, 512, TEXTS, &[]), Err(HeadFault::Twice)),
     ((1, 512, TEXTS, &[(544, 1, 0x7A)]), Ok("ab\n")),
@@ -346,7 +346,7 @@ static PAIRS: [(Row, Result<&str, HeadFault>); 4] = [
     ((0, 512, TEXTS, &[(32, 1, 0x7A), (2108, 4, 1)]), Ok("ab\n")),
 ];
 
-/// Sectors that can't be read, and what comes of it.
+/// Sectors that can't be read, and the text or the fault then.
 static BAD: [(usize, Result<&str, HeadFault>); 6] = [
     (0, Err(HeadFault::Unread)),
     (1, Err(HeadFault::Unread)),
@@ -359,7 +359,7 @@ static BAD: [(usize, Result<&str, HeadFault>); 6] = [
 #[test]
 fn heads_are_read_or_refused(rt: HostRuntime) {
     let alloc = rt.alloc();
-    // The first by zlib, the second lvm2's for no bytes.
+    // The first expected checksum was computed with zlib; the second is lvm2's for no bytes.
     assert_eq!(&rt; sum_of(b"123456789"), 0x4991_CF02);
     assert_eq!(&rt; sum_of(b""), 0xF597_A6CF);
     for (number, (row, want)) in ROWS.iter().enumerate() {
@@ -388,7 +388,7 @@ fn heads_are_read_or_refused(rt: HostRuntime) {
     }
 }
 
-/// What a row wants, where it refuses this disk.
+/// The result that a row expects, with its fault as one of this disk.
 fn at_disk(disk: usize, want: Result<&str, HeadFault>) -> Result<&str, HeadRefusal> {
     match want {
         Ok(text) => Ok(text),
