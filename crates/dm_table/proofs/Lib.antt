@@ -1,5 +1,5 @@
--- The proofs stand under the paths of the modules that they are of.
--- What crates above cite: they see no folder of a module that is private.
+-- Proofs about the functions of a module are kept under the module's path.
+-- The modules below are public for crates above, which see no folder of a private module.
 pub mod Lists
 pub mod Std
 pub use Rattle.dm_table.proofs.io.Growth

@@ -1,4 +1,4 @@
--- The words and lemmas of std that proofs cite, here and in crates above, from one place.
+-- The names and lemmas from std that proofs use, in this crate and in crates above, in one place.
 pub use Rattle.std.proofs.Common.{All, Bool, Bor, Err, Global, IfErr, IfOk, IfSome, IsErr, IsErrAnd, Less, List, MatchOption, None, Ok, OnErr, OnOk, Option, Result, Some, String, Vec, [], add-mul, add-one, add-zero, ap, append_assoc, ap₂, arith, below_more, bit_and, bytes_eq, codes, cond, count_by, count_ones, decimal, drop, drop-cons, eqb, false, filter, fold, get_or, get_or-set_other, get_or-set_same, if◌then◌else◌, inl, inr, is_some, length, length-append, length-drop, length-set, length-take, length-take-le, ltb, map, max, min, mul-le-mul_right, mul_assoc, nat_eq, nat_le, nat_lt, not, option_map, pos_of_ne-zero, pow_mono, pow_pos, refl, replicate, rules, set, slice_get, slice_index, slice_index_or, slice_range, subst, suc, sym, take, take-append-drop, take_all, tests, true, true≢false, unwrap_or, vec_capacity, vec_len, w64, w8, zero, zero-add, ℕ, ◌%◌, ◌&&◌, ◌*◌, ◌+◌, ◌++◌, ◌-◌, ◌/◌, ◌<◌, ◌==◌, ◌^◌, ◌||◌, ◌↔◌, ◌∙◌, ◌∷◌, ◌≡◌, ◌≢◌, ◌≤◌, ◌⊎◌}
 pub use Rattle.std.proofs.Math.Bool.{and-false, and-true, and_assoc, and_comm, or-false}
 pub use Rattle.std.proofs.Math.Dec.{eqb-suc-zero, leb-suc-suc, leb-suc-zero}

@@ -1,4 +1,4 @@
--- Of inputs and outputs: what was written, and what a block holds.
+-- Lemmas about inputs and outputs: what was written, and what a block contains.
 pub mod BlockLemmas
 pub mod Growth
 pub mod Portions

@@ -1,4 +1,4 @@
--- Of the parts of a load, their checks and faults.
+-- Lemmas about the parts of a load, their checks and their faults.
 pub mod FaultLemmas
 pub mod Forms
 pub mod Parsing

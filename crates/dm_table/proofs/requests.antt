@@ -1,3 +1,3 @@
--- Of request lines.
+-- Lemmas about request lines.
 pub mod FrontRequest
 pub mod RequestLemmas

@@ -1,4 +1,4 @@
--- Of tables and lists of disks, and of their texts.
+-- Lemmas about tables, disk lists and path lists, and about their texts.
 pub mod BodyRows
 pub mod CanonicalConcise
 pub mod CanonicalTable

@@ -1,4 +1,4 @@
--- Of the words of the texts.
+-- Lemmas about fields, names and numbers.
 pub mod ByteLemmas
 pub mod FieldLemmas
 pub mod LaneDigits

@@ -1,18 +1,18 @@
--- Lists that only grow, told by what is new.
+-- Lemmas about lists that only grow, in terms of what is new.
 use Rattle.dm_table.proofs.Prelude.{Ok, Err, [], ℕ, List, length, take, drop, sym, ap, ◌∙◌, add-zero, append_assoc, take-append-drop, arith, take-add, take_rest, append-nil, drop-drop, length-drop, OutFault, OutputPast, after_write, since, with_fault, HasWritten, Wrote, IsBeginning, IsCutShort, since_is}
 use Rattle.dm_table.proofs.io.Portions.{rest_after}
 use Rattle.std.specs.Prelude.{◌∷◌, ◌≡◌, ◌<◌, ◌≤◌, ◌+◌, ◌-◌, ◌++◌}
 
--- a list after which nothing was added
+-- a list to which nothing was appended has no new part
 pub quiet_since : (old new held : List ℕ) → new ≡ old ++ [] → held ≡ held ++ since old new
 quiet_since old new held e = rw (since_is old new [] e) (sym (append-nil held))
 
--- the first of some bytes are a beginning of them
+-- if a list grew by the first bytes of a text, its new part is a prefix of the text
 pub front_beginning : (old new bytes : List ℕ) (at : ℕ) → new ≡ old ++ take at bytes → IsBeginning bytes (since old new)
 front_beginning old new bytes at e =
     (drop at bytes, cc (take-append-drop at bytes, since_is old new (take at bytes) e))
 
--- where others are left, they cut the text short
+-- if a list grew by the first bytes of a text and others are left, its new part is a proper prefix of the text
 pub front_cut : (old new bytes rest : List ℕ) (at : ℕ) → new ≡ old ++ take at bytes → rest ≡ drop at bytes → 0 < length rest → IsCutShort bytes (since old new)
 front_cut old new bytes [] at e is some = absurd (omega (arith, some))
 front_cut old new bytes (byte ∷ more) at e is some = (
@@ -21,7 +21,7 @@ front_cut old new bytes (byte ∷ more) at e is some = (
   cc (take-append-drop at bytes, since_is old new (take at bytes) e),
 )
 
--- how many bytes stand before a rest of them
+-- how many bytes come before `rest`, which is the end of `bytes`
 abbrev pub before : List ℕ → List ℕ → ℕ
 before bytes rest = length bytes - length rest
 
@@ -34,18 +34,18 @@ rest_after_within bytes rest n within = let len = rest_after_len rest n in omega
 before_rest_after : (bytes rest : List ℕ) (n : ℕ) → length rest ≤ length bytes → n ≤ length rest → before bytes (rest_after rest n) ≡ before bytes rest + n
 before_rest_after bytes rest n within few = let len = rest_after_len rest n in omega (arith, len, within, few)
 
--- a rest of some bytes, a write further on
+-- after a write of n bytes, `rest` is still what comes after the bytes before it
 pub rest_step : (bytes rest : List ℕ) (n : ℕ) → length rest ≤ length bytes → n ≤ length rest → rest ≡ drop (before bytes rest) bytes → rest_after rest n ≡ drop (before bytes (rest_after rest n)) bytes
 rest_step bytes rest n within few is =
     rw (before_rest_after bytes rest n within few) (take_rest rest n ∙ ap (drop n) is ∙ drop-drop n (before bytes rest) bytes)
 
--- the bytes before it are written then
+-- after a write of n bytes, all bytes before the new rest have been written
 pub write_step : (old mid new bytes rest : List ℕ) (n : ℕ) → length rest ≤ length bytes → n ≤ length rest → rest ≡ drop (before bytes rest) bytes → mid ≡ old ++ take (before bytes rest) bytes → new ≡ mid ++ take n rest → new ≡ old ++ take (before bytes (rest_after rest n)) bytes
 write_step old mid new bytes rest n within few is e f =
     let at = before bytes rest in
     rw (before_rest_after, take-add, ← append_assoc, ← e, ← is) f
 
--- how far some bytes are written: those before a rest of them, and nothing failed
+-- an output accepted the bytes before `rest`, and nothing failed
 abbrev pub IsSent : (old new : OutputPast) (bytes rest : List ℕ) → Type 0
 IsSent old new bytes rest =
     let at = before bytes rest in
@@ -58,7 +58,7 @@ IsSent old new bytes rest =
       flushes : new.flushes ≡ old.flushes;
     }
 
--- a write further on
+-- IsSent still holds after a write that accepted n bytes
 pub sent_further : (old mid new : OutputPast) (bytes rest : List ℕ) (n : ℕ) → IsSent old mid bytes rest → n ≤ length rest → new ≡ after_write {E = OutFault} mid (Ok n) rest
     → IsSent old new bytes (rest_after rest n)
 sent_further old mid new bytes rest n so_far few is = record {
@@ -70,14 +70,14 @@ sent_further old mid new bytes rest n so_far few is = record {
   flushes = rw is so_far.flushes;
 }
 
--- what moved on then, where no write failed after that, or one did
+-- an output's change from its parts: bytes appended, all of them waiting, `failed` faults, no flush
 sent_moved : (old new : OutputPast) (sent : List ℕ) (failed : ℕ) → new.written ≡ old.written ++ sent → new.waiting ≡ old.waiting ++ sent → new.faults ≡ old.faults + failed → new.flushes ≡ old.flushes
     → HasWritten old new failed
 sent_moved old new sent failed more held fails flushed =
     let is = sym (since_is old.written new.written sent more) in
     record { appends = rw (← is) more; waits = rw (← is) held; fails = fails; unflushed = flushed }
 
--- all of it is written
+-- if no bytes are left, all of the text was written
 pub sent_whole : {E : Type 0} (old new : OutputPast) (bytes rest : List ℕ) → IsSent old new bytes rest → length rest ≡ 0
     → Wrote {E = E} old new (Ok tt) bytes
 sent_whole old new bytes [] so_far none =
@@ -89,7 +89,7 @@ sent_whole old new bytes [] so_far none =
     }
 sent_whole old new bytes (byte ∷ more) so_far none = absurd (omega (arith, none))
 
--- a write of the rest failed
+-- if a write fails while bytes are left, a proper prefix of the text was written
 pub sent_cut : {E : Type 0} (old mid new : OutputPast) (fault : E) (bytes rest : List ℕ) → IsSent old mid bytes rest → 0 < length rest → new ≡ after_write mid (Err fault) rest → Wrote old new (Err fault) bytes
 sent_cut old mid new fault bytes rest so_far some is =
     let at = before bytes rest in
@@ -102,7 +102,7 @@ sent_cut old mid new fault bytes rest so_far some is =
       left = front_cut old.written new.written bytes rest at more so_far.rest some;
     }
 
--- nothing of it is
+-- if a write fails before any byte, the empty prefix of the text was written
 pub wrote_nothing : {E : Type 0} (old new : OutputPast) (fault : E) (text : List ℕ) → 0 < length text → new ≡ with_fault {T = Unit {0}} old (Err fault) → Wrote old new (Err fault) text
 wrote_nothing old new fault [] some is = absurd (omega (arith, some))
 wrote_nothing old new fault (byte ∷ rest) some is =

@@ -1,4 +1,4 @@
--- A form of texts: a text passes all checks of its form exactly if it describes values, and it describes those that its rows say.
+-- Forms of texts: a text passes all checks of its form exactly if it describes values, and these are the values that its rows say.
 use Rattle.dm_table.proofs.Prelude.{ℕ, suc, Bool, true, false, not, List, [], map, Option, Some, None, Result, refl, sym, ap, ◌∙◌, append_assoc, cons_option, AllByRecursion, option_to_list, not-false, not_from_true, append-nil, Part, NotText, Syntax, Field, Name, LoadFault, parts_at, lines_of, rest_of, Answers, first_fault, untexts, unended, row_checks, unless, IsParsed, SayEach, LinesSay, values_from, with_rows}
 use Rattle.std.specs.Global.{Vec}
 use Rattle.dm_table.proofs.words.FieldLemmas.{last_split, some_parts}
@@ -7,7 +7,7 @@ use Rattle.dm_table.proofs.load.Parsing.{parsed}
 use Rattle.dm_table.proofs.Lists.{all_append, all_front, append-nil_both}
 use Rattle.std.specs.Prelude.{◌≡◌, ◌∷◌, ◌++◌}
 
--- the texts of lines, or of other pieces, that say values: the tests that they pass, what is read of their rows, and what they say
+-- a form of texts that are cut into pieces, such as lines: the tests of a piece, the value read from its row, and which value it says
 pub record Form (R X : Type 0) : Type 1 where
   pub part : Part
   pub is_text : List ℕ → Bool
@@ -18,7 +18,7 @@ pub record Form (R X : Type 0) : Type 1 where
   pub value_in : ℕ → R → Option X
   pub says : ℕ → List ℕ → X → Type 0
 
--- a piece passes all tests, and as number n is read as this value
+-- the piece passes all tests, and the value read from its row as number n is `value`
 pub record IsRead {R X : Type 0} (form : Form R X) (n : ℕ) (piece : List ℕ) (value : X) : Type 0 where
   pub text : form.is_text piece ≡ true
   pub row : form.is_row (form.row_of piece) ≡ true
@@ -26,18 +26,18 @@ pub record IsRead {R X : Type 0} (form : Form R X) (n : ℕ) (piece : List ℕ) 
   pub names : form.has_names (form.row_of piece) ≡ true
   pub read : form.value_in n (form.row_of piece) ≡ Some value
 
--- what a text says is what is read of it, where it passes all tests
+-- the law of a form: a piece that passes all tests says the value read from it, and a piece that says a value passes all tests
 pub record IsLawful {R X : Type 0} (form : Form R X) : Type 0 where
   pub says : (n : ℕ) (text : List ℕ) → form.is_text text ≡ true → form.is_row (form.row_of text) ≡ true → form.has_values (form.row_of text) ≡ true → form.has_names (form.row_of text) ≡ true
       → (value : X) × (form.value_in n (form.row_of text) ≡ Some value) × form.says n text value
   pub again : (n : ℕ) (text : List ℕ) (value : X) → form.says n text value → IsRead form n text value
 
--- Texts one after the other
+-- Pieces in a row
 
 abbrev AllPass : {X : Type 0} → (X → Bool) → List X → Type 0
 AllPass test xs = AllByRecursion (λ x. not (test x) ≡ false) xs
 
--- texts that pass all tests say what is read of them
+-- pieces that pass all tests say the values read from their rows
 each_says : {R X : Type 0} (form : Form R X) → IsLawful form → (n : ℕ) (texts : List (List ℕ)) → AllPass form.is_text texts → AllPass form.is_row (map form.row_of texts)
     → AllPass form.has_values (map form.row_of texts) → AllPass form.has_names (map form.row_of texts) → SayEach form.says n texts (values_from form.value_in n (map form.row_of texts))
 each_says form law n [] t r v h = tt
@@ -45,7 +45,7 @@ each_says form law n (text ∷ texts) t r v h =
     let first = law.says n text (not-false _ t.0) (not-false _ r.0) (not-false _ v.0) (not-false _ h.0) in
     rw first.1 (first.2, each_says form law (suc n) texts t.1 r.1 v.1 h.1)
 
--- and texts that say values pass all tests, and are read as those
+-- pieces that say values pass all tests, and those values are read from their rows
 record AreRead {R X : Type 0} (form : Form R X) (n : ℕ) (texts : List (List ℕ)) (all : List X) : Type 0 where
   pub text : AllPass form.is_text texts
   pub row : AllPass form.is_row (map form.row_of texts)
@@ -67,14 +67,14 @@ are_read form law n (text ∷ texts) (value ∷ values) say =
     }
 are_read form law n texts values say = absurd say
 
--- what holds of each text that says a value holds of all
+-- what holds of each piece that says a value holds of all pieces
 pub each_said : {X : Type 0} (says : ℕ → List ℕ → X → Type 0) (P : List ℕ → Type 0) → ((n : ℕ) (text : List ℕ) (value : X) → says n text value → P text)
     → (n : ℕ) (texts : List (List ℕ)) (values : List X) → SayEach says n texts values → AllByRecursion P texts
 each_said says P so n [] [] say = tt
 each_said says P so n (text ∷ texts) (value ∷ values) say = (so n text value say.0, each_said says P so (suc n) texts values say.1)
 each_said says P so n texts values say = absurd say
 
--- Checks
+-- The checks of a form
 
 abbrev checks_of : {R X : Type 0} → Form R X → (pieces texts : List (List ℕ)) → (rest : List ℕ) → List (List LoadFault)
 checks_of form pieces texts rest =
@@ -83,7 +83,7 @@ checks_of form pieces texts rest =
 abbrev values_of : {R X : Type 0} → Form R X → (texts : List (List ℕ)) → List X
 values_of form texts = values_from form.value_in 1 (map form.row_of texts)
 
--- texts in which no check finds anything say what is read of them
+-- if no check finds a fault, the pieces say the values read from their rows
 pub none_says : {R X : Type 0} (form : Form R X) → IsLawful form → (pieces texts more : List (List ℕ)) (rest : List ℕ) → pieces ≡ texts ++ more → first_fault (checks_of form pieces texts rest) ≡ None
     → (rest ≡ []) × SayEach form.says 1 texts (values_of form texts)
 none_says form law pieces texts more rest cut h =
@@ -99,7 +99,7 @@ none_says form law pieces texts more rest cut h =
           (faults_from-nil form.part Name (λ row. not (form.has_names row)) 1 rows none.1.1.1.0),
     )
 
--- and in texts that say values no check finds anything
+-- if the pieces say values, no check finds a fault, and those values are read from their rows
 pub says_none : {R X : Type 0} (form : Form R X) → IsLawful form → (texts more : List (List ℕ)) (values : List X) → AllPass form.is_text more → SayEach form.says 1 texts values
     → (first_fault (checks_of form (texts ++ more) texts []) ≡ None) × (values_of form texts ≡ values)
 says_none form law texts more values clear say =
@@ -121,7 +121,7 @@ says_none form law texts more values clear say =
 
 -- Texts of lines
 
--- the parts of a text at newlines are its lines and its rest
+-- the parts of a text between newlines are its lines and its unterminated last line
 lines_and_rest : (text : List ℕ) → parts_at 10 text ≡ lines_of text ++ rest_of text ∷ []
 lines_and_rest text = last_split [] (parts_at 10 text) (some_parts 10 text)
 
@@ -131,13 +131,13 @@ text_checks form text = checks_of form (parts_at 10 text) (lines_of text) (rest_
 abbrev pub text_values : {R X : Type 0} → Form R X → List ℕ → List X
 text_values form text = values_of form (lines_of text)
 
--- a text that passes all checks says the values of its rows
+-- a text of lines in which no check finds a fault says the values of its rows
 pub lines_said : {R X : Type 0} (form : Form R X) → IsLawful form → (text : List ℕ) → first_fault (text_checks form text) ≡ None → LinesSay form.says text (text_values form text)
 lines_said form law text h =
     let none = none_says form law (parts_at 10 text) (lines_of text) (rest_of text ∷ []) (rest_of text) (lines_and_rest text) h in
     record { ended = none.0; said = none.1 }
 
--- and one that says values passes all checks, and gives them back
+-- in a text of lines that says values, no check finds a fault, and those values are read from its rows
 pub lines_again : {R X : Type 0} (form : Form R X) → IsLawful form → form.is_text [] ≡ true → (text : List ℕ) (values : List X) → LinesSay form.says text values
     → (first_fault (text_checks form text) ≡ None) × (text_values form text ≡ values)
 lines_again form law empty text values say =
@@ -148,7 +148,7 @@ lines_again form law empty text values say =
     ap (λ (pieces : List (List ℕ)). checks_of form pieces lines (rest_of text)) parts ∙ ap (checks_of form (lines ++ [] ∷ []) lines) say.ended in
     (ap first_fault same ∙ none.0, none.1)
 
--- a reader of such texts keeps what is promised of readers
+-- a parser of a lawful form meets the contract IsParsed
 pub lines_parsed : {R X : Type 0} (form : Form R X) → IsLawful form → form.is_text [] ≡ true → (text : List ℕ) (answer : Result (Vec X) LoadFault)
     → Answers form.part (λ v. v.items) answer (unless (first_fault (text_checks form text)) (text_values form text)) → IsParsed form.part (LinesSay form.says text) (text_checks form text) answer
 lines_parsed form law empty text answer h =
@@ -156,12 +156,12 @@ lines_parsed form law empty text answer h =
 
 -- Row by row
 
--- what a row says, if anything, after what was said so far
+-- the value that a row says, if any, comes after the earlier values and before the later ones
 pub said_after : {X : Type 0} (values : List X) (said : Option X) (more : List X) → (values ++ option_to_list said) ++ more ≡ values ++ cons_option said more
 said_after values None more = rw (append-nil values)
 said_after values (Some value) more = append_assoc values (value ∷ []) more
 
--- each row adds what it says
+-- adding each row's value to the values before it gives the values of all rows
 pub values_after : {X : Type 0} (value_in : ℕ → List (List ℕ) → Option X) (values : List X) (n : ℕ) (rows : List (List (List ℕ)))
     → with_rows (λ values n row. values ++ option_to_list (value_in n row)) values n rows ≡ values ++ values_from value_in n rows
 values_after value_in values n [] = sym (append-nil values)

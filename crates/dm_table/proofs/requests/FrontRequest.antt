@@ -1,4 +1,4 @@
--- A text that begins with the line of a request.
+-- Lemmas about a text that begins with a request line.
 use Rattle.dm_table.proofs.Prelude.{ℕ, Bool, List, true, nat_le, length, take, drop, Some, ap, ◌∙◌, append_assoc, length-append, length-take-le, arith, decimal, take-append_seam, drop-append-add, and_parts, leb-true, length-decimal-le, Op, Read, Write, is_device_name, number_of, parts_at, RequestValues, IsFront, request_text, op_text}
 use Rattle.dm_table.specs.declared.requests.request.TheConstants.{MOST_SECTORS}
 use Rattle.dm_table.proofs.words.ByteLemmas.{is_shown, is_shown-clear, is_shown-digits, list_all-both, plain-device_name}
@@ -9,7 +9,7 @@ use Rattle.std.specs.Prelude.{◌≡◌, ◌+◌, ◌-◌, ◌<◌, ◌≤◌, �
 abbrev values_with : Op → List ℕ → ℕ → ℕ → RequestValues
 values_with op device start len = record { op = op; device = device; start = start; len = len }
 
--- a text of these parts is the request's, and what comes after its newline
+-- the parts of a request line, joined, are the request's text, a newline and what comes after it
 front_text : (op : Op) (device start len rest more after : List ℕ) (s l : ℕ) → rest ≡ start ++ 32 ∷ more → more ≡ len ++ 10 ∷ after → start ≡ decimal s → len ≡ decimal l
     → op_text op ∷ 32 ∷ (device ++ 32 ∷ rest) ≡ request_text (values_with op device s l) ++ 10 ∷ after
 front_text op device start len rest more after s l is_rest is_more is_start is_len = rw (is_rest, is_more, is_start, is_len) (simp append_assoc)
@@ -24,7 +24,7 @@ op_text-is_shown : (op : Op) (rest : List ℕ) → is_shown rest ≡ true → is
 op_text-is_shown Read rest h = h
 op_text-is_shown Write rest h = h
 
--- no byte of a request's text is a newline, and it is short
+-- the text of a request contains no newline
 request-clear : (op : Op) (device : List ℕ) (s l : ℕ) → is_device_name device ≡ true → s < 10 ^ 19 → l < 10 ^ 19 → IsClearOf 10 (request_text (values_with op device s l))
 request-clear op device s l named small small' =
     let ink : ℕ → Bool = λ b. nat_le 32 b && nat_le b 126 in
@@ -41,7 +41,7 @@ request-short op device s l named small small' =
     let len = length-decimal-le 19 l (omega arith) small' (omega arith) in
     omega (arith, size op device s l, name, start, len)
 
--- the line of the request that a text of these parts begins with
+-- if the parts are read as here, the text begins with this request's line
 pub front_line : (text device start rest more : List ℕ) (op : Op) (s l digits end : ℕ) → text ≡ op_text op ∷ 32 ∷ (device ++ 32 ∷ rest) → is_device_name device ≡ true
     → rest ≡ start ++ 32 ∷ more → number_of start ≡ Some s → digits < length more → more ≡ take digits more ++ 10 ∷ drop (digits + 1) more → number_of (take digits more) ≡ Some l
     → 1 ≤ l → l ≤ MOST_SECTORS → end ≡ length text - length more + digits → IsFront text (record { op = op; device = device; start = s; len = l }) end

@@ -1,4 +1,4 @@
--- A line that says a request, and its fields: the one gives the other, so a line says one request at most.
+-- A line that is a request, and its fields: each determines the other, so a line is at most one request.
 use Rattle.dm_table.proofs.Prelude.{ℕ, inl, inr, Bool, true, false, cond, eqb, nat_le, List, [], length, get_or, take, Option, Some, None, refl, sym, ap, ◌∙◌, append_assoc, arith, decimal, nat_eq, Result, Ok, Err, pointwise, join_with_byte, list_all, is_ascii_digit, and_parts, and_from, le-leb, or_cases, and_right, eqb-true, leb-true, false_from_ne_true, nat_tests, length-slice_split, Op, Read, Write, RequestFault, Form, Number, Length, is_device_name, is_device_byte, number_of, fields, RequestValues, AreNumbers, are_two, is_length, DescribesRequest, request_text, row_of, op_text, is_op, has_form, values_in, values_reading, request_reading, if_both, All-list_all}
 use Rattle.dm_table.specs.declared.requests.request.TheConstants.{MOST_SECTORS}
 use Rattle.dm_table.proofs.words.ByteLemmas.{StandsFirst, stands_first, device_name_parts, digits-clear, plain-device_name}
@@ -8,12 +8,12 @@ use Rattle.std.specs.Prelude.{◌≡◌, ◌≢◌, ◌^◌, ◌<◌, ◌≤◌,
 
 -- From fields to the line
 
--- the fields, joined by spaces, are the text of the request
+-- the fields of a request, joined by spaces, are its text
 row_text : (op : Op) (device start len : List ℕ) (s l : ℕ) → start ≡ decimal s → len ≡ decimal l
     → join_with_byte 32 (row_of op device start len) ≡ request_text (record { op = op; device = device; start = s; len = l })
 row_text op device start len s l is_start is_len = rw (is_start, is_len) (simp append_assoc)
 
--- a line of these fields, with these numbers in their limits, says the request
+-- a line with these fields, and with numbers in their ranges, is the request
 pub described : (line : List ℕ) (op : Op) (device : List ℕ) (more : List (List ℕ)) (s l : ℕ) → fields line ≡ (op_text op ∷ []) ∷ device ∷ more → is_device_name device ≡ true
     → AreNumbers more s l → 1 ≤ l → l ≤ MOST_SECTORS
     → DescribesRequest line (record { op = op; device = device; start = s; len = l })
@@ -34,12 +34,12 @@ described line op device more s l cut named read least most =
 letter_space : (b : ℕ) → nat_le 65 b ≡ true → eqb b 32 ≡ false
 letter_space b h = grind (arith, nat_tests)
 
--- the letter of an operation is no space
+-- the letter of an operation isn't a space
 op_clear : (op : Op) → IsClearOf 32 (op_text op ∷ [])
 op_clear Read = All-list_all (λ b. nat_le 65 b) (λ b. eqb b 32 ≡ false) letter_space (82 ∷ []) refl
 op_clear Write = All-list_all (λ b. nat_le 65 b) (λ b. eqb b 32 ≡ false) letter_space (87 ∷ []) refl
 
--- the fields of a line that says a request
+-- the fields of a line that is a request
 fields_are : (line : List ℕ) (values : RequestValues) → DescribesRequest line values
     → fields line ≡ row_of values.op values.device (decimal values.start) (decimal values.len)
 fields_are line values said =
@@ -55,7 +55,7 @@ fields_are line values said =
     let fourth : fields len ≡ len ∷ [] = parts_at-clear 32 len (digits-clear len (decimal_digits values.len (omega (arith, said.most)))) in
     ap fields text ∙ rw (first, second, third, fourth)
 
--- One request at most
+-- At most one request
 
 same_op : (a b : Op) → op_text a ≡ op_text b → a ≡ b
 same_op Read Read e = refl
@@ -79,7 +79,7 @@ same_values a b op device start len =
     let whole : values_with a.op a.device a.start a.len ≡ values_with b.op b.device b.start b.len = cc in
     whole
 
--- a line says at most one request
+-- a line is at most one request
 pub unique : (line : List ℕ) (a b : RequestValues) → DescribesRequest line a → DescribesRequest line b → a ≡ b
 unique line a b said said' =
     let e : row_of a.op a.device (decimal a.start) (decimal a.len) ≡ row_of b.op b.device (decimal b.start) (decimal b.len) = sym (fields_are line a said) ∙ fields_are line b said' in
@@ -90,7 +90,7 @@ unique line a b said said' =
     same_values a b (same_op a.op b.op op) device (same_number a.start b.start said.start said'.start start)
     (same_number a.len b.len (omega (arith, said.most)) (omega (arith, said'.most)) len)
 
--- What is read of a line that says a request
+-- How a line that is a request is read
 
 op_passes : (op : Op) → is_op (op_text op ∷ []) ≡ true
 op_passes Read = refl
@@ -100,7 +100,7 @@ op_is : (op : Op) → cond (pointwise nat_eq (op_text op ∷ []) (82 ∷ [])) Re
 op_is Read = refl
 op_is Write = refl
 
--- it is what the line says
+-- a line that is a request is read as that request
 pub read-said : (line : List ℕ) (values : RequestValues) → DescribesRequest line values → request_reading line ≡ Ok values
 read-said line values said =
     let small : values.len < 10 ^ 19 = omega (arith, said.most) in
@@ -110,11 +110,11 @@ read-said line values said =
     let length : is_length values.len ≡ true = and_from _ _ (le-leb _ _ said.least) (le-leb _ _ said.most) in
     rw (form, found, length)
 
--- so a line with a fault says none
+-- a line that is read with a fault is no request
 pub refused : (line : List ℕ) (values : RequestValues) (fault : RequestFault) → request_reading line ≡ Err fault → DescribesRequest line values → ⊥
 refused line values fault found said = let read = read-said line values said in cc
 
--- The fault of a line, from what was read of it
+-- The fault of a line, from its fields
 
 abbrev row_reading : List (List ℕ) → Result RequestValues RequestFault
 row_reading row = cond (has_form row) (values_reading (values_in row)) (Err Form)
@@ -140,7 +140,7 @@ row_reading-numbers op device (start ∷ len ∷ []) named none =
     rw (form_is op device start len named) (fault_of_two (are_two (start ∷ len ∷ [])) _ (unread (op_text op ∷ []) device start len none))
 row_reading-numbers op device more named none = refl
 
--- with an operation and a device, but without two numbers
+-- the fault of a line with an operation and a device, but without two numbers after them
 pub fault-numbers : (line : List ℕ) (op : Op) (device : List ℕ) (more : List (List ℕ)) → fields line ≡ (op_text op ∷ []) ∷ device ∷ more → is_device_name device ≡ true
     → ((m n : ℕ) → AreNumbers more m n → ⊥) → request_reading line ≡ Err (cond (are_two more) Number Form)
 fault-numbers line op device more cut named none = ap row_reading cut ∙ row_reading-numbers op device more named none
@@ -155,7 +155,7 @@ no_length len out = false_from_ne_true _ (λ within.
     let a = and_parts (nat_le 1 len) (nat_le len MOST_SECTORS) within in
     absurd (omega (arith, leb-true 1 len a.0, leb-true len MOST_SECTORS a.1, out)))
 
--- with two numbers, but a false length
+-- the fault of a line with two numbers, the second of which is no valid length
 pub fault-length : (line : List ℕ) (op : Op) (device : List ℕ) (more : List (List ℕ)) (s l : ℕ) → fields line ≡ (op_text op ∷ []) ∷ device ∷ more → is_device_name device ≡ true
     → AreNumbers more s l → is_length l ≡ false → request_reading line ≡ Err Length
 fault-length line op device more s l cut named read out =
@@ -164,7 +164,7 @@ fault-length line op device more s l cut named read out =
     let found : values_in (fields line) ≡ Some (record { op = op; device = device; start = s; len = l }) = rw (row, read.first, read.last, op_is op) in
     rw (form, found, out)
 
--- A line of that form begins with an operation and its space
+-- A line with the form of a request begins with an operation and a space
 
 letter_of : (b : ℕ) → (eqb b 82 || eqb b 87) ≡ true → (op : Op) × (b ≡ op_text op)
 letter_of b h = elim (or_cases _ _ h) [
@@ -180,7 +180,7 @@ row_op ((b ∷ []) ∷ device ∷ start ∷ len ∷ []) form =
 row_op (op ∷ device ∷ start ∷ len ∷ next ∷ more) form = absurd cc
 row_op row form = absurd cc
 
--- so a line that does not has not that form
+-- a line that doesn't begin with an operation and a space doesn't have the form of a request
 pub no_op : (line : List ℕ) → ((op : Op) (rest : List ℕ) → line ≢ op_text op ∷ 32 ∷ rest) → has_form (fields line) ≡ false
 no_op line none = false_from_ne_true _ (λ form.
     let found = row_op (fields line) form in
@@ -190,13 +190,13 @@ op_fields : (op : Op) (rest : List ℕ) → fields (op_text op ∷ 32 ∷ rest) 
 op_fields Read rest = refl
 op_fields Write rest = refl
 
--- the letter and its space are the first field
+-- if a line begins with an operation and a space, the operation is its first field
 pub op_first : (line rest : List ℕ) (op : Op) → 1 ≤ length line → get_or line 0 0 ≡ op_text op → line ≡ take 1 line ++ 32 ∷ rest
     → fields line ≡ (op_text op ∷ []) ∷ fields rest
 op_first [] rest op some letter cut = absurd (omega arith)
 op_first (b ∷ line) rest op some letter cut = cc (op_fields _ _)
 
--- A number, and a name, that a space ends
+-- A number, or a name, that a space ends
 
 number_digits : (text : List ℕ) (n : ℕ) → number_of text ≡ Some n → list_all is_ascii_digit text ≡ true
 number_digits text n read =
@@ -216,7 +216,7 @@ number_stands text field next more n cut read = stands_first is_ascii_digit text
 pub name_stands : (text field next : List ℕ) (more : List (List ℕ)) → fields text ≡ field ∷ next ∷ more → is_device_name field ≡ true → StandsFirst is_device_byte text field
 name_stands text field next more cut named = stands_first is_device_byte text field next more cut (device_name_parts field named).bytes refl
 
--- Two fields that are not empty
+-- Two nonempty fields
 
 no_first : (start : List ℕ) (more : List (List ℕ)) → length start ≡ 0 → are_two (start ∷ more) ≡ false
 no_first start [] none = refl

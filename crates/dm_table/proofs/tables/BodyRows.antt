@@ -1,4 +1,4 @@
--- The body of a line and its fields: fields that the tests pass are those of a body, and the fields of a body pass them.
+-- The body of a line and its fields: fields that pass the tests are those of a body, and the fields of a body pass the tests.
 use Rattle.dm_table.proofs.Prelude.{inl, inr, ℕ, Bool, true, false, eqb, nat_le, nat_lt, nat_eq, List, [], length, drop, Option, Some, None, refl, sym, ap, ◌∙◌, append_assoc, arith, decimal, codes, is_some, pointwise, is_ascii_digit, option_map, flat_map, list_all, join_with_byte, AllByRecursion, and_parts, and_from, lt-ltb, eqb-true, eq-eqb, not-true, cases_Bool, nat_tests, Decides-eqb, length-append, append-nil, starts_is, map, DevRef, Column, Target, StoreKind, Persistent, Transient, Keeping, Linear, Striped, Zero, Error, Origin, Line, Place, is_device_byte, is_device_name, is_disk_byte, names_device, mapper, Spells, number_of, number_in, dev_text, column_text, kind_text, Argument, Lower, Amount, Flag, argument_text, row, column_arguments, target_row, target_fields, is_dev_ref, IsDevRef, IsArgument, IsTarget, IsBody, dev_in, if_both, then_in, nothing_in, lower_in, columns_in, is_count, striped_in, kind_in, arguments_in, target_in, Body, body_in, is_body_row, is_body, has_target_names, has_body_names, line_at, line_in, has_column_names, All-list_all}
 use Rattle.dm_table.specs.declared.tables.table.DevRef.TheVariants.{Device, Disk}
 use Rattle.dm_table.specs.declared.tables.table.Target.TheVariants.{Snapshot}
@@ -19,7 +19,7 @@ pub columns_text : (before : List ℕ) (columns : List Column) → join_with_byt
 columns_text before [] = sym (append-nil before)
 columns_text before (column ∷ columns) = rw (columns_text (decimal column.offset) columns) (simp append_assoc)
 
--- From fields that the tests pass to the body
+-- From fields that pass the tests to the body
 
 pub number_spelled : (field : List ℕ) → is_some (number_of field) ≡ true → Spells field (number_in field)
 number_spelled field e = Spells-number_of field (number_in field) (Some-is_some (number_of field) e)
@@ -33,29 +33,29 @@ dev_spelled text = elim (cases_Bool (names_device text)) [
   | inr e ↦ rw e
 ]
 
--- an option that is there after a map was there before it
+-- Options that are Some after a map were Some before
 
--- two that are there together
+-- if both options together give a value, both are Some
 both_there : {X Y Z : Type 0} (make : X → Y → Z) (o : Option X) (p : Option Y) (z : Z) → if_both make o p ≡ Some z → (x : X) × (y : Y) × (o ≡ Some x) × (p ≡ Some y) × (make x y ≡ z)
 both_there make None p z h = absurd cc
 both_there make (Some x) p z h = let m = mapped (make x) p z h in (x, m.0, refl, m.1, m.2)
 
--- a choice that is there
+-- if a condition or else None gives a value, the condition is true
 chosen : {X : Type 0} (b : Bool) (o : Option X) (x : X) → (if b then o else None) ≡ Some x → (b ≡ true) × (o ≡ Some x)
 chosen true o x h = (refl, h)
 chosen false o x h = absurd cc
 
 -- What fields say
 
--- fields say these arguments: they are theirs, and a text may say them where their names are names
+-- the fields are the texts of these arguments, and if the names among the arguments are valid, a table can contain the arguments
 abbrev IsSaid : List (List ℕ) → List Argument → Type 0
 IsSaid fs arguments = (map argument_text arguments ≡ fs) × (list_all has_name arguments ≡ true → AllByRecursion IsArgument arguments)
 
--- a field that says a value says this argument
+-- a field that says a value is the text of this argument, and if the name in it is valid, a table can contain it
 record SaysOne {X : Type 0} (said : List ℕ → Option X) (argument : X → Argument) : Type 0 where
   read : (text : List ℕ) (x : X) → said text ≡ Some x → (argument_text (argument x) ≡ text) × (has_name (argument x) ≡ true → IsArgument (argument x))
 
--- fields that say a value say these arguments
+-- fields that say a value are the texts of these arguments, in the sense of IsSaid
 record SaysAll {X : Type 0} (said : List (List ℕ) → Option X) (arguments : X → List Argument) : Type 0 where
   read : (fs : List (List ℕ)) (x : X) → said fs ≡ Some x → IsSaid fs (arguments x)
 
@@ -65,7 +65,7 @@ lower_says = record { read = λ text to h. let is : dev_in text ≡ to = cc in (
 number_says : SaysOne number_of Amount
 number_says = record { read = λ text n h. let spelled = Spells-number_of text n h in (sym spelled.digits, λ valid. spelled.short) }
 
--- a flag that is the word of a kind, or else one of the words after it
+-- if a flag is found among the first letter and those after it, it is the letter of the kind that was found
 by_flag : (flag : List ℕ) (first kind : StoreKind) (later : Option StoreKind) → (later ≡ Some kind → kind_text kind ≡ flag) → (if pointwise nat_eq flag (kind_text first) then Some first else later) ≡ Some kind → kind_text kind ≡ flag
 by_flag flag first kind later others h = elim (cases_Bool (pointwise nat_eq flag (kind_text first))) [
   | inl e ↦ (let same : first ≡ kind = cc in rw same at (sym (same_name flag (kind_text first) e)))
@@ -88,7 +88,7 @@ nothing_read (f ∷ fs) x h = absurd cc
 nothing_says : SaysAll nothing_in (λ nothing. [])
 nothing_says = record { read = nothing_read }
 
--- what the first field and the others say, where they say something
+-- if then_in gives a value, the first field says one and the others say one
 then_there : {X Y : Type 0} (first : List ℕ → Option X) (others : List (List ℕ) → Option Y) (fs : List (List ℕ)) (both : X × Y) → then_in first others fs ≡ Some both
     → (f : List ℕ) × (more : List (List ℕ)) × (fs ≡ f ∷ more) × (first f ≡ Some both.0) × (others more ≡ Some both.1)
 then_there first others [] both h = absurd cc
@@ -132,7 +132,7 @@ count_row count n m c half =
     let same : m ≡ number_in count = omega arith in
     (ap decimal same ∙ sym spelled.digits, rw same spelled.short)
 
--- fields say a target of this type
+-- the fields say a target of this type, in the sense of IsSaid
 abbrev SaysTarget : List ℕ → List (List ℕ) → Target → Type 0
 SaysTarget type fs target = ((target_row target).type ≡ type) × IsSaid fs (target_row target).arguments
 
@@ -153,7 +153,7 @@ striped_says (count ∷ others) target h =
     let counted = count_row count (length others) (length m.0.1) c.0 (omega (arith, half, long)) in
     rw (← m.2) (refl, (rw (counted.0, a.0), λ valid. (counted.1, a.1 valid)))
 
--- a type that is this word, or else one of the words after it
+-- if a type is found among the first word and those after it, the fields say a target of that type
 by_word : (type word : List ℕ) (fs : List (List ℕ)) (target : Target) (o p : Option Target) → (o ≡ Some target → SaysTarget word fs target) → (p ≡ Some target → SaysTarget type fs target)
     → (if pointwise nat_eq type word then o else p) ≡ Some target → SaysTarget type fs target
 by_word type word fs target o p says others h = elim (cases_Bool (pointwise nat_eq type word)) [
@@ -174,7 +174,7 @@ target_says type fs target h =
     (by_word type (codes "snapshot-origin") fs target _ _ (row_says (λ said. Origin said.0) (then_says lower_says nothing_says) (λ said. refl) fs target)
     (no_word type fs target)))))) h
 
--- the line that fields say, where they are in order
+-- fields that pass the test of a body say a line
 pub body_there : (at : Place) (fs : List (List ℕ)) → is_body fs ≡ true → (line : Line) × (line_in at fs ≡ Some line)
 body_there at fs h = there (body_in fs) (line_at at) h where
   there : (o : Option Body) (f : Body → Line) → is_some o ≡ true → (line : Line) × (option_map f o ≡ Some line)
@@ -185,7 +185,7 @@ target_there : (fs : List (List ℕ)) (target : Target) → target_in fs ≡ Som
 target_there [] target h = absurd cc
 target_there (type ∷ arguments) target h = let says = target_says type arguments target h in (rw (says.0, says.1.0), says.1.1)
 
--- fields say a body: they are its fields, and a text may say it where its names are names
+-- the fields are those of this body, and if its names are valid, a table can contain the body
 record SaysBody (at : Place) (fields : List (List ℕ)) (body : Body) : Type 0 where
   again : body_fields (line_at at body) ≡ fields
   said : has_target_names body.target ≡ true → IsBody (line_at at body)
@@ -207,7 +207,7 @@ body_says at fs body h =
     let m = mapped (λ said. let body : Body = record { start = said.0; len = said.1.0; target = said.1.1 } in body) (then_in number_of (then_in number_of target_in) fs) body h in
     rw (← m.2) (parts_say at fs m.0 m.1)
 
--- a line is that of the fields that say it
+-- the fields that a line is written with are those that it was read from
 pub body_again : (at : Place) (fs : List (List ℕ)) (line : Line) → line_in at fs ≡ Some line → body_fields line ≡ fs
 body_again at fs line h = let m = mapped (line_at at) (body_in fs) line h in rw (← m.2) (body_says at fs m.0 m.1).again
 
@@ -221,11 +221,11 @@ body_placed at fs line h = let m = mapped (line_at at) (body_in fs) line h in rw
 
 -- From a body to its fields
 
--- a byte of a field: text, and no space, comma or semicolon
+-- the byte may occur in a field: printable, and no space, comma, semicolon or backslash
 abbrev pub is_ink : ℕ → Bool
 is_ink b = is_disk_byte b
 
--- a field that is there
+-- the field isn't empty, and all of its bytes may occur in a field
 abbrev pub IsInked : List ℕ → Type 0
 IsInked field = (nat_lt 0 (length field) ≡ true) × (list_all is_ink field ≡ true)
 
@@ -271,13 +271,13 @@ type_inked _ = (refl, refl)
 pub body_inked : (line : Line) → IsBody line → AllByRecursion IsInked (body_fields line)
 body_inked line h = (number_inked line.start h.start, (number_inked line.len h.len, (type_inked line.target, arguments_inked (target_row line.target).arguments h.target)))
 
--- the fields of a body pass the tests
+-- The fields of a body pass the tests
 
 filled : (fs : List (List ℕ)) → AllByRecursion IsInked fs → list_all (λ field. nat_lt 0 (length field)) fs ≡ true
 filled [] h = refl
 filled (f ∷ fs) h = and_from _ _ h.0.0 (filled fs h.1)
 
--- three and more
+-- three or more is at least three, as the test says it
 le_three : (n : ℕ) → 3 ≤ n → nat_le 3 n ≡ true
 le_three n h = grind (arith, nat_tests)
 
@@ -308,7 +308,7 @@ target_again : (target : Target) → IsTarget target → target_in (target_field
 target_again (Striped chunk columns) h = rw (count_passes (decimal chunk) columns h.0, number_of-decimal chunk h.1.0, columns_again columns h.1.1)
 target_again _ h = search (kind_again, number_of-decimal, dev_again)
 
--- a start, a length, and at least the type of a target
+-- a start, a length and the fields of a target are at least three fields
 three_fields : (start len : List ℕ) (fs : List (List ℕ)) (target : Target) → target_in fs ≡ Some target → nat_le 3 (length (start ∷ len ∷ fs)) ≡ true
 three_fields start len [] target h = absurd cc
 three_fields start len (f ∷ fs) target h = le_three (length (start ∷ len ∷ f ∷ fs)) (omega arith)
@@ -322,7 +322,7 @@ arguments_named [] h = refl
 arguments_named (Lower to ∷ arguments) h = and_from _ _ h.0 (arguments_named arguments h.1)
 arguments_named (argument ∷ arguments) h = arguments_named arguments h.1
 
--- and say that body
+-- the body of a line, which is the line without its place
 abbrev body_of : Line → Body
 body_of line = record { start = line.start; len = line.len; target = line.target }
 
@@ -336,6 +336,6 @@ pub body_names_pass : (line : Line) → IsBody line → has_body_names (body_fie
 body_names_pass line h =
     rw (fields_say line h) (arguments_named (target_row line.target).arguments h.target)
 
--- and are read as that line
+-- the fields of a line are read as that line
 pub line_again : (at : Place) (line : Line) → IsBody line → line.at ≡ at → line_in at (body_fields line) ≡ Some line
 line_again at line h is = ap (option_map (line_at at)) (fields_say line h) ∙ rw (← is)

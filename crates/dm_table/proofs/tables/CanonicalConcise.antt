@@ -1,4 +1,4 @@
--- Concise text that is written of a description describes it, places aside.
+-- The text written for devices in the concise form describes them, apart from places.
 use Rattle.dm_table.proofs.Prelude.{inl, inr, ℕ, suc, Bool, true, false, List, [], length, map, refl, sym, ap, ◌∙◌, append_assoc, arith, codes, join_with_byte, Line, DeviceSpec, Place, SayEach, body_text, place_of, is_ro, is_flags, SaysLines, SaysDevice, DescribesConcise, ReadsBack, flag_text, concise_device, concise_text, lines_at, as_concise}
 use Rattle.std.specs.Prelude.{◌≡◌, ◌≤◌, ◌∷◌, ◌++◌, if◌then◌else◌}
 
@@ -15,9 +15,9 @@ devices_as n (device ∷ devices) = rw (lines_as (place_of n) device.lines, devi
 text_as : (n : ℕ) (devices : List DeviceSpec) → concise_text (as_concise n devices) ≡ concise_text devices
 text_as n devices = rw (devices_as n devices)
 
--- A device
+-- A single device
 
--- the flag that is written
+-- the flag that is written for a device
 abbrev flag_of : Bool → List ℕ
 flag_of ro = if ro then codes "ro" else codes "rw"
 
@@ -73,7 +73,7 @@ devices_again n [] [] s = tt
 devices_again n (text ∷ texts) (device ∷ devices) s = (device_again n text device s.0, devices_again (suc n) texts devices s.1)
 devices_again n texts devices s = absurd s
 
--- what a text says, the text that is written says
+-- the text written for devices that some text describes describes those devices, apart from places
 written_says : (text : List ℕ) (said : List DeviceSpec) → DescribesConcise text said → DescribesConcise (concise_text said) (as_concise 1 said)
 written_says text said d = record {
   parts = map concise_device (as_concise 1 said);
@@ -81,7 +81,7 @@ written_says text said d = record {
   said = devices_again 1 d.parts said d.said;
 }
 
--- and so of devices that differ from those in places alone
+-- the same text is written for devices that differ only in places, so concise_text reads back
 pub concise_reads_back : (devices : List DeviceSpec) → ReadsBack DescribesConcise (as_concise 1) concise_text devices
 concise_reads_back devices text said d same =
     let texts : concise_text said ≡ concise_text devices = sym (text_as 1 said) ∙ ap concise_text same ∙ text_as 1 devices in

@@ -1,4 +1,4 @@
--- Table text that is written of a description describes it, places and flags aside.
+-- The table text written for devices describes them, apart from places and read-only flags.
 use Rattle.dm_table.proofs.Prelude.{inl, ℕ, suc, true, List, [], length, map, refl, sym, ap, ◌∙◌, arith, flat_map, AllByRecursion, flat_map-append, map-append, Line, DeviceSpec, Place, Source, is_device_name, lines_of, rest_of, SayEach, IsBody, NamedLine, line_text, SaysLine, named_lines, HasPlaceOf, IsDescribed, DifferInName, DescribesTable, ReadsBack, lines_text, table_text, placed_lines, as_table}
 use Rattle.dm_table.proofs.words.ByteLemmas.{is_shown-clear}
 use Rattle.dm_table.proofs.words.FieldLemmas.{IsClearOf, lines_of-lines, rest_of-lines}
@@ -17,7 +17,7 @@ text_as : (n : ℕ) (devices : List DeviceSpec) → table_text (as_table n devic
 text_as n [] = refl
 text_as n (device ∷ devices) = rw (lines_as device.name n device.lines, text_as (n + length device.lines) devices)
 
--- The lines of a text
+-- The lines of the text
 
 lines_ended : (name : List ℕ) (lines : List Line) → lines_text name lines ≡ flat_map (λ text. text ++ 10 ∷ []) (map line_text (named_of name lines))
 lines_ended name [] = refl
@@ -30,7 +30,7 @@ text_ended (device ∷ devices) =
     let others = map line_text (named_lines devices) in
     rw (lines_ended device.name device.lines, text_ended devices) (sym (flat_map-append (λ text. text ++ 10 ∷ []) own others) ∙ ap (flat_map (λ text. text ++ 10 ∷ [])) (sym (map-append line_text (named_of device.name device.lines) (named_lines devices))))
 
--- Numbering
+-- Numbering of lines
 
 numbered : ℕ → List NamedLine → List NamedLine
 numbered n [] = []
@@ -49,7 +49,7 @@ unfolding numbered
 numbered_as n [] = refl
 numbered_as n (device ∷ devices) = numbered_device device.name n (n + length device.lines) device.lines (named_lines devices) devices refl (numbered_as (n + length device.lines) devices)
 
--- a line that a text may say
+-- a line that some text can say: its name and its body are valid
 abbrev IsSayable : NamedLine → Type 0
 IsSayable named = (is_device_name named.name ≡ true) × IsBody named.line
 
@@ -80,7 +80,7 @@ apart_as : (n : ℕ) (devices : List DeviceSpec) → DifferInName devices → Di
 apart_as n (device ∷ next ∷ devices) h = (h.0, apart_as (n + length device.lines) (next ∷ devices) h.1)
 apart_as n devices h = tt
 
--- what a text says, the text that is written says
+-- the text written for devices that some text describes describes those devices, apart from places and flags
 written_says : (text : List ℕ) (said : List DeviceSpec) → DescribesTable text said → DescribesTable (table_text said) (as_table 1 said)
 written_says text said d =
     let lines = map line_text (named_lines (as_table 1 said)) in
@@ -94,7 +94,7 @@ written_says text said d =
       apart = apart_as 1 said d.apart;
     }
 
--- and so of devices that differ from those in places and flags alone
+-- the same text is written for devices that differ only in places and flags, so table_text reads back
 pub table_reads_back : (devices : List DeviceSpec) → ReadsBack DescribesTable (as_table 1) table_text devices
 table_reads_back devices text said d same =
     let texts : table_text said ≡ table_text devices = sym (text_as 1 said) ∙ ap table_text same ∙ text_as 1 devices in

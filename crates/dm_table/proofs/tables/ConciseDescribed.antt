@@ -1,4 +1,4 @@
--- A text of the concise form in which no check finds anything describes the devices that are read from it, and one that describes devices is read as them.
+-- A text in the concise form passes all checks exactly if it describes devices, and these are the devices that are read from it.
 use Rattle.dm_table.proofs.Prelude.{inl, inr, ℕ, true, false, not, eqb, List, [], length, take, get_or, None, Result, Ok, Err, refl, sym, ap, ◌∙◌, arith, join_with_byte, AllByRecursion, and_parts, cases_Bool, not-true, eqb-true, append-nil, length-append, map-id, DeviceSpec, Source, LoadFault, parts_at, all_but_last, last_or, Answers, first_fault, first_or, is_printable, not_text, row_checks, unless, IsParsed, SayEach, SaysDevice, DescribesConcise, lacks, entries, without_newline, parts_of, devices_of, is_device, has_values, has_names, concise_checks, device_in, devices_from, parts_reading, read_concise, All-list_all}
 use Rattle.std.specs.Global.{Vec}
 use Rattle.dm_table.proofs.words.ByteLemmas.{list_all-weaker}
@@ -34,14 +34,14 @@ newline_none text h = rw (last_other text h)
 newline_dropped : (text : List ℕ) → without_newline (text ++ 10 ∷ []) ≡ text
 newline_dropped text = rw (last_or-push 0 text 10) (all_but_last-push text 10)
 
--- the code's way to it
+-- if the last byte is a newline, the text without its last byte is the text without its newline
 pub newline_cut : (text : List ℕ) → 1 ≤ length text → eqb (get_or text (length text - 1) 0) 10 ≡ true → take (length text - 1) text ≡ without_newline text
 newline_cut text some e = rw (rw (get_or-last_or 0 0 text some) at e) (take-all_but_last text)
 
 pub newline_missing : (text : List ℕ) → 1 ≤ length text → eqb (get_or text (length text - 1) 0) 10 ≡ false → text ≡ without_newline text
 newline_missing text some e = rw (rw (get_or-last_or 0 0 text some) at e)
 
--- Parts
+-- The parts between semicolons
 
 parts_joined : (text : List ℕ) → join_with_byte 59 (parts_of text) ≡ text
 parts_joined [] = refl
@@ -51,7 +51,7 @@ parts_some : (text : List ℕ) → 1 ≤ length text → parts_of text ≡ parts
 parts_some [] h = absurd (omega arith)
 parts_some (b ∷ text) h = refl
 
--- Devices keep the law of forms: each is its own row
+-- Devices are a lawful form in which each piece is its own row
 
 abbrev device_form : Form (List ℕ) DeviceSpec
 device_form = record { part = Source; is_text = is_printable; row_of = λ text. text; is_row = is_device; has_values = has_values; has_names = has_names; value_in = λ n text. device_in n (entries text); says = SaysDevice }
@@ -87,7 +87,7 @@ described text h =
       said = rw (map-id parts) at said;
     }
 
--- and what is found in a text that describes devices
+-- No check finds a fault in a text that describes devices
 
 joined_lacks : (texts : List (List ℕ)) → AllByRecursion (λ text. lacks 10 text ≡ true) texts → lacks 10 (join_with_byte 59 texts) ≡ true
 joined_lacks [] h = refl
@@ -124,12 +124,12 @@ pub read_as_promised : (text : List ℕ) (answer : Result (Vec DeviceSpec) LoadF
 unfolding read_concise
 read_as_promised text answer h = parsed Source (DescribesConcise text) (concise_checks text) (devices_from 1 (devices_of text)) answer (described text) (again text) h
 
--- the check of the pieces between semicolons is that of the devices
+-- the byte check of the parts between semicolons is that of the devices
 pieces_checked : (text : List ℕ) → not_text Source (parts_at 59 text) ≡ not_text Source (parts_of text)
 pieces_checked [] = refl
 pieces_checked (b ∷ text) = refl
 
--- a text whose bytes are text is read by its parts, and any other is refused
+-- a text whose bytes pass their check is read by its parts
 pub read_concise-parts : (text bare : List ℕ) (parts : List (List ℕ)) (done : Unit {0}) → bare ≡ without_newline text → parts ≡ parts_of bare → unless (first_or (not_text Source (parts_at 59 bare)) None) tt ≡ Ok done → parts_reading parts ≡ read_concise text
 unfolding read_concise
 read_concise-parts text bare parts done is cut passed =

@@ -1,4 +1,4 @@
--- What is wrong with the parts of a device of the concise form, and with the device.
+-- The fault of a device in the concise form, from the faults of its label and of its bodies.
 use Rattle.dm_table.proofs.Prelude.{OnOk, ℕ, suc, Bool, true, false, List, [], length, take, drop, get_or, Option, Some, None, Result, Ok, Err, refl, sym, ap, ◌∙◌, arith, slice_index_or, list_all, option_to_list, and_parts, take_rest, drop_more, and-false, Line, DeviceSpec, Place, Source, RowFault, FirstFaults, texts, is_device_name, unless, first_failed, Reads, fault_in, noted_at, first_noted, is_body_row, is_body, has_body_names, line_in, place_of, lacks, is_uuid, is_ro, entries, body_fields, is_device, is_label, has_label_values, has_label_names, has_names, has_values, earlier_of, fault_of_body, fault_of_bodies, fault_of_label, fault_of_entries, fault_of_device, lines_in, device_in, entries_reading, device_reading, bodies_reading, devices_from}
 use Rattle.std.specs.Prelude.{◌≡◌, ◌≢◌, ◌+◌, ◌-◌, ◌<◌, ◌≤◌, ◌&&◌, ◌∷◌, ◌++◌}
 use denote.Ref.{Bor}
@@ -7,13 +7,13 @@ use Rattle.dm_table.proofs.load.FaultLemmas.{unless-ok, unless-err}
 use Rattle.dm_table.proofs.load.RowFaultLemmas.{first_failed-none, read_clear, said_refused}
 use Rattle.dm_table.proofs.load.Forms.{said_after}
 
--- The earlier of two
+-- The earlier of two faults
 
 pub earlier_of-none : (fault : Option RowFault) → earlier_of fault None ≡ fault
 earlier_of-none (Some Syntax) = refl
 earlier_of-none fault = refl
 
--- one more fault of a field or of a name changes nothing before one of a field
+-- a Field or Name fault in front of a Field fault changes nothing
 field_again : (c : Option RowFault) → (earlier_of (Some Field) (earlier_of (Some Field) c) ≡ earlier_of (Some Field) c) × (earlier_of (Some Name) (earlier_of (Some Field) c) ≡ earlier_of (Some Field) c)
 field_again (Some Syntax) = (refl, refl)
 field_again c = (refl, refl)
@@ -32,14 +32,14 @@ never_memory : (row known named : Bool) → first_failed row known named ≢ Som
 never_memory true true true e = absurd cc
 never_memory row known named e = absurd cc
 
--- where there is no earlier of two, there is neither
+-- if there is no earlier one of two faults, there is neither
 pub earlier_of-clear : (a b : Option RowFault) → earlier_of a b ≡ None → (a ≡ None) × (b ≡ None)
 earlier_of-clear None b h = (refl, h)
 earlier_of-clear (Some Field) (Some Syntax) h = absurd cc
 earlier_of-clear (Some Name) None h = absurd cc
 earlier_of-clear a b h = absurd cc
 
--- the tests of two parts are those of both together
+-- the earlier fault of two parts is that of their tests taken together
 earlier_of_rows : (r1 l1 h1 r2 l2 h2 : Bool) → earlier_of (first_failed r1 l1 h1) (first_failed r2 l2 h2) ≡ first_failed (r1 && r2) (l1 && l2) (h1 && h2)
 earlier_of_rows false l1 h1 r2 l2 h2 = refl
 earlier_of_rows true false h1 true true true = refl
@@ -56,7 +56,7 @@ device_fault : (text : List ℕ) → fault_of_entries (lacks 10 text) (entries t
 device_fault text =
     rw (bodies_fault (drop 4 (entries text))) (earlier_of_rows (lacks 10 text && is_label (entries text)) (has_label_values (entries text)) (has_label_names (entries text)) _ _ _)
 
--- What is read of entries is what is read of the device
+-- The result of reading a device's entries is that of reading its text
 pub device_read : (r : Result DeviceSpec RowFault) (n : ℕ) (text : List ℕ) (es : List (List ℕ)) (on_a_line : Bool) → on_a_line ≡ lacks 10 text → es ≡ entries text
     → Reads (λ device. device) r (entries_reading n on_a_line es) → Reads (λ device. device) r (device_reading n text)
 device_read r n text es on_a_line line cut h =
@@ -64,7 +64,7 @@ device_read r n text es on_a_line line cut h =
     rw (line, cut, device_fault) in
     rw (← same) h
 
--- Entries in hand
+-- The slices of the entries
 
 pub few_entries : (n : ℕ) (on_a_line : Bool) (es : List (Bor (List ℕ))) → length es < 4 → entries_reading n on_a_line (texts es) ≡ Err Syntax
 few_entries n on_a_line (a ∷ b ∷ c ∷ d ∷ es) h = absurd (omega arith)
@@ -85,7 +85,7 @@ entries_read n on_a_line (a ∷ b ∷ c ∷ d ∷ es) k e lines label h is r =
     rw (v.0, v.1)
 entries_read n on_a_line es k e lines label h is r = absurd (omega arith)
 
--- the first entry is a name where lines are read
+-- if the bodies are read, the first entry is a valid device name
 pub entries_named : (n : ℕ) (on_a_line : Bool) (es : List (Bor (List ℕ))) (k : Bor (List ℕ)) (bodies : List (List ℕ)) (lines : List Line) (label : Option RowFault) → 4 ≤ length es → label ≡ fault_of_label on_a_line (texts es)
     → bodies_reading (place_of n) label bodies ≡ Ok lines → is_device_name (slice_index_or es 0 k).now ≡ true
 entries_named n on_a_line (a ∷ b ∷ es) k bodies lines label h is r =
@@ -95,9 +95,9 @@ entries_named n on_a_line (a ∷ b ∷ es) k bodies lines label h is r =
     (and_parts (is_device_name a.now) (is_uuid b.now) named).0
 entries_named n on_a_line es k bodies lines label h is r = absurd (omega arith)
 
--- Devices one after the other
+-- One device after another
 
--- one device further, where nothing is wrong so far
+-- if no fault has been noted, the devices so far and those of the parts left are all devices, also after one more part
 pub devices_further : (parts : List (Bor (List ℕ))) (i : ℕ) (d : Bor (List ℕ)) (read : Result (Unit {0}) RowFault) (seen new : FirstFaults) (old devices : List DeviceSpec) → i < length parts → OnOk read (devices ≡ old ++ option_to_list (device_in (i + 1) (entries (get_or parts i d).now))) → fault_in read ≢ Some Memory
     → new ≡ noted_at Source seen (i + 1) (fault_in read) → (first_noted seen ≡ None → old ++ devices_from (i + 1) (texts (drop i parts)) ≡ devices_from 1 (texts parts))
     → first_noted new ≡ None → devices ++ devices_from (i + 1 + 1) (texts (drop (i + 1) parts)) ≡ devices_from 1 (texts parts)
@@ -107,9 +107,9 @@ devices_further parts i d read seen new old devices below taken text is so_far c
     let here = read_clear read Source seen (i + 1) taken text (sym (ap first_noted is) ∙ clear) in
     rw (number, here.0) (said_after old (device_in (i + 1) (entries (get_or parts i d).now)) (devices_from (suc (i + 1)) (texts (drop (i + 1) parts))) ∙ (rw next at (so_far here.1)))
 
--- Bodies one after the other
+-- One body after another
 
--- one body further
+-- the loop's invariant after one more body: its fault is taken into account, and its line is added
 pub record IsBodyFurther (bodies : List (Bor (List ℕ))) (i : ℕ) (at : Place) (label fault found : Option RowFault) (old new : List Line) : Type 0 where
   pub known : earlier_of (earlier_of fault found) (fault_of_bodies (texts (drop (i + 1) bodies))) ≡ earlier_of label (fault_of_bodies (texts bodies))
   pub made : earlier_of fault found ≡ None → new ++ lines_in at (texts (drop (i + 1) bodies)) ≡ lines_in at (texts bodies)
@@ -130,7 +130,7 @@ body_further bodies i d at label fault found old new below is added known made =
           rw (added (sym is ∙ both.1)) (said_after old (line_in at fields) (lines_in at (texts (drop (i + 1) bodies))) ∙ (rw next at (made both.0)));
     }
 
--- A device that was refused has that fault
+-- A device that was refused has the fault that was returned
 
 label_says : (n : ℕ) (es : List (List ℕ)) → is_label es ≡ true → (device : DeviceSpec) × (device_in n es ≡ Some device)
 label_says n (name ∷ uuid ∷ minor ∷ flags ∷ bodies) h = (_, refl)

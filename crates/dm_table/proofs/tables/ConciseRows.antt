@@ -1,4 +1,4 @@
--- The text of a body in the concise form and its fields, and the text of a device and its entries.
+-- In the concise form: the text of a body and its fields, and the text of a device and its entries.
 use Rattle.dm_table.proofs.Prelude.{inl, inr, ℕ, Bool, true, false, not, eqb, nat_le, nat_lt, List, [], length, drop, Some, refl, sym, ap, ◌∙◌, arith, codes, decimal, list_all, join_with_byte, AllByRecursion, and_parts, and_from, cases_Bool, eqb-true, nat_tests, length-append, Line, DeviceSpec, Place, is_device_byte, is_device_name, number_in, fields, row_fields, without_last_space, body_text, target_fields, IsBody, is_body_row, is_body, has_body_names, line_in, is_uuid, is_minor, is_ro, is_flags, place_of, WritesBody, SaysLines, SaysDevice, lacks, entries, without_first_space, body_fields, is_label, has_label_values, has_label_names, is_device, has_values, has_names, lines_in, device_in, All-list_all}
 use Rattle.dm_table.proofs.words.ByteLemmas.{list_all-weaker, list_all-both}
 use Rattle.dm_table.proofs.words.FieldLemmas.{IsClearOf, parts_at-join, join-parts_at}
@@ -8,7 +8,7 @@ use Rattle.dm_table.proofs.tables.TableGroups.{same_name}
 use Rattle.dm_table.proofs.tables.TableRows.{space_cases, space_dropped, space_joined, fields_joined, inks, inks_and_space, no_space, row_kept, row_kept_spaced}
 use Rattle.std.specs.Prelude.{◌≡◌, ◌⊎◌, ◌≤◌, ◌&&◌, ◌||◌, ◌∷◌, ◌++◌}
 
--- Bodies: from their fields
+-- From fields to the text of a body
 
 first_cases : (fs : List (List ℕ)) → (without_first_space fs ≡ fs) ⊎ ([] ∷ without_first_space fs ≡ fs)
 first_cases ([] ∷ fs) = inr refl
@@ -22,7 +22,7 @@ spaced_after : (fs : List (List ℕ)) → is_body_row fs ≡ true → join_with_
 spaced_after [] r = absurd cc
 spaced_after (f ∷ fs) r = space_joined f fs
 
--- a body whose fields are in order is written as the line that they say
+-- a text whose fields pass the tests is the body of the line that they say
 pub body_writes : (at : Place) (text : List ℕ) (line : Line) → is_body_row (body_fields text) ≡ true → line_in at (body_fields text) ≡ Some line → WritesBody text line
 body_writes at text line r l =
     let bs = body_fields text in
@@ -40,13 +40,13 @@ body_writes at text line r l =
       ]
     ]
 
--- and to their fields
+-- From the text of a body to its fields
 
 no_first : (f : List ℕ) (fs : List (List ℕ)) → nat_lt 0 (length f) ≡ true → without_first_space (f ∷ fs) ≡ f ∷ fs
 no_first [] fs h = absurd cc
 no_first (b ∷ bs) fs h = refl
 
--- fields that are there, with a space before them
+-- a space before nonempty fields adds one empty field in front
 led_kept : (f : List ℕ) (fs : List (List ℕ)) → AllByRecursion IsInked (f ∷ fs) → row_fields (32 ∷ join_with_byte 32 (f ∷ fs)) ≡ [] ∷ f ∷ fs
 led_kept f fs h =
     rw (← no_space (f ∷ fs) h) (ap without_last_space (fields_joined [] (f ∷ fs) (refl, inks (f ∷ fs) h)))
@@ -70,17 +70,17 @@ fields_again text whole f fs is h w =
       ]
     ]
 
--- a text that writes a line has its fields
+-- the fields of a text that is the body of a line are the fields of that line
 pub body_read : (text : List ℕ) (line : Line) → WritesBody text line → IsBody line → body_fields text ≡ body.body_fields line
 body_read text line w h = fields_again text (body_text line) (decimal line.start) (decimal line.len ∷ target_fields line.target) refl (body_inked line h) w
 
 -- Bytes
 
--- a byte of a body, of a label
+-- the byte may occur in a body or in an entry of a label
 abbrev pub is_line_byte : ℕ → Bool
 is_line_byte b = eqb b 32 || is_ink b
 
--- a byte of a device
+-- the byte may occur in the text of a device
 abbrev pub is_entry_byte : ℕ → Bool
 is_entry_byte b = eqb b 44 || is_line_byte b
 
@@ -105,7 +105,7 @@ entry_newline b h = grind (arith, nat_tests)
 pub entry_printed : (b : ℕ) → is_entry_byte b ≡ true → (eqb b 10 || (nat_le 32 b && nat_le b 126)) ≡ true
 entry_printed b h = grind (arith, nat_tests)
 
--- parts that pass a test, joined by a byte that does
+-- if all parts and the byte between them pass a test, the joined text passes it
 pub join_passes : (test : ℕ → Bool) (c : ℕ) (part : List ℕ) (parts : List (List ℕ)) → test c ≡ true → AllByRecursion (λ p. list_all test p ≡ true) (part ∷ parts) → list_all test (join_with_byte c (part ∷ parts)) ≡ true
 join_passes test c part [] b h = h.0
 join_passes test c part (next ∷ parts) b h = list_all-both test part (c ∷ join_with_byte c (next ∷ parts)) h.0 (and_from _ _ b (join_passes test c next parts b h.1))
@@ -173,7 +173,7 @@ label_passes : (name uuid minor flags : List ℕ) (bodies : List (List ℕ)) →
 label_passes name uuid minor flags [] some a b c d = absurd (omega arith)
 label_passes name uuid minor flags (body ∷ bodies) some a b c d = and_from _ _ a (and_from _ _ b (and_from _ _ c d))
 
--- Devices: from what is read to what is said
+-- From the fields of a device to what its text says
 
 lines_said : (n : ℕ) (texts : List (List ℕ)) → list_all (λ text. is_body_row (body_fields text)) texts ≡ true → list_all (λ text. is_body (body_fields text)) texts ≡ true
     → list_all (λ text. has_body_names (body_fields text)) texts ≡ true → SaysLines n texts (lines_in (place_of n) texts)
@@ -190,7 +190,7 @@ lines_said n (text ∷ texts) r l h =
       lines_said n texts a.1 b.1 c.1,
     )
 
--- entries say a device that the text says
+-- the entries say a device, and the text is that device
 pub record IsDeviceSaid (n : ℕ) (text : List ℕ) (es : List (List ℕ)) : Type 0 where
   pub device : DeviceSpec
   pub is : device_in n es ≡ Some device
@@ -223,7 +223,7 @@ entries_said n text (name ∷ uuid ∷ minor ∷ flags ∷ first ∷ bodies) is 
     }
 entries_said n text es is a k m r l h = absurd cc
 
--- a device in which no check finds anything is said by its text
+-- the text of a device that passes all tests is that device
 pub device_said : (n : ℕ) (text : List ℕ) → is_device text ≡ true → has_values text ≡ true → has_names text ≡ true → IsDeviceSaid n text (entries text)
 device_said n text r l h =
     let a = and_parts (lacks 10 text && is_label (entries text)) _ r in
@@ -232,7 +232,7 @@ device_said n text r l h =
     let names = and_parts (has_label_names (entries text)) _ h in
     entries_said n text (entries text) (sym (join-parts_at 44 text)) label.1 values.0 names.0 a.1 values.1 names.1
 
--- and back
+-- From what a device's text says to its fields
 
 record Passes (n : ℕ) (texts : List (List ℕ)) (lines : List Line) : Type 0 where
   pub rows : list_all (λ text. is_body_row (body_fields text)) texts ≡ true
@@ -276,7 +276,7 @@ entry_bytes : (texts : List (List ℕ)) → AreLines texts → AllByRecursion (�
 entry_bytes [] h = tt
 entry_bytes (text ∷ texts) h = (list_all-weaker is_line_byte is_entry_byte line_entry text h.0, entry_bytes texts h.1)
 
--- the bytes of a device, of which there are some
+-- all bytes of a device's text may occur in one
 pub device_bytes : (n : ℕ) (text : List ℕ) (device : DeviceSpec) → SaysDevice n text device → list_all is_entry_byte text ≡ true
 device_bytes n text device s =
     let es = device.name ∷ s.uuid ∷ s.minor ∷ s.flags ∷ s.bodies in
@@ -286,7 +286,7 @@ pub device_some : (n : ℕ) (text : List ℕ) (device : DeviceSpec) → SaysDevi
 device_some n text device s =
     rw s.spelled (omega (arith, length-append device.name (44 ∷ join_with_byte 44 (s.uuid ∷ s.minor ∷ s.flags ∷ s.bodies))))
 
--- what a device's text says passes the tests, and is read as it
+-- a text that is a device passes all tests, and is read as that device
 pub record IsRead (n : ℕ) (text : List ℕ) (device : DeviceSpec) : Type 0 where
   pub row : is_device text ≡ true
   pub values : has_values text ≡ true

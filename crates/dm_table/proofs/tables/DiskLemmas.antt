@@ -1,4 +1,4 @@
--- Disk lists keep the law of forms.
+-- Disk lists are a lawful form.
 use Rattle.dm_table.proofs.Prelude.{ℕ, true, List, [], map, Some, None, Result, refl, sym, ap, ◌∙◌, decimal, nat_le, option_map, option_to_list, join_with_byte, and_from, lt-ltb, Disk, Disks, LoadFault, is_disk_name, number_of, lines_of, fields, Answers, first_fault, is_printable, unless, IsParsed, values_from, with_rows, disk_line, IsDiskOf, DescribesDisks, is_pair, disk_at, disk_in, has_sectors, has_name, disk_checks}
 use Rattle.std.specs.Global.{Vec}
 use Rattle.dm_table.proofs.words.NumberLemmas.{Spells-number_of, number_of-decimal, decimal_digits, decimal_some}
@@ -11,7 +11,7 @@ use Rattle.std.specs.Prelude.{◌≡◌, ◌^◌, ◌<◌, ◌∷◌, ◌++◌, 
 abbrev disk_form : Form (List (List ℕ)) Disk
 disk_form = record { part = Disks; is_text = is_printable; row_of = fields; is_row = is_pair; has_values = has_sectors; has_names = has_name; value_in = disk_in; says = IsDiskOf }
 
--- a line in order says a disk
+-- a line that passes the tests is a disk
 line_says : (n : ℕ) (line : List ℕ) → has_sectors (fields line) ≡ true → has_name (fields line) ≡ true → (disk : Disk) × (disk_in n (fields line) ≡ Some disk) × IsDiskOf n line disk
 line_says n line some is_name =
     let pair = pair_split number_of disk_at (fields line) some in
@@ -22,7 +22,7 @@ line_says n line some is_name =
       record { spelled = sym (join-parts_at 32 line) ∙ ap (join_with_byte 32) pair.3 ∙ joined; name = sym (ap has_name pair.3) ∙ is_name; len = spells.short; at = refl },
     )
 
--- and the line of a disk is in order
+-- the line of a disk passes the tests
 
 line_shown : (disk : Disk) → is_disk_name disk.name ≡ true → disk.len < 10 ^ 19 → is_shown (disk_line disk) ≡ true
 line_shown disk name len = list_all-both (λ b. nat_le 32 b && nat_le b 126) disk.name (32 ∷ decimal disk.len) (plain-disk_name disk.name name).printed (is_shown-digits (decimal disk.len) (decimal_digits disk.len len))
@@ -47,7 +47,7 @@ line_again n line disk is =
 law : IsLawful disk_form
 law = record { says = λ n line text pair some is_name. line_says n line some is_name; again = line_again }
 
--- what is written as lines of disks passes all checks, and gives them back
+-- a text that describes disks passes all checks, and those disks are read from it
 pub again : (text : List ℕ) (disks : List Disk) → DescribesDisks text disks → (first_fault (disk_checks text) ≡ None) × (values_from disk_in 1 (map fields (lines_of text)) ≡ disks)
 again = lines_again disk_form law refl
 
@@ -55,7 +55,7 @@ again = lines_again disk_form law refl
 pub DescribesDisks-unique : (text : List ℕ) (a b : List Disk) → DescribesDisks text a → DescribesDisks text b → a ≡ b
 DescribesDisks-unique text a b is_a is_b = sym (again text a is_a).1 ∙ (again text b is_b).1
 
--- What is read row by row is as promised
+-- Reading a disk list row by row meets the contract IsParsed
 pub read_as_promised : (text : List ℕ) (answer : Result (Vec Disk) LoadFault)
     → Answers Disks (λ v. v.items) answer (unless (first_fault (disk_checks text)) (with_rows (λ disks n row. disks ++ option_to_list (disk_in n row)) [] 1 (map fields (lines_of text))))
     → IsParsed Disks (DescribesDisks text) (disk_checks text) answer

@@ -1,4 +1,4 @@
--- Lists of paths keep the law of forms.
+-- Path lists are a lawful form.
 use Rattle.dm_table.proofs.Prelude.{ℕ, true, List, [], length, map, Some, None, Result, Ok, Err, refl, ap, ◌∙◌, drop, get_or, nat_lt, option_map, option_to_list, and_parts, and_from, lt-ltb, ltb-true, is_utf8-from_IsUtf8, IsUtf8-nil, DiskPath, Paths, LoadFault, fields, parts_at, lines_of, rest_of, Answers, first_fault, first_or, unless, untexts, row_checks, IsParsed, values_from, with_rows, has_name, is_pair, IsPathOf, DescribesPaths, is_path_text, name_and_path, place_in, path_at, path_in, has_place, path_checks, read_paths}
 use Rattle.std.specs.Global.{Vec}
 use Rattle.dm_table.proofs.words.ByteLemmas.{disk_name_parts, plain-disk_name}
@@ -11,7 +11,7 @@ use Rattle.std.specs.Prelude.{◌≡◌, ◌+◌, ◌<◌, ◌∷◌, ◌++◌}
 abbrev path_form : Form (List (List ℕ)) DiskPath
 path_form = record { part = Paths; is_text = is_path_text; row_of = name_and_path; is_row = is_pair; has_values = has_place; has_names = has_name; value_in = path_in; says = IsPathOf }
 
--- a line in order says where a disk lies
+-- a line that passes the tests says where a disk's image is
 line_says : (n : ℕ) (line : List ℕ) → is_path_text line ≡ true → is_pair (name_and_path line) ≡ true → has_place (name_and_path line) ≡ true → has_name (name_and_path line) ≡ true
     → (disk : DiskPath) × (path_in n (name_and_path line) ≡ Some disk) × IsPathOf n line disk
 line_says n line text is place is_name =
@@ -25,7 +25,7 @@ line_says n line text is place is_name =
       record { path = path; said = line_cut line some; text = text; name = is_name; some = some; place = there; at = refl },
     )
 
--- and a line that says where a disk lies is in order
+-- a line that says where a disk's image is passes the tests
 line_again : (n : ℕ) (line : List ℕ) (disk : DiskPath) → IsPathOf n line disk → IsRead path_form n line disk
 line_again n line disk is =
     let row : name_and_path line ≡ disk.disk ∷ is.path ∷ [] = ap name_and_path is.said ∙ cut_again disk.disk is.path (plain-disk_name disk.disk is.name).clear in
@@ -38,7 +38,7 @@ line_again n line disk is =
       read = ap (path_in n) row ∙ ap (option_map (path_at n disk.disk)) is.place ∙ rw (← is.at) refl;
     }
 
--- How a text is read
+-- How a path list is read
 
 pub read_as_promised : (text : List ℕ) (answer : Result (Vec DiskPath) LoadFault) → Answers Paths (λ v. v.items) answer (read_paths text)
     → IsParsed Paths (DescribesPaths text) (path_checks text) answer
@@ -47,13 +47,13 @@ read_as_promised text answer h =
     let empty : is_path_text [] ≡ true = and_from _ _ (is_utf8-from_IsUtf8 [] IsUtf8-nil) refl in
     lines_parsed path_form (record { says = line_says; again = line_again }) empty text answer h
 
--- the text was refused before its rows were read
+-- if the byte check refuses a text, so does reading it
 pub refused_text : (text : List ℕ) (fault : LoadFault) → Answers {X = Unit {0}} {Y = Unit {0}} Paths (λ done. done) (Err fault) (unless (first_or (untexts is_path_text Paths (parts_at 10 text)) None) tt)
     → Answers {X = Vec DiskPath} Paths (λ v. v.items) (Err fault) (read_paths text)
 unfolding read_paths
 refused_text text fault h = Answers-refused Paths (λ done. done) (λ (v : Vec DiskPath). v.items) fault _ _ tt _ h
 
--- or it was text, and its rows were read
+-- if the byte check accepts a text, the result of reading it is that of its rows
 pub read_text : (text : List ℕ) (answer : Result (Vec DiskPath) LoadFault) (done : Unit {0}) → unless (first_or (untexts is_path_text Paths (parts_at 10 text)) None) tt ≡ Ok done
     → Answers Paths (λ v. v.items) answer (unless (first_fault (row_checks Paths is_pair has_place has_name (map name_and_path (lines_of text)) (rest_of text))) (with_rows (λ disks n row. disks ++ option_to_list (path_in n row)) [] 1 (map name_and_path (lines_of text))))
     → Answers Paths (λ v. v.items) answer (read_paths text)

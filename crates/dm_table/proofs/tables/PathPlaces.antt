@@ -1,4 +1,4 @@
--- How a line of paths is cut, and what its path says.
+-- Lemmas about how a line of a path list is cut, and what its path says.
 use Rattle.dm_table.proofs.Prelude.{ℕ, inl, inr, false, eqb, List, [], length, take, drop, get_or, Some, None, Result, Ok, Err, refl, sym, ap, ◌∙◌, arith, MatchResult, is_ok, join_with_byte, onto_first, IsUtf8, is_utf8, nat_tests, cases_Bool, eq-eqb, ne_eqb, false_from_ne_true, elements, common_steps, drop-drop, drop_all, drop_more, take-append-drop, take_rest, slice_split-cons_yes, slice_split-cons_no, IsUtf8-from_is_utf8, is_utf8-from_IsUtf8, drop-append_seam, after_equals, name_and_path, place_in, fields, last_or, parts_at}
 use Rattle.memchr.specs.Find.{is_byte, IsFirstByte, IsLastByte}
 use Rattle.dm_table.specs.tables.PathList.{place_of}
@@ -7,7 +7,7 @@ use Rattle.std.specs.Prelude.{◌≡◌, ◌+◌, ◌-◌, ◌/◌, ◌%◌, ◌
 
 -- ---- UTF-8
 
--- whether bytes are UTF-8, as a call that asks tells
+-- the result of std's UTF-8 check says whether the bytes are UTF-8
 pub told_utf8 : {S E : Type 0} (result : Result S E) (bytes : List ℕ) (P : S → Type 0) (Q : E → Type 0)
     → MatchResult result (λ s. P s × IsUtf8 bytes) (λ e. (IsUtf8 bytes → ⊥) × Q e) → is_ok result ≡ is_utf8 bytes
 told_utf8 (Ok s) bytes P Q h = sym (is_utf8-from_IsUtf8 bytes h.1)
@@ -15,7 +15,7 @@ told_utf8 (Err e) bytes P Q h = sym (false_from_ne_true _ (λ t. h.0 (IsUtf8-fro
 
 -- ---- a name and a path
 
--- where a space was found
+-- the two parts of a line in which a space was found
 pub cut_found : (line front after : List ℕ) (n : ℕ) → IsFirstByte (is_byte 32) line (Some n) → front ≡ take n line → after ≡ drop n line
     → name_and_path line ≡ front ∷ take (length after - 1) (drop 1 after) ∷ []
 cut_found line front after n found is_front is_after =
@@ -25,13 +25,13 @@ cut_found line front after n found is_front is_after =
     let left : take (length after - 1) (drop 1 after) ≡ drop (n + 1) line = take_rest after 1 ∙ ap (drop 1) is_after ∙ drop-drop 1 n line in
     rw (first, long, left, is_front) refl
 
--- and where there is none
+-- the two parts of a line without a space: the line, and nothing
 pub cut_nowhere : (line : List ℕ) → IsFirstByte (is_byte 32) line None → name_and_path line ≡ line ∷ [] ∷ []
 cut_nowhere line none =
     let first : get_or (fields line) 0 [] ≡ line = ap (λ (parts : List (List ℕ)). get_or parts 0 []) (parts_at-nowhere 32 line none) in
     rw first (rw (drop_all (length line + 1) line (omega arith)) refl)
 
--- a path that isn't empty stands after a space
+-- if the path isn't empty, the line is the name, a space and the path
 cut_by : (line : List ℕ) (parts : List (List ℕ)) → join_with_byte 32 parts ≡ line → 0 < length (drop (length (get_or parts 0 []) + 1) line)
     → line ≡ get_or parts 0 [] ++ 32 ∷ drop (length (get_or parts 0 []) + 1) line
 cut_by line [] e some = let none : length line ≡ 0 = ap length (sym e) in absurd (grind (arith, common_steps))
@@ -46,16 +46,16 @@ cut_by line (part ∷ next ∷ more) e some =
 pub line_cut : (line : List ℕ) → 0 < length (drop (length (get_or (fields line) 0 []) + 1) line) → line ≡ get_or (fields line) 0 [] ++ 32 ∷ drop (length (get_or (fields line) 0 []) + 1) line
 line_cut line some = cut_by line (fields line) (join-parts_at 32 line) some
 
--- a name without a space, and a path, are those of the line that they make
+-- a line made of a name without a space, a space and a path is cut into that name and that path
 pub cut_again : (name path : List ℕ) → IsClearOf 32 name → name_and_path (name ++ 32 ∷ path) ≡ name ∷ path ∷ []
 cut_again name path clear =
     let first : get_or (fields (name ++ 32 ∷ path)) 0 [] ≡ name = ap (λ (parts : List (List ℕ)). get_or parts 0 []) (parts_at-first 32 name path clear) in
     let after : drop (length name + 1) (name ++ 32 ∷ path) ≡ path = sym (drop-drop 1 (length name) (name ++ 32 ∷ path)) ∙ ap (drop 1) (drop-append_seam name (32 ∷ path)) in
     rw first (rw after refl)
 
--- ---- what stands after the last =
+-- ---- the text after the last =
 
--- what stands after the last c is the last part
+-- the text after the last byte c is the last part of the text cut at c
 parts_end : (c : ℕ) (front more : List ℕ) → IsClearOf c more → (first : List ℕ) × (firsts : List (List ℕ)) × (parts_at c (front ++ c ∷ more) ≡ first ∷ firsts ++ more ∷ [])
 parts_end c [] more clear = ([], [], slice_split-cons_yes (λ b. eqb b c) c more (eq-eqb c c refl) ∙ ap (λ (parts : List (List ℕ)). [] ∷ parts) (parts_at-clear c more clear))
 parts_end c (x ∷ front) more clear =
@@ -83,18 +83,18 @@ last_nowhere text none = sym (ap (last_or []) (parts_at-clear 61 text (λ k d be
     let same : get_or text k d ≡ get_or text k 0 = grind (arith, elements) in
     rw same (false_from_ne_true _ (none k (omega arith) below)))))
 
--- ---- a place
+-- ---- a place in a file
 
--- a place that a path says is one that a disk can have
+-- a path whose file is UTF-8 and whose offset is a multiple of 512 says a place
 pub place_taken : (path file : List ℕ) (byte : ℕ) → (file, byte) ≡ place_of path → IsUtf8 file → byte % 512 ≡ 0 → Some (file, byte / 512) ≡ place_in path
 place_taken path file byte is utf8 whole = rw (← is) (rw (is_utf8-from_IsUtf8 file utf8, eq-eqb _ _ whole) refl)
 
--- or its path isn't UTF-8
+-- a path whose file isn't UTF-8 says no place
 pub place_untext : (path file : List ℕ) (byte : ℕ) → (file, byte) ≡ place_of path → (IsUtf8 file → ⊥) → None ≡ place_in path
 place_untext path file byte is other =
     let no : is_utf8 file ≡ false = false_from_ne_true _ (λ t. other (IsUtf8-from_is_utf8 file t)) in
     rw (← is) (rw no refl)
 
--- or it is inside a sector
+-- a path whose offset isn't a multiple of 512 says no place
 pub place_inside : (path file : List ℕ) (byte : ℕ) → (file, byte) ≡ place_of path → IsUtf8 file → (byte % 512 ≡ 0 → ⊥) → None ≡ place_in path
 place_inside path file byte is utf8 other = rw (← is) (rw (is_utf8-from_IsUtf8 file utf8, ne_eqb _ _ other) refl)

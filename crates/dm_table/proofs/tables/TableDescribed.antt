@@ -1,4 +1,4 @@
--- Table text keeps the law of forms, and its lines, joined, are its devices.
+-- Table text is a lawful form, and its lines, joined by names, are its devices.
 use Rattle.dm_table.proofs.Prelude.{ℕ, List, [], None, Result, refl, ap, ◌∙◌, DeviceSpec, Source, LoadFault, lines_of, row_fields, Answers, first_fault, is_printable, unless, IsParsed, values_from, with_rows, NamedLine, SaysLine, DescribesTable, named_lines, is_row, table_checks, named_in, add_said, joined, rows_of}
 use Rattle.std.specs.Global.{Vec}
 use Rattle.dm_table.specs.tables.TableText.{has_values, has_names}
@@ -43,7 +43,7 @@ again text devices d =
     let lines = lines_again table_form law refl text (named_lines devices) d.said in
     (lines.0, ap joined lines.1 ∙ devices_again devices d.each d.apart)
 
--- What is read row by row is as promised
+-- Reading table text row by row meets the contract IsParsed
 pub read_as_promised : (text : List ℕ) (answer : Result (Vec DeviceSpec) LoadFault)
     → Answers Source (λ v. v.items) answer (unless (first_fault (table_checks text)) (with_rows (λ devices n row. add_said devices (named_in n row)) [] 1 (rows_of (lines_of text))))
     → IsParsed Source (DescribesTable text) (table_checks text) answer

@@ -1,8 +1,8 @@
--- Neighbouring lines of one name, joined into devices: what they say, and that nothing else says it.
+-- Neighbouring lines with the same name, joined into devices: what the devices say, and that no other devices say it.
 use Rattle.dm_table.proofs.Prelude.{inl, inr, ℕ, Bool, true, false, nat_eq, List, [], map, refl, sym, ap, ◌∙◌, pointwise, AllByRecursion, bytes_eq-Decides, cases_Bool, false_from_ne_true, Line, DeviceSpec, Place, NamedLine, named_lines, HasPlaceOf, IsDescribed, DifferInName, alone, join_line, joined}
 use Rattle.std.specs.Prelude.{◌≡◌, ◌≢◌, ◌∷◌, ◌++◌}
 
--- the test of names, and what it says
+-- The test whether two names are equal
 
 pub same_name : (a b : List ℕ) → pointwise nat_eq a b ≡ true → a ≡ b
 same_name a b e = (bytes_eq-Decides a b).0 e
@@ -16,7 +16,7 @@ other_name a b e h = absurd (let t : true ≡ false = sym (is_same_name a b h) �
 pub is_other_name : (a b : List ℕ) → a ≢ b → pointwise nat_eq a b ≡ false
 is_other_name a b h = false_from_ne_true _ (λ e. h (same_name a b e))
 
--- the lines of a device, each with its name
+-- the lines of a device, each with the device's name
 abbrev pub named_of : List ℕ → List Line → List NamedLine
 named_of name lines = map (λ line. record { name = name; line = line }) lines
 
@@ -62,7 +62,7 @@ pub apart_joined : (ns : List NamedLine) → DifferInName (joined ns)
 apart_joined [] = tt
 apart_joined (n ∷ ns) = apart_join n (joined ns) (apart_joined ns)
 
--- Lines of one name, before devices that do not begin with that name
+-- Lines with the same name, in front of devices of which the first has another name
 
 abbrev pub BeginsOther : List ℕ → List DeviceSpec → Type 0
 BeginsOther name [] = Unit {0}
@@ -78,7 +78,7 @@ run_joins name line [] rest h = first_joins name line (joined rest) h
 run_joins name line (next ∷ lines) rest h =
     ap (join_line (record { name = name; line = line })) (run_joins name next lines rest h) ∙ rw is_same_name
 
--- a device is what its lines give
+-- the lines of a device, in front of others with another name, are joined into that device again
 device_again : (name : List ℕ) (ro : Bool) (lines : List Line) (at : Place) (rest : List NamedLine) → ro ≡ false → HasPlaceOf lines at → BeginsOther name (joined rest)
     → joined (named_of name lines ++ rest) ≡ record { name = name; ro = ro; lines = lines; at = at } ∷ joined rest
 device_again name ro [] at rest w h other = absurd h
@@ -92,7 +92,7 @@ apart_rest : (device : DeviceSpec) (ds : List DeviceSpec) → DifferInName (devi
 apart_rest device [] h = tt
 apart_rest device (d ∷ ds) h = h.1
 
--- devices that are described and apart are those that their lines give
+-- described devices whose neighbours differ in name are what their lines are joined into
 pub devices_again : (ds : List DeviceSpec) → AllByRecursion IsDescribed ds → DifferInName ds → joined (named_lines ds) ≡ ds
 devices_again [] each apart = refl
 devices_again (d ∷ ds) each apart =

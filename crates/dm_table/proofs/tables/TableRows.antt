@@ -1,4 +1,4 @@
--- A line of table text and its row of fields: a row that the tests pass is that of a line, and the row of a line passes them.
+-- A line of table text and its row: a row that passes the tests is that of a line, and the row of a line passes the tests.
 use Rattle.dm_table.proofs.Prelude.{inl, inr, ℕ, true, false, eqb, nat_lt, List, [], length, Some, refl, sym, ap, ◌∙◌, append_assoc, arith, list_all, join_with_byte, AllByRecursion, option_map, and_parts, and_from, ltb-true, lt-ltb, eqb-true, eq-eqb, length-append, is_device_name, last_or, fields, row_fields, without_last_space, is_body_row, has_body_names, NamedLine, line_text, Writes, IsSaid, name_in, is_row, line_in, named_in}
 use Rattle.dm_table.specs.tables.TableText.{is_label, has_values, has_names}
 use Rattle.dm_table.proofs.words.ByteLemmas.{is_shown, list_all-weaker, list_all-both}
@@ -20,7 +20,7 @@ row_for named = label_for named ∷ body_fields named.line
 pub line_joined : (named : NamedLine) → join_with_byte 32 (row_for named) ≡ line_text named
 line_joined named = simp append_assoc
 
--- The last field, where a space ends the line
+-- A space at the end of a line, which leaves an empty last field
 
 pub space_cases : (fs : List (List ℕ)) → (without_last_space fs ≡ fs) ⊎ (without_last_space fs ++ [] ∷ [] ≡ fs)
 space_cases ([] ∷ []) = inr refl
@@ -38,7 +38,7 @@ pub space_joined : (f : List ℕ) (fs : List (List ℕ)) → join_with_byte 32 (
 space_joined f [] = refl
 space_joined f (g ∷ fs) = rw (space_joined g fs) (sym (append_assoc f (32 ∷ join_with_byte 32 (g ∷ fs)) (32 ∷ [])))
 
--- From a row that the tests pass to its line
+-- From a row that passes the tests to its line
 
 label_spelled : (label : List ℕ) → is_label label ≡ true → name_in label ++ 58 ∷ [] ≡ label
 label_spelled label h =
@@ -46,14 +46,14 @@ label_spelled label h =
     let long : 1 < length label = ltb-true 1 (length label) a.0 in
     cc (eqb-true (last_or 0 label) 58 a.1, last_split 0 label (omega arith))
 
--- the line that a row says, where its values are valid
+-- a row with valid values says a line
 pub row_there : (n : ℕ) (row : List (List ℕ)) → has_values row ≡ true → (named : NamedLine) × (named_in n row ≡ Some named)
 row_there n [] l = absurd cc
 row_there n (label ∷ fs) l =
     let line = body_there (place n) fs l in
     (record { name = name_in label; line = line.0 }, rw line.1)
 
--- a row in order is that of its line
+-- the row of the line that a row says is that row
 pub row_again : (n : ℕ) (row : List (List ℕ)) (named : NamedLine) → is_row row ≡ true → named_in n row ≡ Some named → row_for named ≡ row
 row_again n [] named r l = absurd cc
 row_again n (label ∷ fs) named r l =
@@ -76,7 +76,7 @@ row_begins : (row : List (List ℕ)) → is_row row ≡ true → join_with_byte 
 row_begins [] r = absurd cc
 row_begins (f ∷ fs) r = space_joined f fs
 
--- a line whose row is in order is written as what its row says
+-- a text line whose row passes the tests is the line that its row says
 pub line_writes : (n : ℕ) (line : List ℕ) (named : NamedLine) → is_row (row_fields line) ≡ true → named_in n (row_fields line) ≡ Some named → Writes line named
 line_writes n line named r l =
     let whole : line ≡ join_with_byte 32 (fields line) = sym (join-parts_at 32 line) in
@@ -94,7 +94,7 @@ label_inked name h = (lt-ltb _ _ (omega (arith, length-append name (58 ∷ [])))
 row_inked : (n : ℕ) (named : NamedLine) → IsSaid n named → AllByRecursion IsInked (row_for named)
 row_inked n named h = (label_inked named.name h.name, body_inked named.line h.body)
 
--- fields that are there, and at most one last empty one, are those of the line that they make
+-- fields whose bytes may all occur in one are the fields of the line made of them
 pub fields_joined : (f : List ℕ) (fs : List (List ℕ)) → AllByRecursion (λ g. list_all is_ink g ≡ true) (f ∷ fs) → fields (join_with_byte 32 (f ∷ fs)) ≡ f ∷ fs
 fields_joined f [] h = parts_at-clear 32 f (ink_clear f h.0)
 fields_joined f (g ∷ fs) h =
@@ -120,7 +120,7 @@ pub row_kept_spaced : (f : List ℕ) (fs : List (List ℕ)) → AllByRecursion I
 row_kept_spaced f fs h =
     ap row_fields (sym (space_joined f fs)) ∙ ap without_last_space (fields_joined f (fs ++ [] ∷ []) (inks_and_space (f ∷ fs) h)) ∙ space_dropped (f ∷ fs)
 
--- a line that is written so has that row
+-- the row of a text line that is a named line is the row of that line
 pub row_written : (n : ℕ) (text : List ℕ) (named : NamedLine) → Writes text named → IsSaid n named → row_fields text ≡ row_for named
 row_written n text named w h =
     let inked = row_inked n named h in
@@ -133,7 +133,7 @@ joined_text : (f : List ℕ) (fs : List (List ℕ)) → AllByRecursion IsInked (
 joined_text f [] h = list_all-weaker is_ink _ ink_text f h.0.1
 joined_text f (g ∷ fs) h = list_all-both _ f (32 ∷ join_with_byte 32 (g ∷ fs)) (list_all-weaker is_ink _ ink_text f h.0.1) (joined_text g fs h.1)
 
--- and its bytes are shown
+-- all bytes of such a text line are printable
 pub text_written : (n : ℕ) (text : List ℕ) (named : NamedLine) → Writes text named → IsSaid n named → is_shown text ≡ true
 text_written n text named w h =
     let clean : is_shown (line_text named) ≡ true = ap is_shown (sym (line_joined named)) ∙ joined_text (label_for named) (body_fields named.line) (row_inked n named h) in
@@ -158,7 +158,7 @@ line_passes n named h = body_passes named.line h.body
 pub names_pass : (n : ℕ) (named : NamedLine) → IsSaid n named → has_names (row_for named) ≡ true
 names_pass n named h = and_from _ _ (ap is_device_name (all_but_last-push named.name 58) ∙ h.name) (body_names_pass named.line h.body)
 
--- and is read as that line
+-- the row of a line is read as that line
 pub line_again : (n : ℕ) (named : NamedLine) → IsSaid n named → named_in n (row_for named) ≡ Some named
 line_again n named h =
     ap (option_map (with_label (label_for named))) (body.line_again (place n) named.line h.body h.at) ∙ rw (all_but_last-push named.name 58)

@@ -1,11 +1,11 @@
--- What the tests of bytes say of whole texts.
+-- What tests of single bytes say about whole texts.
 use Rattle.dm_table.proofs.Prelude.{ℕ, suc, inl, inr, Bool, true, false, cond, eqb, nat_le, nat_lt, not, List, [], length, take, take_all, drop, refl, sym, ap, ◌∙◌, arith, is_ascii_digit, list_all, AllByRecursion, prefix_len, join_with_byte, onto_first, and_parts, and_from, not-false, not_from_true, cases_Bool, le-leb, leb-true, false_from_ne_true, eq-eqb, ne_eqb, cases_eq, nat_tests, take-append_seam, drop-append_seam, length-prefix_len, list_all_at, prefix_len-le-length, prefix_len_stops, parts_at, is_printable, All-list_all, is_device_byte, is_device_name, is_disk_byte, is_disk_name, names_device}
 use Rattle.dm_table.proofs.words.FieldLemmas.{IsClearOf, join-parts_at}
 use Rattle.std.specs.Prelude.{◌≡◌, ◌≢◌, ◌+◌, ◌<◌, ◌≤◌, ◌⊎◌, ◌&&◌, ◌||◌, ◌∷◌, ◌++◌}
 
--- Texts of which each byte passes a test
+-- Texts whose bytes all pass a test
 
--- a weaker test passes too
+-- if all bytes pass a test, they pass a weaker one
 pub list_all-weaker : (test weaker : ℕ → Bool) → ((b : ℕ) → test b ≡ true → weaker b ≡ true) → (text : List ℕ) → list_all test text ≡ true → list_all weaker text ≡ true
 list_all-weaker test weaker says [] h = refl
 list_all-weaker test weaker says (b ∷ text) h = let a = and_parts (test b) (list_all test text) h in and_from _ _ (says b a.0) (list_all-weaker test weaker says text a.1)
@@ -14,9 +14,9 @@ pub list_all-both : (test : ℕ → Bool) (xs ys : List ℕ) → list_all test x
 list_all-both test [] ys h k = k
 list_all-both test (b ∷ xs) ys h k = let a = and_parts (test b) (list_all test xs) h in and_from _ _ a.0 (list_all-both test xs ys a.1 k)
 
--- Bytes of a line, of names and of numbers
+-- Bytes of lines, names and numbers
 
--- bytes from 0x20 to 0x7E
+-- all bytes of the line are from 0x20 to 0x7E
 abbrev pub is_shown : List ℕ → Bool
 is_shown line = list_all (λ b. nat_le 32 b && nat_le b 126) line
 
@@ -29,7 +29,7 @@ is_shown-printed line h = list_all-weaker (λ b. nat_le 32 b && nat_le b 126) (�
 text_newline : (b : ℕ) → (nat_le 32 b && nat_le b 126) ≡ true → eqb b 10 ≡ false
 text_newline b h = grind (arith, nat_tests)
 
--- such a line has no newline in it
+-- a line of printable bytes contains no newline
 pub is_shown-clear : (line : List ℕ) → is_shown line ≡ true → IsClearOf 10 line
 is_shown-clear line h = All-list_all (λ b. nat_le 32 b && nat_le b 126) (λ b. eqb b 10 ≡ false) text_newline line h
 
@@ -39,14 +39,14 @@ digit_text b h = grind (arith, nat_tests)
 digit_space : (b : ℕ) → is_ascii_digit b ≡ true → eqb b 32 ≡ false
 digit_space b h = grind (arith, nat_tests)
 
--- digits are such bytes and no space
+-- digits are printable, and below: they contain no space
 pub is_shown-digits : (text : List ℕ) → list_all is_ascii_digit text ≡ true → is_shown text ≡ true
 is_shown-digits text h = list_all-weaker is_ascii_digit (λ b. nat_le 32 b && nat_le b 126) digit_text text h
 
 pub digits-clear : (text : List ℕ) → list_all is_ascii_digit text ≡ true → IsClearOf 32 text
 digits-clear text h = All-list_all is_ascii_digit (λ b. eqb b 32 ≡ false) digit_space text h
 
--- what the test of a disk's name says
+-- what the test of a disk name says
 pub record IsDiskName (text : List ℕ) : Type 0 where
   pub some : nat_lt 0 (length text) ≡ true
   pub bytes : list_all is_disk_byte text ≡ true
@@ -65,7 +65,7 @@ disk_text b h = grind (arith, nat_tests)
 disk_space : (b : ℕ) → is_disk_byte b ≡ true → eqb b 32 ≡ false
 disk_space b h = grind (arith, nat_tests)
 
--- the bytes of a disk's name are shown, and no space
+-- the text has only printable bytes and no space
 pub record IsPlain (text : List ℕ) : Type 0 where
   pub printed : is_shown text ≡ true
   pub clear : IsClearOf 32 text
@@ -80,7 +80,7 @@ plain text h =
 pub plain-disk_name : (text : List ℕ) → is_disk_name text ≡ true → IsPlain text
 plain-disk_name text h = plain text (disk_name_parts text h).bytes
 
--- what the test of a device's name says
+-- what the test of a device name says
 pub record IsDeviceName (text : List ℕ) : Type 0 where
   pub some : nat_lt 0 (length text) ≡ true
   pub bytes : list_all is_device_byte text ≡ true
@@ -91,26 +91,26 @@ device_name_parts text h =
     let b = and_parts (nat_le (length text) 127) (list_all is_device_byte text) a.1 in
     record { some = a.0; bytes = b.1 }
 
--- and each byte of a device's name is one of a disk's
+-- every byte that may occur in a device name may occur in a disk name
 device_disk : (b : ℕ) → is_device_byte b ≡ true → is_disk_byte b ≡ true
 device_disk b h = grind (arith, nat_tests)
 
 pub plain-device_name : (text : List ℕ) → is_device_name text ≡ true → IsPlain text
 plain-device_name text h = plain text (list_all-weaker is_device_byte is_disk_byte device_disk text (device_name_parts text h).bytes)
 
--- The bytes before the first that fails a test
+-- The bytes before the first one that fails a test
 
 prefix_step : (test : ℕ → Bool) (b : ℕ) (text : List ℕ) (t : Bool) (n : ℕ) → test b ≡ t → list_all test (take n text) ≡ true
     → list_all test (take (cond t (1 + n) 0) (b ∷ text)) ≡ true
 prefix_step test b text true n e h = let more : 1 + n ≡ suc n = omega arith in rw more (and_from _ _ e h)
 prefix_step test b text false n e h = refl
 
--- they pass it
+-- all bytes before the first one that fails a test pass it
 pub list_all-prefix : (test : ℕ → Bool) (text : List ℕ) → list_all test (take (prefix_len test text) text) ≡ true
 list_all-prefix test [] = refl
 list_all-prefix test (b ∷ text) = prefix_step test b text (test b) (prefix_len test text) refl (list_all-prefix test text)
 
--- they are the name of a device where there are 1 to 127
+-- 1 to 127 bytes before the first one that no device name contains are a device name
 pub device_name_front : (text : List ℕ) (n : ℕ) → n ≡ prefix_len is_device_byte text → 1 ≤ n → n ≤ 127 → is_device_name (take n text) ≡ true
 device_name_front text n whole low high =
     let long = length-prefix_len is_device_byte text in
@@ -124,7 +124,7 @@ device_name_length text out = false_from_ne_true _ (λ named.
     let b = and_parts (nat_le (length text) 127) (list_all is_device_byte text) a.1 in
     absurd (omega (arith, leb-true 1 (length text) a.0, leb-true (length text) 127 b.0, out)))
 
--- a text of which they are not the whole is no name
+-- a text with a byte that no device name contains isn't a device name
 device_name_cut : (text : List ℕ) → prefix_len is_device_byte text ≢ length text → is_device_name text ≡ false
 device_name_cut text cut = false_from_ne_true _ (λ named.
     let within = prefix_len-le-length is_device_byte text in
@@ -140,7 +140,7 @@ device_name_whole text len front named =
       | inr cut ↦ ne_eqb _ _ cut ∙ sym (device_name_cut text (λ whole. cut (front ∙ whole)))
     ]
 
--- nor is one of which they are none
+-- a text isn't a device name if its bytes before the first that no device name contains aren't one
 pub device_name_first : (text : List ℕ) → is_device_name (take (prefix_len is_device_byte text) text) ≡ false → is_device_name text ≡ false
 device_name_first text none =
     elim (cases_eq (prefix_len is_device_byte text) (length text)) [
@@ -148,7 +148,7 @@ device_name_first text none =
       | inr cut ↦ device_name_cut text cut
     ]
 
--- and where a space is after them, they are the first field
+-- the bytes that pass a test, up to the first space, are the text's first field
 pub record StandsFirst (test : ℕ → Bool) (text field : List ℕ) : Type 0 where
   pub front : take (prefix_len test text) text ≡ field
   pub rest : List ℕ
@@ -169,14 +169,14 @@ stands_first test text field next more cut all other =
       after = rw (whole, prefix_at test field rest all other) (drop-append_seam field (32 ∷ rest));
     }
 
--- Parts of a text of which each byte passes a test
+-- Parts of a text whose bytes all pass a test
 
 onto_pass : (test : ℕ → Bool) (b : ℕ) (parts : List (List ℕ)) → test b ≡ true → AllByRecursion (λ part. not (list_all test part) ≡ false) parts
     → AllByRecursion (λ part. not (list_all test part) ≡ false) (onto_first b parts)
 onto_pass test b [] h more = (not_from_true _ (and_from (test b) true h refl), tt)
 onto_pass test b (part ∷ parts) h more = (not_from_true _ (and_from (test b) (list_all test part) h (not-false _ more.0)), more.1)
 
--- they pass it too
+-- if all bytes of a text pass a test, so do those of its parts
 pub parts_pass : (test : ℕ → Bool) (c : ℕ) (text : List ℕ) → list_all test text ≡ true → AllByRecursion (λ part. not (list_all test part) ≡ false) (parts_at c text)
 parts_pass test c [] h = (refl, tt)
 parts_pass test c (b ∷ text) h =

@@ -1,4 +1,4 @@
--- Digits as lanes, and the numbers that they are of.
+-- Digits as vector lanes, and the numbers that they spell.
 use Rattle.dm_table.proofs.Prelude.{ℕ, suc, inl, inr, true, false, not, List, [], get_or, length, map, take, refl, arith, add-mul, mul_assoc, nat_lt, digit_value, is_ascii_digit, number_from_digits, number_from_digits_after, AllBelowBase, list_all, prefix_len, and_from, and_parts, cases_lt, nat_tests, digit_value_digit, pow-succ'}
 use Rattle.dm_table.proofs.words.NumberLemmas.{digit_range}
 use Rattle.std.specs.Prelude.{◌≡◌, ◌+◌, ◌*◌, ◌%◌, ◌^◌, ◌<◌, ◌≤◌, ◌∷◌, ◌++◌}
@@ -6,7 +6,7 @@ use lib.Lanes.{Each1}
 
 -- Lists of digits
 
--- what holds for each of a row holds for each of its parts
+-- what holds of each digit of two lists joined holds of each digit of both
 pub each_part : (xs ys : List ℕ) → Each1 (λ digit. digit < 10) (xs ++ ys) → Each1 (λ digit. digit < 10) xs × Each1 (λ digit. digit < 10) ys
 each_part [] ys all = (tt, all)
 each_part (x ∷ xs) ys all = let more = each_part xs ys all.1 in ((all.0, more.0), more.1)
@@ -15,7 +15,7 @@ pub each_below : (xs : List ℕ) → Each1 (λ digit. digit < 10) xs → AllBelo
 each_below [] all = tt
 each_below (x ∷ xs) all = (all.0, each_below xs all.1)
 
--- digits after a number are as many digits more of it
+-- the number that digits xs spell after a number n
 pub number_after : (n : ℕ) (xs : List ℕ) → number_from_digits_after 10 n xs ≡ n * 10 ^ length xs + number_from_digits 10 xs
 number_after n [] = omega arith
 number_after n (x ∷ xs) =
@@ -28,7 +28,7 @@ number_after n (x ∷ xs) =
     let alone : 0 * 10 + x ≡ x = omega arith in
     omega (arith, all, rw alone at first, split, tens, more)
 
--- Bytes less the digit zero
+-- Bytes minus the digit zero
 
 tests_digit : (byte : ℕ) → byte < 256 → (byte + 208) % 256 < 10 → is_ascii_digit byte ≡ true
 tests_digit byte within below = grind (arith, nat_tests)
@@ -44,7 +44,7 @@ values_from_lanes (byte ∷ text) all =
     let one : (byte + 208) % 256 ≡ digit_value byte = omega (arith, digit_value_digit byte (digit_range byte both.0), digit_range byte both.0) in
     rw (one, values_from_lanes text both.1)
 
--- The first lane that is no digit
+-- The first lane that isn't a digit
 
 small : (x : ℕ) → x ≤ 9 → nat_lt 9 x ≡ false
 small x within = grind (arith, nat_tests)

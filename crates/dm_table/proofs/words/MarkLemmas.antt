@@ -1,4 +1,4 @@
--- Marks of a text: those of its parts, and the first of them.
+-- Lemmas about the marks of a text: those of its parts, and the first of them.
 use Rattle.dm_table.proofs.Prelude.{ℕ, suc, Bool, true, false, not, List, [], length, map, take, drop, Some, None, sym, ap, ◌∙◌, arith, mul_assoc, pow_pos, pow_mono, pos_of_ne-zero, bit_or, prefix_len, not-false, not-true, common_steps, drop-map, drop-drop, take-append-drop, take-map, take_rest, length-map, prefix_len_passes, prefix_len_stops, or_shifted, leading_from_mask_l, mask_l-lt, trailing_mask_l, add-mul-div_left, div-eq_of_lt, mul_comm, pow-succ', marks_of}
 use Rattle.memchr.specs.Find.{IsFirstByte, is_byte}
 use Rattle.std.specs.Prelude.{◌≡◌, ◌≢◌, ◌+◌, ◌-◌, ◌*◌, ◌%◌, ◌^◌, ◌<◌, ◌≤◌, ◌∷◌, ◌++◌, ◌/◌, ◌==◌}
@@ -13,7 +13,7 @@ mask_append (m ∷ ms) ns =
     let twice : 2 ^ suc (length ms) * mask_l ns ≡ 2 * (2 ^ length ms * mask_l ns) = ap (λ x. x * mask_l ns) (pow-succ' 2 (length ms)) ∙ mul_assoc 2 (2 ^ length ms) (mask_l ns) in
     omega (arith, mask_append ms ns, twice)
 
--- the marks after the first n, of which there are as many
+-- the marks after the first n
 mask_rest : (ms : List Bool) (n : ℕ) → n ≤ length ms → mask_l ms / 2 ^ n ≡ mask_l (drop n ms)
 mask_rest ms n within =
     let long : length (take n ms) ≡ n = grind (arith, common_steps) in
@@ -21,7 +21,7 @@ mask_rest ms n within =
     let small : mask_l (take n ms) < 2 ^ n = rw long at (mask_l-lt (take n ms)) in
     ap (λ x. x / 2 ^ n) whole ∙ add-mul-div_left (mask_l (take n ms)) (mask_l (drop n ms)) (pow_pos n) ∙ omega (arith, div-eq_of_lt small)
 
--- those of a text from those of its first bytes and of its last ones
+-- the marks of a text from those of its first `half` bytes and of its last `half` bytes
 pub joined_marks : (half len first last : ℕ) (ms : List Bool) → half ≤ 32 → half ≤ len → len ≤ 2 * half → length ms ≡ len → first ≡ mask_l (take half ms) → last ≡ mask_l (drop (len - half) ms)
     → bit_or (last / 2 ^ (2 * half - len) * 2 ^ half % 2 ^ 64) first ≡ mask_l ms
 joined_marks half len first last ms most enough all long front back =
@@ -37,7 +37,7 @@ joined_marks half len first last ms most enough all long front back =
     let small : mask_l (take half ms) < 2 ^ half = rw taken at (mask_l-lt (take half ms)) in
     rw (rest, front, kept) (or_shifted (mask_l (drop half ms)) half (mask_l (take half ms)) small ∙ omega (arith, whole, swapped))
 
--- those of the first n bytes, and of the others
+-- the marks of the first n bytes; and below, of the bytes after them
 pub front_marks : (c : ℕ) (text : List ℕ) (n : ℕ) → marks_of c (take n text) ≡ mask_l (take n (map (λ byte. byte == c) text))
 front_marks c text n = ap mask_l (sym (take-map _ n text))
 
@@ -46,12 +46,12 @@ back_marks c text n = ap (marks_of c) (take_rest text n) ∙ ap mask_l (sym (dro
 
 -- The first mark
 
--- a mark stands within the text
+-- if there is a mark, it is within the text
 pub mark_within : {X : Type 0} (p : X → Bool) (xs : List X) → 0 < mask_l (map p xs) → prefix_len (λ x. not (p x)) xs < length xs
 mark_within p [] some = absurd (omega (arith, some))
 mark_within p (x ∷ xs) some = grind (arith, some, mark_within p xs)
 
--- the first byte c, by how many others come before it
+-- the first byte c comes right after the longest prefix without a c
 first_by_prefix : (c : ℕ) (text : List ℕ) → prefix_len (λ byte. not (byte == c)) text < length text → IsFirstByte (is_byte c) text (Some (prefix_len (λ byte. not (byte == c)) text))
 first_by_prefix c text within = (
   record {
@@ -64,21 +64,21 @@ first_by_prefix c text within = (
   not-false _ (prefix_len_stops (λ byte. not (byte == c)) text 0 within),
 )
 
--- where a mark is left, the lowest is the place that a search finds
+-- if there is a mark, the lowest one is the position that a search for c finds
 pub marked_first : (c : ℕ) (text : List ℕ) (left : ℕ) → length text ≤ 64 → left ≡ marks_of c text → left ≢ 0 → IsFirstByte (is_byte c) text (Some (count_trailing_zeros 64 left))
 marked_first c text left short is some =
     let positive : 0 < mask_l (map (λ byte. byte == c) text) = pos_of_ne-zero (λ none. some (is ∙ none)) in
     let at : count_trailing_zeros 64 left ≡ prefix_len (λ byte. not (byte == c)) text = ap (count_trailing_zeros 64) is ∙ trailing_mask_l (λ byte. byte == c) 64 text short positive in
     rw at (first_by_prefix c text (mark_within (λ byte. byte == c) text positive))
 
--- and where none is left, there is no such place
+-- if there is no mark, a search for c finds nothing
 pub marked_none : (c : ℕ) (text : List ℕ) → marks_of c text ≡ 0 → IsFirstByte (is_byte c) text None
 marked_none c text none = λ k low below is.
     let all : prefix_len (λ byte. not (byte == c)) text ≡ length text = leading_from_mask_l (λ byte. byte == c) text none in
     let other = prefix_len_passes (λ byte. not (byte == c)) text k 0 (omega (arith, all, below)) in
     absurd (let no : false ≡ true = sym (not-true _ other) ∙ is in cc)
 
--- the marks after it
+-- the marks of the text after position n
 pub marks_after : (c : ℕ) (text : List ℕ) (n : ℕ) → n < length text → marks_of c text / 2 ^ n / 2 ^ 1 ≡ marks_of c (drop (n + 1) text)
 marks_after c text n within =
     let long = length-map text (λ byte. byte == c) in

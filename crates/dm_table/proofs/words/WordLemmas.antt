@@ -1,21 +1,21 @@
--- Digits that are read as one word: every second byte gets the value of two, and then the values are added.
+-- Digits converted as one word: every second byte gets the value of two digits, and then these values are added.
 use Rattle.dm_table.proofs.Prelude.{ℕ, zero, suc, List, [], get_or, length, take, ap, ◌∙◌, arith, bit_and, number_from_digits, from_le_bytes, w64, and_block, and_mask, shr_split}
 use Rattle.std.specs.Prelude.{◌≡◌, ◌+◌, ◌-◌, ◌*◌, ◌/◌, ◌%◌, ◌^◌, ◌<◌, ◌≤◌, ◌∷◌}
 use lib.Lanes.{Each1}
 
--- eight bytes as a word, the first of them the lowest
+-- eight bytes as a word, lowest byte first
 abbrev pub word : ℕ → ℕ → ℕ → ℕ → ℕ → ℕ → ℕ → ℕ → ℕ
 word a b c d e f g h = a + b * 256 + c * 65536 + d * 16777216 + e * 4294967296 + f * 1099511627776 + g * 281474976710656 + h * 72057594037927936
 
--- ten times a word and the word without its lowest byte
+-- ten times a word plus the word without its lowest byte: every second byte now has the value of two digits
 abbrev pub pairs_of : ℕ → ℕ
 pairs_of w = (w * 10 % 2 ^ 64 + w / 2 ^ 8) % 2 ^ 64
 
--- the first byte of each four of a word
+-- the lowest byte of each half of a word
 abbrev pub firsts : ℕ → ℕ
 firsts p = bit_and p 1095216660735
 
--- every second byte of those counts for two digits
+-- the sum of the values of two digits each, weighted by their positions
 abbrev pub pairs_value : ℕ → ℕ
 pairs_value p = (firsts p * 4294967296000100 % 2 ^ 64 + firsts (p / 2 ^ 16) * 42949672960001 % 2 ^ 64) % 2 ^ 64 / 2 ^ 32
 
@@ -34,7 +34,7 @@ pairs_are a b c d e f g h la lb lc ld le lf lg lh =
     let rest : w / 2 ^ 8 ≡ b + c * 256 + d * 65536 + e * 16777216 + f * 4294967296 + g * 1099511627776 + h * 281474976710656 = omega arith in
     omega (arith, tens, rest)
 
--- eight digits
+-- eight digits in a word have the value that the digits spell
 pub eight_value : (a b c d e f g h : ℕ) → a < 10 → b < 10 → c < 10 → d < 10 → e < 10 → f < 10 → g < 10 → h < 10 → pairs_value (pairs_of (word a b c d e f g h)) ≡ number_from_digits 10 (a ∷ b ∷ c ∷ d ∷ e ∷ f ∷ g ∷ h ∷ [])
 eight_value a b c d e f g h la lb lc ld le lf lg lh =
     let pairs = word (a * 10 + b) (b * 10 + c) (c * 10 + d) (d * 10 + e) (e * 10 + f) (f * 10 + g) (g * 10 + h) (h * 10) in
@@ -50,7 +50,7 @@ eight_value a b c d e f g h la lb lc ld le lf lg lh =
     let last : firsts (pairs / 2 ^ 16) * 42949672960001 % 2 ^ 64 ≡ ((c * 10 + d) * 10000 + (g * 10 + h)) * 4294967296 + (c * 10 + d) = omega (arith, other) in
     ap pairs_value is ∙ omega (arith, first, last)
 
--- where the digits are moved to
+-- A word shifted so that only its first bytes are left, at its high end
 
 moved_1 : (a b c d e f g h : ℕ) → a < 256 → b < 256 → c < 256 → d < 256 → e < 256 → f < 256 → g < 256 → h < 256 → word a b c d e f g h * 2 ^ 56 % 2 ^ 64 ≡ word 0 0 0 0 0 0 0 a
 moved_1 a b c d e f g h la lb lc ld le lf lg lh = omega arith
@@ -76,7 +76,7 @@ moved_7 a b c d e f g h la lb lc ld le lf lg lh = omega arith
 moved_8 : (a b c d e f g h : ℕ) → a < 256 → b < 256 → c < 256 → d < 256 → e < 256 → f < 256 → g < 256 → h < 256 → word a b c d e f g h * 2 ^ 0 % 2 ^ 64 ≡ word a b c d e f g h
 moved_8 a b c d e f g h la lb lc ld le lf lg lh = omega arith
 
--- the word of the first digits once they were moved to its end
+-- the word of the first `len` digits, shifted to its high end, has the value that they spell
 pub front_value : (len : ℕ) (digits : List ℕ) → length digits ≡ 8 → ((i : ℕ) → get_or digits i 0 < 256) → 1 ≤ len → len ≤ 8 → Each1 (λ digit. digit < 10) (take len digits) → pairs_value (pairs_of (from_le_bytes w64 digits * 2 ^ (64 - 8 * len) % 2 ^ 64)) ≡ number_from_digits 10 (take len digits)
 front_value (suc zero) (a ∷ b ∷ c ∷ d ∷ e ∷ f ∷ g ∷ h ∷ []) long within some few below =
     rw (moved_1 a b c d e f g h (within 0) (within 1) (within 2) (within 3) (within 4) (within 5) (within 6) (within 7)) (eight_value 0 0 0 0 0 0 0 a (omega arith) (omega arith) (omega arith) (omega arith) (omega arith) (omega arith) (omega arith) below.0)

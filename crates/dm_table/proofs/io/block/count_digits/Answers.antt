@@ -1,4 +1,4 @@
--- A number from one power of ten to below the next has one digit more than the power.
+-- A number from one power of ten up to below the next has one digit more than the exponent.
 use Rattle.dm_table.proofs.Prelude.{ℕ, zero, suc, length, decimal, sym, arith, pow-succ'}
 use Rattle.itoa.proofs.Decimal.{length_one, length_step_wide}
 use Rattle.dm_table.proofs.io.block.count_digits.Goals as goal

@@ -2,7 +2,7 @@ use Rattle.dm_table.proofs.Prelude.{take}
 use Rattle.dm_table.proofs.io.block.put_array.Given as goal
 use Rattle.std.specs.Prelude.{◌≡◌, ◌+◌, ◌-◌, ◌≤◌, ◌++◌}
 
--- what was put so far is the front of the room
+-- the bytes copied so far are the front of the array, at offset `at` of the block
 abbrev pub invariant-sixteens : goal.invariant-sixteens
 invariant-sixteens g l = record {
   within : l.done ≤ g.row.LEN;

@@ -19,7 +19,7 @@ rest-preserved g c =
 pub returns-in-Err-clause-grows : goal.returns-in-Err-clause-grows
 returns-in-Err-clause-grows g c = omega (arith, ap (λ (p : OutputPast). p.faults) c.in-Err.ensures.past, c.rest.invariant.faults)
 
--- it failed where bytes are left
+-- the output behind failed exactly if bytes are left
 pub returns-in-Err-clause-failed : goal.returns-in-Err-clause-failed
 returns-in-Err-clause-failed g c =
     let more = ap (λ (p : OutputPast). p.faults) c.in-Err.ensures.past ∙ ap (λ (n : ℕ). n + 1) c.rest.invariant.faults in

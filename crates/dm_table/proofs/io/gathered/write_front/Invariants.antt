@@ -2,7 +2,7 @@ use Rattle.dm_table.proofs.Prelude.{take}
 use Rattle.dm_table.proofs.io.gathered.write_front.Given as goal
 use Rattle.std.specs.Prelude.{◌≡◌, ◌≤◌, ◌-◌, ◌++◌}
 
--- the bytes up to this one were written, and no write failed
+-- the bytes before `sent` have been written, and no write failed
 abbrev pub invariant-rest : goal.invariant-rest
 invariant-rest g l = record {
   within : l.sent ≤ l.len;

@@ -3,7 +3,7 @@ use Rattle.dm_table.specs.declared.load.part_input.TheConstants.{MOST_PART_BYTES
 use Rattle.dm_table.proofs.load.part_input.read_part.Given as goal
 use Rattle.std.specs.Prelude.{◌≡◌, ◌-◌, ◌+◌, ◌++◌}
 
--- the text is what was handed out, and neither an end nor a fault was met
+-- the text is what the input handed out so far, and no end or fault was met
 abbrev pub invariant-chunks : goal.invariant-chunks
 invariant-chunks g l = record {
   handed : (g.I.Input.past l.input).handed ≡ (g.I.Input.past l.fn.input).handed ++ l.text.items;

@@ -1,4 +1,4 @@
--- What is read of the rows is what their checks and their values give.
+-- The values and faults of the rows give the answer that their checks require.
 use Rattle.dm_table.proofs.Prelude.{[], length, map, length-map, lines_of, rest_of, with_rows, no_faults, noted_rest, noted_rows, row_fault}
 use Rattle.dm_table.proofs.load.RowFaultLemmas.{rows_answer}
 use Rattle.dm_table.proofs.load.reading.read_rows.Goals as goal

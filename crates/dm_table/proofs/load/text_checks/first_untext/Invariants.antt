@@ -1,4 +1,4 @@
--- what the pieces that are left give is what all give
+-- the faults of the pieces that are left are those of all pieces: no earlier piece has one
 use Rattle.dm_table.proofs.Prelude.{not, drop, NotText, texts, faults_from, untexts}
 use Rattle.dm_table.proofs.load.text_checks.first_untext.Given as goal
 use Rattle.std.specs.Prelude.{◌≡◌, ◌+◌}

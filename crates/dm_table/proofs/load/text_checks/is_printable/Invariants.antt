@@ -1,4 +1,4 @@
--- what was asked, and the bytes that are left, give what the whole gives
+-- the flag so far, and the bytes that are left, decide as all bytes do
 use Rattle.dm_table.proofs.Prelude.{drop, is_printable}
 use Rattle.dm_table.proofs.load.text_checks.is_printable.Given as goal
 use Rattle.std.specs.Prelude.{◌≡◌, ◌&&◌}

@@ -1,4 +1,4 @@
--- A name that a space ends is the first field, and no other first field is one.
+-- A device name that a space ends is the first field; if none is found, the first field is no device name.
 use Rattle.dm_table.proofs.Prelude.{take, ap, ◌∙◌, fields}
 use Rattle.dm_table.proofs.words.ByteLemmas.{plain-device_name}
 use Rattle.dm_table.proofs.words.FieldLemmas.{parts_at-first}

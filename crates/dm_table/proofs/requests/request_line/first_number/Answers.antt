@@ -1,4 +1,4 @@
--- A number that a space ends is the first field, and no other first field is one.
+-- A number that a space ends is the first field; if none is found, the first field is no number.
 use Rattle.dm_table.proofs.Prelude.{take}
 use Rattle.dm_table.proofs.requests.RequestLemmas.{number_stands, number_first}
 use Rattle.dm_table.proofs.requests.request_line.first_number.Goals as goal

@@ -1,4 +1,4 @@
--- A line of that form begins with an operation and its space.
+-- A line with the form of a request begins with an operation and a space.
 use Rattle.dm_table.proofs.Prelude.{drop, length, ap, arith}
 use Rattle.dm_table.proofs.requests.RequestLemmas.{no_op, op_first}
 use Rattle.dm_table.proofs.requests.request_line.first_op.Goals as goal

@@ -1,4 +1,4 @@
--- What was read of a text's front is the line of its request.
+-- The parts read at the front of a text are those of a request line.
 use Rattle.dm_table.proofs.Prelude.{length, refl, arith}
 use Rattle.dm_table.proofs.requests.FrontRequest.{front_line}
 use Rattle.dm_table.proofs.requests.request_line.front_request.Goals as goal

@@ -1,4 +1,4 @@
--- The spaces of a text cut its fields.
+-- The first spaces found in a text tell whether it has two nonempty fields.
 use Rattle.dm_table.proofs.Prelude.{length, take, drop, sym, ap, ◌∙◌, arith, eqb-true, eqb-false, take_rest, length-take-le}
 use Rattle.dm_table.proofs.words.FieldLemmas.{parts_at-found, parts_at-nowhere}
 use Rattle.dm_table.proofs.requests.RequestLemmas.{two, two_first, two_last, two_more}

@@ -1,4 +1,4 @@
--- The first field and what follows its space are the two.
+-- A text that is two numbers is its first field and, after a space, the second.
 use Rattle.dm_table.proofs.Prelude.{sym, ap, ◌∙◌, [], Some, join_with_byte, fields, number_of}
 use Rattle.dm_table.proofs.words.FieldLemmas.{join-parts_at}
 use Rattle.dm_table.proofs.requests.RequestLemmas.{number_whole}

@@ -1,4 +1,4 @@
--- the text of the items so far is written, and nothing failed
+-- the columns before this one have been written, and nothing failed
 use Rattle.dm_table.proofs.Prelude.{take, Ok, flat_map, column_text, Wrote, OutFault}
 use Rattle.dm_table.proofs.tables.canonical_text.write_columns.Given as goal
 

@@ -1,4 +1,4 @@
--- the text of the items so far is written, and nothing failed
+-- the lines of the devices before this one have been written, and nothing failed
 use Rattle.dm_table.proofs.Prelude.{take, Ok, table_text, Wrote, OutFault}
 use Rattle.dm_table.proofs.tables.canonical_text.write_every_line.Given as goal
 

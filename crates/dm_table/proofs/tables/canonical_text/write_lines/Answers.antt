@@ -3,11 +3,11 @@ use Rattle.dm_table.proofs.io.WriteLemmas.{stopped, and_then, each_stopped, each
 use Rattle.dm_table.proofs.tables.canonical_text.write_lines.Goals as goal
 use Rattle.std.specs.Prelude.{◌∷◌, ◌++◌}
 
--- a line as it is written, with its newline
+-- the text of a line with its newline
 abbrev ended : List ℕ → Line → List ℕ
 ended name line = line_text (record { name = name; line = line }) ++ 10 ∷ []
 
--- what is written of it before its newline
+-- the text of a line without its newline
 abbrev labelled : List ℕ → Line → List ℕ
 labelled name line = name ++ (58 ∷ 32 ∷ []) ++ body_text line
 

@@ -1,4 +1,4 @@
--- the text of the items so far is written, and nothing failed
+-- the lines before this one have been written, and nothing failed
 use Rattle.dm_table.proofs.Prelude.{take, Ok, lines_text, Wrote, OutFault}
 use Rattle.dm_table.proofs.tables.canonical_text.write_lines.Given as goal
 

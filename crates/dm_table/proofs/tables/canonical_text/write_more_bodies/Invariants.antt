@@ -1,4 +1,4 @@
--- the text of the items so far is written, and nothing failed
+-- the bodies before this one have been written, each after a comma, and nothing failed
 use Rattle.dm_table.proofs.Prelude.{take, Ok, flat_map, body_text, Wrote, OutFault}
 use Rattle.dm_table.proofs.tables.canonical_text.write_more_bodies.Given as goal
 use Rattle.std.specs.Prelude.{◌∷◌}

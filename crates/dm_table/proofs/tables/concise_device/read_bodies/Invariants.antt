@@ -1,4 +1,4 @@
--- the fault so far and those of the bodies that are left are that of all; where there is none, so are the lines
+-- the fault so far and those of the bodies left give that of all; if there is none, the lines so far and those left are all lines
 use Rattle.dm_table.proofs.Prelude.{drop, None, texts, earlier_of, fault_of_bodies, lines_in}
 use Rattle.dm_table.proofs.tables.concise_device.read_bodies.Given as goal
 use Rattle.std.specs.Prelude.{◌≡◌, ◌++◌}

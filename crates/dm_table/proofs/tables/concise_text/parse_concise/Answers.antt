@@ -1,4 +1,4 @@
--- A refusal by the first check is that of all; else the parts of the text are read.
+-- If the byte check refuses the text, so does parsing; else the parts of the text are read.
 use Rattle.dm_table.proofs.Prelude.{Err, texts}
 use Rattle.dm_table.proofs.tables.ConciseDescribed.{read_as_promised, read_concise-parts, read_concise-refused}
 use Rattle.dm_table.proofs.tables.concise_text.parse_concise.Goals as goal

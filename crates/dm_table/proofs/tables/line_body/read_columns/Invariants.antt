@@ -1,4 +1,4 @@
--- what is read of the fields that are left, after the columns so far, is what is read of all
+-- the columns so far, with the result for the fields left, give the result for all fields
 use Rattle.dm_table.proofs.Prelude.{length, texts, columns_reading}
 use Rattle.dm_table.proofs.tables.TargetRows.{after_columns}
 use Rattle.dm_table.proofs.tables.line_body.read_columns.Given as goal

@@ -20,7 +20,7 @@ loop-len-preserved c =
     let digit = sym c.is_ascii_digit.ensures.value ∙ c.if-not-is_ascii_digit.false in
     rw c.from.ensures (read_more c.args.digits.now c.loop-len.len c.loop-len.value c.loop-len.invariant digit c.loop-len-test.true (omega arith))
 
--- the value of at most 18 digits
+-- the value of at most 18 digits is below 10^18
 pub returns-clause-near : goal.returns-clause-near
 returns-clause-near c =
     let read = c.loop-len.invariant in

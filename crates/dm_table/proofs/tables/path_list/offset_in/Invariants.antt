@@ -1,4 +1,4 @@
--- what was read of the digits is their value so far
+-- the value so far is that of the digits read so far
 use Rattle.dm_table.proofs.Prelude.{length, IsReadTo}
 use Rattle.dm_table.proofs.tables.path_list.offset_in.Given as goal
 use Rattle.std.specs.Prelude.{◌-◌}

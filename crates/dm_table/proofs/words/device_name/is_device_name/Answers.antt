@@ -1,4 +1,4 @@
--- A text is a name where all of it is read as one.
+-- A text is a device name if the name at its front is all of it.
 use Rattle.dm_table.proofs.Prelude.{sym}
 use Rattle.dm_table.proofs.words.ByteLemmas.{device_name_whole, device_name_first}
 use Rattle.dm_table.proofs.words.device_name.is_device_name.Goals as goal

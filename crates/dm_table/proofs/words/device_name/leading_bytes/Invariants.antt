@@ -1,4 +1,4 @@
--- what is left has the rest of the bytes
+-- the bytes so far may all occur in a device name, and the count for the whole text is that of the text left plus `len`
 use Rattle.dm_table.proofs.Prelude.{length, drop, prefix_len, is_device_byte}
 use Rattle.dm_table.proofs.words.device_name.leading_bytes.Given as goal
 use Rattle.std.specs.Prelude.{◌≡◌, ◌≤◌, ◌+◌, ◌-◌}

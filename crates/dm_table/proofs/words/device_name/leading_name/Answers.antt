@@ -1,4 +1,4 @@
--- 1 to 127 bytes that a device name has are one.
+-- 1 to 127 bytes that may all occur in a device name are one.
 use Rattle.dm_table.proofs.Prelude.{take, inl, inr, arith, prefix_len, length-prefix_len, is_device_byte}
 use Rattle.dm_table.proofs.words.ByteLemmas.{device_name_front, device_name_length}
 use Rattle.dm_table.proofs.words.device_name.leading_name.Goals as goal

@@ -1,4 +1,4 @@
--- what was asked, and the bytes that are left, give what the whole gives
+-- the flag so far, and the bytes that are left, decide as all bytes do
 use Rattle.dm_table.proofs.Prelude.{drop, list_all, is_disk_byte}
 use Rattle.dm_table.proofs.words.disk_name.are_disk_bytes.Given as goal
 use Rattle.std.specs.Prelude.{◌≡◌, ◌&&◌}

@@ -1,4 +1,4 @@
--- the parts so far, and those of the rest, are the parts of the text; the marks left are those of the rest
+-- the parts so far and those of `rest` are the parts of the text, and the marks left are those of `rest`
 use Rattle.dm_table.proofs.Prelude.{length, texts, parts_at, marks_of}
 use Rattle.dm_table.proofs.words.fields.cut_marked.Given as goal
 use Rattle.std.specs.Prelude.{◌≡◌, ◌++◌, ◌≤◌}

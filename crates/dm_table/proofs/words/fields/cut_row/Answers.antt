@@ -1,4 +1,4 @@
--- The last field goes where it is empty: then it was there.
+-- If the last field is empty it is popped, and the vector isn't empty then.
 use Rattle.dm_table.proofs.Prelude.{[], None, sym, ap, ◌∙◌, refl, arith, nil_from_length, MatchOption-at_none, texts, fields, without_last_space, ends_empty}
 use Rattle.dm_table.proofs.words.FieldLemmas.{all_but_last-popped}
 use Rattle.dm_table.proofs.tables.TableFields.{spaced, not_spaced}

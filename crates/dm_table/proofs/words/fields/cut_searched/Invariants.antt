@@ -1,4 +1,4 @@
--- the parts so far, and those of the rest, are the parts of the text
+-- the parts so far and those of `rest` are the parts of the text
 use Rattle.dm_table.proofs.Prelude.{length, texts, parts_at}
 use Rattle.dm_table.proofs.words.fields.cut_searched.Given as goal
 use Rattle.std.specs.Prelude.{◌≡◌, ◌++◌}

@@ -10,7 +10,7 @@ others_are : (digits : List ℕ) → length digits ≡ 16 → mask_l (map (top 7
 others_are digits long =
     cc (tops_compared w8 nat_lt (replicate 16 9) digits, zip2_splat_left nat_lt 9 16 digits long, mask_l-mod (map (λ x. nat_lt 9 x) digits) 64 (omega (arith, length-map digits (λ x. nat_lt 9 x), long)))
 
--- how many come before the first other one, and that there is one
+-- how many digits come before the first lane that isn't one, and that there is such a lane
 ahead_are : (digits : List ℕ) → length digits ≡ 16 → (mask_l (map (top 7) (zip2 (λ a b. cond (nat_lt a b) 255 0) (replicate 16 9) digits)) % 2 ^ 64 ≡ 0 → ⊥) → (count_trailing_zeros 64 (mask_l (map (top 7) (zip2 (λ a b. cond (nat_lt a b) 255 0) (replicate 16 9) digits)) % 2 ^ 64) ≡ prefix_len (λ x. not (nat_lt 9 x)) digits) × (prefix_len (λ x. not (nat_lt 9 x)) digits < 16)
 ahead_are digits long others =
     let is = others_are digits long in

@@ -7,7 +7,7 @@ use Rattle.std.specs.Prelude.{◌≡◌, ◌+◌, ◌-◌, ◌*◌, ◌^◌, ◌
 powers : (k : ℕ) → k < 8 → get_or POWERS k 0 ≡ 10 ^ k
 powers k few = eqb-true _ _ (agree_below_at (λ n. eqb (get_or POWERS n 0) (10 ^ n)) (λ n. true) 8 k refl few)
 
--- some digits are the first eight of them and the others
+-- more than eight digits are the first eight and the others
 in_two : (len : ℕ) (digits : List ℕ) → 8 < len → take len digits ≡ take 8 digits ++ take (len - 8) (drop 8 digits)
 in_two len digits more = let all : 8 + (len - 8) ≡ len = omega arith in rw (← take-add, all)
 

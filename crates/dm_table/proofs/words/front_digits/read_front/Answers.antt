@@ -11,7 +11,7 @@ bytes_in_front (suc n) [] all i = all i
 bytes_in_front (suc n) (byte ∷ text) all zero = all 0
 bytes_in_front (suc n) (byte ∷ text) all (suc i) = bytes_in_front n text (λ k. all (suc k)) i
 
--- what the first lanes spell that are digits
+-- the number that the first lanes spell, if they are digits
 number_of-lanes : (text front lanes : List ℕ) (len value : ℕ) → front ≡ take 16 text → lanes ≡ map (λ byte. (byte + 208) % 256) front → ((i : ℕ) → get_or text i 0 < 256) → 16 ≤ length text → 1 ≤ len → len < 16 → Each1 (λ digit. digit < 10) (take len lanes) → value ≡ number_from_digits 10 (take len lanes) → (1 < len → get_or front 0 0 ≢ 48) → number_of (take len text) ≡ Some value
 number_of-lanes text front lanes len value front_is lanes_are within room some few digits is lead =
     let less = λ (byte : ℕ). (byte + 208) % 256 in

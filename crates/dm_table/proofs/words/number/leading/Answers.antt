@@ -1,4 +1,4 @@
--- At most 19 digits are read, and they are below 10^19.
+-- At most 19 digits are read, and their value is below 10^19.
 use Rattle.dm_table.proofs.Prelude.{true, get_or, take, length, refl, sym, ap, inl, inr, ◌∙◌, arith, is_ascii_digit, prefix_len, prefix_len-drop_yes, prefix_len-drop_no, prefix_len-drop_all, length-prefix_len, length-take-le, Some, elements}
 use Rattle.dm_table.proofs.words.NumberLemmas.{next_below, read_more, number_of-long, number_of-empty, number_of-zero, number_of-digits}
 use Rattle.dm_table.proofs.words.number.leading.Goals.{then-loop-len-test+else-is_ascii_digit, else-loop-len-test, then-len-eq0-via-then-len-eq0, then-len-eq0-via-else-len-eq0+then-len-ne1}
@@ -18,7 +18,7 @@ returns-then-len-eq19-clause-other c =
     let more = prefix_len-drop_yes is_ascii_digit text c.loop-len.len 0 c.loop-len-test.true digit in
     number_of-long _ (omega (arith, length-prefix_len is_ascii_digit text, more, c.loop-len.invariant.left))
 
--- the value of the digits so far and one more fits
+-- the value of the digits so far and one more fits 64 bits
 pub overflow_mul-value : goal.overflow_mul-value
 overflow_mul-value c =
     let digit = sym c.is_ascii_digit.ensures.value ∙ c.if-is_ascii_digit.true in

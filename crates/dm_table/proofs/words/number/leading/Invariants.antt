@@ -1,4 +1,4 @@
--- some digits are read, and what is left has the rest of them
+-- the bytes so far are digits, and the count for the whole text is that of the text left plus `len`
 use Rattle.dm_table.proofs.Prelude.{drop, length, is_ascii_digit, prefix_len, IsReadTo}
 use Rattle.dm_table.proofs.words.number.leading.Given as goal
 use Rattle.std.specs.Prelude.{◌≡◌, ◌+◌, ◌-◌}

@@ -1,4 +1,4 @@
--- A text is a number where all of it is read as one.
+-- A text is a number if the number at its front is all of it.
 use Rattle.dm_table.proofs.Prelude.{sym, ◌∙◌}
 use Rattle.dm_table.proofs.words.NumberLemmas.{number_of-cut, number_of-first}
 use Rattle.dm_table.proofs.words.number.number.Goals as goal

@@ -1,9 +1,9 @@
--- Texts with the same first bytes and the same last bytes, of which there are enough for all.
+-- Two texts are equal if their first bytes and their last bytes are, and these cover all bytes.
 use Rattle.dm_table.proofs.Prelude.{ℕ, Bool, true, false, List, length, take, drop, sym, ap, ◌∙◌, arith, take-take, take-append-drop, take_rest, OnTrue}
 use Rattle.dm_table.proofs.words.same_bytes.ends_same.Goals as goal
 use Rattle.std.specs.Prelude.{◌≡◌, ◌-◌, ◌≤◌, ◌&&◌}
 
--- the last bytes begin where the first ones end, or before
+-- if the last bytes begin at or before the end of the first ones, texts that agree in both are equal
 joined : (left right : List ℕ) (len from : ℕ) → from ≤ len → take len left ≡ take len right → drop from left ≡ drop from right → left ≡ right
 joined left right len from meet fronts ends =
     let front : take from left ≡ take from right = sym (take-take from len left meet) ∙ ap (take from) fronts ∙ take-take from len right meet in

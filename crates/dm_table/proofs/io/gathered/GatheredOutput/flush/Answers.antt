@@ -10,7 +10,7 @@ not_true : (b : Bool) → (b ≡ true → false ≡ true) → b ≡ false
 not_true false not = refl
 not_true true not = sym (not refl)
 
--- where neither had failed after the first calls, a fault is the first one
+-- if the output behind failed neither before nor while draining, a later fault is its first
 first_fault : (old mid : Gathering) (broken : Bool) (before after : ℕ) → broken ≡ old.broken → before ≡ old.behind.faults → mid.broken ≡ (broken || nat_lt before mid.behind.faults) → before ≤ mid.behind.faults → mid.broken ≡ false → after ≡ mid.behind.faults + 1
     → (old.broken ≡ false) × (old.behind.faults < after)
 first_fault old mid broken before after same at minds grows well more =

@@ -1,4 +1,4 @@
--- The value made has no field that takes room, and the list that its clause names is picked here.
+-- Makes a value without any field in memory, and picks the list that its contract names.
 use Rattle.dm_table.proofs.Prelude.{List, [], refl, proved, the_row}
 use Rattle.std.specs.Prelude.{◌∷◌}
 use mir.Syntax.{Args, a_type}

@@ -1,4 +1,4 @@
--- The borrow of `self` is opened and closed again at the longer list: the code changes nothing.
+-- Opens the borrow of `self` and closes it again with the longer list: at run time nothing changes.
 use Rattle.dm_table.proofs.Prelude.{[], refl, proved, the_row}
 use Rattle.std.specs.Prelude.{◌∷◌, ◌++◌}
 use base.Fml.{ftrue, flft}
@@ -24,7 +24,7 @@ pub note_spec : {M : Type 1} → statement M
 note_spec 𝓤 𝓛 𝓜 𝓡 wired T L =
     let E = f.ended T in let P = param 0 T in let R = the_row P in
     let list = plain (λ _. R) in let slice = SliceRefOf (1 ∷ []) tt (plain (λ _. P)) (λ _. tt) in
-    -- at the return `self` is still had, and the slice is not
+    -- at the return, `self` is still borrowed, and the slice is not
     let stayed : Stays E.signature.params E.kept = (stay_ref (0 ∷ []) tt list, (stay_dropped slice yes, tt)) in
     let c = f.clauses T 𝓛 𝓜.mem 𝓡.returns in let W = walk_of 𝓛 E stayed c in
     let args : Args = layouts (a_type ∷ []) (T, tt) in

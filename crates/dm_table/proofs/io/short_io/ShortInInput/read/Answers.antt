@@ -5,7 +5,7 @@ use Rattle.dm_table.proofs.io.Portions.{rest_after, rest_after_is, front_is, han
 use Rattle.dm_table.proofs.io.short_io.ShortInInput.read.Goals as goal
 use Rattle.std.specs.Prelude.{◌≡◌, ◌<◌, ◌++◌}
 
--- all the bytes of the input, the place in them before the read, and the slice after it
+-- all bytes of the input; and below, the place in them before the read and the slice after it
 abbrev bytes : goal.After-self-1 → List ℕ
 bytes c = c.self.inside.bytes.now
 
@@ -15,12 +15,12 @@ at c = c.self.inside.at
 abbrev filled : goal.After-self-1 → List ℕ
 filled c = c.copy_from_slice.new.self ++ drop c.min-n.result c.args.buffer.now
 
--- what was given stands at the place
+-- the first bytes of the slice are the input's bytes from the place on
 given_is : (c : goal.After-self-1) → take c.min-n.result (filled c) ≡ take c.min-n.result (drop (at c) (bytes c))
 given_is c =
     front_is (bytes c) _ _ (at c) c.min-n.result c.copy_from_slice.ensures.after (omega (arith, c.min-n.ensures, c.min.ensures))
 
--- a copy into the front of the slice leaves its length
+-- copying into the front of a slice doesn't change its length
 room_is : (c : goal.After-self-1) → length (filled c) ≡ length c.args.buffer.now
 room_is c =
     let n = c.min-n.result in
@@ -34,13 +34,13 @@ count_is c =
     let left = ap (λ (s : Supply). length s.left) c.self.view_is in
     omega (arith, room_is c, c.min-n.ensures, c.min.ensures, ap length (rest_after_is (bytes c) (at c)), step, left)
 
--- a portion of what is left is a byte at least
+-- if bytes are left and the slice has room, the portion isn't empty
 moves : (c : goal.After-self-1) → c.min-n.result ≡ 0 → 0 < length (filled c) → ⊥
 moves c none roomy =
     let some_left = eqb-false (length (rest_after (bytes c) (at c))) 0 (sym c.is_empty.ensures ∙ c.if-is_empty.false) in
     omega (arith, room_is c, c.min-n.ensures, c.min.ensures, c.self.invariant.1)
 
--- bytes came, so no end was met
+-- a read that returned bytes met no end
 no_end : (n room : ℕ) → (n ≡ 0 → 0 < room → ⊥) → ends_added {E = InFault} (Ok n) room ≡ 0
 no_end zero zero moving = refl
 no_end zero (suc room) moving = absurd (moving refl (omega arith))

@@ -1,4 +1,4 @@
--- A name is of ASCII bytes.
+-- A name consists of ASCII bytes.
 use Rattle.dm_table.proofs.words.name.CheckedName.of_bytes.Goals as goal
 
 pub ascii_str-requires : goal.ascii_str-requires
