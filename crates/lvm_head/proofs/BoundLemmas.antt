@@ -1,4 +1,4 @@
--- Steps one after another: what each gave where all were taken.
+-- If steps in a row succeed, each of them succeeds.
 use Rattle.lvm_head.proofs.Prelude.{Bool, true, false, List, ℕ, Result, Ok, Err, refl, ReadFault, HeadFault, ◌>>=◌, needed}
 use Rattle.std.specs.Prelude.{◌≡◌, if◌then◌else◌}
 

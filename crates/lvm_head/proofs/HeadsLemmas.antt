@@ -1,4 +1,4 @@
--- The heads of some disks, one more at a time.
+-- Reading the heads of several disks, one more disk at a time.
 use Rattle.lvm_head.proofs.Prelude.{ℕ, suc, Result, Ok, refl, arith, HeadFault, Contents, ◌>>=◌, AllSaid, Said, at_disk, head_of, heads_from, joined}
 use Rattle.std.specs.Prelude.{◌≡◌, ◌+◌, ◌-◌, ◌<◌}
 

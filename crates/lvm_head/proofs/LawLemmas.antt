@@ -1,4 +1,4 @@
--- What is read of a head is what it spells.
+-- Proof that reading a head gives exactly what the head spells.
 use Rattle.lvm_head.proofs.Prelude.{inl, inr, ℕ, zero, suc, Bool, true, false, List, [], Option, Some, None, Result, Ok, Err, length, get_or, take, refl, sym, ap, subst, ◌∙◌, arith, nat_lt, not, All, Any, bytes_eq, le-suc_iff, take-suc, get_or-append_seam, eq-eqb, eqb-true, le-ltb, ltb-false, ne_eqb, not-false, or_parts, take-append-le, take_all, All-cons, All-nil, All-tail, bytes_eq-Decides, Area, HeadFault, Array, Differ, Header, Label, Long, Partitions, Text, ReadFault, earlier, first_found, Sectors, ◌>>=◌, needed, is_header, is_near, is_none, is_within, location_in, ring_place, Said, areas_text, same_text, areas_of, id_of, is_member, is_partitioned, is_sound, is_taken, label_in, label_of, or_no_label, undivided, HasBytes, IsEnded, IsTheLabel, IsUndivided, ReadsBack, SpellsArea, SpellsText, sum_of, area_text, byte_at, ended, gathered, ring_bytes, text_at}
 use Rattle.std.proofs.lemmas.List.Elements.{All-head}
 use Rattle.lvm_head.specs.declared.area.Location.{Location}
@@ -153,7 +153,7 @@ read_area sectors area text is =
 
 -- ---- all areas of a head
 
--- two texts and what they have in common, [] or the same
+-- the text is [] for none, or the common text
 abbrev IsOneOf : (text common : List ℕ) → Type 0
 IsOneOf text common = (text ≡ []) ⊎ (text ≡ common)
 
@@ -181,7 +181,7 @@ same_parts (x ∷ xs) (y ∷ ys) common e =
     let equal : x ∷ xs ≡ y ∷ ys = (bytes_eq-Decides (x ∷ xs) (y ∷ ys)).0 both.0 in
     (inr same, inr (sym equal ∙ same), inl (sym same))
 
--- what two of which each is none or the common text have in common
+-- if two texts are each [] or the common text, so is their common one, and it is [] only if both are
 record HaveOne (text next common : List ℕ) : Type 0 where
   one : List ℕ
   is : same_text text next ≡ Ok one
@@ -225,7 +225,7 @@ same_whole (x ∷ xs) (y ∷ ys) common a b =
 abbrev Says : Sectors → (text : List ℕ) → Area → Type 0
 Says sectors text area = area_text sectors area ≡ Ok text
 
--- what areas say after a text, and what all have in common
+-- what the areas say after the text `before`, and that all of them say the text or none
 record SayOne (sectors : Sectors) (before text : List ℕ) (areas : List Area) : Type 0 where
   after : IsOneOf before text
   each : All (λ area. SpellsArea sectors [] area ⊎ SpellsArea sectors text area) areas

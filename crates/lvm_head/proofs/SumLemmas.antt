@@ -1,4 +1,4 @@
--- Sums by the table.
+-- Checksums computed with the table.
 use Rattle.lvm_head.proofs.Prelude.{ℕ, refl, ◌∙◌, arith, get_or, map, bit_xor, range_with_len, get_or-map-range_with_len, sum_bit, sum_byte}
 use Rattle.std.specs.Int.Bits.{xor_assoc, xor_zero_l, xor_zero_r}
 use Rattle.std.proofs.lemmas.Nat.{xor_block, xor_mod, xor_shr}
@@ -12,7 +12,7 @@ entries : EIGHT_STEPS ≡ map eight_steps (range_with_len 0 256)
 unfolding sum_bit
 entries = refl
 
--- a step moves the bits above the lowest one, and nothing else happens to them
+-- a single-bit step shifts all bits but the lowest, and doesn't change them otherwise
 moved : (high low from : ℕ) → from ≡ high * 2 → sum_bit (bit_xor from low) ≡ bit_xor high (sum_bit low)
 unfolding sum_bit
 moved high low from twice =
@@ -33,7 +33,7 @@ all_moved high low =
       moved high _ (high * 2) (omega arith),
     ) refl
 
--- a number by its lowest byte and the others
+-- a number is its lowest byte and its other bytes, joined by exclusive or
 parts : (sum : ℕ) → sum ≡ bit_xor (sum / 256 * 256) (sum % 256)
 parts sum = grind (arith, xor_zero_l, xor_zero_r, xor_block 8 (sum / 256) 0 0 (sum % 256) (omega arith) (omega arith))
 

@@ -1,4 +1,4 @@
--- The bytes of a text, a row after another, and the texts of areas.
+-- Lemmas about the bytes of a text, read in consecutive pieces, and about the texts of areas.
 use Rattle.lvm_head.proofs.Prelude.{inl, inr, true, ℕ, zero, suc, List, [], Result, Ok, Err, length, take, drop, get_or, refl, sym, ap, ◌∙◌, arith, le-suc_iff, get_or-drop, get_or-take, take-suc, append-nil, append_assoc, drop_all, take_all, Area, HeadFault, ReadFault, AreRead, Sectors, ◌>>=◌, answer, sector_in, areas_text, same_text, is_header, is_near, location_in, area_text, byte_at, gathered, text_at}
 use Rattle.std.specs.Prelude.{◌≡◌, ◌+◌, ◌-◌, ◌*◌, ◌<◌, ◌≤◌, ◌/◌, ◌%◌, ◌∷◌, ◌++◌}
 
@@ -24,7 +24,7 @@ gathered_first byte n (suc k) bytes part before within are =
     rw (next, gathered_first byte n k bytes part before (omega (arith, within)) are, are k (omega (arith, within)))
     (ap Ok (append_assoc bytes (take k part) (get_or part k 0 ∷ []) ∙ ap (λ more. bytes ++ more) (sym (take-suc part k 0 (omega (arith, within))))))
 
--- a row of bytes more
+-- if the first n bytes were read and `part` holds the next `count` bytes, the first n + count are both joined
 pub gathered_row : (byte : ℕ → Result ℕ HeadFault) (n count : ℕ) (bytes part : List ℕ) → gathered byte n ≡ Ok bytes → length part ≡ count → ((i : ℕ) → i < count → byte (n + i) ≡ Ok (get_or part i 0)) → gathered byte (n + count) ≡ Ok (bytes ++ part)
 gathered_row byte n count bytes part before len are =
     gathered_first byte n count bytes part before (omega (arith, len)) (λ i less. are i (omega (arith, less, len)))
@@ -38,7 +38,7 @@ gathered_fault byte n (suc m) bytes fault before here below = elim (le-suc_iff.0
   | inr same ↦ let k : m ≡ n = omega (arith, same) in rw (k, before, here) refl
 ]
 
--- a byte of sectors in a row that are read
+-- a byte of a place is the byte in a block of sectors that were read
 byte_of : (sectors : Sectors) (place i k j : ℕ) (block : List ℕ) → sectors (place / 512 + k) ≡ Ok (sector_in block k) → place % 512 + i ≡ 512 * k + j → j < 512 → byte_at sectors (place + i) ≡ Ok (get_or block (place % 512 + i) 0)
 byte_of sectors place i k j block is at inside =
     let sector : (place + i) / 512 ≡ place / 512 + k = omega (arith, at, inside) in
@@ -56,7 +56,7 @@ byte_read sectors place i count block are inside =
 pub area_known : (sectors : Sectors) (area : Area) (bytes : List ℕ) → is_near area ≡ true → sectors (area.start / 512) ≡ Ok bytes → is_header area bytes ≡ true → area_text sectors area ≡ text_at sectors area.start (location_in bytes)
 area_known sectors area bytes near read sound = rw (near, read, sound) refl
 
--- one area after some
+-- the common text after one more area
 pub areas_more : (sectors : Sectors) (text : List ℕ) (areas later : List Area) (area : Area) (i : ℕ) (said after : Result (List ℕ) HeadFault) → drop i areas ≡ area ∷ later → area_text sectors area ≡ said → (said >>= same_text text) ≡ after
     → areas_text sectors text (drop i areas) ≡ (after >>= (λ next. areas_text sectors next later))
 unfolding areas_text

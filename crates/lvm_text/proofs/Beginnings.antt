@@ -1,9 +1,9 @@
--- The parser's stages say which tokens can still become a text.
+-- The parser's stages say exactly which tokens can still become a text.
 use Rattle.lvm_text.proofs.Prelude.{ℕ, zero, suc, Bool, true, false, cond, nat_lt, List, [], Option, Some, None, refl, sym, ap, ◌∙◌, arith, is_some, option_and_then, lt-ltb, eqb-true, eq-eqb, some_pair_parts, MatchOption, Token, Word, Open, Close, ListOpen, ListClose, Equals, Comma, TokenAtLine, Scalar, Values, Nothing, Section, Single, Several, scalar_of, is_key, ReadsMore, ReadsList, Reads, IsText, BeginsText, IsBreak, IsUnfinished, State, scalar_then, stage_after, run, is_over, Stage, Text}
 use Rattle.lvm_text.specs.declared.syntax.Stage.TheVariants as at
 use Rattle.std.specs.Prelude.{◌≡◌, ◌≢◌, ◌-◌, ◌≤◌, ◌∷◌, ◌++◌}
 
--- Runs
+-- Runs of the state machine
 
 chain : (o : Option State) (f g h : State → Option State) → ((s : State) → h s ≡ option_and_then g (f s)) → option_and_then h o ≡ option_and_then g (option_and_then f o)
 chain None f g h e = refl
@@ -16,12 +16,12 @@ run-append d p (t ∷ a) b = chain (stage_after d p t.0) (λ s. run s.0 s.1 a) (
 abbrev pub done : State
 done = (0, at.Key)
 
--- A text is run through
+-- A text runs through to the end
 
 scalar_next : (t : Token) (s : Scalar) (next : State) → scalar_of t ≡ Some s → scalar_then t next ≡ Some next
 scalar_next t s next e = rw e
 
--- a stage where a word or a text stands is left as a scalar leaves it
+-- at a stage where a word or a string may come as a scalar, a scalar leads to the next state
 scalar_step : (p : Stage) (d : ℕ) (next : State) → ((w : List ℕ) → stage_after d p (Word w) ≡ scalar_then (Word w) next) → ((w : List ℕ) → stage_after d p (Text w) ≡ Some next) → (t : Token) (s : Scalar) → scalar_of t ≡ Some s → stage_after d p t ≡ Some next
 scalar_step p d next word text (Word w) s e = word w ∙ scalar_next (Word w) s next e
 scalar_step p d next word text (Text w) s e = text w
@@ -64,9 +64,9 @@ reads_run (Single k n s rest) d ts more h =
 reads_run (Several k n ss rest) d ts more h =
     ap (run d at.Key) h.5 ∙ key_run d n k ((Equals, h.1) ∷ (ListOpen, h.2) ∷ h.3) h.0 ∙ list_run ss d h.3 h.4 h.6 ∙ reads_run rest d h.4 more h.7
 
--- What is run through is a text
+-- Tokens that run through to the end are a text
 
--- values up to each closing brace of the open sections, and up to the end
+-- values up to the closing brace of each of the d open sections, and then up to the end
 abbrev pub Stacked : ℕ → List TokenAtLine → Type 0
 Stacked zero ts = (v : Values) × Reads ts v []
 Stacked (suc d) ts = (v : Values) × (c : ℕ) × (b : List TokenAtLine) × Reads ts v ((Close, c) ∷ b) × Stacked d b
@@ -83,7 +83,7 @@ before_list : (d : ℕ) (k : List ℕ) (n e o : ℕ) (ss : List Scalar) (a b : L
 before_list zero k n e o ss a b i x h = (Several k n ss h.0, (i, e, o, a, b, refl, x, h.1))
 before_list (suc d) k n e o ss a b i x h = (Several k n ss h.0, h.1, h.2, (i, e, o, a, b, refl, x, h.3), h.4)
 
--- what the tokens after a stage are, if they end a text
+-- what the tokens after a stage must be to complete a text
 abbrev pub Holds : ℕ → Stage → List TokenAtLine → Type 0
 Holds d at.Key ts = Stacked d ts
 Holds d at.AfterKey ts = (k : List ℕ) (n : ℕ) → is_key k ≡ true → Stacked d ((Word k, n) ∷ ts)
@@ -92,7 +92,7 @@ Holds d at.First ts = (ss : List Scalar) × (b : List TokenAtLine) × ReadsList 
 Holds d at.Next ts = (n : ℕ) × (t : Token) × (a : List TokenAtLine) × (s : Scalar) × (ss : List Scalar) × (b : List TokenAtLine) × (ts ≡ (t, n) ∷ a) × (scalar_of t ≡ Some s) × ReadsMore a ss b × Stacked d b
 Holds d at.After ts = (ss : List Scalar) × (b : List TokenAtLine) × ReadsMore ts ss b × Stacked d b
 
--- a step that was taken, and the run after it
+-- if a step and the run after it reach the end, the step was allowed and the run from the next state reaches the end
 taken : (b : Bool) (next : State) (f : State → Option State) → option_and_then f (cond b (Some next) None) ≡ Some done → (b ≡ true) × (f next ≡ Some done)
 taken true next f e = (refl, e)
 taken false next f e = absurd cc
@@ -166,7 +166,7 @@ text_from ts e = holds ts 0 at.Key e
 pub text_run : (ts : List TokenAtLine) (v : Values) → IsText ts v → run 0 at.Key ts ≡ Some done
 text_run ts v h = reads_run v 0 ts [] h
 
--- Every stage that is reached can be completed
+-- Every stage that can be reached can be completed to a text
 
 abbrev closes : ℕ → List TokenAtLine
 closes zero = []
@@ -202,7 +202,7 @@ reached (Some s) f e = (s, refl)
 pub front_run : (ts : List TokenAtLine) → BeginsText ts → (s : State) × (run 0 at.Key ts ≡ Some s)
 front_run ts h = reached (run 0 at.Key ts) (λ s. run s.0 s.1 h.more) (sym (run-append 0 at.Key ts h.more) ∙ text_run (ts ++ h.more) h.values h.text)
 
--- The line of a fault
+-- The line of a syntax fault
 
 pub last_run : (before : List TokenAtLine) (t : TokenAtLine) (s : State) → run 0 at.Key before ≡ Some s → run 0 at.Key (before ++ t ∷ []) ≡ option_and_then (λ x. Some x) (stage_after s.0 s.1 t.0)
 last_run before t s e = run-append 0 at.Key before (t ∷ []) ∙ ap (option_and_then (λ x. run x.0 x.1 (t ∷ []))) e
@@ -225,7 +225,7 @@ unfinished ts s e ne = record {
   unfinished = λ v h. let same : Some s ≡ Some done = sym e ∙ text_run ts v h in ne cc;
 }
 
--- one step opens one section at most
+-- a step opens at most one section
 if_shallow : (b : Bool) (next : State) (d : ℕ) → next.0 ≤ suc d → MatchOption (cond b (Some next) None) (Unit {0}) (λ s. s.0 ≤ suc d)
 if_shallow true next d h = h
 if_shallow false next d h = tt
@@ -244,7 +244,7 @@ shallow d at.After Comma = omega arith
 shallow d at.Next t = if_shallow (is_some (scalar_of t)) (d, at.After) d (omega arith)
 shallow d p t = tt
 
--- the end of a text
+-- a text may end only in the state `done`: no section open, before a key
 pub over : (d : ℕ) (p : Stage) → is_over d p ≡ true → ◌≡◌ {A = State} (d, p) done
 over d at.Key h = rw (eqb-true d 0 h)
 over d p h = absurd cc

@@ -1,9 +1,9 @@
--- Where a text is cut, a character begins.
+-- Wherever a text is cut, a UTF-8 character begins.
 use Rattle.lvm_text.proofs.Prelude.{ℕ, zero, suc, true, cond, eqb, List, [], length, get_or, drop, Option, Some, None, refl, sym, subst, arith, MatchOption, option_map, IsUtf8, IsCharBoundary, cond_both, eqb-true, nat_tests, MatchOption-at_some, IsUtf8-drop, IsCharBoundary-start, IsCharBoundary-before_ascii, IsCharBoundary-after_ascii, code, is_word_byte, is_escapable, newline_at, leading_word_bytes, raw_length}
 use Rattle.lvm_text.proofs.Cases.{mapped}
 use Rattle.std.specs.Prelude.{◌≡◌, ◌<◌, ◌≤◌, ◌∷◌}
 
--- after an ASCII byte at the front of what a text ends with
+-- the position after an ASCII byte at the front of `rest`, the end of a text, is a character boundary
 pub after_byte : (text rest : List ℕ) (i : ℕ) → IsUtf8 text → i < length text → get_or text i 0 < 128 → rest ≡ drop i text → get_or rest 0 0 ≡ get_or text i 0 → 0 < length rest → IsCharBoundary rest 1
 after_byte text rest i u lt ascii e same some =
     let v : IsUtf8 rest = subst IsUtf8 (sym e) (IsUtf8-drop text i u (IsCharBoundary-before_ascii text i lt ascii)) in
@@ -15,7 +15,7 @@ first_of_drop [] (suc k) = refl
 first_of_drop (b ∷ bs) zero = refl
 first_of_drop (b ∷ bs) (suc k) = first_of_drop bs k
 
--- this byte stands at this position
+-- the byte at position n of bs is this one
 pub record Here (byte : ℕ) (bs : List ℕ) (n : ℕ) : Type 0 where
   pub within : n < length bs
   pub is : get_or bs n 0 ≡ byte
@@ -56,7 +56,7 @@ raw_here (b ∷ c ∷ bs) =
 pub raw_at : (bs : List ℕ) (n : ℕ) → raw_length bs ≡ Some n → Here (code "\"") bs n
 raw_at bs n e = MatchOption-at_some (Unit {0}) (Here (code "\"") bs) n e (raw_here bs)
 
--- the bytes of a word
+-- The bytes of a word are ASCII
 word_byte_ascii : (b : ℕ) → is_word_byte b ≡ true → b < 128
 word_byte_ascii b h = grind (arith, nat_tests)
 

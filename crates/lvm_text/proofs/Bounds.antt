@@ -1,4 +1,4 @@
--- Where no integer is out of range, the builder reads the scalars of the grammar.
+-- If no integer is out of range, the builder reads the same scalars as the grammar.
 use Rattle.lvm_text.proofs.Prelude.{ℕ, Bool, true, false, cond, List, [], Some, None, refl, sym, ap, ◌∙◌, is_none, unwrap_or, nat_le, nat_lt, length, digits_value, Token, Word, Open, Close, ListOpen, ListClose, Equals, Comma, TokenAtLine, Scalar, Values, Nothing, Section, Single, Several, are_digits, number_of, scalar_of, ReadsListBy, ReadsMoreBy, ReadsBy, leads_scalar, is_refused, number_lines, bounded_of, Text}
 use Rattle.lvm_text.specs.Tree as tree
 use Rattle.lvm_text.proofs.Keys.{no_hit}
@@ -18,7 +18,7 @@ bounded_same (Word w) s h e = bounded_word w h ∙ e
 bounded_same (Text x) s h e = e
 bounded_same t s h e = absurd cc
 
--- no integer among the tokens is out of range, whichever token stands before
+-- no integer among the tokens is out of range, for some token in front of them
 abbrev Fits : List TokenAtLine → Type 0
 Fits ts = (before : Token) × (number_lines before ts ≡ [])
 
@@ -65,6 +65,6 @@ bounded_values ts (Several k n ss rest) more fits r =
     let y = bounded_values r.4 rest more x.1 r.7 in
     ((r.0, r.1, r.2, r.3, r.4, r.5, x.0, y.0), y.1)
 
--- a text of the grammar, as the builder reads it
+-- a text of the grammar without integers out of range is read the same way by the builder
 pub bounded_text : (ts : List TokenAtLine) (v : Values) → number_lines Close ts ≡ [] → ReadsBy scalar_of ts v [] → ReadsBy bounded_of ts v []
 bounded_text ts v fits r = (bounded_values ts v [] (Close, fits) r).0

@@ -1,18 +1,18 @@
--- What the builder has read so far.
+-- What the builder has read so far, as invariants of its loops.
 use Rattle.lvm_text.proofs.Prelude.{ℕ, true, false, List, [], drop, Option, Some, None, refl, sym, ap, ◌∙◌, append_assoc, inl, inr, option_map, append-nil, some_pair_parts, and_parts, and_from, Token, Word, Open, Close, ListOpen, ListClose, Equals, Comma, TokenAtLine, Scalar, Values, Nothing, Section, Single, Several, ReadsListBy, ReadsMoreBy, ReadsBy, bounded_of, is_open, is_list_open, begins_key, scalar_first, item_of, ReadsScalars, ReadsLeaf, ReadsValue, ReadsValues, before, put, values_of, has_line, lines_agree, token_view, views, Value, Entry, Text}
 use Rattle.lvm_text.specs.declared.token.TokenAtLine as code
 use Rattle.std.specs.Prelude.{◌≡◌, ◌∷◌, ◌++◌, ◌⊎◌}
 
 -- Lists
 
--- the tokens of the scalars that are left, from after the bracket or after a scalar
+-- the tokens of the scalars left in a list, whether any has been read before or not
 abbrev pub ReadsItems : List TokenAtLine → List Scalar → List TokenAtLine → Type 0
 ReadsItems ts ss b = ReadsListBy bounded_of ts ss b ⊎ ReadsMoreBy bounded_of ts ss b
 
 abbrev pub ListSoFar : List TokenAtLine → List Scalar → List TokenAtLine → Type 0
 ListSoFar start done rest = (ss : List Scalar) (b : List TokenAtLine) → ReadsListBy bounded_of start ss b → (left : List Scalar) × (ss ≡ done ++ left) × ReadsItems rest left b
 
--- an item that starts with no comma
+-- an item that doesn't begin with a comma is the first token as a scalar
 item_first : (t : Token) (n : ℕ) (s : Scalar) (a : List TokenAtLine) → bounded_of t ≡ Some s → item_of ((t, n) ∷ a) ≡ Some (s, a)
 item_first (Word w) n s a e = ap (option_map (λ x. (x, a))) e
 item_first (Text w) n s a e = ap (option_map (λ x. (x, a))) e
@@ -21,7 +21,7 @@ item_first t n s a e = absurd cc
 item_next : (c n : ℕ) (t : Token) (s : Scalar) (a : List TokenAtLine) → bounded_of t ≡ Some s → item_of ((Comma, c) ∷ (t, n) ∷ a) ≡ Some (s, a)
 item_next c n t s a e = ap (option_map (λ x. (x, a))) e
 
--- the next item, and those after it
+-- the next item of a list, s, and the items after it
 pub record Item (ts : List TokenAtLine) (ss : List Scalar) (b : List TokenAtLine) (s : Scalar) (a : List TokenAtLine) : Type 0 where
   pub left : List Scalar
   pub first : ss ≡ s ∷ left
@@ -95,7 +95,7 @@ values_more start es rest tokens after e h same value = λ v more r stop.
     let y = value e.key.now x.0 more (rw (← same) x.2) stop in
     (y.0, x.1 ∙ ap (before es) y.1 ∙ sym (before_push es e y.0), y.2)
 
--- where no key stands, no values are left
+-- if the next token is no word, no values are left
 none_left : (rest : List TokenAtLine) (v : Values) (more : List TokenAtLine) → begins_key rest ≡ false → ReadsBy bounded_of rest v more → (v ≡ Nothing) × (rest ≡ more)
 none_left rest Nothing more e r = (refl, r)
 none_left rest (Section k n inner later) more e r = let wrong : false ≡ true = sym e ∙ ap begins_key r.5 in absurd cc
@@ -108,7 +108,7 @@ values_end start es rest h e = λ v more r stop.
     let n = none_left rest x.0 more e x.2 in
     (x.1 ∙ ap (before es) n.0 ∙ before_all es, sym n.1)
 
--- what follows a key
+-- a word and what follows it can't be left where no key begins
 pub no_values : (k : List ℕ) (n : ℕ) (ts more : List TokenAtLine) → (Word k, n) ∷ ts ≡ more → begins_key more ≡ false → ⊥
 no_values k n ts more e stop = let wrong : true ≡ false = ap begins_key e ∙ stop in cc
 
@@ -132,7 +132,7 @@ same_key k q line n ts us e =
     let word : Word k ≡ Word q = same.0 in
     record { key = cc; at = same.1; after = x.1 }
 
--- the second token, after the key, is no other
+-- the token after a key is an opening brace or not, whichever way it is read
 not_open : (first : TokenAtLine) (after : List TokenAtLine) (tokens : List TokenAtLine) (t : Token) (n : ℕ) (us : List TokenAtLine) → tokens ≡ first ∷ after → tokens ≡ (t, n) ∷ us → is_open first.0 ≡ is_open t
 not_open first after tokens t n us e h = rw ((list_same first (t, n) after us (sym e ∙ h)).0)
 
@@ -158,7 +158,7 @@ value_section line tokens first inner inside after rest e o read d k (Several q 
     let wrong : true ≡ false = sym o ∙ not_open first inner tokens Equals r.1 ((ListOpen, r.2) ∷ r.3) e s.after in
     absurd cc
 
--- after a key and an opening brace, a section whose values are these
+-- the tokens after a key and an opening brace are a section with values, and later values
 pub record Opened (k : List ℕ) (line : ℕ) (inner : List TokenAtLine) (v : Values) : Type 0 where
   pub inside : Values
   pub later : Values

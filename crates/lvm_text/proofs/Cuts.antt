@@ -1,13 +1,13 @@
--- A text is cut into elements in one way.
+-- A text can be cut into elements in one way only.
 use Rattle.lvm_text.proofs.Prelude.{ℕ, suc, true, false, cond, eqb, List, [], length, take, drop, Option, Some, None, refl, sym, ap, ◌∙◌, append_assoc, arith, MatchOption, option_map, list_all, cond_both, and_parts, eqb-true, nat_tests, some_pair_parts, code, Token, Word, Open, Close, ListOpen, ListClose, Equals, Comma, TokenAtLine, Element, White, Comment, Lexeme, spelling, token_spelling, IsWord, IsToken, IsElement, Begins, Cut, is_white, is_line, is_word_byte, is_end, line_after, tokens_from, put_token, newlines, Spells, IsBadToken, newline_at, leading_word_bytes, raw_length, sign_of, element_at, Text}
 use Rattle.lvm_text.proofs.Cases.{mapped}
 use Rattle.lvm_text.proofs.Scans.{line_again, line_none, Line, line_found, word_again, word_found, raw_again, Raw, raw_found}
 use Rattle.std.proofs.Math.Seq.{drop-append_seam, take-append_seam}
 use Rattle.std.specs.Prelude.{◌≡◌, ◌+◌, ◌∷◌, ◌++◌}
 
--- An element is found
+-- The element that is found is there
 
--- a sign, and its byte
+-- a sign: byte b spells token t, which is valid whatever comes after it
 pub record Sign (b : ℕ) (t : Token) : Type 0 where
   pub spelled : b ∷ [] ≡ token_spelling t
   pub any : (after : List ℕ) → IsToken t after
@@ -23,7 +23,7 @@ sign_found b =
     sign_if b (code "{") Open _ refl (λ a. tt) (sign_if b (code "}") Close _ refl (λ a. tt) (sign_if b (code "[") ListOpen _ refl (λ a. tt)
     (sign_if b (code "]") ListClose _ refl (λ a. tt) (sign_if b (code "=") Equals _ refl (λ a. tt) (sign_if b (code ",") Comma None refl (λ a. tt) tt)))))
 
--- a text that begins with an element, seen as a pair
+-- the text begins with the element of a pair, and the bytes of the pair come after it
 abbrev pub Found : List ℕ → Element × List ℕ → Type 0
 Found bs q = Begins bs q.0 q.1
 
@@ -56,7 +56,7 @@ element_found (b ∷ bs) =
     (λ is. word_is b bs is)
     (λ no. mapped (sign_of b) (λ t. (Lexeme t, bs)) (Sign b) (Found (b ∷ bs)) (λ t h. (cc, h.any bs)) (sign_found b)))))
 
--- An element is found again
+-- The element that is there is found
 
 drop_past : (c : List ℕ) (x : ℕ) (r : List ℕ) → drop (suc (length c)) (c ++ x ∷ r) ≡ r
 drop_past [] x r = refl
@@ -102,7 +102,7 @@ spelled_again (Lexeme t) after h = token_again t after h
 pub element_again : (bs : List ℕ) (p : Element) (after : List ℕ) → Begins bs p after → element_at bs ≡ Some (p, after)
 element_again bs p after h = ap element_at h.0 ∙ spelled_again p after h.1
 
--- at the end there is no element
+-- at the end of a text, no element is found
 pub end_none : (bs : List ℕ) → is_end bs ≡ true → element_at bs ≡ None
 unfolding element_at
 end_none [] h = refl
@@ -110,9 +110,9 @@ end_none (b ∷ bs) h =
     let a = and_parts (eqb b (code "#")) (is_line bs) h in
     rw (eqb-true b (code "#") a.0, line_none bs a.1)
 
--- One cut
+-- There is only one way to cut
 
--- the text is cut as far as there are elements
+-- the text is cut into these elements, and no element is found in the rest
 pub record CutUp (text : List ℕ) (ps : List Element) (rest : List ℕ) : Type 0 where
   pub cut : Cut text ps rest
   pub over : element_at rest ≡ None
@@ -133,7 +133,7 @@ found_none : (bs : List ℕ) (o : Option (Element × List ℕ)) → MatchOption 
 found_none bs None h bad = refl
 found_none bs (Some q) h bad = absurd (bad q.0 q.1 h)
 
--- where nothing begins, there is no element
+-- where no element begins, none is found
 pub bad_none : (bs : List ℕ) → ((p : Element) (after : List ℕ) → ¬ (Begins bs p after)) → element_at bs ≡ None
 bad_none bs bad = found_none bs (element_at bs) (element_found bs) bad
 
@@ -146,18 +146,18 @@ spelled_up h = record { cut = h.cut; over = end_none h.rest h.end }
 bad_up : {text : List ℕ} {n : ℕ} (h : IsBadToken text n) → CutUp text h.elements h.rest
 bad_up h = record { cut = h.cut; over = bad_none h.rest h.bad }
 
--- a text spells one list of tokens
+-- a text spells only one list of tokens
 pub one_spelling : (text : List ℕ) (ts us : List TokenAtLine) → Spells text ts → Spells text us → ts ≡ us
 one_spelling text ts us h k = h.tokens ∙ ap (tokens_from 1) (one_cut text h.elements k.elements h.rest k.rest (spelled_up h) (spelled_up k)).0 ∙ sym k.tokens
 
--- a text that spells tokens has no bad one
+-- a text that spells tokens has no part that is no token
 pub spelled_no_bad : (text : List ℕ) (ts : List TokenAtLine) (n : ℕ) → Spells text ts → IsBadToken text n → ⊥
 spelled_no_bad text ts n h k =
     let same = one_cut text h.elements k.elements h.rest k.rest (spelled_up h) (bad_up k) in
     let wrong : true ≡ false = sym h.end ∙ ap is_end same.1 ∙ k.more in
     absurd cc
 
--- the first bad token stands at one line
+-- a text has at most one line with the first part that is no token
 pub one_bad : (text : List ℕ) (m n : ℕ) → IsBadToken text m → IsBadToken text n → m ≡ n
 one_bad text m n h k = h.at ∙ ap (line_after 1) (one_cut text h.elements k.elements h.rest k.rest (bad_up h) (bad_up k)).0 ∙ sym k.at
 
@@ -180,7 +180,7 @@ tokens_more n [] p = refl
 tokens_more n (q ∷ ps) p =
     ap (put_token q n) (tokens_more (n + newlines (spelling q)) ps p) ∙ put_more q n (tokens_from (n + newlines (spelling q)) ps) (put_token p (line_after (n + newlines (spelling q)) ps) [])
 
--- the text so far: these tokens, and this line
+-- the text before `rest` consists of elements with these tokens, and `rest` begins on this line
 pub record Before (text : List ℕ) (line : ℕ) (tokens : List TokenAtLine) (rest : List ℕ) : Type 0 where
   pub elements : List Element
   pub cut : Cut text elements rest

@@ -1,9 +1,9 @@
--- The elements at the front of a text, and the newlines in them.
+-- Lemmas about the element at the front of a text, and its newlines.
 use Rattle.lvm_text.proofs.Prelude.{ℕ, suc, Bool, true, true≢false, false, cond, not, eqb, List, [], length, get_or, drop, Some, None, refl, sym, ap, arith, inl, inr, length-append, list_all, and_parts, or_cases, not-true, eqb-true, nat_tests, MatchOption-at_some, code, Token, Word, TokenAtLine, Element, White, Lexeme, spelling, token_spelling, IsToken, IsElement, Begins, is_white, is_line, is_word_byte, is_raw, is_plain, is_escapable, newlines, put_token, element_at, element_from, Text}
 use Rattle.lvm_text.proofs.Cuts.{Found, element_found, Before, before_more}
 use Rattle.std.specs.Prelude.{◌≡◌, ◌+◌, ◌<◌, ◌≤◌, ◌&&◌, ◌∷◌, ◌++◌}
 
--- The front
+-- The element at the front
 
 pub element_nil : (bs : List ℕ) → true ≡ eqb (length bs) 0 → None ≡ element_at bs
 unfolding element_at
@@ -34,7 +34,7 @@ unfolding element_at
 element_cons [] rest lt e = absurd (omega arith)
 element_cons (b ∷ bs) rest lt e = ap (element_from b) e
 
--- what the code found is spelled at the front
+-- the element that the code found is at the front of the bytes
 pub begins : (bs : List ℕ) (p : Element) (after : List ℕ) → Some (p, after) ≡ element_at bs → Begins bs p after
 begins bs p after e = MatchOption-at_some (Unit {0}) (Found bs) (p, after) (sym e) (element_found bs)
 
@@ -50,7 +50,7 @@ newlines-append : (a b : List ℕ) → newlines (a ++ b) ≡ newlines a + newlin
 newlines-append [] b = omega arith
 newlines-append (x ∷ a) b = more_lines (eqb x (code "\n")) _ _ (newlines b) (newlines-append a b)
 
--- The newlines
+-- Newlines
 
 line_newlines : (c : List ℕ) → is_line c ≡ true → newlines c ≡ 0
 line_newlines [] h = refl
@@ -108,7 +108,7 @@ newlines-le-length : (bs : List ℕ) → newlines bs ≤ length bs
 newlines-le-length [] = omega arith
 newlines-le-length (b ∷ bs) = most_lines (eqb b (code "\n")) _ _ (newlines-le-length bs)
 
--- an element shortens the text by at least one byte, and by at least its newlines
+-- an element has at least one byte, and at least as many bytes as newlines
 pub shorter : (bs : List ℕ) (p : Element) (after : List ℕ) → Begins bs p after → (length after < length bs) × (newlines (spelling p) + length after ≤ length bs)
 shorter bs p after h =
     let all : length bs ≡ length (spelling p ++ after) = ap length h.0 in
@@ -116,12 +116,12 @@ shorter bs p after h =
     let most : newlines (spelling p) ≤ length (spelling p) = newlines-le-length (spelling p) in
     (omega (arith, length-append (spelling p) after), omega (arith, length-append (spelling p) after))
 
--- the text up to here: its tokens, and a line that is no more than the bytes before
+-- Before, and the line is at most 1 plus the number of bytes before `rest`, so that it can't overflow
 pub record Reached (text : List ℕ) (line : ℕ) (tokens : List TokenAtLine) (rest : List ℕ) : Type 0 where
   pub before : Before text line tokens rest
   pub most : line + length rest ≤ 1 + length text
 
--- and up to the end of the next element
+-- Reached still holds after the next element, and the rest is shorter
 pub reached_more : {text rest after : List ℕ} {line lines : ℕ} {tokens more : List TokenAtLine} {p : Element} → Reached text line tokens rest → Some (p, after) ≡ element_at rest
     → more ≡ tokens ++ put_token p line [] → lines ≡ newlines (spelling p) → Reached text (line + lines) more after × (length after < length rest)
 reached_more {text} {rest} {after} {line} {lines} {tokens} {more} {p} h e m l =

@@ -1,4 +1,4 @@
--- The positions of keys: among the first entries and after them, as entries are added, and the node at a position.
+-- The positions of keys, among the first entries and in the index, as entries are added; and the node at a position.
 use Rattle.lvm_text.proofs.Prelude.{ℕ, zero, suc, min, true, false, cond, List, [], length, get_or, take, drop, Option, Some, None, refl, sym, ap, ◌∙◌, inl, inr, arith, add-one, add-zero, zero-add, length-append, length-drop, bytes_eq, cond_both, and_parts, cases_lt, drop_all, drop-append-le, bytes_eq-Decides, nat_cmp, slice_cmp, BTreeMap, Updates, node_of, values_of, has_line, lines_agree, node_view, position_of, Finds, Entry}
 use Rattle.std.proofs.lemmas.Map.Text.{btree_map_updates_str}
 use Rattle.lvm_text.specs.declared.index.TheConstants.{FEW}
@@ -6,7 +6,7 @@ use Rattle.lvm_text.proofs.Looks.{node_put}
 use Rattle.std.specs.Prelude.{◌≡◌, ◌+◌, ◌<◌, ◌≤◌, ◌∷◌, ◌++◌}
 use denote.Ref.{Bor}
 
--- a position among the first entries, else one after them
+-- the first of two optional positions, or the second if there is no first
 abbrev either_position : Option ℕ → Option ℕ → Option ℕ
 either_position None later = later
 either_position (Some at) later = Some at
@@ -22,7 +22,7 @@ position_split (suc n) (e ∷ es) key first =
 split_here : (m : ℕ) (es : List Entry) (key : List ℕ) → position_of key 0 es ≡ either_position (position_of key 0 (take m es)) (position_of key m (drop m es))
 split_here m es key = cc (position_split m es key 0, zero-add m)
 
--- a key that none of the first entries has
+-- if none of the first entries has the key, its position is among the others
 pub position_many : (es : List Entry) (key : List ℕ) (m : ℕ) → m ≡ min (length es) FEW → None ≡ position_of key 0 (take m es) → position_of key 0 es ≡ position_of key FEW (drop FEW es)
 position_many es key m is e =
     let all : position_of key 0 es ≡ position_of key m (drop m es) = cc (split_here m es key) in
@@ -39,7 +39,7 @@ either_same : (a : Option ℕ) → either_position a None ≡ a
 either_same None = refl
 either_same (Some n) = refl
 
--- a position among entries, with one more at their end
+-- the position of a key after an entry was added at the end
 position_push : (es : List Entry) (e : Entry) (key : List ℕ) (first : ℕ) → position_of key first (es ++ e ∷ []) ≡ either_position (position_of key first es) (cond (bytes_eq e.key.now key) (Some (first + length es)) None)
 position_push [] e key first = rw add-zero
 position_push (x ∷ es) e key first =
@@ -47,7 +47,7 @@ position_push (x ∷ es) e key first =
     (λ same. rw same)
     (λ other. let next : first + 1 + length es ≡ first + suc (length es) = omega arith in rw (other, position_push es e key (first + 1), next))
 
--- the index of entries of which one more is added: the first few are not in it
+-- while there are fewer than FEW entries, adding one leaves the index right without changing it
 pub finds_few : (es : List Entry) (e : Entry) (index : BTreeMap (Bor (List ℕ)) ℕ) → length es < FEW → Finds index es → Finds index (es ++ e ∷ [])
 finds_few es e index few finds = λ key.
     finds key ∙ ap (position_of key FEW) (drop_all FEW es (omega (arith, few)) ∙ sym (drop_all FEW (es ++ e ∷ []) (omega (arith, length-append es (e ∷ [])))))
@@ -66,7 +66,7 @@ finds_put es e old new m is many fresh finds updates = λ key.
         let alike : e.key.now ≡ key = (bytes_eq-Decides e.key.now key).0 same in
         rw alike at (either_none (position_of e.key.now 0 (take FEW es)) (position_of e.key.now FEW (drop FEW es)) (sym (split_here FEW es e.key.now) ∙ fresh))
 
--- a position is that of an entry, and the node of the key stands there
+-- the position `at` is that of an entry, whose node is the key's
 pub record Stands (es : List Entry) (key : List ℕ) (first at : ℕ) : Type 0 where
   pub after : ℕ
   pub is : at ≡ first + after
@@ -89,7 +89,7 @@ stands_here e es key first at line same is = record {
   node = λ d. node_put key e.key.now e.node.line e.node.value (values_of es) line ∙ rw same;
 }
 
--- a key that has a position from an entry on stands there
+-- a key whose position is found from an entry on is at that position
 stands : (es : List Entry) (key : List ℕ) (first at : ℕ) → lines_agree es ≡ true → position_of key first es ≡ Some at → Stands es key first at
 stands [] key first at agree is = absurd cc
 stands (e ∷ es) key first at agree is =
@@ -98,14 +98,14 @@ stands (e ∷ es) key first at agree is =
     (λ same here. stands_here e es key first at a.0 same cc)
     (λ other later. stands_later e es key first at a.0 other (stands es key (first + 1) at a.1 later)) is
 
--- a key that has a position stands there
+-- a key whose position is found is at that position, and its node is the one there
 pub stands_at : (es : List Entry) (key : List ℕ) (at : ℕ) → lines_agree es ≡ true → position_of key 0 es ≡ Some at → (at < length es) × ((d : Entry) → node_of key (values_of es) ≡ Some (node_view (get_or es at d).node))
 stands_at es key at agree is =
     let s = stands es key 0 at agree is in
     let same : s.after ≡ at = omega (arith, s.is) in
     (omega (arith, same, s.within), λ d. rw (← same) (s.node d))
 
--- a key with no position has no node
+-- a key without a position has no node
 pub absent : (es : List Entry) (key : List ℕ) (first : ℕ) → lines_agree es ≡ true → position_of key first es ≡ None → node_of key (values_of es) ≡ None
 absent [] key first agree is = refl
 absent (e ∷ es) key first agree is =

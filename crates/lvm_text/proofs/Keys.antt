@@ -1,4 +1,4 @@
--- The keys of a section differ, so each section in it is the one under its key.
+-- The keys of a section all differ, so each section in it is the one that its key gives.
 use Rattle.lvm_text.proofs.Prelude.{ℕ, Bool, true, false, List, [], refl, All, AllPairs, Some, cond, arith, bytes_eq, or_right, bytes_eq-Decides, Values, Nothing, Section, Single, Several, Tree, Shown, Inner, Whole, Items, keys_of, sections_of, node_of, IsFound, hit, has_key, twice_lines}
 use Rattle.std.proofs.lemmas.List.Elements.{All-cons, All-nil, All-tail}
 use Rattle.std.proofs.lemmas.List.Kept.{AllPairs-cons}
@@ -12,7 +12,7 @@ both_nothing : (xs ys : List ℕ) → xs ++ ys ≡ [] → ys ≡ []
 both_nothing [] ys e = e
 both_nothing (x ∷ xs) ys e = absurd cc
 
--- a key that none of these values has
+-- a key that is among the keys is also among more keys
 has_more : (k q : List ℕ) (ks : List (List ℕ)) → has_key q ks ≡ true → has_key q (k ∷ ks) ≡ true
 has_more k q ks h = or_right (bytes_eq k q) _ h
 
@@ -37,7 +37,7 @@ same_bytes k = (bytes_eq-Decides k k).1 refl
 has_first : (k : List ℕ) (ks : List (List ℕ)) → has_key k (k ∷ ks) ≡ true
 has_first k ks = rw (same_bytes k)
 
--- no two keys are alike
+-- if no key occurs twice, all keys differ
 pub keys_differ : (v : Values) (ks : List (List ℕ)) → twice_lines ks v ≡ [] → AllPairs (λ j k. j ≢ k) (keys_of v)
 keys_differ Nothing ks h = λ i j d lt past. absurd (omega arith)
 keys_differ (Section k n inner rest) ks h =
@@ -55,7 +55,7 @@ other_bytes : (k q : List ℕ) (b : Bool) → bytes_eq k q ≡ b → k ≢ q →
 other_bytes k q true e apart = absurd (apart ((bytes_eq-Decides k q).0 e))
 other_bytes k q false e apart = refl
 
--- a section among the values has a key of theirs, so it is apart from another key
+-- if a key differs from all keys of the values, it differs from the keys of their sections
 sections_apart : (v : Values) (q : List ℕ) → All (λ k. q ≢ k) (keys_of v) → All (λ s. q ≢ s.0) (sections_of v)
 sections_apart Nothing q h = All-nil (λ (s : List ℕ × Tree). q ≢ s.0)
 sections_apart (Section k n inner rest) q h =
@@ -69,7 +69,7 @@ found_later k shown rest s apart found = rw (other_bytes k s.0 (bytes_eq k s.0) 
 found_here : (k : List ℕ) (shown : Shown) (rest : Values) → cond (bytes_eq k k) (Some shown) (node_of k rest) ≡ Some shown
 found_here k shown rest = rw (same_bytes k)
 
--- what stands under a key is found under it
+-- if no key occurs twice, each section given with a key is what the key holds
 pub sections_found : (v : Values) (ks : List (List ℕ)) → twice_lines ks v ≡ [] → All (IsFound v) (sections_of v)
 sections_found Nothing ks h = All-nil (IsFound Nothing)
 sections_found (Section k n inner rest) ks h =

@@ -1,4 +1,4 @@
--- Looking a key up, and going over the sections.
+-- Lemmas about looking up a key, and iterating over the inner sections.
 use Rattle.lvm_text.proofs.Prelude.{ℕ, true, cond, List, [], Some, refl, ap, ◌∙◌, bytes_eq, and_parts, eqb-true, Values, Tree, node_of, sections_of, put, values_of, has_line, lines_agree, content_view, put_section, sections_in, Value, Entry}
 use Rattle.lvm_text.specs.declared.tree.Value.TheVariants as variants
 use Rattle.std.specs.Prelude.{◌≡◌, ◌∷◌}

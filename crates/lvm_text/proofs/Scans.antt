@@ -1,4 +1,4 @@
--- What the lengths of elements say of a text, and which lengths a spelled element has.
+-- The functions that find where an element ends are right, in both directions.
 use Rattle.lvm_text.proofs.Prelude.{ℕ, suc, Bool, true, false, cond, not, eqb, List, [], length, take, drop, Option, Some, None, refl, inl, inr, MatchOption, option_map, list_all, cond_both, and_parts, and_from, or_cases, not-true, not_from_false, eqb-true, or_left, or_right, code, is_line, is_word_byte, begins_word, is_plain, is_escapable, is_raw, newline_at, leading_word_bytes, raw_length}
 use Rattle.lvm_text.proofs.Cases.{mapped}
 use Rattle.std.specs.Prelude.{◌≡◌, ◌&&◌, ◌||◌, ◌∷◌, ◌++◌}
@@ -55,7 +55,7 @@ quote_first : (after : List ℕ) → raw_length (code "\"" ∷ after) ≡ Some 0
 quote_first [] = refl
 quote_first (a ∷ more) = refl
 
--- a plain byte is none of the three
+-- a plain byte is neither a quote nor a backslash nor a newline
 plain_parts : (b : ℕ) → is_plain b ≡ true → (eqb b (code "\"") ≡ false) × (eqb b (code "\\") ≡ false) × (eqb b (code "\n") ≡ false)
 plain_parts b h = three (eqb b (code "\"")) (eqb b (code "\\")) (eqb b (code "\n")) h where
   three : (x y z : Bool) → not (x || (y || z)) ≡ true → (x ≡ false) × (y ≡ false) × (z ≡ false)
@@ -86,7 +86,7 @@ pub record Raw (bs : List ℕ) (n : ℕ) : Type 0 where
   pub cut : bs ≡ take n bs ++ code "\"" ∷ drop (suc n) bs
   pub raw : is_raw (take n bs) ≡ true
 
--- one more plain byte before a raw text
+-- a plain byte in front of a string's raw text gives a string's raw text
 raw_more : (b : ℕ) (t : List ℕ) → is_plain b ≡ true → is_raw t ≡ true → is_raw (b ∷ t) ≡ true
 raw_more b [] p r = p
 raw_more b (c ∷ t) p r = or_left _ _ (and_from _ _ p r)

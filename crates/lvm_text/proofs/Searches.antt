@@ -1,4 +1,4 @@
--- The first position of a byte, as a length of what stands before it.
+-- The result of a search for a byte, as the number of bytes before it.
 use Rattle.lvm_text.proofs.Prelude.{ℕ, zero, suc, Bool, true, false, cond, not, eqb, List, [], length, get_or, take, drop, Option, Some, None, refl, sym, ap, ◌∙◌, arith, length-drop, option_map, is_some, is_none, and_parts, false_from_ne_true, eqb-true, ne_eqb, take_rest, drop-drop, code, is_line, is_end, is_escapable, newline_at, raw_length, is_escape}
 use Rattle.memchr.specs.Find.{is_byte, is_byte3, IsFirstByte}
 use Rattle.lvm_text.proofs.Boundaries.{first_of_drop}
@@ -30,7 +30,7 @@ pub is_line-newline_at : (xs : List ℕ) → is_none (newline_at xs) ≡ is_line
 is_line-newline_at [] = refl
 is_line-newline_at (b ∷ bs) = line_byte (eqb b (code "\n")) bs (is_line-newline_at bs)
 
--- the number, if any, and k more
+-- the number in an option, if any, plus k
 abbrev pub plus : ℕ → Option ℕ → Option ℕ
 plus k o = option_map (λ n. k + n) o
 
@@ -50,7 +50,7 @@ two : (o : Option ℕ) → option_map (λ n. suc (suc n)) o ≡ plus 2 o
 two None = refl
 two (Some n) = ap Some (omega arith)
 
--- a byte that is none of the three
+-- a byte that is neither a quote nor a backslash nor a newline counts as one more byte of a string
 raw_plain : (b : ℕ) (bs : List ℕ) → is_byte3 (code "\"") (code "\\") (code "\n") b ≡ false → raw_length (b ∷ bs) ≡ option_map suc (raw_length bs)
 raw_plain b bs h = by_tests (eqb b (code "\"")) (eqb b (code "\\")) (eqb b (code "\n")) bs refl refl refl h where
   by_tests : (x y z : Bool) (cs : List ℕ) → eqb b (code "\"") ≡ x → eqb b (code "\\") ≡ y → eqb b (code "\n") ≡ z → (x || y || z) ≡ false → raw_length (b ∷ cs) ≡ option_map suc (raw_length cs)
@@ -60,7 +60,7 @@ raw_plain b bs h = by_tests (eqb b (code "\"")) (eqb b (code "\\")) (eqb b (code
   by_tests false false false [] e f g h = rw e
   by_tests false false false (c ∷ cs) e f g h = rw (e, f, g)
 
--- the bytes before the first of the three
+-- all bytes before the first quote, backslash or newline count as bytes of a string
 pub raw_skip : (xs : List ℕ) (p : ℕ) → IsFirstByte (is_byte3 (code "\"") (code "\\") (code "\n")) xs (Some p) → raw_length xs ≡ plus p (raw_length (drop p xs))
 raw_skip [] p h = absurd (omega (arith, h.0.high))
 raw_skip (b ∷ bs) zero h = sym (plus_zero (raw_length (b ∷ bs)))
@@ -106,12 +106,12 @@ none_is None false h = absurd cc
 none_is (Some n) true h = absurd cc
 none_is o r h = refl
 
--- the test of the end, at a first byte
+-- the code's test for the end of a text is right if the first byte is a #
 pub is_end_comment : (bs : List ℕ) (o : Option ℕ) (r : Bool) → false ≡ eqb (length bs) 0 → get_or bs 0 0 ≡ code "#" → o ≡ newline_at (take (length bs - 1) (drop 1 bs)) → is_some o ≡ not r → r ≡ is_end bs
 is_end_comment [] o r e b h n = absurd cc
 is_end_comment (x ∷ bs) o r e b h n = none_is o r n ∙ ap is_none (h ∙ ap newline_at (take_rest (x ∷ bs) 1)) ∙ is_line-newline_at bs ∙ rw b
 
--- The search of a string's end, at position i of all its bytes
+-- The search for the end of a string, from position i of the bytes on
 
 abbrev pub Stop : List ℕ → ℕ → Option ℕ → Type 0
 Stop bs i r = IsFirstByte (is_byte3 (code "\"") (code "\\") (code "\n")) (take (length bs - i) (drop i bs)) r

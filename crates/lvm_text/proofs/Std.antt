@@ -1,4 +1,4 @@
--- The words and lemmas of std that proofs of this crate cite, from one place.
+-- The names and lemmas from std that this crate's proofs use, in one place.
 pub use Rattle.std.proofs.Common.{All, AllPairs, Bool, List, None, Option, Some, [], add-one, add-zero, ap, append_assoc, arith, cond, drop, eqb, false, get_or, inl, inr, length, length-append, length-drop, min, nat_lt, not, refl, rules, subst, suc, sym, take, true, true≢false, zero, zero-add, ℕ, ◌&&◌, ◌*◌, ◌+◌, ◌++◌, ◌-◌, ◌<◌, ◌^◌, ◌||◌, ◌∙◌, ◌∷◌, ◌≡◌, ◌≢◌, ◌≤◌, ◌⊎◌}
 pub use Rattle.std.proofs.lemmas.Bool.{and_from, and_parts, cases_Bool, cases_lt, cond_both, eq-eqb, eqb-true, false_from_ne_true, lt-ltb, ne_eqb, not-true, not_from_false, or_cases, or_left, or_right}
 pub use Rattle.std.proofs.lemmas.Bool.Decides.{nat_tests}

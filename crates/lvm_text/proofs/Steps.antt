@@ -1,4 +1,4 @@
--- The tokens before a position, at it and after it.
+-- Tokens split at a position: before it, at it and after it.
 use Rattle.lvm_text.proofs.Prelude.{ℕ, zero, suc, false, List, [], length, get_or, take, drop, Some, None, refl, sym, ap, ◌∙◌, arith, inl, inr, add-one, option_and_then, MatchOption-at_some, take_all, IsSyntaxLine, State, stage_after, run, is_over, token_view, view, views, Stage}
 use Rattle.lvm_text.specs.declared.token.TokenAtLine.{TokenAtLine}
 use Rattle.lvm_text.specs.declared.syntax.Stage.TheVariants as at

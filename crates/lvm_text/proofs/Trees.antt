@@ -6,7 +6,7 @@ use Rattle.lvm_text.proofs.Bounds.{bounded_text}
 use Rattle.lvm_text.proofs.Beginnings.{text_from}
 use Rattle.std.specs.Prelude.{◌≡◌, ◌≢◌, ◌∷◌}
 
--- no check of tokens finds a fault of tokens or of syntax, or runs out of memory
+-- the fault is one of a check that runs after those of tokens and of syntax, and not one of memory
 abbrev IsLater : TextFault → Type 0
 IsLater (fault.Token n) = ⊥
 IsLater (fault.Syntax n) = ⊥
@@ -60,7 +60,7 @@ first_head : (ns : List ℕ) (n : ℕ) (fault : ℕ → TextFault) → head_line
 first_head [] n fault e = absurd cc
 first_head (m ∷ ns) n fault e = rw (same_Some _ _ e)
 
--- the fault of keys, where no other check hits
+-- if no brace is too deep and no integer out of range, the fault is that of the first key that occurs twice
 fault_twice : (ts : List TokenAtLine) (v : Values) → None ≡ head_line (deep_lines 0 ts) → None ≡ head_line (number_lines Close ts) → fault_of ts v ≡ first_line (λ n. fault.KeyTwice n) (twice_lines [] v) None
 fault_twice ts v deep number =
     rw (no_head (deep_lines 0 ts) deep, no_head (number_lines Close ts) number)

@@ -1,4 +1,4 @@
--- Keys that stand twice: those of the entries read so far, and the first that a new key hits.
+-- Keys that occur twice: the keys of the entries read so far, and the first new key that equals one of them.
 use Rattle.lvm_text.proofs.Prelude.{ℕ, Bool, true, false, cond, List, [], Option, Some, refl, sym, ap, ◌∙◌, append_assoc, bytes_eq, is_some, or_right, Word, Open, Equals, ListOpen, TokenAtLine, Values, Nothing, Section, Single, Several, ReadsBy, head_line, hit, has_key, twice_lines, inner_lines, bounded_of, begins_key, is_open, before, IsTwice, IsTwiceInside, put, values_of, position_of, Value, Entry, TextFault}
 use Rattle.std.proofs.Math.Bool.{or-false}
 use Rattle.lvm_text.specs.declared.tree.Value.TheVariants as variants
@@ -6,7 +6,7 @@ use Rattle.lvm_text.specs.declared.fault.TextFault.TheVariants as fault
 use Rattle.lvm_text.proofs.Building.{ValuesSoFar, before_push, before_all, no_values, same_key, opened}
 use Rattle.std.specs.Prelude.{◌≡◌, ◌+◌, ◌||◌, ◌∷◌, ◌++◌}
 
--- the keys of entries, before these
+-- the keys of the entries, latest first, in front of the keys ks
 abbrev pub keys_after : List Entry → List (List ℕ) → List (List ℕ)
 keys_after [] ks = ks
 keys_after (e ∷ es) ks = keys_after es (e.key.now ∷ ks)
@@ -19,7 +19,7 @@ twice_put : (ks : List (List ℕ)) (k : List ℕ) (n : ℕ) (value : Value) (res
 twice_put ks k n (variants.Section s) rest = refl
 twice_put ks k n value rest = refl
 
--- the lines of entries, and of the values after them
+-- the lines of keys that occur twice among entries and later values
 twice_before : (es : List Entry) (ks : List (List ℕ)) (left : Values) → twice_lines ks (before es left) ≡ twice_lines ks (values_of es) ++ twice_lines (keys_after es ks) left
 twice_before [] ks left = refl
 twice_before (e ∷ es) ks left =
@@ -30,7 +30,7 @@ twice_before (e ∷ es) ks left =
     let after = twice_lines (keys_after es (k ∷ ks)) left in
     rw (twice_put ks k n e.node.value (values_of es)) (cc (twice_put ks k n e.node.value (before es left), twice_before es (k ∷ ks) left, append_assoc inside own after, hit_append (has_key k ks) n (inside ++ own) after))
 
--- a key is among those of entries where it has a position
+-- one step of: a key has a position among entries exactly if it is among their keys
 has_step : (b : Bool) (first : ℕ) (position : Option ℕ) (old : Bool) → (is_some position || (b || old)) ≡ (is_some (cond b (Some first) position) || old)
 has_step true first position old = or_right (is_some position) true refl
 has_step false first position old = refl
@@ -42,7 +42,7 @@ has_after (e ∷ es) ks key first = has_after es (e.key.now ∷ ks) key (first +
 has_position : (es : List Entry) (key : List ℕ) (b : Bool) → b ≡ is_some (position_of key 0 es) → has_key key (keys_after es []) ≡ b
 has_position es key b e = has_after es [] key 0 ∙ or-false (is_some (position_of key 0 es)) ∙ sym e
 
--- the values read so far
+-- if no key of the entries occurs twice, the lines are those of the values that are left
 twice_left : (es : List Entry) (left : Values) → twice_lines [] (values_of es) ≡ [] → twice_lines [] (before es left) ≡ twice_lines (keys_after es []) left
 twice_left es left h = rw (twice_before, h)
 
@@ -56,7 +56,7 @@ differ_push es e h new inside =
     ∙ twice_put (keys_after es []) e.key.now e.node.line e.node.value Nothing
     ∙ hit_nothing (has_key e.key.now (keys_after es [])) e.node.line (inner_lines e.node.value) (has_position es e.key.now false new) inside
 
--- a key of entries that stands here again
+-- if the next key is among the keys before it, the first line is that of this key
 head_hit : (k key : List ℕ) (n line : ℕ) (ks : List (List ℕ)) (later : List ℕ) → k ≡ key → line ≡ n → has_key key ks ≡ true → head_line (hit (has_key k ks) n later) ≡ Some line
 head_hit k key n line ks later same at has = rw (same, sym at, has)
 
@@ -85,7 +85,7 @@ head_first (x ∷ xs) ys n e = e
 hit_later : (b : Bool) (n line : ℕ) (inside later : List ℕ) → b ≡ false → head_line inside ≡ Some n → head_line (hit b line (inside ++ later)) ≡ Some n
 hit_later b n line inside later new e = rw new (head_first inside later n e)
 
--- a key that stands twice inside the section read last
+-- a key that occurs twice in the section read last is the first fault of the values so far
 pub twice_inside : (start : List TokenAtLine) (es : List Entry) (rest tokens : List TokenAtLine) (key : List ℕ) (line : ℕ) (f : TextFault) → ValuesSoFar start es rest → rest ≡ (Word key, line) ∷ tokens → twice_lines [] (values_of es) ≡ [] → false ≡ is_some (position_of key 0 es)
     → IsTwiceInside line tokens f → IsTwice start f
 twice_inside start es rest tokens key line (fault.KeyTwice n) so_far same differ new inside = λ v more r stop.
@@ -95,7 +95,7 @@ twice_inside start es rest tokens key line (fault.KeyTwice n) so_far same differ
 twice_inside start es rest tokens key line fault.Memory so_far same differ new inside = tt
 twice_inside start es rest tokens key line f so_far same differ new inside = absurd inside
 
--- a key that stands twice inside the section that opens here
+-- a key that occurs twice in a section that begins here is a fault inside that section
 pub twice_opened : (line : ℕ) (tokens : List TokenAtLine) (first : TokenAtLine) (inner : List TokenAtLine) (f : TextFault) → tokens ≡ first ∷ inner → is_open first.0 ≡ true → IsTwice inner f → IsTwiceInside line tokens f
 twice_opened line tokens first inner (fault.KeyTwice n) e o twice = λ k v more r stop.
     let x = opened line tokens first inner e o k v more r stop in

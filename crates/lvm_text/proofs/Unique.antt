@@ -1,13 +1,13 @@
--- A text says one thing: one tree, or one fault.
+-- A text has only one tree, or only one fault.
 use Rattle.lvm_text.proofs.Prelude.{ℕ, true, false, List, [], Some, None, refl, sym, ap, subst, ◌∙◌, append_assoc, inl, inr, Result, Ok, Err, IfOk, IfErr, same_Some, some_pair_parts, append-nil, Token, Word, Open, Close, ListOpen, ListClose, Equals, Comma, TokenAtLine, Scalar, Values, Nothing, Section, Single, Several, Tree, scalar_of, ReadsList, ReadsMore, Reads, IsText, BeginsText, IsBreak, IsSyntaxLine, begins_key, Spells, IsBadToken, newlines, Describes, IsBadSyntax, IsUnsound, HasFault, Answers, TextFault}
 use Rattle.lvm_text.specs.declared.fault.TextFault.TheVariants as fault
 use Rattle.lvm_text.proofs.Cuts.{one_spelling, spelled_no_bad, one_bad}
 use Rattle.lvm_text.proofs.Building.{SameKey, same_key, list_same}
 use Rattle.std.specs.Prelude.{◌≡◌, ◌≢◌, ◌+◌, ◌∷◌, ◌++◌, ◌⊎◌}
 
--- One tree
+-- Only one tree
 
--- scalars and the rest after them are equal
+-- two results are the same, and the tokens after them are the same
 abbrev One : {X : Type 0} → X → X → List TokenAtLine → List TokenAtLine → Type 0
 One v w m n = (v ≡ w) × (m ≡ n)
 
@@ -39,7 +39,7 @@ list_one (s ∷ ss) (x ∷ xs) ts m n h k =
     let rest = more_one ss xs h.2 m n h.5 (rw b.1 k.5) in
     (rw (scalar_same h.1 k.1 s x b.0 h.4 k.4, rest.0), rest.1)
 
--- a key stands where no values are left
+-- a key can't come where no values are left
 key_left : (k : List ℕ) (n : ℕ) (ts us more : List TokenAtLine) → ts ≡ more → ts ≡ (Word k, n) ∷ us → begins_key more ≡ false → ⊥
 key_left k n ts us more e h stop = let wrong : true ≡ false = sym (ap begins_key h) ∙ ap begins_key e ∙ stop in cc
 
@@ -94,12 +94,12 @@ reads_one (Several a l s r) (Several b j x z) ts m n h k p q =
 pub one_text : (ts : List TokenAtLine) (v w : Values) → IsText ts v → IsText ts w → v ≡ w
 one_text ts v w h k = (reads_one v w ts [] [] h k refl refl).0
 
--- One line of a fault of syntax
+-- Only one line of a syntax fault
 
 shorter_front : (xs ys : List TokenAtLine) → BeginsText (xs ++ ys) → BeginsText xs
 shorter_front xs ys h = record { more = ys ++ h.more; values = h.values; text = rw (← append_assoc xs ys h.more) h.text }
 
--- a break is in no beginning of a text
+-- tokens that include a break aren't the beginning of a text
 no_break : (before : List TokenAtLine) (t : TokenAtLine) (after ts : List TokenAtLine) → ts ≡ before ++ t ∷ after → ¬ (BeginsText (before ++ t ∷ [])) → ¬ (BeginsText ts)
 no_break before t after ts e broken h =
     broken (shorter_front (before ++ t ∷ []) after (subst BeginsText (e ∙ sym (append_assoc before (t ∷ []) after)) h))
@@ -111,7 +111,7 @@ pub no_syntax : (ts : List TokenAtLine) (v : Values) (end n : ℕ) → IsText ts
 no_syntax ts v end n h (inl b) = no_break b.before (b.token, n) b.after ts b.whole b.broken (text_front ts v h)
 no_syntax ts v end n h (inr u) = u.0.unfinished v h
 
--- two positions in a list: one, or one before the other
+-- two positions in a list are the same, or one is before the other
 abbrev Positions : List TokenAtLine → TokenAtLine → List TokenAtLine → TokenAtLine → Type 0
 Positions b x c y = (x ≡ y) ⊎ (((d : List TokenAtLine) × (c ≡ b ++ x ∷ d)) ⊎ ((d : List TokenAtLine) × (b ≡ c ++ y ∷ d)))
 
@@ -137,9 +137,9 @@ one_line ts end m n (inl h) (inr u) = absurd (no_break h.before (h.token, m) h.a
 one_line ts end m n (inr u) (inl k) = absurd (no_break k.before (k.token, n) k.after ts k.whole k.broken u.0.begun)
 one_line ts end m n (inr u) (inr w) = u.1 ∙ sym w.1
 
--- One answer
+-- Only one result
 
--- a text of the grammar, and its values
+-- the text's tokens are a text of the grammar with values v
 record Read (text : List ℕ) (ts : List TokenAtLine) (v : Values) : Type 0 where
   spelled : Spells text ts
   grammar : IsText ts v
@@ -161,7 +161,7 @@ tree_same t u e f = rw (e, f)
 pub one_tree : (text : List ℕ) (t u : Tree) → Describes text t → Describes text u → t ≡ u
 one_tree text t u h k = tree_same t u (h.top ∙ sym k.top) (values_one text h.tokens k.tokens t.values u.values (described_read text t h) (described_read text u k)).1
 
--- a text that is no text of the grammar
+-- a text can't both have bad syntax and be a text of the grammar
 syntax_read : (text : List ℕ) (n : ℕ) (ts : List TokenAtLine) (v : Values) → IsBadSyntax text n → Read text ts v → ⊥
 syntax_read text n ts v h k =
     no_syntax ts v (1 + newlines text) n k.grammar (rw (← one_spelling text h.tokens ts h.spelled k.spelled) h.found)
@@ -187,7 +187,7 @@ no_fault text t (fault.Syntax n) h k = syntax_read text n h.tokens t.values k (d
 no_fault text t fault.Memory h k = k
 no_fault text t f h k = sound_unsound text t f h k
 
--- a bad token, bad syntax or an unsound text is the one fault
+-- a text whose first fault is a bad token has no other fault; and below, for the other kinds of fault
 token_first : (text : List ℕ) (m : ℕ) (g : TextFault) → IsBadToken text m → HasFault text g → fault.Token m ≡ g
 token_first text m (fault.Token n) h k = rw (one_bad text m n h k)
 token_first text m fault.Memory h k = absurd k
@@ -211,7 +211,7 @@ one_fault text (fault.Syntax m) g h k = syntax_first text m g h k
 one_fault text fault.Memory g h k = absurd h
 one_fault text f g h k = unsound_first text f g h k
 
--- What is answered truly is the one answer
+-- A result that is right is the only one
 
 pub only_tree : (text : List ℕ) (r : Result Tree TextFault) → IfOk r (Describes text) → IfErr r (λ f. f ≢ fault.Memory → HasFault text f) → (t : Tree) → Describes text t → Answers r (Ok t)
 only_tree text (Ok s) a b t h = rw (one_tree text s t a h)

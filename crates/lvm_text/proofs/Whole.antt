@@ -1,4 +1,4 @@
--- Every text says a tree, or has a fault.
+-- Every text describes a tree or has a fault.
 use Rattle.lvm_text.proofs.Prelude.{ℕ, zero, suc, false, List, [], length, Option, Some, None, refl, sym, ◌∙◌, inl, inr, append_assoc, arith, cases_Bool, append-nil, TokenAtLine, Values, Tree, Element, Spells, IsBadToken, is_end, newlines, spelling, put_token, element_at, IsText, IsSyntaxLine, State, stage_after, run, is_over, fault_of, Describes, HasFault, TextFault}
 use Rattle.lvm_text.specs.declared.syntax.Stage.TheVariants as at
 use Rattle.lvm_text.specs.declared.fault.TextFault.TheVariants as fault
@@ -10,7 +10,7 @@ use Rattle.std.specs.Prelude.{◌≡◌, ◌+◌, ◌<◌, ◌∷◌, ◌++◌, 
 
 -- Tokens
 
--- the text spells tokens, or something in it is none
+-- the text spells tokens, or has a part that is no token
 abbrev Tokens : List ℕ → Type 0
 Tokens text = ((ts : List TokenAtLine) × Spells text ts) ⊎ ((n : ℕ) × IsBadToken text n)
 
@@ -31,7 +31,7 @@ tokens_within (suc n) text line tokens rest lt h =
 
 -- Syntax
 
--- the tokens are a text, or break at a line
+-- the tokens run through to the end, or have a syntax fault on some line
 abbrev Syntax : List TokenAtLine → ℕ → Type 0
 Syntax ts end = (run 0 at.Key ts ≡ Some done) ⊎ ((n : ℕ) × IsSyntaxLine ts end n)
 
@@ -52,7 +52,7 @@ syntax_from : (ts before : List TokenAtLine) (end : ℕ) (s : State) → run 0 a
 syntax_from [] before end s h = rw (append-nil before) (ended before end s h)
 syntax_from (t ∷ ts) before end s h = next_token before t ts end s (stage_after s.0 s.1 t.0) h refl (λ x e. syntax_from ts (before ++ t ∷ []) end x e)
 
--- The text
+-- The text as a whole
 
 abbrev Answer : List ℕ → Type 0
 Answer text = ((t : Tree) × Describes text t) ⊎ ((f : TextFault) × HasFault text f)

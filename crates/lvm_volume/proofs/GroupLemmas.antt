@@ -1,13 +1,13 @@
--- The checks of a group one after the other, and the fault of each.
+-- The checks of a group one after the other, and the faults that they find.
 use Rattle.lvm_volume.proofs.Prelude.{inl, inr, List, [], Option, Some, None, Result, Ok, Err, refl, ◌∙◌, Tree, Source, Memory, LoadFault, IsMemoryFault, first_fault, first_or, unless, Fields, Limits, name_faults, snapshot_faults, unknown_faults, faults_of_fields, Group, group_of, members_of, checks_of_parts, extent_faults, group_checks, unnamed, first_or-found, first_or-passed, unless-err}
 use Rattle.lvm_volume.proofs.checks.FaultKinds.{NoMemory, first_kind, of_walk, of_unknown, of_extents, of_snapshots, of_unnamed}
 use Rattle.std.specs.Prelude.{◌≡◌, ◌≢◌, ◌⊎◌, ◌∷◌}
 
--- what is returned where a fault is found
+-- the result that a call may have when it returned this fault: it ran out of memory, or the fault was found
 abbrev pub Refused : {X : Type 0} → LoadFault → Result X LoadFault → Type 0
 Refused fault said = (fault.kind ≡ Memory → IsMemoryFault Source fault) × (fault.kind ≢ Memory → said ≡ Err fault)
 
--- a check that finds a fault, or is out of memory
+-- a step found the fault, or ran out of memory; in both cases the call may return that fault
 pub refused_by : {X : Type 0} {found : Option LoadFault} {fault : LoadFault} {said : Result X LoadFault} → (found ≡ Some fault → Refused fault said) → (found ≡ Some fault) ⊎ IsMemoryFault Source fault → Refused fault said
 refused_by refused (inl is) = refused is
 refused_by refused (inr memory) = (λ kind. memory, λ other. absurd (other (rw memory)))
@@ -37,9 +37,9 @@ at_fields top fault found =
       λ other. rw (both_found (faults_of_fields Fields top) (faults_of_fields limits top) _ fault found),
     )
 
--- The later ones
+-- The checks after those of fields
 
--- what they find at a group
+-- the first fault that the later checks find in a group
 abbrev of_group : Group → Option LoadFault
 of_group group = first_or (name_faults group.physicals) (first_fault (checks_of_parts group))
 
@@ -75,7 +75,7 @@ at_parts top fault none names found = (
 pub accepted : (top : Tree) → of_both top ≡ None → first_or (name_faults (group_of top).physicals) None ≡ None → first_fault (checks_of_parts (group_of top)) ≡ None → unless (first_fault (group_checks top)) (group_of top) ≡ Ok (group_of top)
 accepted top none names parts = rw (past_names top none names, parts)
 
--- the check of names
+-- a fault of the check of device names is a fault of the whole call
 pub at_unnamed : {X : Type 0} (group : Group) (x : X) (fault : LoadFault) → first_or (unnamed group) None ≡ Some fault → Refused fault (unless (first_or (unnamed group) None) x)
 at_unnamed group x fault found = (
   λ memory. absurd (first_kind (unnamed group) fault (of_unnamed group.name (members_of group)) found memory),

@@ -1,9 +1,9 @@
--- What the steps from a text of metadata to its tables say together.
+-- Lemmas that join the steps from a metadata text to its devices and disks.
 use Rattle.lvm_volume.proofs.Prelude.{ℕ, List, [], Option, Some, None, Result, Ok, Err, IfErr, refl, sym, ap, ◌∙◌, IsUtf8, TextFault, Source, Memory, LoadFault, DeviceSpec, Disk, Tree, HasFault, Answers, first_fault, first_or, unless, Group, group_of, SaysTree, IsRefusedText, OfText, OfGroup, metadata_checks, group_checks, tables_of, text_fault, unnamed, unless-err, unless-ok}
 use Rattle.lvm_text.specs.declared.fault.TextFault.TheVariants as texts
 use Rattle.std.specs.Prelude.{◌≡◌, ◌≢◌, ◌∷◌, ◌++◌}
 
--- a check after others of which none finds anything, and after one that does
+-- if no earlier check finds a fault, the first fault is that of the last check
 pub last_check : (checks : List (List LoadFault)) (last : List LoadFault) → first_fault checks ≡ None → first_fault (checks ++ last ∷ []) ≡ first_or last None
 last_check [] last none = refl
 last_check ([] ∷ checks) last none = last_check checks last none
@@ -14,7 +14,7 @@ earlier_check [] last fault is = absurd cc
 earlier_check ([] ∷ checks) last fault is = earlier_check checks last fault is
 earlier_check ((found ∷ faults) ∷ checks) last fault is = is
 
--- the checks of a group, then the one of names
+-- a fault of the group's checks is the first fault of all checks, since device names are checked last
 pub refused_group : (top : Tree) (fault : LoadFault) → unless (first_fault (group_checks top)) (group_of top) ≡ Err fault → unless (first_fault (metadata_checks top)) (tables_of (group_of top)) ≡ Err fault
 refused_group top fault is =
     rw (earlier_check (group_checks top) (unnamed (group_of top)) fault (unless-err (first_fault (group_checks top)) (group_of top) fault is))
@@ -26,7 +26,7 @@ named_group top group is =
     ap (λ (g : Group). unless (first_or (unnamed g) None) (tables_of g)) (sym p.1)
     ∙ ap (λ (found : Option LoadFault). unless found (tables_of (group_of top))) (sym (last_check (group_checks top) (unnamed (group_of top)) p.0))
 
--- a fault of a group, and one of a text, as what refuses the source
+-- the result for a text's tree is the result for the text
 pub refused_tables : {X : Type 0} (source : List ℕ) (tree : Tree) (view : X → List DeviceSpec × List Disk) (result : Result X LoadFault) → SaysTree source tree
     → Answers Source view result (unless (first_fault (metadata_checks tree)) (tables_of (group_of tree))) → IfErr result (λ fault. fault.kind ≢ Memory → IsRefusedText source fault)
 refused_tables source tree view (Ok x) says answers = tt

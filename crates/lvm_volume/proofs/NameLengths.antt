@@ -1,8 +1,8 @@
--- How long a name is.
+-- The length of a name built from its parts.
 use Rattle.lvm_volume.proofs.Prelude.{ℕ, Bool, true, false, cond, List, [], length, length-append, arith, refl, count_by, option_map, sum_by-cons, code, NameParts, doubled, joined, with_hyphen}
 use Rattle.std.specs.Prelude.{◌≡◌, ◌+◌, ◌==◌, ◌∷◌, ◌++◌}
 
--- each hyphen counts twice
+-- doubling hyphens adds one byte for each
 pub length_doubled : (part : List ℕ) → length (doubled part) ≡ length part + count_by (λ b. b == code "-") part
 length_doubled [] = refl
 length_doubled (b ∷ part) =

@@ -1,4 +1,4 @@
--- A text of metadata describes at most one group, or is refused by at most one fault, and not both.
+-- A metadata text describes exactly one group or has exactly one fault, and never both.
 use Rattle.lvm_volume.proofs.Prelude.{ℕ, Bool, true, false, List, Option, None, Some, inl, inr, refl, sym, ap, ◌∙◌, IsUtf8, is_utf8, IsUtf8-from_is_utf8, is_utf8-from_IsUtf8, TextFault, LoadFault, DeviceSpec, Disk, Source, NotText, Tree, Describes, HasFault, every_text, one_tree, fault_at, first_fault, group_of, DescribesGroup, SaysTree, IsRefusedText, OfText, OfGroup, SaysOneThing, bad_byte_line, metadata_checks, tables_of, text_fault, NotUtf8}
 use Rattle.lvm_text.proofs.Unique.{no_fault as no_text_fault, one_fault as one_text_fault}
 use Rattle.std.specs.Prelude.{◌≡◌, ◌⊎◌}
@@ -29,7 +29,7 @@ one_refusal source f g (OfGroup tree says hit) (NotUtf8 b same_b) = absurd (b sa
 one_refusal source f g (OfGroup tree says hit) (OfText utf8 found has same_b) = absurd (no_text_fault source tree found says.says has)
 one_refusal source f g (OfGroup tree says hit) (OfGroup other says_other hit_other) = let same = checks_of_one source tree other says says_other in cc
 
--- Every text says something
+-- Every text describes a group or has a fault
 
 by_checks : (source : List ℕ) (tree : Tree) → SaysTree source tree → (found : Option LoadFault) → first_fault (metadata_checks tree) ≡ found
     → ((tables : List DeviceSpec × List Disk) × DescribesGroup source tables) ⊎ ((fault : LoadFault) × IsRefusedText source fault)

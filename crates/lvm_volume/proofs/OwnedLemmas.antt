@@ -1,4 +1,4 @@
--- What a text gives where images have some of its physical volumes.
+-- Lemmas about the result for a text when images with some of its physical volumes are at hand.
 use Rattle.lvm_volume.proofs.Prelude.{inl, inr, ℕ, suc, Bool, true, false, List, [], length, map, Option, None, Result, Ok, Err, refl, sym, ap, subst, ◌∙◌, codes, IsUtf8, is_utf8, IsUtf8-from_is_utf8, is_utf8-from_IsUtf8, TextFault, Source, Memory, NotText, LoadFault, Tree, sections_of, Describes, HasFault, every_text, one_tree, IsMemoryFault, fault_at, first_fault, first_or, unless, OwnedFault, DiskFault, Group, Keyed, device_of, first_section, group_of, physical_of, Owners, id_in, ids_of, owned_group, physicals_of, untaken, bad_byte_line, metadata_checks, Gives, GivesOneThing, OfTree, OwnedAnswers, Tables, of_load, owned_tables, unless_untaken, group_checks, tables_of, text_fault, unnamed, unless-ok}
 use Rattle.lvm_text.specs.declared.fault.TextFault.TheVariants as texts
 use Rattle.lvm_text.proofs.Unique.{no_fault as no_text_fault, one_fault as one_text_fault}
@@ -13,7 +13,7 @@ count_both : {X Y : Type 0} (f : Keyed → X) (g : Keyed → Y) (xs : List Keyed
 count_both f g [] = refl
 count_both f g (x ∷ xs) = ap (λ (n : ℕ). suc n) (count_both f g xs)
 
--- each physical volume has an id
+-- there are as many ids as physical volumes
 pub ids_counted : (top : Tree) (ids : List (List ℕ)) (group : Group) → ids ≡ ids_of top → unless (first_fault (group_checks top)) (group_of top) ≡ Ok group → length ids ≡ length group.physicals
 ids_counted top ids group are is =
     let sections : List Keyed = physicals_of top in
@@ -32,14 +32,14 @@ earlier_found [] last group x fault is = absurd cc
 earlier_found ([] ∷ checks) last group x fault is = earlier_found checks last group x fault is
 earlier_found ((found ∷ faults) ∷ checks) last group x fault is = let same : found ≡ fault = cc in rw same refl
 
--- a check of the group finds a fault
+-- if all disks can be used and a check of the group finds a fault, that is the result
 pub said_refused : (owners : Owners) (top : Tree) (fault : LoadFault) → untaken (physicals_of top) owners.names 0 owners.ids ≡ None → unless (first_fault (group_checks top)) (group_of top) ≡ Err fault
     → Err (Load fault) ≡ owned_tables owners top
 said_refused owners top fault none is =
     said_known owners top (Err fault) none
     (earlier_found (group_checks top) (unnamed (group_of top)) (group_of top) (tables_of (owned_group owners (ids_of top) (group_of top))) fault is)
 
--- no check of the group does: what its tables are is what is said
+-- if all disks can be used and no check of the group finds a fault, the result is that of the renamed group's tables
 pub said_tables : (owners : Owners) (top : Tree) (ids : List (List ℕ)) (group owned : Group) (said : Result Tables LoadFault) → ids ≡ ids_of top → untaken (physicals_of top) owners.names 0 owners.ids ≡ None → unless (first_fault (group_checks top)) (group_of top) ≡ Ok group
     → owned ≡ owned_group owners ids group → unless (first_or (unnamed owned) None) (tables_of owned) ≡ said → of_load said ≡ owned_tables owners top
 said_tables owners top ids group owned said are none is same tables =
@@ -50,7 +50,7 @@ said_tables owners top ids group owned said are none is same tables =
     ∙ ap (λ (g : Group). unless (first_or (unnamed g) None) (tables_of g)) (sym e)
     ∙ tables)
 
--- ---- what is returned
+-- ---- the result of the call
 
 pub answers_by : {X : Type 0} (view : X → Tables) (P Q : Result Tables OwnedFault → Type 0) → ((said : Result Tables OwnedFault) → P said → Q said) → (result : Result X OwnedFault) → OwnedAnswers view P result → OwnedAnswers view Q result
 answers_by view P Q f (Ok x) is = f (Ok (view x)) is
@@ -68,7 +68,7 @@ said_text owners source found fault utf8 is has = (
   λ other. OfText utf8 found (has (λ same. other (ap (λ (f : LoadFault). f.kind) is ∙ ap (λ (f : TextFault). (text_fault f).kind) same))) (ap (λ (f : LoadFault). let r : Result Tables OwnedFault = Err (Load f) in r) is),
 )
 
--- ---- every text gives one thing
+-- ---- every text has exactly one result
 
 pub gives_one : (owners : Owners) (source : List ℕ) (a b : Result Tables OwnedFault) → Gives owners source a → Gives owners source b → a ≡ b
 gives_one owners source a b (NotUtf8 x same_a) (NotUtf8 y same_b) = same_a ∙ sym same_b

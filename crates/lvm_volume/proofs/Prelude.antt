@@ -1,4 +1,4 @@
--- The words and lemmas that proofs cite, from one place.
+-- The names and lemmas that proofs use, in one place.
 pub use Rattle.dm_table.proofs.FaultLemmas.{first_or-found, first_or-none, first_or-passed, unless-err, unless-ok}
 pub use Rattle.dm_table.proofs.Lists.{all_append, all_changed, append-nil_both}
 pub use Rattle.dm_table.proofs.Std.{AllByRecursion, AllPairs, BTreeMap, Bool, Err, HasTextAt, IfErr, IfOk, IfSome, IsErrAnd, IsSome, IsTrue, IsUtf8, IsUtf8-from_is_utf8, LacksTextAt, Less, List, MatchOption, None, Ok, Option, Result, Some, Updates, [], and_from, and_parts, and_right, ap, append-nil, append_assoc, ap₂, arith, bytes_eq, bytes_eq-Decides, cases_lt, cases_order, codes, common_steps, cond, cond_both, count_by, decimal, drop, drop-append_seam, drop-cons, drop_all, drop_more, either_empty_from_Zip, enumerate_from, eq-eqb, eqb, eqb-false, eqb-true, err_from_is_err_and, false, filter, flat_map, ge_from_not_lt, get, get_by, get_or, get_or-append_seam, get_or-set_other, get_or-set_same, get_or_append_left, inl, inr, is_at, is_none, is_some, is_utf8-from_IsUtf8, iter_rest, le-leb, le-ltb, leb-true, length, length-append, length-set, list_all, list_any, lt-leb, lt-ltb, ltb-false, ltb-true, map, map_push, mul-le-mul_right, nat_cmp, nat_le, nat_lt, nat_tests, ne_eqb, none-some, not, not-false, option_and_then, option_map, or_parts, or_right, position, position_from, position_or_len, prefix_len-le-length, range_with_len, refl, result_err, rules, same_Some, set, slice_cmp, slice_get, slice_index_or, string_bytes, subst, suc, sum_by-cons, sym, take, take-append-drop, take-append_seam, take_more, text_counts, true, unwrap_or, zero, zip, zip_first, zip_second, ℕ, ◌∙◌}

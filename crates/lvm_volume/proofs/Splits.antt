@@ -1,11 +1,11 @@
--- A name is cut in one way, and its slices are its parts doubled.
+-- A name is cut in one way only, and its slices are its parts with hyphens doubled.
 use Rattle.lvm_volume.proofs.Prelude.{ℕ, suc, Bool, true, false, cond, eqb, List, [], length, take, drop, Option, Some, None, refl, sym, ap, subst, ◌∙◌, zero, get_or, arith, append_assoc, drop-cons, length-append, Result, Err, IfSome, IsTrue, option_map, MatchOption, option_and_then, is_none, nat_le, list_all, LacksTextAt, HasTextAt, cond_both, eqb-true, and_parts, and_from, leb-true, le-leb, lt-leb, nat_tests, append-nil, take_more, take-append-drop, drop_more, same_Some, drop-append_seam, take-append_seam, code, is_device_byte, is_device_name, NameParts, built, Returns, is_letter, begins_with, part_fault, layer_fault, or_later, doubled, undoubled, undoubled_parts, with_hyphen, joined, fault_of, Builds, IsSplit, doubled_parts, slice_length, first_slice, after_hyphen, later_slices, with_layer, slices_of, NameFault}
 use Rattle.std.specs.Prelude.{◌≡◌, ◌≢◌, ◌+◌, ◌<◌, ◌≤◌, ◌&&◌, ◌∷◌, ◌++◌}
 use denote.Ref.{Bor}
 use Rattle.dm_table.proofs.ByteLemmas.{list_all-both}
 use Rattle.lvm_volume.specs.declared.fault.NameFault.TheVariants.{Letter, HyphenFirst, Empty, Long, Memory}
 
--- Doubled parts
+-- Parts with hyphens doubled
 
 plain_length : (b : ℕ) (bs : List ℕ) → eqb b (code "-") ≡ false → slice_length (b ∷ bs) ≡ suc (slice_length bs)
 plain_length b [] e = rw e
@@ -29,7 +29,7 @@ doubled-append (b ∷ xs) ys =
     (λ e. rw (e, doubled-append xs ys))
     (λ e. rw (e, doubled-append xs ys))
 
--- a byte of a part after those of its front
+-- doubling the first i + 1 bytes of a part adds the doubled byte i to the first i doubled
 pub doubled_more : (xs : List ℕ) (i : ℕ) → i < length xs → doubled (take (i + 1) xs) ≡ doubled (take i xs) ++ doubled (get_or xs i 0 ∷ [])
 doubled_more xs i lt = ap doubled (take_more xs i 0 lt) ∙ doubled-append (take i xs) (get_or xs i 0 ∷ [])
 
@@ -61,7 +61,7 @@ length_plain bs i lt plain e =
     let step : slice_length (drop i bs) ≡ suc (slice_length (drop (i + 1) bs)) = ap slice_length (drop_more bs i 0 lt) ∙ plain_length b (drop (i + 1) bs) (not_equal b (code "-") (eqb b (code "-")) refl plain) in
     omega (arith, e, step)
 
--- What is wrong with a part is wrong with it doubled
+-- A part has the same fault with its hyphens doubled
 
 not_zero : (n : ℕ) (b : Bool) → eqb (suc n) 0 ≡ b → b ≡ false
 not_zero n true e = let wrong : suc n ≡ 0 = eqb-true (suc n) 0 e in absurd (omega arith)
@@ -101,7 +101,7 @@ layer-doubled (Some []) = refl
 layer-doubled (Some (b ∷ w)) =
     rw ((ap (begins_with (code "_")) (sym (append-nil (doubled (b ∷ w)))) ∙ begins-doubled (code "_") b w []), part-doubled (b ∷ w))
 
--- the faults of parts
+-- the first fault of a name's parts
 abbrev pub parts_faults : NameParts → Option NameFault
 parts_faults p = or_later (part_fault p.vg) (or_later (part_fault p.lv) (layer_fault p.layer))
 
@@ -113,14 +113,14 @@ or_whole : (a b c d : Option NameFault) → or_later a (or_later b (or_later c d
 or_whole None None c d = refl
 or_whole a b c d = refl
 
--- the fault of the whole
+-- Long if the whole name has more than 127 bytes
 abbrev pub long_fault : NameParts → Option NameFault
 long_fault p = cond (nat_le (length (joined p)) 127) None (Some Long)
 
 pub fault_parts : (p : NameParts) → fault_of p ≡ or_later (parts_faults p) (long_fault p)
 fault_parts p = or_whole (part_fault p.vg) (part_fault p.lv) (layer_fault p.layer) (long_fault p)
 
--- Building
+-- Building a name
 
 pub fault_first : (p : NameParts) (f : NameFault) → Some f ≡ parts_faults p → Some f ≡ fault_of p
 fault_first p f e = ap (λ (o : Option NameFault). or_later o (long_fault p)) e ∙ sym (fault_parts p)
@@ -195,7 +195,7 @@ fault_built p f e = returns_fault f (built p) (rw (fault_parts p, ← e))
 
 -- The front of a name
 
--- nothing, or one hyphen that none follows
+-- the bytes are empty, or begin with a single hyphen
 abbrev IsEnd : List ℕ → Type 0
 IsEnd [] = Unit {0}
 IsEnd (b ∷ bs) = (b ≡ code "-") × (begins_with (code "-") bs ≡ false)
@@ -212,14 +212,14 @@ length_doubled (b ∷ w) rest h =
     (λ e. rw (length_doubled w rest h))
     (λ e. rw (← length_doubled w rest h) (plain_length b (doubled w ++ rest) e))
 
--- of a doubled part with an end after it
+-- the first slice of a doubled part, with a single hyphen or nothing after it, is the doubled part
 cut_first : (w rest : List ℕ) → IsEnd rest → first_slice (doubled w ++ rest) ≡ doubled w
 cut_first w rest h = rw (length_doubled w rest h) (take-append_seam (doubled w) rest)
 
 cut_later : (w rest : List ℕ) → IsEnd rest → later_slices (doubled w ++ rest) ≡ after_hyphen rest
 cut_later w rest h = ap after_hyphen (ap (λ n. drop n (doubled w ++ rest)) (length_doubled w rest h) ∙ drop-append_seam (doubled w) rest)
 
--- any text begins with a doubled part
+-- every text begins with a doubled part of n bytes
 record Front (bs : List ℕ) (n : ℕ) : Type 0 where
   pub part : List ℕ
   pub is : bs ≡ doubled part ++ drop n bs
@@ -275,12 +275,12 @@ after_is (b ∷ bs) None m =
     (λ e. refl)
 after_is bs (Some x) m = sym (ap after_hyphen m)
 
--- after a part comes nothing, or a hyphen and more
+-- bytes that are empty or begin with a single hyphen are that hyphen and the bytes after it, if any
 end_is : (bs : List ℕ) → IsEnd bs → bs ≡ with_hyphen (after_hyphen bs)
 end_is [] h = refl
 end_is (b ∷ bs) h = rw h.0
 
--- a text is a doubled part, and what comes after a hyphen
+-- every text is a doubled part, and perhaps a single hyphen and more
 record FirstSlice (bs : List ℕ) : Type 0 where
   pub part : List ℕ
   pub first : first_slice bs ≡ doubled part
@@ -297,7 +297,7 @@ first bs =
 
 -- The slices of a name
 
--- they are doubled parts, which spell it
+-- the slices are doubled parts, and these parts, joined, are the name
 record Sliced (name : List ℕ) (s : NameParts) : Type 0 where
   pub parts : NameParts
   pub are : s ≡ doubled_parts parts
@@ -381,7 +381,7 @@ pub parts_back : (p : NameParts) → undoubled_parts (doubled_parts p) ≡ p
 parts_back p =
     rw (undoubled-doubled p.vg, undoubled-doubled p.lv, layer_back p.layer)
 
--- The clauses
+-- The clauses of `split_name`
 
 pub one_split : (name : List ℕ) (p q : NameParts) → Builds p name → Builds q name → p ≡ q
 one_split name p q h k =
@@ -418,7 +418,7 @@ some_split name s None e is n le =
     let fine : parts_faults d.parts ≡ None = sym (parts-doubled d.parts) ∙ ap parts_faults (sym d.are) ∙ sym is in
     (d.parts, (rw (fault_parts d.parts, fine, short), sym d.spell), d.are)
 
--- Undoubling
+-- Undoubling hyphens
 
 apart_undoubled : (x : ℕ) (zs : List ℕ) → ((rest : List ℕ) → x ∷ zs ≢ code "-" ∷ code "-" ∷ rest) → undoubled (x ∷ zs) ≡ x ∷ undoubled zs
 apart_undoubled x [] h = refl

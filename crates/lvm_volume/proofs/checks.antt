@@ -1,4 +1,4 @@
--- Lemmas of the checks of a group, and what holds where they find nothing.
+-- Lemmas about the checks of a group, and about groups in which they find no fault.
 pub mod FaultKinds
 pub mod HoldLemmas
 pub mod OriginLemmas

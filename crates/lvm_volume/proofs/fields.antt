@@ -1,4 +1,4 @@
--- What a check of fields finds first, and steps of a reading.
+-- Lemmas about the first fault of a check of fields, and about the steps of a reader.
 pub mod Faults
 pub mod Steps
 pub mod TextLemmas

@@ -1,4 +1,4 @@
--- Lemmas of what a group's sections say, in their order.
+-- Lemmas about what a group's sections say.
 pub mod OwnersLemmas
 pub mod PhysicalLemmas
 pub mod PositionLemmas

@@ -1,3 +1,3 @@
--- Lemmas of the devices that are made of a group, and of their names.
+-- Lemmas about the devices that are made from a group, and about their names.
 pub mod MadeLemmas
 pub mod NamedLemmas

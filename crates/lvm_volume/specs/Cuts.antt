@@ -22,7 +22,7 @@ first_slice bs = take (slice_length bs) bs
 abbrev pub later_slices : List ℕ → Option (List ℕ)
 later_slices bs = after_hyphen (drop (slice_length bs) bs)
 
--- the parts of a name whose bytes after the volume are `rest`, if there are any: a layer without another single hyphen
+-- the parts of a name, where `rest` is what comes after the volume, if anything: it must be a single layer
 abbrev pub with_layer : List ℕ → List ℕ → Option (List ℕ) → Option NameParts
 with_layer vg lv None = Some (record { vg = vg; lv = lv; layer = None })
 with_layer vg lv (Some rest) = if is_none (later_slices rest) then Some (record { vg = vg; lv = lv; layer = Some (first_slice rest) }) else None

@@ -40,7 +40,7 @@ both_there : {X Y Z : Type 0} (make : X → Y → Z) (o : Option X) (p : Option 
 both_there make None p z h = absurd cc
 both_there make (Some x) p z h = let m = mapped (make x) p z h in (x, m.0, refl, m.1, m.2)
 
--- if a condition or else None gives a value, the condition is true
+-- if a choice between o and None gives a value, the condition is true and o is that value
 chosen : {X : Type 0} (b : Bool) (o : Option X) (x : X) → (if b then o else None) ≡ Some x → (b ≡ true) × (o ≡ Some x)
 chosen true o x h = (refl, h)
 chosen false o x h = absurd cc

@@ -73,7 +73,7 @@ devices_again n [] [] s = tt
 devices_again n (text ∷ texts) (device ∷ devices) s = (device_again n text device s.0, devices_again (suc n) texts devices s.1)
 devices_again n texts devices s = absurd s
 
--- the text written for devices that some text describes describes those devices, apart from places
+-- if some text describes these devices, the text written for them does too, apart from places
 written_says : (text : List ℕ) (said : List DeviceSpec) → DescribesConcise text said → DescribesConcise (concise_text said) (as_concise 1 said)
 written_says text said d = record {
   parts = map concise_device (as_concise 1 said);

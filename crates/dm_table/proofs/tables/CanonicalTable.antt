@@ -80,7 +80,7 @@ apart_as : (n : ℕ) (devices : List DeviceSpec) → DifferInName devices → Di
 apart_as n (device ∷ next ∷ devices) h = (h.0, apart_as (n + length device.lines) (next ∷ devices) h.1)
 apart_as n devices h = tt
 
--- the text written for devices that some text describes describes those devices, apart from places and flags
+-- if some text describes these devices, the text written for them does too, apart from places and read-only flags
 written_says : (text : List ℕ) (said : List DeviceSpec) → DescribesTable text said → DescribesTable (table_text said) (as_table 1 said)
 written_says text said d =
     let lines = map line_text (named_lines (as_table 1 said)) in

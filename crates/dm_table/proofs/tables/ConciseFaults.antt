@@ -64,7 +64,7 @@ device_read r n text es on_a_line line cut h =
     rw (line, cut, device_fault) in
     rw (← same) h
 
--- The slices of the entries
+-- The entries as slices
 
 pub few_entries : (n : ℕ) (on_a_line : Bool) (es : List (Bor (List ℕ))) → length es < 4 → entries_reading n on_a_line (texts es) ≡ Err Syntax
 few_entries n on_a_line (a ∷ b ∷ c ∷ d ∷ es) h = absurd (omega arith)

@@ -113,7 +113,7 @@ pub column_unknown : (fs : List (Bor (List ℕ))) (e : Bor (List ℕ)) → 2 ≤
 column_unknown (f ∷ g ∷ fs) e h n = rw n
 column_unknown fs e h n = absurd (omega arith)
 
--- the result for something made of a value is made of the value's result, if both have the same names
+-- the result for something made of a value is made of the value's result, if valid names stay valid and invalid ones invalid
 pub made_reading : {X Y : Type 0} (has_x : X → Bool) (has_y : Y → Bool) (make : X → Y) → ((x : X) → has_y (make x) ≡ has_x x) → (o : Option X) → reading_of has_y (option_map make o) ≡ made_of make (reading_of has_x o)
 made_reading has_x has_y make same None = refl
 made_reading has_x has_y make same (Some x) = rw (same x) (elim (cases_Bool (has_x x)) [
@@ -121,7 +121,7 @@ made_reading has_x has_y make same (Some x) = rw (same x) (elim (cases_Bool (has
   | inr e ↦ rw e
 ])
 
--- the arguments of a linear target are two fields
+-- a linear target with other than two arguments is a Field fault
 pub linear_none : (fs : List (Bor (List ℕ))) → length fs ≢ 2 → reading_of has_target_names (linear_in (texts fs)) ≡ Err Field
 linear_none (f ∷ g ∷ []) h = absurd (h refl)
 linear_none (f ∷ g ∷ k ∷ fs) h = long (number_of g.now) where

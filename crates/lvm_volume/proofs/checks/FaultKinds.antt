@@ -1,4 +1,4 @@
--- No check of a group finds a fault of memory.
+-- No fault that a check of a group finds is one of memory.
 use Rattle.lvm_volume.proofs.Prelude.{ℕ, Bool, true, false, List, [], length, codes, Option, Some, None, is_some, AllByRecursion, flat_map, range_with_len, Tree, Shown, node_of, sections_of, LoadKind, Memory, Name, Unknown, Extents, LoadFault, fault, faults_by, first_or, Check, Fields, Limits, Kind, Physical, Role, Segment, Volume, faults_of_fields, field_faults, fields_faults, group_faults, group_fields, is_asked, is_wrong, load_kind, missing, node_faults, number_at, one_group_faults, physical_fields, sections_at, segment_field, segment_fields, segments_of, source_faults, top_fields, volume_faults, volume_fields, Claim, at_line, claims_of, used_after, used_by, hit, is_misplaced, is_too_long, is_unknown, least_line_of, segment_faults, size_faults, snapshot_faults, source_line, unknown_faults, Group, Keyed, is_bad_snapshot, roles_of, fault_of, device_parts, layers_of, unnamed_layer, unnamed_volume}
 use Rattle.dm_table.specs.declared.load.place.Place.{Place}
 use Rattle.dm_table.specs.declared.load.load_fault.LoadKind.TheVariants as loads
@@ -21,12 +21,12 @@ pub each : {X : Type 0} (f : X → List LoadFault) → ((x : X) → NoMemory (f 
 each f h [] = tt
 each f h (x ∷ xs) = both (f x) (flat_map f xs) (h x) (each f h xs)
 
--- a fault where a test hits
+-- a fault on a line if a test is true is not one of memory
 if_hit : (b : Bool) (kind : LoadKind) (line : ℕ) → kind ≢ Memory → NoMemory (hit b kind line)
 if_hit true kind line h = (h, tt)
 if_hit false kind line h = tt
 
--- the faults of a kind at what is bad
+-- one fault in front of others, if a test is true: none is one of memory
 if_bad : (b : Bool) (one : LoadFault) (more : List LoadFault) → one.kind ≢ Memory → NoMemory more → NoMemory (if b then one ∷ more else more)
 if_bad true one more h left = (h, left)
 if_bad false one more h left = left
@@ -88,7 +88,7 @@ of_sections check line (group ∷ second ∷ more) = of_missing check second.1.l
 pub of_walk : (check : Check) (top : Tree) → NoMemory (faults_of_fields check top)
 of_walk check top = both (fields_faults check top top_fields) (one_group_faults check top.line (sections_of top.values)) (of_fields check top top_fields) (of_sections check top.line (sections_of top.values))
 
--- the checks of the parts of a group
+-- The checks of the parts of a group
 
 of_line : (kind : LoadKind) (line : Option ℕ) → kind ≢ Memory → NoMemory (at_line kind line)
 of_line kind None other = tt
@@ -113,7 +113,7 @@ pub of_extents : (group : Group) → NoMemory (size_faults group.extent_size gro
 of_extents group =
     both (size_faults group.extent_size group.physicals) (extents.volume_faults group.physicals [] group.volumes) (by_kind Extents (λ physical. source_line physical.line) (is_too_long group.extent_size) group.physicals (λ e. absurd cc)) (of_volumes group.physicals [] group.volumes)
 
--- the names of devices
+-- The names of devices
 
 pub of_unnamed : (group : List ℕ) (members : List (Role × Volume)) → NoMemory (flat_map (unnamed_volume group) members)
 unfolding unnamed_volume

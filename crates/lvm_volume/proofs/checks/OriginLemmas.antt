@@ -1,10 +1,10 @@
--- Where no check finds a fault, a snapshot's origin has that role.
+-- If no check finds a fault, the origin of every snapshot has the role Origin.
 use Rattle.lvm_volume.proofs.Prelude.{ℕ, zero, suc, Bool, true, false, cond, not, List, [], length, map, refl, sym, ap, subst, ◌∙◌, arith, filter, nat_lt, slice_index_or, AllByRecursion, enumerate_from, list_any, eq-eqb, eqb-true, ltb-true, not-false, or_parts, or_right, Record, Role, Segment, SegmentType, Volume, is_unknown, stripes_of, volumes_named, is_bad_snapshot, is_bad_target, is_record, is_store, recorded, records_of, role_at, role_by, role_of, roles_of, snapshot_of, unless_recorded, all_append, all_changed}
 use Rattle.lvm_volume.specs.declared.group.segment.SegmentType.TheVariants.{Snapshot}
 use Rattle.lvm_volume.specs.declared.group.roles.Role.TheVariants as roles
 use Rattle.std.specs.Prelude.{◌≡◌, ◌+◌, ◌<◌, ◌==◌, ◌∷◌, ◌++◌}
 
--- Lists
+-- Lists of snapshots
 
 pub all_paired : (P Q : Record → Type 0) (xs : List Record) → AllByRecursion P xs → AllByRecursion Q xs → AllByRecursion (λ snapshot. P snapshot × Q snapshot) xs
 all_paired P Q [] a b = tt
@@ -17,7 +17,7 @@ all_filtered P test (x ∷ xs) a = by_test (test x) refl (all_filtered P test xs
   by_test true is more = ((is, a.0), more)
   by_test false is more = more
 
--- each is among those with its origin
+-- some snapshot in the list has the same origin
 abbrev has_origin : List Record → Record → Type 0
 has_origin snapshots snapshot = list_any (λ other. other.origin == snapshot.origin) snapshots ≡ true
 
@@ -28,7 +28,7 @@ all_among (snapshot ∷ snapshots) = (
   all_changed (has_origin snapshots) (has_origin (snapshot ∷ snapshots)) snapshots (λ other is. or_right (snapshot.origin == other.origin) _ is) (all_among snapshots),
 )
 
--- What the checks leave of a record
+-- What the checks ensure about a snapshot
 
 record IsAllowed (count : ℕ) (all : List Role) (snapshot : Record) : Type 0 where
   there : snapshot.origin < count

@@ -1,4 +1,4 @@
--- What no check finds fault with fits 64 bits in sectors, and its stripes are on physical volumes that are there.
+-- In a group without faults, numbers fit 64 bits when counted in sectors, and stripes are on physical volumes that exist.
 use Rattle.lvm_volume.proofs.Prelude.{ℕ, suc, zero, Bool, true, false, not, List, [], length, map, Option, Some, None, refl, sym, ap, ◌∙◌, arith, mul-le-mul_right, nat_lt, codes, AllByRecursion, flat_map, list_any, range_with_len, ltb-false, ltb-true, or_parts, not-false, Tree, Shown, Content, Whole, Int, Text, node_of, sections_of, LoadKind, Extents, Unknown, LoadFault, first_or, first_fault, Fields, Limits, Kind, Always, Physical, Stripe, Segment, Volume, faults_of_fields, field, field_faults, fields_faults, group_faults, group_fields, is_far, most, number_at, number_in, held, one_group_faults, physical_fields, sections_at, segment_field, segment_fields, segments_of, top_fields, volume_faults, volume_fields, Claim, at_line, claims_of, used_after, used_by, extents_at, have_clash, hit, is_misplaced, is_unknown, least_line, least_line_of, lesser, meets, parts_of, segment_faults, size_faults, snapshot_faults, stripes_of, unknown_faults, claims_by, Keyed, device_of, first_section, group_in, physical_of, positions_in, segment_of, volume_of, is_bad_snapshot, roles_of, IsSegmentIn, IsSoundGroup, IsStripeIn, checks_of_parts, extent_faults, physical_at, first_or-none, append-nil_both}
 use Rattle.dm_table.specs.declared.load.load_fault.LoadKind.TheVariants as loads
 use Rattle.lvm_volume.specs.declared.group.positions.GroupPositions.{GroupPositions}
@@ -21,7 +21,7 @@ if-nil : (b : Bool) (x : LoadFault) → (if b then x ∷ [] else []) ≡ [] → 
 if-nil true x e = absurd cc
 if-nil false x e = refl
 
--- Integers in the limits
+-- Integers within the limits
 
 content-limit : (size : ℕ) (content : Content) → is_far size kinds.Extents content ≡ false → number_in content * size ≤ most
 content-limit size (Whole (Int n)) e = ltb-false most (n * size) (or_parts (nat_lt most n) _ e).1
@@ -45,14 +45,14 @@ number-limit size tree key e = by_node (node_of key tree.values) refl where
   by_node None is = rw is (omega arith)
   by_node (Some shown) is = let e2 = rw is at e in rw is (content-most size kinds.Number shown.content (if-nil _ _ e2))
 
--- a segment: its start and its length
+-- the start and the length of a segment are within the limit when counted in sectors
 pub segment-limits : (size : ℕ) (tree : Tree) → fields_faults (Limits size) tree segment_fields ≡ [] → (number_at (codes "start_extent") tree * size ≤ most) × (number_at (codes "extent_count") tree * size ≤ most)
 segment-limits size tree e =
     let a = append-nil_both (field_faults (Limits size) tree (field (codes "start_extent") kinds.Extents Always)) _ e in
     let b = append-nil_both (field_faults (Limits size) tree (field (codes "extent_count") kinds.Extents Always)) _ a.1 in
     (extents-limit size tree (codes "start_extent") a.0, extents-limit size tree (codes "extent_count") b.0)
 
--- a physical volume: its start and its extents
+-- the start of a physical volume, and its number of extents in sectors, are within the limit
 pub physical-limits : (size : ℕ) (tree : Tree) → fields_faults (Limits size) tree physical_fields ≡ [] → (number_at (codes "pe_start") tree ≤ most) × (number_at (codes "pe_count") tree * size ≤ most)
 physical-limits size tree e =
     let a = append-nil_both (field_faults (Limits size) tree (field (codes "device") kinds.Text Always)) _ e in
@@ -61,7 +61,7 @@ physical-limits size tree e =
     let d = append-nil_both (field_faults (Limits size) tree (field (codes "pe_count") kinds.Extents Always)) _ c.1 in
     (number-limit size tree (codes "pe_start") c.0, extents-limit size tree (codes "pe_count") d.0)
 
--- Physical volumes in the limits
+-- Physical volumes within the limits
 
 pub record IsSmall (size : ℕ) (physical : Physical) : Type 0 where
   pub start : physical.start ≤ most
@@ -74,13 +74,13 @@ small size devices (physical ∷ physicals) h =
     let a = physical-limits size physical.1 h.0 in
     (record { start = a.0; sectors = a.1 }, small size devices physicals h.1)
 
--- the one at a position
+-- the physical volume at a position is within the limits
 small_at : (size : ℕ) (physicals : List Physical) (i : ℕ) → AllByRecursion (IsSmall size) physicals → ((physical_at physicals i).start ≤ most) × (extents_at physicals i * size ≤ most)
 small_at size [] i h = (omega arith, omega arith)
 small_at size (physical ∷ physicals) zero h = (h.0.start, h.0.sectors)
 small_at size (physical ∷ physicals) (suc i) h = small_at size physicals i h.1
 
--- Volumes in the limits
+-- Logical volumes within the limits
 
 volume-limits : (size : ℕ) (volume : Tree) → volume_faults (Limits size) volume ≡ [] → AllByRecursion (λ segment. fields_faults (Limits size) segment segment_fields ≡ []) (segments_of volume)
 unfolding volume_faults
@@ -100,7 +100,7 @@ in-limits size group e =
     let b = append-nil_both (flat_map (λ (physical : Keyed). fields_faults (Limits size) physical.1 physical_fields) (sections_at (codes "physical_volumes") group)) _ a.1 in
     record { physicals = flat-nil _ (sections_at (codes "physical_volumes") group) b.0; volumes = flat-nil _ (sections_at (codes "logical_volumes") group) b.1 }
 
--- the one section at the top is in the limits
+-- the only section at the top of a text is within the limits
 pub one-in_limits : (size : ℕ) (top : Tree) (group : Keyed) → sections_of top.values ≡ group ∷ [] → first_or (faults_of_fields (Limits size) top) None ≡ None → InLimits size group.1
 unfolding one_group_faults
 one-in_limits size top group one e =
@@ -108,7 +108,7 @@ one-in_limits size top group one e =
     let a = append-nil_both (fields_faults (Limits size) top top_fields) _ all in
     in-limits size group.1 (sym (ap (one_group_faults (Limits size) top.line) one) ∙ a.1)
 
--- where the check of fields finds nothing there is one section
+-- if the check of fields finds no fault, the text has exactly one section at its top
 pub one_section : (top : Tree) → first_or (faults_of_fields Fields top) None ≡ None → sections_of top.values ≡ first_section (sections_of top.values) ∷ []
 unfolding one_group_faults
 one_section top e = by_list (sections_of top.values) (append-nil_both (fields_faults Fields top top_fields) _ (first_or-none (faults_of_fields Fields top) None e).0).1 where
@@ -118,11 +118,11 @@ one_section top e = by_list (sections_of top.values) (append-nil_both (fields_fa
 
 -- Stripes
 
--- a stripe begins within its physical volume
+-- each stripe begins within its physical volume
 abbrev BeginsIn : List Physical → Segment → Type 0
 BeginsIn physicals segment = AllByRecursion (λ stripe. stripe.extent ≤ extents_at physicals stripe.physical) (stripes_of segment.target)
 
--- and that is there
+-- each stripe is on a physical volume that exists
 abbrev IsKnown : ℕ → Segment → Type 0
 IsKnown physicals segment = AllByRecursion (λ stripe. stripe.physical < physicals) (stripes_of segment.target)
 
@@ -159,7 +159,7 @@ known_stripes physicals (stripe ∷ stripes) e =
     let a = or_parts (not (nat_lt stripe.physical physicals)) _ e in
     (ltb-true stripe.physical physicals (not-false (nat_lt stripe.physical physicals) a.0), known_stripes physicals stripes a.1)
 
--- what a test of segments does not find
+-- Segments for which a test is false
 
 unhit : (test : Segment → Bool) (segments : List Segment) (later : Option ℕ) → least_line test segments later ≡ None → AllByRecursion (λ segment. test segment ≡ false) segments × (later ≡ None)
 unhit test [] later e = (tt, e)
@@ -187,7 +187,7 @@ known_volumes : (physicals count : ℕ) (volumes : List Volume) → AllByRecursi
 known_volumes physicals count [] none = tt
 known_volumes physicals count (volume ∷ volumes) none = (known_segments physicals count volume.segments none.0, known_volumes physicals count volumes none.1)
 
--- All together
+-- All of it together
 
 below_limit : (n : ℕ) → n ≤ most → n < 2 ^ 64
 below_limit n h = omega (arith, h)
@@ -226,7 +226,7 @@ sound_volumes size physicals keys (tree ∷ trees) few limits known begins = (
   sound_volumes size physicals keys trees few limits.1 known.1 begins.1,
 )
 
--- a group in the limits, in which neither stripes, extents nor snapshots are at fault
+-- a group within the limits in which the later checks find no fault is sound
 pub sound_group : (group : Keyed) → InLimits (group_in group).extent_size group.1 → first_fault (checks_of_parts (group_in group)) ≡ None → IsSoundGroup (group_in group)
 sound_group group limits e =
     let g = group_in group in

@@ -1,8 +1,8 @@
--- Ranges that are used: what a look-up of the last one before an end tells, and one range more.
+-- Ranges in use: what looking up the last range before an end says, and adding a range.
 use Rattle.lvm_volume.proofs.Prelude.{ℕ, Bool, true, false, List, [], Option, Some, None, refl, sym, ap, ◌∙◌, arith, rules, inl, inr, common_steps, IsSome, nat_lt, list_any, AllByRecursion, nat_cmp, BTreeMap, Updates, get, is_at, and_from, and_right, or_right, lt-ltb, ltb-false, ltb-true, le-ltb, cases_order, none-some, HasRanges, reaches}
 use Rattle.std.specs.Prelude.{◌≡◌, ◌⊎◌, ◌<◌, ◌≤◌, ◌||◌, ◌∷◌}
 
--- no range of a map reaches, where none that the map finds does
+-- if no range in the map passes a test, none in the list does
 none_reach : (used : BTreeMap ℕ ℕ) (test : ℕ × ℕ → Bool) → ((a b : ℕ) → get nat_cmp used a ≡ Some b → test (a, b) ≡ false) → (ranges : List (ℕ × ℕ)) → AllByRecursion (λ range. get nat_cmp used range.0 ≡ Some range.1) ranges → list_any test ranges ≡ false
 none_reach used test never [] all = refl
 none_reach used test never ((a, b) ∷ ranges) all = rw (never a b all.0, none_reach used test never ranges all.1)
@@ -20,7 +20,7 @@ is_some : (o : Option ℕ) (b : ℕ) → o ≡ Some b → IsSome o
 is_some None b e = absurd cc
 is_some (Some x) b e = search rules
 
--- a range that does not begin after the last one ends before this first extent, where the last one does
+-- if the last range ends at or before `first`, so does every range that doesn't begin after it
 ends_before : (used : BTreeMap ℕ ℕ) (ranges : List (ℕ × ℕ)) (first s e a b : ℕ) → HasRanges used ranges → get nat_cmp used s ≡ Some e → e ≤ first → get nat_cmp used a ≡ Some b → (a ≡ s) ⊎ ((a < s) ⊎ (s < a)) → a ≤ s → b ≤ first
 ends_before used ranges first s e a b keeps is low here (inl same) most =
     let ends : Some b ≡ Some e = sym here ∙ ap (get nat_cmp used) same ∙ is in
@@ -36,12 +36,12 @@ last_before used ranges first end s e keeps some below is greatest = by_test (na
   by_test true h = sym (keeps.only s e is first end (and_from (nat_lt first e) (nat_lt s end) h (lt-ltb s end below)))
   by_test false h = sym (none_reach used (reaches first end) (λ a b here. reaches_not first end a b (λ before. ends_before used ranges first s e a b keeps is (ltb-false first e h) here (cases_order a s) (greatest a before (is_some (get nat_cmp used a) b here)))) ranges keeps.all)
 
--- one range more
+-- One more range
 
 ne_at : (a b : ℕ) → (a ≡ b → ⊥) → is_at (nat_cmp a) b ≡ false
 ne_at a b ne = grind (arith, common_steps)
 
--- what a map has with one range more
+-- the map `new` is `old` with one more range
 pub record Adds (old new : BTreeMap ℕ ℕ) (first end : ℕ) : Type 0 where
   pub here : get nat_cmp new first ≡ Some end
   pub others : (q : ℕ) → (first ≡ q) ⊎ (get nat_cmp new q ≡ get nat_cmp old q)
@@ -56,7 +56,7 @@ adds old new first end updates = record {
   by_order q (inr (inl before)) = inr (updates.2 q (ne_at first q (λ same. omega (arith, same, before))))
   by_order q (inr (inr after)) = inr (updates.2 q (ne_at first q (λ same. omega (arith, same, after))))
 
--- a range that is used does not reach a free one
+-- a range in use doesn't overlap a free one
 apart_from : (old : BTreeMap ℕ ℕ) (ranges : List (ℕ × ℕ)) (first end a b : ℕ) → HasRanges old ranges → list_any (reaches first end) ranges ≡ false → get nat_cmp old a ≡ Some b → first < b → a < end → ⊥
 apart_from old ranges first end a b keeps free is over under =
     let hit = keeps.only a b is first end (and_from (nat_lt first b) (nat_lt a end) (lt-ltb first b over) (lt-ltb a end under)) in

@@ -1,10 +1,10 @@
--- Ids as they are compared, and groups with other names of disks.
+-- Lemmas about comparing ids, and about groups whose disks have other names.
 use Rattle.lvm_volume.proofs.Prelude.{inl, inr, ℕ, zero, suc, List, [], Option, None, length, get_or, drop, refl, sym, ap, subst, ◌∙◌, arith, bytes_eq, slice_index_or, AllByRecursion, zip, ne_eqb, drop_more, drop_all, DiskFault, Physical, Segment, Stripe, Volume, stripes_of, Group, Keyed, Owners, all_owned, disk_fault, letters_of, owned_group, section_of, untaken, ids_view, IsSegmentIn, IsSoundGroup, IsStripeIn, physical_at, all_changed}
 use Rattle.lvm_volume.specs.group.Owners.{or_later}
 use Rattle.std.specs.Prelude.{◌≡◌, ◌⊎◌, ◌+◌, ◌*◌, ◌^◌, ◌<◌, ◌≤◌, ◌==◌, ◌∷◌}
 use denote.Ref.{Bor}
 
--- ---- letters
+-- ---- the characters of an id
 
 pub letter_next : (id text : List ℕ) (i : ℕ) → i < length text → bytes_eq id (letters_of (drop i text)) ≡ bytes_eq id (letters_of (get_or text i 0 ∷ drop (i + 1) text))
 letter_next id text i within = ap (λ (xs : List ℕ). bytes_eq id (letters_of xs)) (drop_more text i 0 within)
@@ -26,7 +26,7 @@ none_left ids physicals (inl none) = rw none refl
 none_left [] physicals (inr none) = refl
 none_left (id ∷ ids) physicals (inr none) = rw none refl
 
--- ---- disks that are taken
+-- ---- disks that can be used
 
 pub untaken_next : (physicals : List Keyed) (names ids : List (List ℕ)) (disk : ℕ) (id : List ℕ) (found : Option DiskFault) → drop disk ids ≡ id ∷ drop (disk + 1) ids → disk_fault (slice_index_or names disk []) (section_of physicals id) ≡ found
     → untaken physicals names disk (drop disk ids) ≡ or_later disk found (untaken physicals names (disk + 1) (drop (disk + 1) ids))
@@ -37,7 +37,7 @@ pub untaken_end : (physicals : List Keyed) (names ids : List (List ℕ)) (disk :
 unfolding untaken
 untaken_end physicals names ids disk past = rw (drop_all disk ids past) refl
 
--- ---- soundness doesn't depend on the names of disks
+-- ---- whether a group is sound doesn't depend on the names of its disks
 
 same_start : (owners : Owners) (ids : List (List ℕ)) (physicals : List Physical) (i : ℕ) → length ids ≡ length physicals → (physical_at (all_owned owners ids physicals) i).start ≡ (physical_at physicals i).start
 same_start owners [] [] i e = refl

@@ -1,4 +1,4 @@
--- Physical volumes as they are read, one after the other.
+-- Lemmas about reading physical volumes one after the other.
 use Rattle.lvm_volume.proofs.Prelude.{ℕ, Bool, true, false, not, List, [], length, get_or, drop, map, Some, None, Ok, Err, refl, sym, drop_more, LoadFault, Name, Source, is_disk_name, first_or, unless, fault_at, Physical, name_faults, PhysicalFields, Keyed, device_of, physical_of, physicals_in, all_named, fields_of, fields_view, devices_in, unless-err, unless-ok}
 use Rattle.lvm_volume.specs.group.PhysicalFields as spec
 use Rattle.lvm_volume.specs.group.PhysicalFields.{Fields}
@@ -21,7 +21,7 @@ nothing false x ys e = refl
 at_position : (f : Fields → Physical) (xs : List PhysicalFields) (i : ℕ) (other : PhysicalFields) → i < length xs → map f (map fields_view (drop i xs)) ≡ f (fields_view (get_or xs i other)) ∷ map f (map fields_view (drop (i + 1) xs))
 at_position f xs i other within = rw (drop_more xs i other within)
 
--- the next is refused
+-- a physical volume whose disk gets no name is the fault of all physical volumes
 pub refused_here : (f : Fields → Physical) (xs : List PhysicalFields) (i : ℕ) (other : PhysicalFields) (all : List Physical) (fault : LoadFault) → i < length xs
     → first_or (name_faults (map f (map fields_view (drop i xs)))) None ≡ first_or (name_faults all) None
     → unless (first_or (name_faults (f (fields_view (get_or xs i other)) ∷ [])) None) (f (fields_view (get_or xs i other))) ≡ Err fault → unless (first_or (name_faults all) None) all ≡ Err fault
@@ -43,7 +43,7 @@ taken_here f xs i other p within e =
       sym (rw at (nothing (not (is_disk_name (f x).disk)) (fault_at Source Name (f x).line) (name_faults more) a.0)),
     )
 
--- the fields that sections say, with names, are the physical volumes that they say
+-- The fields that sections say, with names, are the physical volumes that they say
 
 devices_said : (sections : List Keyed) → devices_in (map fields_of sections) ≡ map device_of sections
 devices_said [] = refl

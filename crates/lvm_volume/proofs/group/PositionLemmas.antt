@@ -1,10 +1,10 @@
--- Positions of keys: a set of keys that all differ has them in their order.
+-- Positions of keys: a set of keys that all differ contains them in order.
 use Rattle.lvm_volume.proofs.Prelude.{ℕ, Bool, true, false, cond, List, [], length, Option, Some, None, refl, sym, ap, ◌∙◌, arith, bytes_eq, nat_lt, position, unwrap_or, AllByRecursion, AllPairs, IsDistinct, list_any, position_or_len, ltb-false, map_push, prefix_len-le-length, bytes_eq-Decides, Values, Nothing, Section, Single, Several, keys_of, sections_of, keys_in, position_of, texts}
 use Rattle.std.proofs.lemmas.Map.Made.{IsDistinct-from_AllPairs}
 use Rattle.std.specs.Prelude.{◌≡◌, ◌≢◌, ◌≤◌, ◌∷◌, ◌++◌}
 use denote.Ref.{Bor}
 
--- A key that is none of those before it
+-- A key that differs from those before it
 
 same_test : (a b : List ℕ) (p q : Bool) → bytes_eq a b ≡ p → bytes_eq b a ≡ q → p ≡ q
 same_test a b true false s t = let back : bytes_eq b a ≡ true = (bytes_eq-Decides b a).1 (sym ((bytes_eq-Decides a b).0 s)) in absurd cc
@@ -25,7 +25,7 @@ none_before (k ∷ done) key rest distinct =
     let other : bytes_eq key k ≡ false = bytes_eq-sym key k ∙ at_middle (λ y. bytes_eq k y ≡ false) done key rest distinct.0 in
     rw other (none_before done key rest distinct.1)
 
--- The keys that hold sections are some of all keys
+-- The keys that hold sections are among all keys
 
 all_sections : (P : List ℕ → Type 0) (v : Values) → AllByRecursion P (keys_of v) → AllByRecursion P (keys_in (sections_of v))
 all_sections P Nothing h = tt
@@ -49,7 +49,7 @@ any_texts : (key : List ℕ) (ks : List (Bor (List ℕ))) → list_any (λ k. by
 any_texts key [] = refl
 any_texts key (k ∷ ks) = rw (any_texts key ks)
 
--- a key that is added to others
+-- a key that isn't in the set is added at its end
 pub added : (key : Bor (List ℕ)) (old new : List (Bor (List ℕ))) → new ≡ cond (list_any (λ k. bytes_eq key.now k.now) old) old (old ++ key ∷ []) → list_any (bytes_eq key.now) (texts old) ≡ false → texts new ≡ texts old ++ key.now ∷ []
 added key old new is none =
     ap texts (rw (is, any_texts key.now old, none)) ∙ map_push (λ (text : Bor (List ℕ)). text.now) old key
@@ -62,7 +62,7 @@ by_test : (b : Bool) (n len : ℕ) → nat_lt n len ≡ b → n ≤ len → unwr
 by_test true n len e within = refl
 by_test false n len e within = omega (arith, ltb-false n len e)
 
--- what was found of a key, or their number
+-- the position found for a key, or else the number of keys, is its position
 pub position_is : (key : List ℕ) (ks : List (Bor (List ℕ))) (found : Option ℕ) → found ≡ position (λ k. bytes_eq key k.now) ks → unwrap_or found (length ks) ≡ position_of (texts ks) key
 position_is key ks found is =
     let position = position_or_len (λ (k : Bor (List ℕ)). bytes_eq key k.now) ks in

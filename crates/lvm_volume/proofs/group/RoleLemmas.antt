@@ -1,8 +1,8 @@
--- Roles, as they are found one snapshot after the other.
+-- Roles as they are computed, one snapshot after the other.
 use Rattle.lvm_volume.proofs.Prelude.{inl, inr, ℕ, zero, suc, Bool, true, false, cond, List, [], length, get_or, set, drop, map, refl, sym, ap, ◌∙◌, arith, filter, enumerate_from, list_any, zip, eq-eqb, ne_eqb, drop_more, Record, Role, Volume, changed, with_origin, with_store, recorded, records_of, role_by, role_of, unless_recorded}
 use Rattle.std.specs.Prelude.{◌≡◌, ◌⊎◌, ◌+◌, ◌-◌, ◌<◌, ◌≤◌, ◌==◌, ◌∷◌, if◌then◌else◌, ◌||◌}
 
--- One snapshot more
+-- One more snapshot
 
 more_origin : (own : List Record) (is_origin : Bool) (stored : List Record) → with_origin (unless_recorded own (role_by is_origin stored)) ≡ unless_recorded own (role_by true stored)
 more_origin [] true (s ∷ t ∷ stored) = refl
@@ -14,7 +14,7 @@ more_store [] true (s ∷ t ∷ stored) snapshot = refl
 more_store [] false (s ∷ t ∷ stored) snapshot = refl
 more_store own is_origin stored snapshot = refl
 
--- by whether the volume is the origin, and whether it is the store
+-- the role after one more snapshot, by whether the volume is its origin and whether it is its store
 by_tests : (own : List Record) (origin store is_origin : Bool) (stored : List Record) (snapshot : Record) (role : Role) → role ≡ unless_recorded own (role_by is_origin stored)
     → (if store then with_store snapshot (if origin then with_origin role else role) else (if origin then with_origin role else role)) ≡ unless_recorded own (role_by (origin || is_origin) (cond store (snapshot ∷ stored) stored))
 by_tests own false false is_origin stored snapshot role is = is
@@ -30,7 +30,7 @@ all_changed snapshot snapshots first (volume ∷ volumes) =
     let one = by_tests (recorded volume.segments) (snapshot.origin == first) (snapshot.store == first) (list_any (λ s. s.origin == first) snapshots) (filter (λ s. s.store == first) snapshots) snapshot (role_of snapshots (first, volume)) refl in
     rw (one, all_changed snapshot snapshots (first + 1) volumes)
 
--- The one at a position
+-- The role at a position
 
 not_before : (change : Role → Role) (position first : ℕ) (all : List Role) → position < first → changed change position first all ≡ all
 not_before change position first [] below = refl
@@ -65,7 +65,7 @@ one_more volumes at volume snapshot some within is one =
     drop_more volumes (at - 1) volume (omega (arith, some, within)) ∙ ap (λ (v : Volume). v ∷ drop (at - 1 + 1) volumes) (sym is) ∙ ap (λ (n : ℕ). volume ∷ drop n volumes) (omega (arith, some)) in
     sym (rw (more, one))
 
--- Volumes with their roles, once one of the two lists has no more
+-- Volumes with their roles, once one of the two lists is used up
 
 pub none_left : (all : List Role) (volumes : List Volume) → (all ≡ []) ⊎ (volumes ≡ []) → zip all volumes ≡ []
 none_left (role ∷ all) (volume ∷ volumes) (inl wrong) = absurd cc

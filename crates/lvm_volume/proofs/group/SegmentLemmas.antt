@@ -1,4 +1,4 @@
--- Which fields a segment's type asks for.
+-- Which fields are required for each type of segment.
 use Rattle.lvm_volume.proofs.Prelude.{ℕ, true, false, [], codes, ap, sym, ◌∙◌, nat_lt, lt-ltb, le-ltb, Tree, Check, field, field_faults, fields_faults, number_at, text_at, at_key, later_fields, type_text}
 use Rattle.lvm_volume.specs.declared.group.segment.TypeName.TheVariants.{Striped, Zero, Error, Snapshot}
 use Rattle.lvm_volume.specs.fields.Fields.{Field}
@@ -23,7 +23,7 @@ pub of_error : (segment : Tree) (check : Check) → text_at (codes "type") segme
 unfolding field_faults
 of_error segment check is = rw is
 
--- the size of the pieces of several stripes, and of one
+-- The stripe size, with several stripes and with one
 
 abbrev size_field : Field
 size_field = field (codes "stripe_size") kinds.Number kinds.Several

@@ -1,4 +1,4 @@
--- Lists of strings and integers in turn, pair by pair.
+-- Lemmas about lists of pairs of a string and an integer.
 use Rattle.lvm_volume.proofs.Prelude.{ℕ, List, [], length, refl, arith, scalar_views, stripes_in}
 use Rattle.lvm_text.specs.declared.tree.Scalar.{Scalar}
 use Rattle.lvm_text.specs.declared.tree.Scalar.TheVariants.{Int, Text}

@@ -1,4 +1,4 @@
--- The sections at the top of a text: none, one, or several.
+-- Lemmas about the sections at the top of a text: none, one, or several.
 use Rattle.lvm_volume.proofs.Prelude.{ℕ, List, [], length, get_or, map, refl, sym, ap, arith, Tree, item_view, Check, group_faults, missing, one_group_faults, first_section}
 use Rattle.std.specs.Prelude.{◌≡◌, ◌<◌, ◌≤◌, ◌∷◌}
 use denote.Ref.{Bor}

@@ -1,4 +1,4 @@
--- What the devices of a sound group need, volume by volume.
+-- What is needed to make the devices of a sound group, volume by volume.
 use Rattle.lvm_volume.proofs.Prelude.{ℕ, zero, suc, Bool, true, false, List, [], map, Option, Some, None, arith, IfSome, filter, slice_get, slice_index_or, AllByRecursion, enumerate_from, flat_map, list_any, zip, first_or, Real, Physical, Record, Role, Segment, Volume, Group, fault_of, end_of, name_at, recorded, records_of, role_at, role_by, role_of, roles_of, segments_at, unless_recorded, IsMadeIn, IsSegmentIn, IsSnapshotIn, IsSoundGroup, members_of, device_parts, length_of, unnamed, unnamed_volume, first_or-none, all_changed, append-nil_both}
 use Rattle.lvm_volume.specs.declared.group.roles.Role.TheVariants as roles
 use Rattle.lvm_volume.proofs.tables.NamedLemmas.{origin_named}
@@ -27,7 +27,7 @@ fit_at size physicals [] i fit = tt
 fit_at size physicals (volume ∷ volumes) zero fit = fit.0
 fit_at size physicals (volume ∷ volumes) (suc i) fit = fit_at size physicals volumes i fit.1
 
--- The layer of an origin has a name
+-- The layer of an origin has a valid name
 
 real_named : (group : List ℕ) (snapshots : List Record) (first i : ℕ) (volumes : List Volume) → flat_map (unnamed_volume group) (zip (map (role_of snapshots) (enumerate_from first volumes)) volumes) ≡ []
     → slice_index_or (map (role_of snapshots) (enumerate_from first volumes)) i roles.Plain ≡ roles.Origin → fault_of (device_parts group (name_at volumes i) (Some Real)) ≡ None
@@ -38,7 +38,7 @@ real_named group snapshots first zero (volume ∷ volumes) none is =
 real_named group snapshots first (suc i) (volume ∷ volumes) none is =
     real_named group snapshots (first + 1) i volumes (append-nil_both (unnamed_volume group (role_of snapshots (first, volume), volume)) _ none).1 is
 
--- A store's snapshot is one of the group's
+-- The snapshot of a store is one of the group's snapshots
 
 abbrev FitsIn : Group → Record → Type 0
 FitsIn group snapshot = (length_of group (segments_at group.volumes snapshot.origin) < 2 ^ 64) × (fault_of (device_parts group.name (name_at group.volumes snapshot.origin) (Some Real)) ≡ None)
@@ -65,7 +65,7 @@ made_from group snapshots first (volume ∷ volumes) fits segments none =
       made_from group snapshots (first + 1) volumes fits segments.1 names.1,
     )
 
--- a sound group of which no name is refused
+-- the devices of a sound group can be made if each of them gets a name
 pub all_made : (group : Group) → IsSoundGroup group → first_or (unnamed group) None ≡ None → AllByRecursion (IsMadeIn group) (members_of group)
 all_made group sound named =
     let none = (first_or-none (unnamed group) None named).0 in
@@ -75,7 +75,7 @@ all_made group sound named =
     sound.origins in
     made_from group snapshots 0 group.volumes fits sound.volumes none
 
--- the parts of a group, one by one
+-- The parts of a group, one by one
 
 pub names_of : (group : Group) (name : List ℕ) (all : List Role) (volumes : List Volume) → name ≡ group.name → all ≡ roles_of group.volumes → volumes ≡ group.volumes
     → first_or (flat_map (unnamed_volume name) (zip all volumes)) None ≡ first_or (unnamed group) None

@@ -5,7 +5,7 @@ use Rattle.lvm_text.proofs.Prelude.{length, views}
 use Rattle.lvm_text.proofs.Elements.{Reached}
 use Rattle.lvm_text.proofs.lexer.tokens_of.Given as goal
 
--- says that each `&str` the loop changes is text: keep it, and add clauses with ×
+-- `shadow` says that `rest`, which the loop changes, is UTF-8: keep it, and add clauses with ×
 abbrev pub invariant-loop-rest : goal.invariant-loop-rest
 invariant-loop-rest l = shadow (Utf8 l.rest) × Reached l.text l.line (views l.tokens.items) l.rest
 

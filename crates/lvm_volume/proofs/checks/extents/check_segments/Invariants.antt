@@ -1,4 +1,4 @@
--- what was used is now used with the segments so far, and those that are left tell the same as all did
+-- the maps contain the ranges of the segments so far, and the fault of the segments left is that of all
 use Rattle.lvm_volume.proofs.Prelude.{List, None, drop, length, first_or, Claim, segment_faults, used_after, Holds}
 use Rattle.lvm_volume.proofs.checks.extents.check_segments.Given as goal
 use Rattle.std.specs.Prelude.{◌≡◌}

@@ -1,4 +1,4 @@
--- what was used is now used with the stripes so far, and those that are left tell the same as all did
+-- the maps contain the ranges of the stripes so far, and the stripes left clash exactly if all do
 use Rattle.lvm_volume.proofs.Prelude.{List, drop, length, Claim, have_clash, used_by, Holds, claims_by}
 use Rattle.lvm_volume.proofs.checks.extents.claim_all.Given as goal
 use Rattle.std.specs.Prelude.{◌≡◌}

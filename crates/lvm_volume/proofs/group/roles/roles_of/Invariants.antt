@@ -1,4 +1,4 @@
--- the roles by the snapshots of the volumes that were passed, from the last on
+-- the roles so far are those by the snapshots from volume `at` on, since the loop goes from last to first
 use Rattle.lvm_volume.proofs.Prelude.{drop, length, records_of, roles_among}
 use Rattle.lvm_volume.proofs.group.roles.roles_of.Given as goal
 use Rattle.std.specs.Prelude.{◌≡◌, ◌≤◌}

@@ -4,11 +4,11 @@ use Rattle.lvm_volume.proofs.fields.Steps.{in_words, no_number, number_fails, nu
 use Rattle.lvm_volume.proofs.group.volume.segment_sections.Goals as goal
 use Rattle.std.specs.Prelude.{◌≡◌, ◌++◌, ◌-◌}
 
--- what is found at a number
+-- the faults that a check finds at the key of segment number i
 abbrev at_number : Tree → Check → ℕ → List LoadFault
 at_number volume check i = field_faults check volume (segment_field i)
 
--- the section of a number
+-- the section of segment number i
 abbrev section_of : Tree → ℕ → List Tree
 section_of volume i = section_at (codes "segment" ++ decimal i) volume
 

@@ -1,4 +1,4 @@
--- the volumes so far and those of the sections that are left are all, and what is found in the sections that are left is found in all
+-- the volumes so far and those of the sections left are all volumes; the faults in the sections left are those in all
 use Rattle.lvm_volume.proofs.Prelude.{Option, drop, map, item_view, LoadFault, FieldReader, volumes_faults, IsStep, volume_of}
 use Rattle.lvm_volume.proofs.group.volume.volumes_in.Given as goal
 use Rattle.std.specs.Prelude.{◌≡◌, ◌++◌}

@@ -1,4 +1,4 @@
--- the volumes that are left tell the same as all did
+-- the first fault of the volumes left is that of all
 use Rattle.lvm_volume.proofs.Prelude.{None, zip_first, zip_second, flat_map, zip, iter_rest, first_or, unnamed_volume}
 use Rattle.lvm_volume.proofs.tables.device_names.check_names.Given as goal
 use Rattle.std.specs.Prelude.{◌≡◌}

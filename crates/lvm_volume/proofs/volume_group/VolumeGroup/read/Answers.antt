@@ -9,13 +9,13 @@ use Rattle.std.specs.Prelude.{◌≡◌}
 pub returns-in-Err : goal.returns-in-Err
 returns-in-Err c = refused_by (at_fields c.args.top.now c.in-Err.fault) c.in-Err.ensures.checked
 
--- a group with the parts that were made of what its text says
+-- the parts are those of the text's group, in whose fields and disk names no fault was found
 record Made (top : Tree) (size : ℕ) (physicals : List Physical) (volumes : List Volume) : Type 0 where
   fields : of_both top ≡ None
   names : first_or (name_faults (group_of top).physicals) None ≡ None
   same : (name : List ℕ) → name ≡ (group_of top).name → group_of top ≡ group_with name size physicals volumes
 
--- the physical volumes of the fields are those of the group
+-- the disks of all physical volumes got names, and these are the physical volumes
 abbrev Named : List PhysicalFields → List Physical → Type 0
 Named fields physicals = unless (first_or (name_faults (all_named (map fields_view fields))) None) (all_named (map fields_view fields)) ≡ Ok physicals
 
@@ -34,7 +34,7 @@ made top fields all physicals none said is got =
       same = λ name is_name. let are : (group_of top).physicals ≡ physicals = sym named ∙ h.1 in rw (is_name, said.extent_size, ← are, said.volumes);
     }
 
--- what the checks of the parts find is found in the group
+-- the first fault of the checks of the parts is that of the same checks of the group
 found_in : {top : Tree} {size : ℕ} {physicals : List Physical} {volumes : List Volume} (h : Made top size physicals volumes) (found : Option LoadFault)
     → first_fault (checks_of_parts (group_with (group_of top).name size physicals volumes)) ≡ found → first_fault (checks_of_parts (group_of top)) ≡ found
 found_in {top} h found checked = ap (λ (g : Group). first_fault (checks_of_parts g)) (h.same (group_of top).name refl) ∙ checked
