@@ -181,7 +181,7 @@ same_parts (x ∷ xs) (y ∷ ys) common e =
     let equal : x ∷ xs ≡ y ∷ ys = (bytes_eq-Decides (x ∷ xs) (y ∷ ys)).0 both.0 in
     (inr same, inr (sym equal ∙ same), inl (sym same))
 
--- if two texts are each [] or the common text, so is their common one, and it is [] only if both are
+-- two texts have a common one, which is [] or `common`, and is `common` if one of the two is
 record HaveOne (text next common : List ℕ) : Type 0 where
   one : List ℕ
   is : same_text text next ≡ Ok one
@@ -225,7 +225,7 @@ same_whole (x ∷ xs) (y ∷ ys) common a b =
 abbrev Says : Sectors → (text : List ℕ) → Area → Type 0
 Says sectors text area = area_text sectors area ≡ Ok text
 
--- what the areas say after the text `before`, and that all of them say the text or none
+-- `before` is [] or `text`, each area spells `text` or none, and an area spells `text` unless `before` is that already
 record SayOne (sectors : Sectors) (before text : List ℕ) (areas : List Area) : Type 0 where
   after : IsOneOf before text
   each : All (λ area. SpellsArea sectors [] area ⊎ SpellsArea sectors text area) areas
