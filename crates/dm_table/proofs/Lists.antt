@@ -2,7 +2,7 @@
 use Rattle.dm_table.proofs.Prelude.{ℕ, zero, suc, List, [], Option, Some, None, Result, Ok, Err, OnOk, refl, subst, OnErr, option_map, slice_get, AllByRecursion}
 use Rattle.std.specs.Prelude.{◌≡◌, ◌∷◌, ◌++◌}
 
--- Lists
+-- ---- lemmas about lists
 
 -- if two lists joined are empty, both are empty
 pub append-nil_both : {X : Type 0} (xs ys : List X) → xs ++ ys ≡ [] → (xs ≡ []) × (ys ≡ [])
@@ -33,7 +33,7 @@ at_index P [] i x each e = absurd cc
 at_index P (y ∷ ys) zero x each e = let same : y ≡ x = cc in subst P same each.0
 at_index P (y ∷ ys) (suc i) x each e = at_index P ys i x each.1 e
 
--- Options and results
+-- ---- lemmas about options and results
 
 -- if an option is Some after a map, it was Some before
 pub mapped : {X Y : Type 0} (f : X → Y) (o : Option X) (y : Y) → option_map f o ≡ Some y → (x : X) × (o ≡ Some x) × (f x ≡ y)

@@ -9,7 +9,7 @@ use Rattle.lvm_head.proofs.LabelLemmas.{label_found}
 use Rattle.lvm_head.proofs.TextLemmas.{area_known, gathered_row}
 use Rattle.std.specs.Prelude.{◌≡◌, ◌⊎◌, ◌+◌, ◌-◌, ◌<◌, ◌==◌, ◌/◌, ◌||◌, ◌∷◌, ◌++◌, if◌then◌else◌}
 
--- ---- bytes
+-- ---- the bytes of a text
 
 ok_is : (a b : List ℕ) → (let r : Result (List ℕ) HeadFault = Ok a in r) ≡ Ok b → a ≡ b
 ok_is a b e = cc
@@ -51,7 +51,7 @@ gathered_bytes byte count bytes has =
     let all : 0 + count ≡ count = omega arith in
     ap (λ (n : ℕ). gathered byte n) (sym all) ∙ gathered_row byte 0 count [] bytes refl has.len at
 
--- ---- the end of a text
+-- ---- how a text ends
 
 abbrev end_if : (nul : Bool) → (last : ℕ) → (bytes : List ℕ) → Result (List ℕ) HeadFault
 end_if nul last bytes = if nul then Ok (take (length bytes - 1) bytes) else (if last == 10 then Ok bytes else Err Text)
@@ -87,7 +87,7 @@ end_is text bytes (suc n) is some e =
     let same : bytes ≡ text = ok_is bytes text newline.1 in
     AtNewline same (take (length bytes - 1) bytes) (sym same ∙ all_but_last bytes some ∙ ap (λ (last : ℕ). take (length bytes - 1) bytes ++ last ∷ []) (is ∙ eqb-true (suc n) 10 newline.0))
 
--- ---- an area
+-- ---- the text of an area
 
 none_or : (b : Bool) (some : Result (List ℕ) HeadFault) (text : List ℕ) → (let r : Result (List ℕ) HeadFault = if b then Ok [] else some in r) ≡ Ok text → ((b ≡ true) × (text ≡ [])) ⊎ ((b ≡ false) × (some ≡ Ok text))
 none_or true some text e = inl (refl, sym (ok_is [] text e))
@@ -151,7 +151,7 @@ read_area sectors area text is =
       | inr some ↦ read_text sectors area.start (location_in is.header) text some
     ]
 
--- ---- all areas of a head
+-- ---- the texts of all areas of a head
 
 -- the text is [] for none, or the common text
 abbrev IsOneOf : (text common : List ℕ) → Type 0
@@ -289,7 +289,7 @@ read_areas sectors before text (area ∷ later) is =
     } in
     rw (here.1, both.is) (read_areas sectors both.one text later rest)
 
--- ---- a label
+-- ---- the label of a head
 
 record IsFirst {X : Type 0} (has : ℕ → Option X) (count : ℕ) (x : X) : Type 0 where
   place : ℕ
@@ -369,7 +369,7 @@ spelled_whole sectors done e =
 read_whole : (sectors : Sectors) → IsUndivided sectors → undivided sectors ≡ Ok tt
 read_whole sectors is = rw (is.is_first, is.whole, is.is_later, is.alone, is.alone_later) refl
 
--- ---- a head
+-- ---- a whole head
 
 said_is : (a b : Said) → (let r : Result Said HeadFault = Ok a in r) ≡ Ok b → a ≡ b
 said_is a b e = cc

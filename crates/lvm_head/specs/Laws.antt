@@ -8,7 +8,7 @@ use Rattle.lvm_head.specs.Sums.{sum_of}
 use Rattle.lvm_head.specs.Texts.{byte_at}
 use Rattle.std.specs.Prelude.{◌≡◌, ◌↔◌, ◌⊎◌, ◌<◌, ◌≤◌, ◌/◌, ◌++◌, ◌∷◌}
 
--- ---- a label
+-- ---- the label that a head spells
 
 -- the first sector has no partition table, and neither it nor sector 8 is the superblock of an array
 pub record IsUndivided (sectors : Sectors) : Type 0 where
@@ -29,7 +29,7 @@ pub record IsTheLabel (sectors : Sectors) (label : List ℕ) : Type 0 where
   pub sound : is_sound label ≡ true
   pub first : (i : ℕ) → i < place → label_in i (sectors i) ≡ None
 
--- ---- a text
+-- ---- the text that a location spells
 
 -- the first `count` values of `byte` are these bytes, and none of them is a fault
 pub record HasBytes (byte : ℕ → Result ℕ HeadFault) (count : ℕ) (bytes : List ℕ) : Type 0 where
@@ -59,7 +59,7 @@ pub record SpellsArea (sectors : Sectors) (text : List ℕ) (area : Area) : Type
   pub sound : is_header area header ≡ true
   pub says : ((is_none (location_in header) ≡ true) × (text ≡ [])) ⊎ SpellsText sectors area.start (location_in header) text
 
--- ---- a head
+-- ---- what a whole head spells
 
 -- a head spells an id and a text: its label has the id, each area spells the text or none, and at least one area spells the text if it isn't []
 pub record SpellsHead (sectors : Sectors) (said : Said) : Type 0 where

@@ -3,7 +3,7 @@ use Rattle.lvm_text.proofs.Prelude.{ℕ, zero, suc, Bool, true, false, cond, nat
 use Rattle.lvm_text.specs.declared.syntax.Stage.TheVariants as at
 use Rattle.std.specs.Prelude.{◌≡◌, ◌≢◌, ◌-◌, ◌≤◌, ◌∷◌, ◌++◌}
 
--- Runs of the state machine
+-- ---- runs of the state machine
 
 chain : (o : Option State) (f g h : State → Option State) → ((s : State) → h s ≡ option_and_then g (f s)) → option_and_then h o ≡ option_and_then g (option_and_then f o)
 chain None f g h e = refl
@@ -16,7 +16,7 @@ run-append d p (t ∷ a) b = chain (stage_after d p t.0) (λ s. run s.0 s.1 a) (
 abbrev pub done : State
 done = (0, at.Key)
 
--- A text runs through to the end
+-- ---- a text runs through to the end
 
 scalar_next : (t : Token) (s : Scalar) (next : State) → scalar_of t ≡ Some s → scalar_then t next ≡ Some next
 scalar_next t s next e = rw e
@@ -64,7 +64,7 @@ reads_run (Single k n s rest) d ts more h =
 reads_run (Several k n ss rest) d ts more h =
     ap (run d at.Key) h.5 ∙ key_run d n k ((Equals, h.1) ∷ (ListOpen, h.2) ∷ h.3) h.0 ∙ list_run ss d h.3 h.4 h.6 ∙ reads_run rest d h.4 more h.7
 
--- Tokens that run through to the end are a text
+-- ---- tokens that run through to the end are a text
 
 -- values up to the closing brace of each of the d open sections, and then up to the end
 abbrev pub Stacked : ℕ → List TokenAtLine → Type 0
@@ -166,7 +166,7 @@ text_from ts e = holds ts 0 at.Key e
 pub text_run : (ts : List TokenAtLine) (v : Values) → IsText ts v → run 0 at.Key ts ≡ Some done
 text_run ts v h = reads_run v 0 ts [] h
 
--- Every stage that can be reached can be completed to a text
+-- ---- every stage that can be reached can be completed to a text
 
 abbrev closes : ℕ → List TokenAtLine
 closes zero = []
@@ -202,7 +202,7 @@ reached (Some s) f e = (s, refl)
 pub front_run : (ts : List TokenAtLine) → BeginsText ts → (s : State) × (run 0 at.Key ts ≡ Some s)
 front_run ts h = reached (run 0 at.Key ts) (λ s. run s.0 s.1 h.more) (sym (run-append 0 at.Key ts h.more) ∙ text_run (ts ++ h.more) h.values h.text)
 
--- The line of a syntax fault
+-- ---- the line of a syntax fault
 
 pub last_run : (before : List TokenAtLine) (t : TokenAtLine) (s : State) → run 0 at.Key before ≡ Some s → run 0 at.Key (before ++ t ∷ []) ≡ option_and_then (λ x. Some x) (stage_after s.0 s.1 t.0)
 last_run before t s e = run-append 0 at.Key before (t ∷ []) ∙ ap (option_and_then (λ x. run x.0 x.1 (t ∷ []))) e

@@ -3,7 +3,7 @@ use Rattle.lvm_text.proofs.Prelude.{ℕ, true, false, List, [], drop, Option, So
 use Rattle.lvm_text.specs.declared.token.TokenAtLine as code
 use Rattle.std.specs.Prelude.{◌≡◌, ◌∷◌, ◌++◌, ◌⊎◌}
 
--- Lists
+-- ---- reading a list
 
 -- the tokens of the scalars left in a list, whether any has been read before or not
 abbrev pub ReadsItems : List TokenAtLine → List Scalar → List TokenAtLine → Type 0
@@ -75,7 +75,7 @@ leaf_list tokens first inner scalars value rest e o shows read = record {
       (λ k n v. rw x.0 (shows k n v), x.1);
 }
 
--- Values
+-- ---- reading the values of a section
 
 abbrev pub ValuesSoFar : List TokenAtLine → List Entry → List TokenAtLine → Type 0
 ValuesSoFar start es rest = (v : Values) (more : List TokenAtLine) → ReadsBy bounded_of start v more → begins_key more ≡ false → (left : Values) × (v ≡ before es left) × ReadsBy bounded_of rest left more

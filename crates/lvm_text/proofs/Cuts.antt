@@ -5,7 +5,7 @@ use Rattle.lvm_text.proofs.Scans.{line_again, line_none, Line, line_found, word_
 use Rattle.std.proofs.Math.Seq.{drop-append_seam, take-append_seam}
 use Rattle.std.specs.Prelude.{◌≡◌, ◌+◌, ◌∷◌, ◌++◌}
 
--- The element that is found is there
+-- ---- an element that is found is there
 
 -- a sign: byte b spells token t, which is valid whatever comes after it
 pub record Sign (b : ℕ) (t : Token) : Type 0 where
@@ -56,7 +56,7 @@ element_found (b ∷ bs) =
     (λ is. word_is b bs is)
     (λ no. mapped (sign_of b) (λ t. (Lexeme t, bs)) (Sign b) (Found (b ∷ bs)) (λ t h. (cc, h.any bs)) (sign_found b)))))
 
--- The element that is there is found
+-- ---- an element that is there is found
 
 drop_past : (c : List ℕ) (x : ℕ) (r : List ℕ) → drop (suc (length c)) (c ++ x ∷ r) ≡ r
 drop_past [] x r = refl
@@ -110,7 +110,7 @@ end_none (b ∷ bs) h =
     let a = and_parts (eqb b (code "#")) (is_line bs) h in
     rw (eqb-true b (code "#") a.0, line_none bs a.1)
 
--- There is only one way to cut
+-- ---- a text is cut in one way only
 
 -- the text is cut into these elements, and no element is found in the rest
 pub record CutUp (text : List ℕ) (ps : List Element) (rest : List ℕ) : Type 0 where
@@ -161,7 +161,7 @@ spelled_no_bad text ts n h k =
 pub one_bad : (text : List ℕ) (m n : ℕ) → IsBadToken text m → IsBadToken text n → m ≡ n
 one_bad text m n h k = h.at ∙ ap (line_after 1) (one_cut text h.elements k.elements h.rest k.rest (bad_up h) (bad_up k)).0 ∙ sym k.at
 
--- One more element
+-- ---- one more element
 
 pub cut_more : (text : List ℕ) (ps : List Element) (r : List ℕ) (p : Element) (after : List ℕ) → Cut text ps r → Begins r p after → Cut text (ps ++ p ∷ []) after
 cut_more text [] r p after h b = (after, rw h b, refl)

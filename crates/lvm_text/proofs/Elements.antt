@@ -3,7 +3,7 @@ use Rattle.lvm_text.proofs.Prelude.{ℕ, suc, Bool, true, true≢false, false, c
 use Rattle.lvm_text.proofs.Cuts.{Found, element_found, Before, before_more}
 use Rattle.std.specs.Prelude.{◌≡◌, ◌+◌, ◌<◌, ◌≤◌, ◌&&◌, ◌∷◌, ◌++◌}
 
--- The element at the front
+-- ---- the element at the front
 
 pub element_nil : (bs : List ℕ) → true ≡ eqb (length bs) 0 → None ≡ element_at bs
 unfolding element_at
@@ -50,7 +50,7 @@ newlines-append : (a b : List ℕ) → newlines (a ++ b) ≡ newlines a + newlin
 newlines-append [] b = omega arith
 newlines-append (x ∷ a) b = more_lines (eqb x (code "\n")) _ _ (newlines b) (newlines-append a b)
 
--- Newlines
+-- ---- the newlines of an element
 
 line_newlines : (c : List ℕ) → is_line c ≡ true → newlines c ≡ 0
 line_newlines [] h = refl

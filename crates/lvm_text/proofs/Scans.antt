@@ -3,7 +3,7 @@ use Rattle.lvm_text.proofs.Prelude.{ℕ, suc, Bool, true, false, cond, not, eqb,
 use Rattle.lvm_text.proofs.Cases.{mapped}
 use Rattle.std.specs.Prelude.{◌≡◌, ◌&&◌, ◌||◌, ◌∷◌, ◌++◌}
 
--- Lines
+-- ---- comments, which end with a newline
 
 pub line_again : (c after : List ℕ) → is_line c ≡ true → newline_at (c ++ code "\n" ∷ after) ≡ Some (length c)
 line_again [] after h = refl
@@ -28,7 +28,7 @@ line_found (b ∷ bs) =
     (λ is. record { cut = cc (eqb-true b (code "\n") is); line = refl })
     (λ no. mapped (newline_at bs) suc (Line bs) (Line (b ∷ bs)) (λ n h. record { cut = cc; line = and_from _ _ (not_from_false _ no) h.line }) (line_found bs))
 
--- Words
+-- ---- words, which end before the first other byte
 
 pub word_again : (w after : List ℕ) → list_all is_word_byte w ≡ true → begins_word after ≡ false → leading_word_bytes (w ++ after) ≡ length w
 word_again [] [] h e = refl
@@ -49,7 +49,7 @@ word_found (b ∷ bs) =
     (λ is. let h = word_found bs in record { cut = cc; bytes = and_from _ _ is h.bytes; longest = h.longest })
     (λ no. record { cut = refl; bytes = refl; longest = no })
 
--- Strings
+-- ---- strings, which end with a quote
 
 quote_first : (after : List ℕ) → raw_length (code "\"" ∷ after) ≡ Some 0
 quote_first [] = refl

@@ -111,7 +111,7 @@ pub is_end_comment : (bs : List ℕ) (o : Option ℕ) (r : Bool) → false ≡ e
 is_end_comment [] o r e b h n = absurd cc
 is_end_comment (x ∷ bs) o r e b h n = none_is o r n ∙ ap is_none (h ∙ ap newline_at (take_rest (x ∷ bs) 1)) ∙ is_line-newline_at bs ∙ rw b
 
--- The search for the end of a string, from position i of the bytes on
+-- ---- the search for the end of a string, from position i of the bytes on
 
 abbrev pub Stop : List ℕ → ℕ → Option ℕ → Type 0
 Stop bs i r = IsFirstByte (is_byte3 (code "\"") (code "\\") (code "\n")) (take (length bs - i) (drop i bs)) r

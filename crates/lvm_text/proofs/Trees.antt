@@ -50,7 +50,7 @@ fault_by text ts v (Err (fault.Number n)) s h o = λ ne. fault_here text ts v (f
 fault_by text ts v (Err (fault.KeyTwice n)) s h o = λ ne. fault_here text ts v (fault.KeyTwice n) s h o
 fault_by text ts v (Err fault.Memory) s h o = λ ne. absurd (ne refl)
 
--- What the builder read, or refused
+-- ---- what the builder read, or refused
 
 no_head : (ns : List ℕ) → None ≡ head_line ns → ns ≡ []
 no_head [] e = refl

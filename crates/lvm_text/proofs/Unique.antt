@@ -5,7 +5,7 @@ use Rattle.lvm_text.proofs.Cuts.{one_spelling, spelled_no_bad, one_bad}
 use Rattle.lvm_text.proofs.Building.{SameKey, same_key, list_same}
 use Rattle.std.specs.Prelude.{◌≡◌, ◌≢◌, ◌+◌, ◌∷◌, ◌++◌, ◌⊎◌}
 
--- Only one tree
+-- ---- only one tree
 
 -- two results are the same, and the tokens after them are the same
 abbrev One : {X : Type 0} → X → X → List TokenAtLine → List TokenAtLine → Type 0
@@ -94,7 +94,7 @@ reads_one (Several a l s r) (Several b j x z) ts m n h k p q =
 pub one_text : (ts : List TokenAtLine) (v w : Values) → IsText ts v → IsText ts w → v ≡ w
 one_text ts v w h k = (reads_one v w ts [] [] h k refl refl).0
 
--- Only one line of a syntax fault
+-- ---- only one line of a syntax fault
 
 shorter_front : (xs ys : List TokenAtLine) → BeginsText (xs ++ ys) → BeginsText xs
 shorter_front xs ys h = record { more = ys ++ h.more; values = h.values; text = rw (← append_assoc xs ys h.more) h.text }
@@ -137,7 +137,7 @@ one_line ts end m n (inl h) (inr u) = absurd (no_break h.before (h.token, m) h.a
 one_line ts end m n (inr u) (inl k) = absurd (no_break k.before (k.token, n) k.after ts k.whole k.broken u.0.begun)
 one_line ts end m n (inr u) (inr w) = u.1 ∙ sym w.1
 
--- Only one result
+-- ---- only one result
 
 -- the text's tokens are a text of the grammar with values v
 record Read (text : List ℕ) (ts : List TokenAtLine) (v : Values) : Type 0 where
@@ -211,7 +211,7 @@ one_fault text (fault.Syntax m) g h k = syntax_first text m g h k
 one_fault text fault.Memory g h k = absurd h
 one_fault text f g h k = unsound_first text f g h k
 
--- A result that is right is the only one
+-- ---- a result that is right is the only one
 
 pub only_tree : (text : List ℕ) (r : Result Tree TextFault) → IfOk r (Describes text) → IfErr r (λ f. f ≢ fault.Memory → HasFault text f) → (t : Tree) → Describes text t → Answers r (Ok t)
 only_tree text (Ok s) a b t h = rw (one_tree text s t a h)

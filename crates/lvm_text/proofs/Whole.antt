@@ -8,7 +8,7 @@ use Rattle.lvm_text.proofs.Beginnings.{done, text_from, last_run, broken, unfini
 use Rattle.lvm_text.proofs.Trees.{fault_here}
 use Rattle.std.specs.Prelude.{◌≡◌, ◌+◌, ◌<◌, ◌∷◌, ◌++◌, ◌⊎◌}
 
--- Tokens
+-- ---- cutting a text into tokens
 
 -- the text spells tokens, or has a part that is no token
 abbrev Tokens : List ℕ → Type 0
@@ -29,7 +29,7 @@ tokens_within (suc n) text line tokens rest lt h =
       | inr e ↦ next_element text line tokens rest (element_at rest) h e refl (λ l ts after less before. tokens_within n text l ts after (omega (arith, less, lt)) before)
     ]
 
--- Syntax
+-- ---- the syntax of the tokens
 
 -- the tokens run through to the end, or have a syntax fault on some line
 abbrev Syntax : List TokenAtLine → ℕ → Type 0
@@ -52,7 +52,7 @@ syntax_from : (ts before : List TokenAtLine) (end : ℕ) (s : State) → run 0 a
 syntax_from [] before end s h = rw (append-nil before) (ended before end s h)
 syntax_from (t ∷ ts) before end s h = next_token before t ts end s (stage_after s.0 s.1 t.0) h refl (λ x e. syntax_from ts (before ++ t ∷ []) end x e)
 
--- The text as a whole
+-- ---- the text as a whole
 
 abbrev Answer : List ℕ → Type 0
 Answer text = ((t : Tree) × Describes text t) ⊎ ((f : TextFault) × HasFault text f)

@@ -25,7 +25,7 @@ scalar_of (Word w) = if are_digits w then Some (tree.Int (digits_value 10 w)) el
 scalar_of (Text t) = Some (tree.Text t)
 scalar_of _ = None
 
--- How tokens are read; `scalar` says what a token is as a scalar
+-- ---- how tokens are read; `scalar` says what a token is as a scalar
 
 -- the other scalars of a list, after its first: a comma and a scalar for each, then the closing bracket, and then `more`
 abbrev pub ReadsMoreBy : (Token → Option tree.Scalar) → List TokenAtLine → List tree.Scalar → List TokenAtLine → Type 0

@@ -4,7 +4,7 @@ use Rattle.lvm_text.specs.Bytes.{code}
 use Rattle.lvm_text.specs.Token.{Token, Word, Text, Open, Close, ListOpen, ListClose, Equals, Comma, TokenAtLine}
 use Rattle.std.specs.Prelude.{◌≡◌, ◌≢◌, ◌+◌, ◌&&◌, ◌||◌, ◌==◌, ◌∷◌, ◌++◌, if◌then◌else◌}
 
--- Classes of bytes
+-- ---- classes of bytes
 
 -- the byte is a space, a tab or a newline
 abbrev pub is_white : ℕ → Bool
@@ -46,7 +46,7 @@ abbrev pub begins_word : List ℕ → Bool
 begins_word [] = false
 begins_word (b ∷ bs) = is_word_byte b
 
--- The elements of a text
+-- ---- the elements of a text
 
 -- a white byte, a comment without its # and its newline, or a token
 pub data Element : Type 0 where

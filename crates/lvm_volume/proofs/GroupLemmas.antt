@@ -12,7 +12,7 @@ pub refused_by : {X : Type 0} {found : Option LoadFault} {fault : LoadFault} {sa
 refused_by refused (inl is) = refused is
 refused_by refused (inr memory) = (λ kind. memory, λ other. absurd (other (rw memory)))
 
--- The two checks of fields
+-- ---- the two checks of fields
 
 -- the first fault of the two checks of fields
 abbrev pub of_both : Tree → Option LoadFault
@@ -37,7 +37,7 @@ at_fields top fault found =
       λ other. rw (both_found (faults_of_fields Fields top) (faults_of_fields limits top) _ fault found),
     )
 
--- The checks after those of fields
+-- ---- the checks after those of fields
 
 -- the first fault that the later checks find in a group
 abbrev of_group : Group → Option LoadFault

@@ -29,7 +29,7 @@ one_refusal source f g (OfGroup tree says hit) (NotUtf8 b same_b) = absurd (b sa
 one_refusal source f g (OfGroup tree says hit) (OfText utf8 found has same_b) = absurd (no_text_fault source tree found says.says has)
 one_refusal source f g (OfGroup tree says hit) (OfGroup other says_other hit_other) = let same = checks_of_one source tree other says says_other in cc
 
--- Every text describes a group or has a fault
+-- ---- every text describes a group or has a fault
 
 by_checks : (source : List ℕ) (tree : Tree) → SaysTree source tree → (found : Option LoadFault) → first_fault (metadata_checks tree) ≡ found
     → ((tables : List DeviceSpec × List Disk) × DescribesGroup source tables) ⊎ ((fault : LoadFault) × IsRefusedText source fault)

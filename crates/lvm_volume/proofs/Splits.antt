@@ -5,7 +5,7 @@ use denote.Ref.{Bor}
 use Rattle.dm_table.proofs.ByteLemmas.{list_all-both}
 use Rattle.lvm_volume.specs.declared.fault.NameFault.TheVariants.{Letter, HyphenFirst, Empty, Long, Memory}
 
--- Parts with hyphens doubled
+-- ---- parts with hyphens doubled
 
 plain_length : (b : ℕ) (bs : List ℕ) → eqb b (code "-") ≡ false → slice_length (b ∷ bs) ≡ suc (slice_length bs)
 plain_length b [] e = rw e
@@ -61,7 +61,7 @@ length_plain bs i lt plain e =
     let step : slice_length (drop i bs) ≡ suc (slice_length (drop (i + 1) bs)) = ap slice_length (drop_more bs i 0 lt) ∙ plain_length b (drop (i + 1) bs) (not_equal b (code "-") (eqb b (code "-")) refl plain) in
     omega (arith, e, step)
 
--- A part has the same fault with its hyphens doubled
+-- ---- a part has the same fault with its hyphens doubled
 
 not_zero : (n : ℕ) (b : Bool) → eqb (suc n) 0 ≡ b → b ≡ false
 not_zero n true e = let wrong : suc n ≡ 0 = eqb-true (suc n) 0 e in absurd (omega arith)
@@ -120,7 +120,7 @@ long_fault p = cond (nat_le (length (joined p)) 127) None (Some Long)
 pub fault_parts : (p : NameParts) → fault_of p ≡ or_later (parts_faults p) (long_fault p)
 fault_parts p = or_whole (part_fault p.vg) (part_fault p.lv) (layer_fault p.layer) (long_fault p)
 
--- Building a name
+-- ---- building a name
 
 pub fault_first : (p : NameParts) (f : NameFault) → Some f ≡ parts_faults p → Some f ≡ fault_of p
 fault_first p f e = ap (λ (o : Option NameFault). or_later o (long_fault p)) e ∙ sym (fault_parts p)
@@ -193,7 +193,7 @@ form_is_long p text e same refused =
 pub fault_built : (p : NameParts) (f : NameFault) → Some f ≡ parts_faults p → Returns (Err f) (built p)
 fault_built p f e = returns_fault f (built p) (rw (fault_parts p, ← e))
 
--- The front of a name
+-- ---- the front of a name
 
 -- the bytes are empty, or begin with a single hyphen
 abbrev IsEnd : List ℕ → Type 0
@@ -295,7 +295,7 @@ first bs =
       whole = rw (← end_is (drop (slice_length bs) bs) f.end) f.is;
     }
 
--- The slices of a name
+-- ---- the slices of a name
 
 -- the slices are doubled parts, and these parts, joined, are the name
 record Sliced (name : List ℕ) (s : NameParts) : Type 0 where
@@ -336,7 +336,7 @@ sliced_at name s (Some rest) t e = sliced_rest name rest s (later_slices rest) t
 sliced : (name : List ℕ) (s : NameParts) → slices_of name ≡ Some s → Sliced name s
 sliced name s e = sliced_at name s (later_slices name) refl e
 
--- The parts that build a name are those of its slices
+-- ---- the parts that build a name are those of its slices
 
 no_hyphen : (w more : List ℕ) → part_fault w ≡ None → begins_with (code "-") (doubled w ++ more) ≡ false
 no_hyphen [] more e = absurd cc
@@ -381,7 +381,7 @@ pub parts_back : (p : NameParts) → undoubled_parts (doubled_parts p) ≡ p
 parts_back p =
     rw (undoubled-doubled p.vg, undoubled-doubled p.lv, layer_back p.layer)
 
--- The clauses of `split_name`
+-- ---- the clauses of `split_name`
 
 pub one_split : (name : List ℕ) (p q : NameParts) → Builds p name → Builds q name → p ≡ q
 one_split name p q h k =
@@ -418,7 +418,7 @@ some_split name s None e is n le =
     let fine : parts_faults d.parts ≡ None = sym (parts-doubled d.parts) ∙ ap parts_faults (sym d.are) ∙ sym is in
     (d.parts, (rw (fault_parts d.parts, fine, short), sym d.spell), d.are)
 
--- Undoubling hyphens
+-- ---- undoubling hyphens
 
 apart_undoubled : (x : ℕ) (zs : List ℕ) → ((rest : List ℕ) → x ∷ zs ≢ code "-" ∷ code "-" ∷ rest) → undoubled (x ∷ zs) ≡ x ∷ undoubled zs
 apart_undoubled x [] h = refl

@@ -5,7 +5,7 @@ use Rattle.lvm_volume.specs.declared.names.Parts.{Parts}
 use Rattle.std.specs.Prelude.{◌≡◌, ◌&&◌, ◌||◌, ◌==◌, ◌∷◌, ◌++◌, if◌then◌else◌}
 use denote.Ref.{Bor}
 
--- The parts of a name
+-- ---- the parts of a name
 
 -- the parts of a device name: a volume group, a logical volume, and perhaps a layer of it
 pub record NameParts : Type 0 where
@@ -40,7 +40,7 @@ abbrev pub or_later : Option NameFault → Option NameFault → Option NameFault
 or_later None later = later
 or_later (Some f) later = Some f
 
--- The name built from the parts
+-- ---- the name built from the parts
 
 -- a text with each hyphen doubled
 abbrev pub doubled : List ℕ → List ℕ
@@ -80,7 +80,7 @@ abbrev pub Returns : Result (List ℕ) NameFault → Result (List ℕ) NameFault
 Returns (Err Memory) said = Unit {0}
 Returns result said = result ≡ said
 
--- The parts that a name is cut into
+-- ---- the parts that a name is cut into
 
 -- the parts with their hyphens doubled
 abbrev pub doubled_parts : NameParts → NameParts

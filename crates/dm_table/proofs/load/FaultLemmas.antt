@@ -2,7 +2,7 @@
 use Rattle.dm_table.proofs.Prelude.{length, arith, inl, inr, ℕ, suc, Bool, true, false, cond, List, [], Option, Some, None, Result, Ok, Err, refl, ap, AllByRecursion, cases_Bool, Part, Source, LoadKind, Memory, LoadFault, part_word, Answers, fault_at, first_or, first_fault, faults_from, unless, unended}
 use Rattle.std.specs.Prelude.{◌≡◌, ◌≢◌, ◌≤◌, ◌∷◌, ◌++◌}
 
--- One check followed by others
+-- ---- one check followed by others
 
 -- if a check finds a fault, later checks don't matter
 pub first_or-found : (faults : List LoadFault) (later : Option LoadFault) (fault : LoadFault) → first_or faults None ≡ Some fault → first_or faults later ≡ Some fault
@@ -28,7 +28,7 @@ pub first_fault-all : (checks : List (List LoadFault)) → AllByRecursion (λ ch
 first_fault-all [] h = refl
 first_fault-all (check ∷ checks) h = rw h.0 (first_fault-all checks h.1)
 
--- The faults of one check
+-- ---- the faults of one check
 
 pub cond_none : {X : Type 0} (x : X) (later : List X) (b : Bool) → cond b (x ∷ later) later ≡ [] → (b ≡ false) × (later ≡ [])
 cond_none x later true e = absurd cc
@@ -51,7 +51,7 @@ pub unended-nil : (part : Part) (n : ℕ) (rest : List ℕ) → unended part n r
 unended-nil part n [] e = refl
 unended-nil part n (byte ∷ bytes) e = absurd cc
 
--- The result of a call
+-- ---- the result of a call
 
 -- a call returns a value only if no fault was found, and it is that value
 pub unless-ok : {F X : Type 0} (found : Option F) (x y : X) → unless found x ≡ Ok y → (found ≡ None) × (x ≡ y)
@@ -83,7 +83,7 @@ unless-passed faults later y taken w h =
     let a = unless-ok (first_or faults None) y taken h in
     (a.1, rw (first_or-passed faults later a.0))
 
--- The kinds of the faults
+-- ---- the kinds of the faults
 
 -- the fault isn't one of memory
 abbrev pub IsOfText : LoadFault → Type 0
@@ -106,7 +106,7 @@ first_fault-text [] fault h e = absurd cc
 first_fault-text ([] ∷ checks) fault h e = first_fault-text checks fault h.1 e
 first_fault-text ((other ∷ faults) ∷ checks) fault h e = let same : other ≡ fault = cc in rw (← same) h.0.0
 
--- The words of a message
+-- ---- the length of the words in a message
 
 pub part_short : (part : Part) → length (part_word part) ≤ 6
 part_short Source = omega arith

@@ -32,7 +32,7 @@ pub record IsLawful {R X : Type 0} (form : Form R X) : Type 0 where
       → (value : X) × (form.value_in n (form.row_of text) ≡ Some value) × form.says n text value
   pub again : (n : ℕ) (text : List ℕ) (value : X) → form.says n text value → IsRead form n text value
 
--- Pieces in a row
+-- ---- the pieces of a text, one after the other
 
 abbrev AllPass : {X : Type 0} → (X → Bool) → List X → Type 0
 AllPass test xs = AllByRecursion (λ x. not (test x) ≡ false) xs
@@ -74,7 +74,7 @@ each_said says P so n [] [] say = tt
 each_said says P so n (text ∷ texts) (value ∷ values) say = (so n text value say.0, each_said says P so (suc n) texts values say.1)
 each_said says P so n texts values say = absurd say
 
--- The checks of a form
+-- ---- the checks of a form
 
 abbrev checks_of : {R X : Type 0} → Form R X → (pieces texts : List (List ℕ)) → (rest : List ℕ) → List (List LoadFault)
 checks_of form pieces texts rest =
@@ -119,7 +119,7 @@ says_none form law texts more values clear say =
       read.read,
     )
 
--- Texts of lines
+-- ---- texts of lines
 
 -- the parts of a text between newlines are its lines and its unterminated last line
 lines_and_rest : (text : List ℕ) → parts_at 10 text ≡ lines_of text ++ rest_of text ∷ []
@@ -154,7 +154,7 @@ pub lines_parsed : {R X : Type 0} (form : Form R X) → IsLawful form → form.i
 lines_parsed form law empty text answer h =
     parsed form.part (LinesSay form.says text) (text_checks form text) (text_values form text) answer (lines_said form law text) (lines_again form law empty text) h
 
--- Row by row
+-- ---- adding the values of rows, one row at a time
 
 -- the value that a row says, if any, comes after the earlier values and before the later ones
 pub said_after : {X : Type 0} (values : List X) (said : Option X) (more : List X) → (values ++ option_to_list said) ++ more ≡ values ++ cons_option said more

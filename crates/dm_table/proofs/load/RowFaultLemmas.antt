@@ -50,7 +50,7 @@ noted_checks part is_row has_values has_names rows rest =
     let place : length rows + 1 ≡ 1 + length rows = omega arith in
     rw place (noted_all part is_row has_values has_names no_faults 1 rows rest)
 
--- The first noted fault is not one of memory, and is the first fault of the checks
+-- The first noted fault is not one of memory, and is the first fault of the checks.
 
 pub noted_refused : {X : Type 0} (part : Part) (is_row has_values has_names : X → Bool) (rows : List X) (rest : List ℕ) (fault : LoadFault)
     → first_noted (noted_rest part (noted_rows part (row_fault is_row has_values has_names) no_faults 1 rows) (length rows + 1) rest) ≡ Some fault
@@ -72,7 +72,7 @@ rows_answer {Y = Y} part is_row has_values has_names rows rest seen values all a
     (λ fault found. let a = noted_refused part is_row has_values has_names rows rest fault (sym noted ∙ found) in (a.0, rw a.1))
     (λ none. let clear : first_fault (row_checks part is_row has_values has_names rows rest) ≡ None = sym (noted_checks part is_row has_values has_names rows rest) ∙ sym noted ∙ none in rw (clear, read))
 
--- A single row
+-- ---- the fault of a single row
 
 -- a row without a fault passes all tests
 pub first_failed-none : (is_row has_values has_names : Bool) → first_failed is_row has_values has_names ≡ None → (is_row ≡ true) × (has_values ≡ true) × (has_names ≡ true)

@@ -6,7 +6,7 @@ use Rattle.dm_table.proofs.words.FieldLemmas.{IsClearOf, parts_at-first, parts_a
 use Rattle.dm_table.proofs.words.NumberLemmas.{Spells-number_of, number_of-decimal, decimal_digits, decimal_some}
 use Rattle.std.specs.Prelude.{◌≡◌, ◌≢◌, ◌^◌, ◌<◌, ◌≤◌, ◌⊎◌, ◌||◌, ◌∷◌, ◌++◌, ◌==◌}
 
--- From fields to the line
+-- ---- from the fields of a line to the line
 
 -- the fields of a request, joined by spaces, are its text
 row_text : (op : Op) (device start len : List ℕ) (s l : ℕ) → start ≡ decimal s → len ≡ decimal l
@@ -29,7 +29,7 @@ described line op device more s l cut named read least most =
       most = most;
     }
 
--- From the line to its fields
+-- ---- from a line that is a request to its fields
 
 letter_space : (b : ℕ) → nat_le 65 b ≡ true → eqb b 32 ≡ false
 letter_space b h = grind (arith, nat_tests)
@@ -55,7 +55,7 @@ fields_are line values said =
     let fourth : fields len ≡ len ∷ [] = parts_at-clear 32 len (digits-clear len (decimal_digits values.len (omega (arith, said.most)))) in
     ap fields text ∙ rw (first, second, third, fourth)
 
--- At most one request
+-- ---- a line is at most one request
 
 same_op : (a b : Op) → op_text a ≡ op_text b → a ≡ b
 same_op Read Read e = refl
@@ -90,7 +90,7 @@ unique line a b said said' =
     same_values a b (same_op a.op b.op op) device (same_number a.start b.start said.start said'.start start)
     (same_number a.len b.len (omega (arith, said.most)) (omega (arith, said'.most)) len)
 
--- How a line that is a request is read
+-- ---- how a line that is a request is read
 
 op_passes : (op : Op) → is_op (op_text op ∷ []) ≡ true
 op_passes Read = refl
@@ -114,7 +114,7 @@ read-said line values said =
 pub refused : (line : List ℕ) (values : RequestValues) (fault : RequestFault) → request_reading line ≡ Err fault → DescribesRequest line values → ⊥
 refused line values fault found said = let read = read-said line values said in cc
 
--- The fault of a line, from its fields
+-- ---- the fault of a line, from its fields
 
 abbrev row_reading : List (List ℕ) → Result RequestValues RequestFault
 row_reading row = cond (has_form row) (values_reading (values_in row)) (Err Form)
@@ -164,7 +164,7 @@ fault-length line op device more s l cut named read out =
     let found : values_in (fields line) ≡ Some (record { op = op; device = device; start = s; len = l }) = rw (row, read.first, read.last, op_is op) in
     rw (form, found, out)
 
--- A line with the form of a request begins with an operation and a space
+-- ---- a line with the form of a request begins with an operation and a space
 
 letter_of : (b : ℕ) → (eqb b 82 || eqb b 87) ≡ true → (op : Op) × (b ≡ op_text op)
 letter_of b h = elim (or_cases _ _ h) [
@@ -196,7 +196,7 @@ pub op_first : (line rest : List ℕ) (op : Op) → 1 ≤ length line → get_or
 op_first [] rest op some letter cut = absurd (omega arith)
 op_first (b ∷ line) rest op some letter cut = cc (op_fields _ _)
 
--- A number, or a name, that a space ends
+-- ---- a number, or a name, with a space after it
 
 number_digits : (text : List ℕ) (n : ℕ) → number_of text ≡ Some n → list_all is_ascii_digit text ≡ true
 number_digits text n read =
@@ -216,7 +216,7 @@ number_stands text field next more n cut read = stands_first is_ascii_digit text
 pub name_stands : (text field next : List ℕ) (more : List (List ℕ)) → fields text ≡ field ∷ next ∷ more → is_device_name field ≡ true → StandsFirst is_device_byte text field
 name_stands text field next more cut named = stands_first is_device_byte text field next more cut (device_name_parts field named).bytes refl
 
--- Two nonempty fields
+-- ---- texts of two nonempty fields
 
 no_first : (start : List ℕ) (more : List (List ℕ)) → length start ≡ 0 → are_two (start ∷ more) ≡ false
 no_first start [] none = refl

@@ -10,7 +10,7 @@ use Rattle.dm_table.proofs.tables.TableGroups.{same_name}
 use Rattle.dm_table.proofs.Lists.{mapped}
 use Rattle.std.specs.Prelude.{◌≡◌, ◌+◌, ◌*◌, ◌^◌, ◌<◌, ◌≤◌, ◌&&◌, ◌∷◌, ◌++◌, if◌then◌else◌}
 
--- The fields that a body is written with
+-- ---- the fields that a body is written with
 
 abbrev pub body_fields : Line → List (List ℕ)
 body_fields line = decimal line.start ∷ decimal line.len ∷ target_fields line.target
@@ -19,7 +19,7 @@ pub columns_text : (before : List ℕ) (columns : List Column) → join_with_byt
 columns_text before [] = sym (append-nil before)
 columns_text before (column ∷ columns) = rw (columns_text (decimal column.offset) columns) (simp append_assoc)
 
--- From fields that pass the tests to the body
+-- ---- from fields that pass the tests to the body
 
 pub number_spelled : (field : List ℕ) → is_some (number_of field) ≡ true → Spells field (number_in field)
 number_spelled field e = Spells-number_of field (number_in field) (Some-is_some (number_of field) e)
@@ -33,7 +33,7 @@ dev_spelled text = elim (cases_Bool (names_device text)) [
   | inr e ↦ rw e
 ]
 
--- Options that are Some after a map were Some before
+-- ---- options that are Some after a map were Some before
 
 -- if both options together give a value, both are Some
 both_there : {X Y Z : Type 0} (make : X → Y → Z) (o : Option X) (p : Option Y) (z : Z) → if_both make o p ≡ Some z → (x : X) × (y : Y) × (o ≡ Some x) × (p ≡ Some y) × (make x y ≡ z)
@@ -45,7 +45,7 @@ chosen : {X : Type 0} (b : Bool) (o : Option X) (x : X) → (if b then o else No
 chosen true o x h = (refl, h)
 chosen false o x h = absurd cc
 
--- What fields say
+-- ---- what fields say
 
 -- the fields are the texts of these arguments, and if the names among the arguments are valid, a table can contain the arguments
 abbrev IsSaid : List (List ℕ) → List Argument → Type 0
@@ -219,7 +219,7 @@ body_said at fs line h names =
 pub body_placed : (at : Place) (fs : List (List ℕ)) (line : Line) → line_in at fs ≡ Some line → line.at ≡ at
 body_placed at fs line h = let m = mapped (line_at at) (body_in fs) line h in rw (← m.2)
 
--- From a body to its fields
+-- ---- from the body of a line to its fields
 
 -- the byte may occur in a field: printable, and no space, comma, semicolon or backslash
 abbrev pub is_ink : ℕ → Bool
@@ -271,7 +271,7 @@ type_inked _ = (refl, refl)
 pub body_inked : (line : Line) → IsBody line → AllByRecursion IsInked (body_fields line)
 body_inked line h = (number_inked line.start h.start, (number_inked line.len h.len, (type_inked line.target, arguments_inked (target_row line.target).arguments h.target)))
 
--- The fields of a body pass the tests
+-- ---- the fields of a body pass the tests
 
 filled : (fs : List (List ℕ)) → AllByRecursion IsInked fs → list_all (λ field. nat_lt 0 (length field)) fs ≡ true
 filled [] h = refl

@@ -2,7 +2,7 @@
 use Rattle.dm_table.proofs.Prelude.{inl, inr, ℕ, suc, Bool, true, false, List, [], length, map, refl, sym, ap, ◌∙◌, append_assoc, arith, codes, join_with_byte, Line, DeviceSpec, Place, SayEach, body_text, place_of, is_ro, is_flags, SaysLines, SaysDevice, DescribesConcise, ReadsBack, flag_text, concise_device, concise_text, lines_at, as_concise}
 use Rattle.std.specs.Prelude.{◌≡◌, ◌≤◌, ◌∷◌, ◌++◌, if◌then◌else◌}
 
--- Places are not written
+-- ---- places are not written
 
 lines_as : (at : Place) (lines : List Line) → map body_text (lines_at at lines) ≡ map body_text lines
 lines_as at [] = refl
@@ -15,7 +15,7 @@ devices_as n (device ∷ devices) = rw (lines_as (place_of n) device.lines, devi
 text_as : (n : ℕ) (devices : List DeviceSpec) → concise_text (as_concise n devices) ≡ concise_text devices
 text_as n devices = rw (devices_as n devices)
 
--- A single device
+-- ---- the text of a single device
 
 -- the flag that is written for a device
 abbrev flag_of : Bool → List ℕ

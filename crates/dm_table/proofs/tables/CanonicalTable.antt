@@ -7,7 +7,7 @@ use Rattle.dm_table.proofs.tables.TableGroups.{named_of}
 use Rattle.dm_table.proofs.tables.TableRows.{text_written}
 use Rattle.std.specs.Prelude.{◌≡◌, ◌+◌, ◌∷◌, ◌++◌}
 
--- Places and flags are not written
+-- ---- places and flags are not written
 
 lines_as : (name : List ℕ) (n : ℕ) (lines : List Line) → lines_text name (placed_lines n lines) ≡ lines_text name lines
 lines_as name n [] = refl
@@ -17,7 +17,7 @@ text_as : (n : ℕ) (devices : List DeviceSpec) → table_text (as_table n devic
 text_as n [] = refl
 text_as n (device ∷ devices) = rw (lines_as device.name n device.lines, text_as (n + length device.lines) devices)
 
--- The lines of the text
+-- ---- the lines of the text
 
 lines_ended : (name : List ℕ) (lines : List Line) → lines_text name lines ≡ flat_map (λ text. text ++ 10 ∷ []) (map line_text (named_of name lines))
 lines_ended name [] = refl
@@ -30,7 +30,7 @@ text_ended (device ∷ devices) =
     let others = map line_text (named_lines devices) in
     rw (lines_ended device.name device.lines, text_ended devices) (sym (flat_map-append (λ text. text ++ 10 ∷ []) own others) ∙ ap (flat_map (λ text. text ++ 10 ∷ [])) (sym (map-append line_text (named_of device.name device.lines) (named_lines devices))))
 
--- Numbering of lines
+-- ---- numbering of lines
 
 numbered : ℕ → List NamedLine → List NamedLine
 numbered n [] = []
@@ -66,7 +66,7 @@ said_again n (named ∷ ns) h = (
   said_again (suc n) ns h.1,
 )
 
--- Devices
+-- ---- the devices of table text
 
 described_lines : (n : ℕ) (lines : List Line) (at : Place) → HasPlaceOf lines at → HasPlaceOf (placed_lines n lines) (record { part = Source; number = n })
 described_lines n [] at h = absurd h

@@ -10,7 +10,7 @@ use Rattle.dm_table.proofs.tables.TableFields.{take-all_but_last, get_or-last_or
 use Rattle.dm_table.proofs.tables.ConciseRows.{is_entry_byte, entry_semicolon, entry_newline, entry_printed, join_passes, device_said, device_bytes, device_some, device_again}
 use Rattle.std.specs.Prelude.{◌≡◌, ◌⊎◌, ◌≤◌, ◌∷◌, ◌++◌, ◌-◌}
 
--- The newline at the end
+-- ---- the newline at the end of a text
 
 last_split : (text : List ℕ) → eqb (last_or 0 text) 10 ≡ true → all_but_last text ++ 10 ∷ [] ≡ text
 last_split [] h = absurd cc
@@ -41,7 +41,7 @@ newline_cut text some e = rw (rw (get_or-last_or 0 0 text some) at e) (take-all_
 pub newline_missing : (text : List ℕ) → 1 ≤ length text → eqb (get_or text (length text - 1) 0) 10 ≡ false → text ≡ without_newline text
 newline_missing text some e = rw (rw (get_or-last_or 0 0 text some) at e)
 
--- The parts between semicolons
+-- ---- the parts between semicolons
 
 parts_joined : (text : List ℕ) → join_with_byte 59 (parts_of text) ≡ text
 parts_joined [] = refl
@@ -51,7 +51,7 @@ parts_some : (text : List ℕ) → 1 ≤ length text → parts_of text ≡ parts
 parts_some [] h = absurd (omega arith)
 parts_some (b ∷ text) h = refl
 
--- Devices are a lawful form in which each piece is its own row
+-- ---- devices are a lawful form in which each piece is its own row
 
 abbrev device_form : Form (List ℕ) DeviceSpec
 device_form = record { part = Source; is_text = is_printable; row_of = λ text. text; is_row = is_device; has_values = has_values; has_names = has_names; value_in = λ n text. device_in n (entries text); says = SaysDevice }
@@ -87,7 +87,7 @@ described text h =
       said = rw (map-id parts) at said;
     }
 
--- No check finds a fault in a text that describes devices
+-- ---- no check finds a fault in a text that describes devices
 
 joined_lacks : (texts : List (List ℕ)) → AllByRecursion (λ text. lacks 10 text ≡ true) texts → lacks 10 (join_with_byte 59 texts) ≡ true
 joined_lacks [] h = refl
@@ -117,7 +117,7 @@ again text ds d =
     let read = says_none device_form law d.parts [] ds tt d.said in
     rw parts (rw (append-nil d.parts, map-id d.parts) at read)
 
--- How a text is read
+-- ---- how a text in the concise form is read
 
 pub read_as_promised : (text : List ℕ) (answer : Result (Vec DeviceSpec) LoadFault) → Answers Source (λ v. v.items) answer (read_concise text)
     → IsParsed Source (DescribesConcise text) (concise_checks text) answer

@@ -7,7 +7,7 @@ use Rattle.dm_table.proofs.load.FaultLemmas.{unless-ok, unless-err}
 use Rattle.dm_table.proofs.load.RowFaultLemmas.{first_failed-none, read_clear, said_refused}
 use Rattle.dm_table.proofs.load.Forms.{said_after}
 
--- The earlier of two faults
+-- ---- the earlier of two faults
 
 pub earlier_of-none : (fault : Option RowFault) → earlier_of fault None ≡ fault
 earlier_of-none (Some Syntax) = refl
@@ -64,7 +64,7 @@ device_read r n text es on_a_line line cut h =
     rw (line, cut, device_fault) in
     rw (← same) h
 
--- The entries as slices
+-- ---- the entries as slices
 
 pub few_entries : (n : ℕ) (on_a_line : Bool) (es : List (Bor (List ℕ))) → length es < 4 → entries_reading n on_a_line (texts es) ≡ Err Syntax
 few_entries n on_a_line (a ∷ b ∷ c ∷ d ∷ es) h = absurd (omega arith)
@@ -95,7 +95,7 @@ entries_named n on_a_line (a ∷ b ∷ es) k bodies lines label h is r =
     (and_parts (is_device_name a.now) (is_uuid b.now) named).0
 entries_named n on_a_line es k bodies lines label h is r = absurd (omega arith)
 
--- One device after another
+-- ---- reading one device after another
 
 -- if no fault has been noted, the devices so far and those of the parts left are all devices, also after one more part
 pub devices_further : (parts : List (Bor (List ℕ))) (i : ℕ) (d : Bor (List ℕ)) (read : Result (Unit {0}) RowFault) (seen new : FirstFaults) (old devices : List DeviceSpec) → i < length parts → OnOk read (devices ≡ old ++ option_to_list (device_in (i + 1) (entries (get_or parts i d).now))) → fault_in read ≢ Some Memory
@@ -107,7 +107,7 @@ devices_further parts i d read seen new old devices below taken text is so_far c
     let here = read_clear read Source seen (i + 1) taken text (sym (ap first_noted is) ∙ clear) in
     rw (number, here.0) (said_after old (device_in (i + 1) (entries (get_or parts i d).now)) (devices_from (suc (i + 1)) (texts (drop (i + 1) parts))) ∙ (rw next at (so_far here.1)))
 
--- One body after another
+-- ---- reading one body after another
 
 -- the loop's invariant after one more body: its fault is taken into account, and its line is added
 pub record IsBodyFurther (bodies : List (Bor (List ℕ))) (i : ℕ) (at : Place) (label fault found : Option RowFault) (old new : List Line) : Type 0 where
@@ -130,7 +130,7 @@ body_further bodies i d at label fault found old new below is added known made =
           rw (added (sym is ∙ both.1)) (said_after old (line_in at fields) (lines_in at (texts (drop (i + 1) bodies))) ∙ (rw next at (made both.0)));
     }
 
--- A device that was refused has the fault that was returned
+-- ---- a device that was refused has the fault that was returned
 
 label_says : (n : ℕ) (es : List (List ℕ)) → is_label es ≡ true → (device : DeviceSpec) × (device_in n es ≡ Some device)
 label_says n (name ∷ uuid ∷ minor ∷ flags ∷ bodies) h = (_, refl)

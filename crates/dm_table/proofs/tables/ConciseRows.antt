@@ -8,7 +8,7 @@ use Rattle.dm_table.proofs.tables.TableGroups.{same_name}
 use Rattle.dm_table.proofs.tables.TableRows.{space_cases, space_dropped, space_joined, fields_joined, inks, inks_and_space, no_space, row_kept, row_kept_spaced}
 use Rattle.std.specs.Prelude.{◌≡◌, ◌⊎◌, ◌≤◌, ◌&&◌, ◌||◌, ◌∷◌, ◌++◌}
 
--- From fields to the text of a body
+-- ---- from fields to the text of a body
 
 first_cases : (fs : List (List ℕ)) → (without_first_space fs ≡ fs) ⊎ ([] ∷ without_first_space fs ≡ fs)
 first_cases ([] ∷ fs) = inr refl
@@ -40,7 +40,7 @@ body_writes at text line r l =
       ]
     ]
 
--- From the text of a body to its fields
+-- ---- from the text of a body to its fields
 
 no_first : (f : List ℕ) (fs : List (List ℕ)) → nat_lt 0 (length f) ≡ true → without_first_space (f ∷ fs) ≡ f ∷ fs
 no_first [] fs h = absurd cc
@@ -74,7 +74,7 @@ fields_again text whole f fs is h w =
 pub body_read : (text : List ℕ) (line : Line) → WritesBody text line → IsBody line → body_fields text ≡ body.body_fields line
 body_read text line w h = fields_again text (body_text line) (decimal line.start) (decimal line.len ∷ target_fields line.target) refl (body_inked line h) w
 
--- Bytes
+-- ---- the bytes of a device's text
 
 -- the byte may occur in a body or in an entry of a label
 abbrev pub is_line_byte : ℕ → Bool
@@ -141,7 +141,7 @@ lines_bytes n [] [] s = tt
 lines_bytes n (text ∷ texts) (line ∷ lines) s = (written_bytes text line s.0 s.1, lines_bytes n texts lines s.3)
 lines_bytes n texts lines s = absurd s
 
--- Labels
+-- ---- the label of a device
 
 no_length : (text : List ℕ) → eqb (length text) 0 ≡ true → text ≡ []
 no_length [] h = refl
@@ -173,7 +173,7 @@ label_passes : (name uuid minor flags : List ℕ) (bodies : List (List ℕ)) →
 label_passes name uuid minor flags [] some a b c d = absurd (omega arith)
 label_passes name uuid minor flags (body ∷ bodies) some a b c d = and_from _ _ a (and_from _ _ b (and_from _ _ c d))
 
--- From the fields of a device to what its text says
+-- ---- from the fields of a device to what its text says
 
 lines_said : (n : ℕ) (texts : List (List ℕ)) → list_all (λ text. is_body_row (body_fields text)) texts ≡ true → list_all (λ text. is_body (body_fields text)) texts ≡ true
     → list_all (λ text. has_body_names (body_fields text)) texts ≡ true → SaysLines n texts (lines_in (place_of n) texts)
@@ -232,7 +232,7 @@ device_said n text r l h =
     let names = and_parts (has_label_names (entries text)) _ h in
     entries_said n text (entries text) (sym (join-parts_at 44 text)) label.1 values.0 names.0 a.1 values.1 names.1
 
--- From what a device's text says to its fields
+-- ---- from what a device's text says to its fields
 
 record Passes (n : ℕ) (texts : List (List ℕ)) (lines : List Line) : Type 0 where
   pub rows : list_all (λ text. is_body_row (body_fields text)) texts ≡ true

@@ -38,7 +38,7 @@ line_again n line disk is =
       read = ap (path_in n) row ∙ ap (option_map (path_at n disk.disk)) is.place ∙ rw (← is.at) refl;
     }
 
--- How a path list is read
+-- ---- how a path list is read
 
 pub read_as_promised : (text : List ℕ) (answer : Result (Vec DiskPath) LoadFault) → Answers Paths (λ v. v.items) answer (read_paths text)
     → IsParsed Paths (DescribesPaths text) (path_checks text) answer

@@ -43,7 +43,7 @@ not_spaced ([] ∷ []) e = absurd cc
 not_spaced (f ∷ g ∷ fs) e = rw (not_spaced (g ∷ fs) e)
 not_spaced fs e = refl
 
--- Rows
+-- ---- rows of table text
 
 -- the place of line number n of the source
 abbrev pub place : ℕ → Place
@@ -81,7 +81,7 @@ row_made n (f ∷ fs) d h l b =
     let is_row : is_body_row (texts fs) ≡ true = rw (take_rest (f ∷ fs) 1) at b in
     rw (l, is_row, take_rest (f ∷ fs) 1) refl
 
--- A body under a name
+-- ---- a body with the name from its label
 
 -- a fault of the body is the fault of the named line
 pub named_fault : (name : List ℕ) (at : Place) (body : List (List ℕ)) (fault : RowFault) → body_reading at body ≡ Err fault → named_reading name at body ≡ Err fault

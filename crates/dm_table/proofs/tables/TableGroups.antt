@@ -2,7 +2,7 @@
 use Rattle.dm_table.proofs.Prelude.{inl, inr, ℕ, Bool, true, false, nat_eq, List, [], map, refl, sym, ap, ◌∙◌, pointwise, AllByRecursion, bytes_eq-Decides, cases_Bool, false_from_ne_true, Line, DeviceSpec, Place, NamedLine, named_lines, HasPlaceOf, IsDescribed, DifferInName, alone, join_line, joined}
 use Rattle.std.specs.Prelude.{◌≡◌, ◌≢◌, ◌∷◌, ◌++◌}
 
--- The test whether two names are equal
+-- ---- the test whether two names are equal
 
 pub same_name : (a b : List ℕ) → pointwise nat_eq a b ≡ true → a ≡ b
 same_name a b e = (bytes_eq-Decides a b).0 e
@@ -20,7 +20,7 @@ is_other_name a b h = false_from_ne_true _ (λ e. h (same_name a b e))
 abbrev pub named_of : List ℕ → List Line → List NamedLine
 named_of name lines = map (λ line. record { name = name; line = line }) lines
 
--- What joined lines say
+-- ---- what lines say after they were joined into devices
 
 name_taken : (named : NamedLine) (name : List ℕ) (lines : List Line) (b : Bool) → pointwise nat_eq named.name name ≡ b → b ≡ true → named_of name (named.line ∷ lines) ≡ named ∷ named_of name lines
 name_taken named name lines b e t = rw (same_name named.name name (e ∙ t))
@@ -62,7 +62,7 @@ pub apart_joined : (ns : List NamedLine) → DifferInName (joined ns)
 apart_joined [] = tt
 apart_joined (n ∷ ns) = apart_join n (joined ns) (apart_joined ns)
 
--- Lines with the same name, in front of devices of which the first has another name
+-- ---- lines with the same name, in front of devices of which the first has another name
 
 abbrev pub BeginsOther : List ℕ → List DeviceSpec → Type 0
 BeginsOther name [] = Unit {0}

@@ -5,7 +5,7 @@ use Rattle.dm_table.proofs.tables.TableFields.{row_found, row_taken, line_name, 
 use Rattle.dm_table.proofs.tables.TargetRows.{read_ok}
 use Rattle.std.specs.Prelude.{◌≡◌, ◌+◌, ◌∷◌, ◌++◌}
 
--- A value made from a reading is made from the value that was read; a fault stays the same
+-- ---- a value made from a reading is made from the value that was read; a fault stays the same
 
 made_parts : {X Y : Type 0} (make : X → Y) (reading : Result X RowFault) (y : Y) → made_of make reading ≡ Ok y → (x : X) × (reading ≡ Ok x) × (make x ≡ y)
 made_parts make (Ok x) y h = (x, refl, read_ok (make x) y h)
@@ -15,7 +15,7 @@ pub made_refused : {X Y : Type 0} (make : X → Y) (reading : Result X RowFault)
 made_refused make (Ok x) fault h = absurd cc
 made_refused make (Err other) fault h = let is : other ≡ fault = cc in ap Err is
 
--- A line after devices
+-- ---- adding a line after devices
 
 -- a line with the last device's name is added to that device, in terms of positions
 set_last : (ds : List DeviceSpec) (n : ℕ) (d : DeviceSpec) (named : NamedLine) → n + 1 ≡ length ds → slice_index_or ds n d ≡ d → pointwise nat_eq named.name d.name ≡ true
@@ -100,7 +100,7 @@ joined_more : (ns : List NamedLine) (named : NamedLine) → add_line (joined ns)
 joined_more [] named = refl
 joined_more (one ∷ ns) named = add_join one (joined ns) named ∙ ap (join_line one) (joined_more ns named)
 
--- One row after another
+-- ---- adding the lines of rows, one after another
 
 -- the devices after the line that one more row says
 abbrev with_named : List DeviceSpec → ℕ → List (List ℕ) → List DeviceSpec

@@ -9,7 +9,7 @@ use Rattle.dm_table.proofs.tables.BodyRows as body
 use Rattle.dm_table.proofs.Lists.{mapped}
 use Rattle.std.specs.Prelude.{◌≡◌, ◌⊎◌, ◌<◌, ◌∷◌, ◌++◌}
 
--- The fields that a line is written with
+-- ---- the fields that a line is written with
 
 abbrev label_for : NamedLine → List ℕ
 label_for named = named.name ++ 58 ∷ []
@@ -20,7 +20,7 @@ row_for named = label_for named ∷ body_fields named.line
 pub line_joined : (named : NamedLine) → join_with_byte 32 (row_for named) ≡ line_text named
 line_joined named = simp append_assoc
 
--- A space at the end of a line, which leaves an empty last field
+-- ---- a space at the end of a line, which leaves an empty last field
 
 pub space_cases : (fs : List (List ℕ)) → (without_last_space fs ≡ fs) ⊎ (without_last_space fs ++ [] ∷ [] ≡ fs)
 space_cases ([] ∷ []) = inr refl
@@ -38,7 +38,7 @@ pub space_joined : (f : List ℕ) (fs : List (List ℕ)) → join_with_byte 32 (
 space_joined f [] = refl
 space_joined f (g ∷ fs) = rw (space_joined g fs) (sym (append_assoc f (32 ∷ join_with_byte 32 (g ∷ fs)) (32 ∷ [])))
 
--- From a row that passes the tests to its line
+-- ---- from a row that passes the tests to its line
 
 label_spelled : (label : List ℕ) → is_label label ≡ true → name_in label ++ 58 ∷ [] ≡ label
 label_spelled label h =
@@ -86,7 +86,7 @@ line_writes n line named r l =
       | inr e ↦ inr (cc (row_begins (row_fields line) r))
     ]
 
--- From a line to its row
+-- ---- from a line to its row
 
 label_inked : (name : List ℕ) → is_device_name name ≡ true → IsInked (name ++ 58 ∷ [])
 label_inked name h = (lt-ltb _ _ (omega (arith, length-append name (58 ∷ []))), list_all-both is_ink name (58 ∷ []) (name_inked name h).1 refl)
@@ -142,7 +142,7 @@ text_written n text named w h =
       | inr e ↦ ap is_shown e ∙ list_all-both _ (line_text named) (32 ∷ []) clean refl
     ]
 
--- The row of a line passes the tests
+-- ---- the row of a line passes the tests
 
 label_passes : (name : List ℕ) → is_device_name name ≡ true → is_label (name ++ 58 ∷ []) ≡ true
 label_passes name h =

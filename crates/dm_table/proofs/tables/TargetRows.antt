@@ -5,7 +5,7 @@ use denote.Ref.{Bor}
 use Rattle.dm_table.specs.declared.tables.line_body.BodyHead.{BodyHead}
 use Rattle.dm_table.specs.declared.load.row_faults.RowFault.TheVariants.{Field, Name, Memory}
 
--- The value that was read
+-- ---- the value that was read
 
 pub read_ok : {X : Type 0} (x y : X) → ◌≡◌ {A = Result X RowFault} (Ok x) (Ok y) → x ≡ y
 read_ok x y h = cc
@@ -25,7 +25,7 @@ dev_unnamed text fault h = elim (cases_Bool (is_dev_ref (dev_in text))) [
   | inr e ↦ (e, let same : ◌≡◌ {A = Result DevRef RowFault} (Err Name) (Err fault) = rw e at h in cc)
 ]
 
--- Columns, two fields at a time
+-- ---- reading columns, two fields at a time
 
 -- the result for all columns, from those read before and the result for the others
 abbrev pub after_columns : List Column → Result (List Column) RowFault → Result (List Column) RowFault
@@ -146,7 +146,7 @@ striped_said (f ∷ fs) d h c =
     let counted : is_count f.now (length (texts fs)) ≡ true = rw length-map (rw (take_rest (f ∷ fs) 1) at c) in
     rw (counted, take_rest (f ∷ fs) 1)
 
--- The fields of a body
+-- ---- reading the fields of a body
 
 -- a fault of a value is a fault of what is made of it, if invalid names stay invalid
 pub made_fault : {X Y : Type 0} (of_x : X → Bool) (of_y : Y → Bool) (make : X → Y) → ((x : X) → of_x x ≡ false → of_y (make x) ≡ false) → (o : Option X) (fault : RowFault)

@@ -3,7 +3,7 @@ use Rattle.dm_table.proofs.Prelude.{ℕ, suc, inl, inr, Bool, true, false, cond,
 use Rattle.dm_table.proofs.words.FieldLemmas.{IsClearOf, join-parts_at}
 use Rattle.std.specs.Prelude.{◌≡◌, ◌≢◌, ◌+◌, ◌<◌, ◌≤◌, ◌⊎◌, ◌&&◌, ◌||◌, ◌∷◌, ◌++◌}
 
--- Texts whose bytes all pass a test
+-- ---- texts whose bytes all pass a test
 
 -- if all bytes pass a test, they pass a weaker one
 pub list_all-weaker : (test weaker : ℕ → Bool) → ((b : ℕ) → test b ≡ true → weaker b ≡ true) → (text : List ℕ) → list_all test text ≡ true → list_all weaker text ≡ true
@@ -14,7 +14,7 @@ pub list_all-both : (test : ℕ → Bool) (xs ys : List ℕ) → list_all test x
 list_all-both test [] ys h k = k
 list_all-both test (b ∷ xs) ys h k = let a = and_parts (test b) (list_all test xs) h in and_from _ _ a.0 (list_all-both test xs ys a.1 k)
 
--- Bytes of lines, names and numbers
+-- ---- bytes of lines, names and numbers
 
 -- all bytes of the line are from 0x20 to 0x7E
 abbrev pub is_shown : List ℕ → Bool
@@ -98,7 +98,7 @@ device_disk b h = grind (arith, nat_tests)
 pub plain-device_name : (text : List ℕ) → is_device_name text ≡ true → IsPlain text
 plain-device_name text h = plain text (list_all-weaker is_device_byte is_disk_byte device_disk text (device_name_parts text h).bytes)
 
--- The bytes before the first one that fails a test
+-- ---- the bytes before the first one that fails a test
 
 prefix_step : (test : ℕ → Bool) (b : ℕ) (text : List ℕ) (t : Bool) (n : ℕ) → test b ≡ t → list_all test (take n text) ≡ true
     → list_all test (take (cond t (1 + n) 0) (b ∷ text)) ≡ true
@@ -169,7 +169,7 @@ stands_first test text field next more cut all other =
       after = rw (whole, prefix_at test field rest all other) (drop-append_seam field (32 ∷ rest));
     }
 
--- Parts of a text whose bytes all pass a test
+-- ---- parts of a text whose bytes all pass a test
 
 onto_pass : (test : ℕ → Bool) (b : ℕ) (parts : List (List ℕ)) → test b ≡ true → AllByRecursion (λ part. not (list_all test part) ≡ false) parts
     → AllByRecursion (λ part. not (list_all test part) ≡ false) (onto_first b parts)
@@ -187,7 +187,7 @@ parts_pass test c (b ∷ text) h =
       | inr e ↦ rw e (onto_pass test b (parts_at c text) a.0 more)
     ]
 
--- The greatest lengths of names
+-- ---- the greatest lengths of names
 
 pub device_name_len : (text : List ℕ) → is_device_name text ≡ true → length text ≤ 127
 device_name_len text h = leb-true _ _ (and_parts (nat_le (length text) 127) _ (and_parts (nat_le 1 (length text)) _ h).1).0

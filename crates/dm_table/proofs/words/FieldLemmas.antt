@@ -8,7 +8,7 @@ use denote.Ref.{Bor}
 abbrev pub IsClearOf : ℕ → List ℕ → Type 0
 IsClearOf c = All (λ b. eqb b c ≡ false)
 
--- Cutting
+-- ---- cutting a text at a byte
 
 -- the first part is what comes before the first c, and the other parts are those of what comes after it
 pub parts_at-first : (c : ℕ) (part more : List ℕ) → IsClearOf c part → parts_at c (part ++ c ∷ more) ≡ part ∷ parts_at c more
@@ -69,7 +69,7 @@ pub cut_last : (c : ℕ) (parts : List (Bor (List ℕ))) (rest : Bor (List ℕ))
     → IsFirstByte (is_byte c) rest.now None → texts parts ++ parts_at c rest.now ≡ all → texts (parts ++ rest ∷ []) ≡ all
 cut_last c parts rest all none so_far = rw (← so_far, parts_at-nowhere) (map_push _ parts rest)
 
--- The last part, and all but the last
+-- ---- the last part of a text, and all but the last
 
 pub all_but_last-push : {X : Type 0} (xs : List X) (x : X) → all_but_last (xs ++ x ∷ []) ≡ xs
 all_but_last-push [] x = refl
@@ -91,7 +91,7 @@ pub all_but_last-popped : (parts lines : List (Bor (List ℕ))) (last : Option (
 all_but_last-popped parts lines None popped empty = rw (popped, append-nil, empty refl)
 all_but_last-popped parts lines (Some slice) popped empty = sym (ap all_but_last (ap texts popped ∙ map-append _ lines (slice ∷ [])) ∙ all_but_last-push (texts lines) slice.now)
 
--- Lines
+-- ---- the lines of a text
 
 -- a list with at least two elements keeps its first when the last is dropped
 all_but_last_more : {X : Type 0} (x : X) (xs : List X) → 0 < length xs → all_but_last (x ∷ xs) ≡ x ∷ all_but_last xs

@@ -4,7 +4,7 @@ use Rattle.dm_table.proofs.words.NumberLemmas.{digit_range}
 use Rattle.std.specs.Prelude.{◌≡◌, ◌+◌, ◌*◌, ◌%◌, ◌^◌, ◌<◌, ◌≤◌, ◌∷◌, ◌++◌}
 use lib.Lanes.{Each1}
 
--- Lists of digits
+-- ---- lists of digits
 
 -- what holds of each digit of two lists joined holds of each digit of both
 pub each_part : (xs ys : List ℕ) → Each1 (λ digit. digit < 10) (xs ++ ys) → Each1 (λ digit. digit < 10) xs × Each1 (λ digit. digit < 10) ys
@@ -28,7 +28,7 @@ number_after n (x ∷ xs) =
     let alone : 0 * 10 + x ≡ x = omega arith in
     omega (arith, all, rw alone at first, split, tens, more)
 
--- Bytes minus the digit zero
+-- ---- bytes minus the digit zero
 
 tests_digit : (byte : ℕ) → byte < 256 → (byte + 208) % 256 < 10 → is_ascii_digit byte ≡ true
 tests_digit byte within below = grind (arith, nat_tests)
@@ -44,7 +44,7 @@ values_from_lanes (byte ∷ text) all =
     let one : (byte + 208) % 256 ≡ digit_value byte = omega (arith, digit_value_digit byte (digit_range byte both.0), digit_range byte both.0) in
     rw (one, values_from_lanes text both.1)
 
--- The first lane that isn't a digit
+-- ---- the first lane that isn't a digit
 
 small : (x : ℕ) → x ≤ 9 → nat_lt 9 x ≡ false
 small x within = grind (arith, nat_tests)

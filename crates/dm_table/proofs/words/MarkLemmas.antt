@@ -5,7 +5,7 @@ use Rattle.std.specs.Prelude.{◌≡◌, ◌≢◌, ◌+◌, ◌-◌, ◌*◌, �
 use lib.Count.{count_trailing_zeros}
 use lib.Lanes.{mask_l}
 
--- The marks of parts
+-- ---- the marks of parts of a text
 
 pub mask_append : (ms ns : List Bool) → mask_l (ms ++ ns) ≡ mask_l ms + 2 ^ length ms * mask_l ns
 mask_append [] ns = omega arith
@@ -44,7 +44,7 @@ front_marks c text n = ap mask_l (sym (take-map _ n text))
 pub back_marks : (c : ℕ) (text : List ℕ) (n : ℕ) → marks_of c (take (length text - n) (drop n text)) ≡ mask_l (drop n (map (λ byte. byte == c) text))
 back_marks c text n = ap (marks_of c) (take_rest text n) ∙ ap mask_l (sym (drop-map _ n text))
 
--- The first mark
+-- ---- the first mark of a text
 
 -- if there is a mark, it is within the text
 pub mark_within : {X : Type 0} (p : X → Bool) (xs : List X) → 0 < mask_l (map p xs) → prefix_len (λ x. not (p x)) xs < length xs

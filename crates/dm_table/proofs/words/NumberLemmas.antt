@@ -103,7 +103,7 @@ pub Some-is_some : (o : Option ℕ) → is_some o ≡ true → o ≡ Some (unwra
 Some-is_some None e = absurd cc
 Some-is_some (Some n) e = refl
 
--- Texts that spell no number
+-- ---- texts that spell no number
 
 pub number_of-empty : (text : List ℕ) → length text ≡ 0 → number_of text ≡ None
 unfolding number_of

@@ -50,7 +50,7 @@ eight_value a b c d e f g h la lb lc ld le lf lg lh =
     let last : firsts (pairs / 2 ^ 16) * 42949672960001 % 2 ^ 64 ≡ ((c * 10 + d) * 10000 + (g * 10 + h)) * 4294967296 + (c * 10 + d) = omega (arith, other) in
     ap pairs_value is ∙ omega (arith, first, last)
 
--- A word shifted so that only its first bytes are left, at its high end
+-- ---- a word shifted so that only its first bytes are left, at its high end
 
 moved_1 : (a b c d e f g h : ℕ) → a < 256 → b < 256 → c < 256 → d < 256 → e < 256 → f < 256 → g < 256 → h < 256 → word a b c d e f g h * 2 ^ 56 % 2 ^ 64 ≡ word 0 0 0 0 0 0 0 a
 moved_1 a b c d e f g h la lb lc ld le lf lg lh = omega arith

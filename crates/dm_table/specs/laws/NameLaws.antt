@@ -8,7 +8,7 @@ use Rattle.std.proofs.lemmas.Str.Ascii.{IsAscii-from_all}
 use Rattle.dm_table.specs.words.Name.{is_device_byte, is_device_name, is_disk_byte, is_disk_name, names_device}
 use Rattle.std.specs.Prelude.{◌≡◌, ◌<◌, ◌∷◌}
 
--- Texts whose bytes all pass a test
+-- ---- texts whose bytes all pass a test
 
 each : (test : ℕ → Bool) (Q : ℕ → Type 0) → ((b : ℕ) → test b ≡ true → Q b) → (text : List ℕ) → list_all test text ≡ true → AllByRecursion Q text
 each test Q says [] h = tt

@@ -47,7 +47,7 @@ abbrev pub Answers : {X Y : Type 0} → Part → (X → Y) → Result X LoadFaul
 Answers part view (Ok x) reading = reading ≡ Ok (view x)
 Answers part view (Err fault) reading = (fault.kind ≡ Memory → IsMemoryFault part fault) × (fault.kind ≢ Memory → reading ≡ Err fault)
 
--- The checks that the text formats share
+-- ---- the checks that the text formats share
 
 -- every byte is from 0x20 to 0x7E, or a newline
 abbrev pub is_printable : List ℕ → Bool

@@ -29,7 +29,7 @@ abbrev pub fault_in : {X : Type 0} → Result X RowFault → Option RowFault
 fault_in (Ok x) = None
 fault_in (Err fault) = Some fault
 
--- The first fault of each kind
+-- ---- the first fault of each kind
 
 -- no fault
 abbrev pub no_faults : FirstFaults

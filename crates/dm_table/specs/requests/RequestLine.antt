@@ -52,7 +52,7 @@ pub record IsFront (text : List ℕ) (values : RequestValues) (end : ℕ) : Type
   pub within : end < length text
   pub short : end ≤ 200
 
--- The checks of a request line
+-- ---- the checks of a request line
 
 -- the field is R or W
 abbrev pub is_op : List ℕ → Bool
@@ -81,7 +81,7 @@ pub record AreNumbers (texts : List (List ℕ)) (m n : ℕ) : Type 0 where
   pub first : number_of start ≡ Some m
   pub last : number_of len ≡ Some n
 
--- How a request line is read: its values, or the fault of the first test that it fails
+-- ---- how a request line is read: its values, or the fault of the first test that it fails
 
 -- the values in four fields, if the last two are numbers
 abbrev pub values_in : List (List ℕ) → Option RequestValues

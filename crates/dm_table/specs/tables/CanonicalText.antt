@@ -28,7 +28,7 @@ concise_device device = device.name ++ flag_text device.ro ++ join_with_byte (co
 abbrev pub concise_text : List DeviceSpec → List ℕ
 concise_text devices = join_with_byte (code ";") (map concise_device devices) ++ code "\n" ∷ []
 
--- What table text can say of devices
+-- ---- what table text can say of devices
 
 -- lines with their places set to their numbers in the source, counted from n
 abbrev pub placed_lines : ℕ → List Line → List Line
@@ -42,7 +42,7 @@ as_table n (device ∷ devices) =
     record { name = device.name; ro = false; lines = placed_lines n device.lines; at = record { part = Source; number = n } }
     ∷ as_table (n + length device.lines) devices
 
--- What the concise form can say of devices
+-- ---- what the concise form can say of devices
 
 -- lines with their places set to `at`
 abbrev pub lines_at : Place → List Line → List Line

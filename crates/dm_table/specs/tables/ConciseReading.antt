@@ -48,7 +48,7 @@ abbrev pub device_in : ℕ → List (List ℕ) → Option DeviceSpec
 device_in n (name ∷ uuid ∷ minor ∷ flags ∷ bodies) = Some (record { name = name; ro = is_ro flags; lines = lines_in (place_of n) bodies; at = place_of n })
 device_in n _ = None
 
--- What the parser's functions return
+-- ---- what the parser's functions return
 
 -- the lines of one device, or the fault whose check runs first among `before` and the faults of the bodies
 abbrev pub bodies_reading : Place → Option RowFault → List (List ℕ) → Result (List Line) RowFault

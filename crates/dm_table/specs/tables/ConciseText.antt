@@ -11,7 +11,7 @@ use Rattle.dm_table.specs.tables.LineBody.{body_text, IsBody, is_body_row, is_bo
 use Rattle.dm_table.specs.words.Bytes.{code}
 use Rattle.std.specs.Prelude.{◌≡◌, ◌⊎◌, ◌≤◌, ◌==◌, ◌&&◌, ◌||◌, ◌∷◌, ◌++◌, if◌then◌else◌}
 
--- The label of a device: its first four entries
+-- ---- the label of a device: its first four entries
 
 -- the uuid is empty, or up to 128 bytes that a device's name may contain
 abbrev pub is_uuid : List ℕ → Bool
@@ -29,7 +29,7 @@ is_ro text = pointwise nat_eq text (codes "ro")
 abbrev pub is_flags : List ℕ → Bool
 is_flags text = length text == 0 || (is_ro text || pointwise nat_eq text (codes "rw"))
 
--- What a text says
+-- ---- what a text in the concise form says
 
 -- the place of device number n, and of each of its lines
 abbrev pub place_of : ℕ → Place
@@ -70,7 +70,7 @@ pub record DescribesConcise (text : List ℕ) (devices : List DeviceSpec) : Type
   pub spelled : (text ≡ join_with_byte (code ";") parts) ⊎ (text ≡ join_with_byte (code ";") parts ++ code "\n" ∷ [])
   pub said : SayEach SaysDevice 1 parts devices
 
--- The checks of a text in the concise form
+-- ---- the checks of a text in the concise form
 
 -- no byte of the text is c
 abbrev pub lacks : ℕ → List ℕ → Bool

@@ -10,7 +10,7 @@ use Rattle.dm_table.specs.tables.LineReading.{reading_of}
 use Rattle.dm_table.specs.words.Bytes.{code}
 use Rattle.std.specs.Prelude.{◌≡◌, ◌^◌, ◌<◌, ◌&&◌, ◌∷◌, ◌++◌, if◌then◌else◌}
 
--- What a disk list says
+-- ---- what a disk list says
 
 -- the line for a disk, without its newline
 abbrev pub disk_line : Disk → List ℕ
@@ -27,7 +27,7 @@ pub record IsDiskOf (n : ℕ) (line : List ℕ) (disk : Disk) : Type 0 where
 abbrev pub DescribesDisks : List ℕ → List Disk → Type 0
 DescribesDisks = LinesSay IsDiskOf
 
--- The checks of a disk list
+-- ---- the checks of a disk list
 
 -- two nonempty fields
 abbrev pub is_pair : List (List ℕ) → Bool
@@ -60,7 +60,7 @@ has_name [] = false
 abbrev pub disk_checks : List ℕ → List (List LoadFault)
 disk_checks text = line_checks is_printable Disks fields is_pair has_sectors has_name text
 
--- How a row of a disk list is read
+-- ---- how a row of a disk list is read
 
 -- the disk that a row says, as line n, or the fault of the first test that it fails
 abbrev pub disk_reading : ℕ → List (List ℕ) → Result Disk RowFault

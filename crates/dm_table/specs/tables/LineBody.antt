@@ -13,7 +13,7 @@ use Rattle.dm_table.specs.words.Number.{number_of, number_in}
 use Rattle.dm_table.specs.words.Bytes.{code}
 use Rattle.std.specs.Prelude.{◌≡◌, ◌+◌, ◌*◌, ◌^◌, ◌<◌, ◌==◌, ◌&&◌, ◌∷◌, ◌++◌, if◌then◌else◌}
 
--- What a body says
+-- ---- what a body says
 
 -- the text for the device or disk that a target names
 abbrev pub dev_text : DevRef → List ℕ
@@ -100,7 +100,7 @@ pub record IsBody (line : Line) : Type 0 where
   pub len : line.len < 10 ^ 19
   pub target : IsTarget line.target
 
--- How fields are read as a body. Whether the names in it are valid is checked afterwards.
+-- ---- how fields are read as a body. Whether the names in it are valid is checked afterwards.
 
 -- the device or disk that a field names: a device if the field begins with /dev/mapper/, else a disk
 abbrev pub dev_in : List ℕ → DevRef
@@ -183,7 +183,7 @@ pub record Body : Type 0 where
 abbrev pub body_in : List (List ℕ) → Option Body
 body_in fields = option_map (λ said. record { start = said.0; len = said.1.0; target = said.1.1 }) (then_in number_of (then_in number_of target_in) fields)
 
--- The checks of a body
+-- ---- the checks of a body
 
 -- at least three fields, none of them empty
 abbrev pub is_body_row : List (List ℕ) → Bool

@@ -17,7 +17,7 @@ line_at at body = record { start = body.start; len = body.len; target = body.tar
 abbrev pub line_in : Place → List (List ℕ) → Option Line
 line_in at fields = option_map (line_at at) (body_in fields)
 
--- The value that is read, or the fault of the first test that fails
+-- ---- the value that is read, or the fault of the first test that fails
 
 -- the device or disk that a field names, or Name if its name isn't valid
 abbrev pub dev_reading : List ℕ → Result DevRef RowFault

@@ -11,7 +11,7 @@ use Rattle.dm_table.specs.words.Fields.{fields, last_or, lines_of, parts_at}
 use Rattle.dm_table.specs.words.Name.{is_disk_name}
 use Rattle.std.specs.Prelude.{◌≡◌, ◌+◌, ◌-◌, ◌/◌, ◌%◌, ◌<◌, ◌==◌, ◌&&◌, ◌∷◌, ◌++◌, if◌then◌else◌}
 
--- What a path says
+-- ---- what a path says
 
 -- the byte offset that 1 to 18 digits spell
 abbrev pub offset_in : List ℕ → Option ℕ
@@ -35,7 +35,7 @@ place_of path = let digits = after_equals path in place_by (offset_in digits) (t
 abbrev pub place_in : List ℕ → Option (List ℕ × ℕ)
 place_in path = let place = place_of path in if is_utf8 place.0 && place.1 % 512 == 0 then Some (place.0, place.1 / 512) else None
 
--- What a path list says
+-- ---- what a path list says
 
 -- a line in a path list may be any UTF-8 text without a NUL
 abbrev pub is_path_text : List ℕ → Bool
@@ -55,7 +55,7 @@ pub record IsPathOf (n : ℕ) (line : List ℕ) (disk : DiskPath) : Type 0 where
 abbrev pub DescribesPaths : List ℕ → List DiskPath → Type 0
 DescribesPaths = LinesSay IsPathOf
 
--- The checks of a path list
+-- ---- the checks of a path list
 
 -- a line as two fields: before its first space, and after it
 abbrev pub name_and_path : List ℕ → List (List ℕ)
@@ -81,7 +81,7 @@ path_checks text = line_checks is_path_text Paths name_and_path is_pair has_plac
 unfoldable pub read_paths : List ℕ → Result (List DiskPath) LoadFault
 read_paths text = unless (first_fault (path_checks text)) (values_from path_in 1 (map name_and_path (lines_of text)))
 
--- How a row of a path list is read
+-- ---- how a row of a path list is read
 
 -- the disk's image that a row says, as line n, or the fault of the first test that it fails
 abbrev pub path_reading : ℕ → List (List ℕ) → Result DiskPath RowFault

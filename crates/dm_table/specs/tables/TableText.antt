@@ -10,7 +10,7 @@ use Rattle.dm_table.specs.tables.LineBody.{body_text, IsBody, is_body_row, is_bo
 use Rattle.dm_table.specs.words.Bytes.{code}
 use Rattle.std.specs.Prelude.{◌≡◌, ◌≢◌, ◌⊎◌, ◌==◌, ◌&&◌, ◌∷◌, ◌++◌}
 
--- What table text says
+-- ---- what table text says
 
 -- a line of a table, with the name of its device
 pub record NamedLine : Type 0 where
@@ -61,7 +61,7 @@ pub record DescribesTable (text : List ℕ) (devices : List DeviceSpec) : Type 0
   pub each : AllByRecursion IsDescribed devices
   pub apart : DifferInName devices
 
--- The checks of table text
+-- ---- the checks of table text
 
 -- the field is a name with a colon at the end
 abbrev pub is_label : List ℕ → Bool

@@ -88,7 +88,7 @@ of_sections check line (group ∷ second ∷ more) = of_missing check second.1.l
 pub of_walk : (check : Check) (top : Tree) → NoMemory (faults_of_fields check top)
 of_walk check top = both (fields_faults check top top_fields) (one_group_faults check top.line (sections_of top.values)) (of_fields check top top_fields) (of_sections check top.line (sections_of top.values))
 
--- The checks of the parts of a group
+-- ---- the checks of the parts of a group
 
 of_line : (kind : LoadKind) (line : Option ℕ) → kind ≢ Memory → NoMemory (at_line kind line)
 of_line kind None other = tt
@@ -113,7 +113,7 @@ pub of_extents : (group : Group) → NoMemory (size_faults group.extent_size gro
 of_extents group =
     both (size_faults group.extent_size group.physicals) (extents.volume_faults group.physicals [] group.volumes) (by_kind Extents (λ physical. source_line physical.line) (is_too_long group.extent_size) group.physicals (λ e. absurd cc)) (of_volumes group.physicals [] group.volumes)
 
--- The names of devices
+-- ---- the check of device names
 
 pub of_unnamed : (group : List ℕ) (members : List (Role × Volume)) → NoMemory (flat_map (unnamed_volume group) members)
 unfolding unnamed_volume

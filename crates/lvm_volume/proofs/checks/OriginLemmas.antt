@@ -4,7 +4,7 @@ use Rattle.lvm_volume.specs.declared.group.segment.SegmentType.TheVariants.{Snap
 use Rattle.lvm_volume.specs.declared.group.roles.Role.TheVariants as roles
 use Rattle.std.specs.Prelude.{◌≡◌, ◌+◌, ◌<◌, ◌==◌, ◌∷◌, ◌++◌}
 
--- Lists of snapshots
+-- ---- lists of snapshots
 
 pub all_paired : (P Q : Record → Type 0) (xs : List Record) → AllByRecursion P xs → AllByRecursion Q xs → AllByRecursion (λ snapshot. P snapshot × Q snapshot) xs
 all_paired P Q [] a b = tt
@@ -28,7 +28,7 @@ all_among (snapshot ∷ snapshots) = (
   all_changed (has_origin snapshots) (has_origin (snapshot ∷ snapshots)) snapshots (λ other is. or_right (snapshot.origin == other.origin) _ is) (all_among snapshots),
 )
 
--- What the checks ensure about a snapshot
+-- ---- what the checks ensure about a snapshot
 
 record IsAllowed (count : ℕ) (all : List Role) (snapshot : Record) : Type 0 where
   there : snapshot.origin < count
@@ -55,7 +55,7 @@ all_allowed physicals count volumes all [] known good = tt
 all_allowed physicals count volumes all (volume ∷ left) known good =
     all_append (IsAllowed count all) (recorded volume.segments) (records_of left) (allowed_in physicals count volumes all volume.segments known.0 good.0) (all_allowed physicals count volumes all left known.1 good.1)
 
--- The role of an origin
+-- ---- the role of an origin
 
 role_there : (snapshots : List Record) (first i : ℕ) (volumes : List Volume) → i < length volumes → (volume : Volume) × (slice_index_or (map (role_of snapshots) (enumerate_from first volumes)) i roles.Plain ≡ role_of snapshots (first + i, volume))
 role_there snapshots first i [] within = absurd (omega (arith, within))

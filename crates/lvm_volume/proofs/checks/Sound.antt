@@ -7,7 +7,7 @@ use Rattle.lvm_volume.specs.checks.Extents as extents
 use Rattle.lvm_volume.proofs.checks.OriginLemmas.{all_origins}
 use Rattle.std.specs.Prelude.{◌≡◌, ◌+◌, ◌*◌, ◌/◌, ◌%◌, ◌^◌, ◌<◌, ◌≤◌, ◌==◌, ◌∷◌, ◌++◌, if◌then◌else◌}
 
--- Lists of faults that are empty
+-- ---- lists of faults that are empty
 
 flat-nil : {X : Type 0} (f : X → List LoadFault) (xs : List X) → flat_map f xs ≡ [] → AllByRecursion (λ x. f x ≡ []) xs
 flat-nil f [] e = tt
@@ -21,7 +21,7 @@ if-nil : (b : Bool) (x : LoadFault) → (if b then x ∷ [] else []) ≡ [] → 
 if-nil true x e = absurd cc
 if-nil false x e = refl
 
--- Integers within the limits
+-- ---- integers within the limits
 
 content-limit : (size : ℕ) (content : Content) → is_far size kinds.Extents content ≡ false → number_in content * size ≤ most
 content-limit size (Whole (Int n)) e = ltb-false most (n * size) (or_parts (nat_lt most n) _ e).1
@@ -61,7 +61,7 @@ physical-limits size tree e =
     let d = append-nil_both (field_faults (Limits size) tree (field (codes "pe_count") kinds.Extents Always)) _ c.1 in
     (number-limit size tree (codes "pe_start") c.0, extents-limit size tree (codes "pe_count") d.0)
 
--- Physical volumes within the limits
+-- ---- physical volumes within the limits
 
 pub record IsSmall (size : ℕ) (physical : Physical) : Type 0 where
   pub start : physical.start ≤ most
@@ -80,7 +80,7 @@ small_at size [] i h = (omega arith, omega arith)
 small_at size (physical ∷ physicals) zero h = (h.0.start, h.0.sectors)
 small_at size (physical ∷ physicals) (suc i) h = small_at size physicals i h.1
 
--- Logical volumes within the limits
+-- ---- logical volumes within the limits
 
 volume-limits : (size : ℕ) (volume : Tree) → volume_faults (Limits size) volume ≡ [] → AllByRecursion (λ segment. fields_faults (Limits size) segment segment_fields ≡ []) (segments_of volume)
 unfolding volume_faults
@@ -116,7 +116,7 @@ one_section top e = by_list (sections_of top.values) (append-nil_both (fields_fa
   by_list (group ∷ []) h = refl
   by_list sections h = absurd cc
 
--- Stripes
+-- ---- the stripes of a segment
 
 -- each stripe begins within its physical volume
 abbrev BeginsIn : List Physical → Segment → Type 0
@@ -159,7 +159,7 @@ known_stripes physicals (stripe ∷ stripes) e =
     let a = or_parts (not (nat_lt stripe.physical physicals)) _ e in
     (ltb-true stripe.physical physicals (not-false (nat_lt stripe.physical physicals) a.0), known_stripes physicals stripes a.1)
 
--- Segments for which a test is false
+-- ---- segments for which a test is false
 
 unhit : (test : Segment → Bool) (segments : List Segment) (later : Option ℕ) → least_line test segments later ≡ None → AllByRecursion (λ segment. test segment ≡ false) segments × (later ≡ None)
 unhit test [] later e = (tt, e)
@@ -187,7 +187,7 @@ known_volumes : (physicals count : ℕ) (volumes : List Volume) → AllByRecursi
 known_volumes physicals count [] none = tt
 known_volumes physicals count (volume ∷ volumes) none = (known_segments physicals count volume.segments none.0, known_volumes physicals count volumes none.1)
 
--- All of it together
+-- ---- a whole group within the limits
 
 below_limit : (n : ℕ) → n ≤ most → n < 2 ^ 64
 below_limit n h = omega (arith, h)

@@ -36,7 +36,7 @@ last_before used ranges first end s e keeps some below is greatest = by_test (na
   by_test true h = sym (keeps.only s e is first end (and_from (nat_lt first e) (nat_lt s end) h (lt-ltb s end below)))
   by_test false h = sym (none_reach used (reaches first end) (λ a b here. reaches_not first end a b (λ before. ends_before used ranges first s e a b keeps is (ltb-false first e h) here (cases_order a s) (greatest a before (is_some (get nat_cmp used a) b here)))) ranges keeps.all)
 
--- One more range
+-- ---- adding a range to the map
 
 ne_at : (a b : ℕ) → (a ≡ b → ⊥) → is_at (nat_cmp a) b ≡ false
 ne_at a b ne = grind (arith, common_steps)

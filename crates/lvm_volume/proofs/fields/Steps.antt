@@ -62,7 +62,7 @@ nothing_left reader = record {
   failed_at = λ fault is. absurd cc;
 }
 
--- In a loop
+-- ---- steps in a loop over elements
 
 -- the faults at element i and at those after it are those from i on
 at_index : {X Y : Type 0} (f : Check → Y → List LoadFault) (view : X → Y) (xs : List X) (i : ℕ) (x : X) → i < length xs → x ≡ get_or xs i x
@@ -88,7 +88,7 @@ made_next {X} {Y} {Z} f view xs i x z done more within is said pushed =
     let left = map f (map view (drop (i + 1) xs)) in
     rw (pushed, drop_more xs i x within, ← is, ← said) (append_assoc done (z ∷ []) left)
 
--- In a loop over numbers from 1 on
+-- ---- steps in a loop over numbers from 1 on
 
 pub number_fails : (f : Check → ℕ → List LoadFault) (i end : ℕ) {old new other : FieldReader} {fault : LoadFault} → i < end
     → IsStep (λ check. f check (i + 1)) old new (Some fault) → IsStep (λ check. flat_map (f check) (range_with_len (i + 1) (end - i))) old other (Some fault)
@@ -104,7 +104,7 @@ no_number f i end reader past =
     let none : 0 ≡ end - i = omega (arith, past) in
     in_words (λ check. ap (λ (n : ℕ). flat_map (f check) (range_with_len (i + 1) n)) none) (nothing_left reader)
 
--- At the end of a reading
+-- ---- the end of a reading
 
 abbrev pub fresh : ℕ → FieldReader
 fresh size = record { extent_size = size; excess = None }

@@ -4,7 +4,7 @@ use Rattle.std.proofs.lemmas.Map.Made.{IsDistinct-from_AllPairs}
 use Rattle.std.specs.Prelude.{◌≡◌, ◌≢◌, ◌≤◌, ◌∷◌, ◌++◌}
 use denote.Ref.{Bor}
 
--- A key that differs from those before it
+-- ---- a key that differs from those before it
 
 same_test : (a b : List ℕ) (p q : Bool) → bytes_eq a b ≡ p → bytes_eq b a ≡ q → p ≡ q
 same_test a b true false s t = let back : bytes_eq b a ≡ true = (bytes_eq-Decides b a).1 (sym ((bytes_eq-Decides a b).0 s)) in absurd cc
@@ -25,7 +25,7 @@ none_before (k ∷ done) key rest distinct =
     let other : bytes_eq key k ≡ false = bytes_eq-sym key k ∙ at_middle (λ y. bytes_eq k y ≡ false) done key rest distinct.0 in
     rw other (none_before done key rest distinct.1)
 
--- The keys that hold sections are among all keys
+-- ---- the keys that hold sections are among all keys
 
 all_sections : (P : List ℕ → Type 0) (v : Values) → AllByRecursion P (keys_of v) → AllByRecursion P (keys_in (sections_of v))
 all_sections P Nothing h = tt
@@ -43,7 +43,7 @@ sections_distinct (Several k n ss rest) distinct = sections_distinct rest distin
 pub sections_differ : (v : Values) → AllPairs (λ j k. j ≢ k) (keys_of v) → IsDistinct bytes_eq (keys_in (sections_of v))
 sections_differ v differ = sections_distinct v (IsDistinct-from_AllPairs bytes_eq-Decides (keys_of v) differ)
 
--- A set of keys
+-- ---- a set of keys as it is built
 
 any_texts : (key : List ℕ) (ks : List (Bor (List ℕ))) → list_any (λ k. bytes_eq key k.now) ks ≡ list_any (bytes_eq key) (texts ks)
 any_texts key [] = refl

@@ -2,7 +2,7 @@
 use Rattle.lvm_volume.proofs.Prelude.{inl, inr, ℕ, zero, suc, Bool, true, false, cond, List, [], length, get_or, set, drop, map, refl, sym, ap, ◌∙◌, arith, filter, enumerate_from, list_any, zip, eq-eqb, ne_eqb, drop_more, Record, Role, Volume, changed, with_origin, with_store, recorded, records_of, role_by, role_of, unless_recorded}
 use Rattle.std.specs.Prelude.{◌≡◌, ◌⊎◌, ◌+◌, ◌-◌, ◌<◌, ◌≤◌, ◌==◌, ◌∷◌, if◌then◌else◌, ◌||◌}
 
--- One more snapshot
+-- ---- the role of a volume after one more snapshot
 
 more_origin : (own : List Record) (is_origin : Bool) (stored : List Record) → with_origin (unless_recorded own (role_by is_origin stored)) ≡ unless_recorded own (role_by true stored)
 more_origin [] true (s ∷ t ∷ stored) = refl
@@ -30,7 +30,7 @@ all_changed snapshot snapshots first (volume ∷ volumes) =
     let one = by_tests (recorded volume.segments) (snapshot.origin == first) (snapshot.store == first) (list_any (λ s. s.origin == first) snapshots) (filter (λ s. s.store == first) snapshots) snapshot (role_of snapshots (first, volume)) refl in
     rw (one, all_changed snapshot snapshots (first + 1) volumes)
 
--- The role at a position
+-- ---- the role at a position
 
 not_before : (change : Role → Role) (position first : ℕ) (all : List Role) → position < first → changed change position first all ≡ all
 not_before change position first [] below = refl
@@ -56,7 +56,7 @@ set_at change position first (suc i) (role ∷ all) d is within =
 pub changed_one : (change : Role → Role) (position : ℕ) (all : List Role) (d : Role) → position < length all → changed change position 0 all ≡ set all position (change (get_or all position d))
 changed_one change position all d within = set_at change position 0 position all d (omega arith) within
 
--- The snapshots from a volume on
+-- ---- the snapshots from a volume on
 
 pub one_more : (volumes : List Volume) (at : ℕ) (volume : Volume) (snapshot : Record) → 0 < at → at ≤ length volumes → volume ≡ get_or volumes (at - 1) volume → recorded volume.segments ≡ snapshot ∷ []
     → snapshot ∷ records_of (drop at volumes) ≡ records_of (drop (at - 1) volumes)
@@ -65,7 +65,7 @@ one_more volumes at volume snapshot some within is one =
     drop_more volumes (at - 1) volume (omega (arith, some, within)) ∙ ap (λ (v : Volume). v ∷ drop (at - 1 + 1) volumes) (sym is) ∙ ap (λ (n : ℕ). volume ∷ drop n volumes) (omega (arith, some)) in
     sym (rw (more, one))
 
--- Volumes with their roles, once one of the two lists is used up
+-- ---- volumes with their roles, once one of the two lists is used up
 
 pub none_left : (all : List Role) (volumes : List Volume) → (all ≡ []) ⊎ (volumes ≡ []) → zip all volumes ≡ []
 none_left (role ∷ all) (volume ∷ volumes) (inl wrong) = absurd cc

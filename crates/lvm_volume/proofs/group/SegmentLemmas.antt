@@ -23,7 +23,7 @@ pub of_error : (segment : Tree) (check : Check) → text_at (codes "type") segme
 unfolding field_faults
 of_error segment check is = rw is
 
--- The stripe size, with several stripes and with one
+-- ---- the stripe size, with several stripes and with one
 
 abbrev size_field : Field
 size_field = field (codes "stripe_size") kinds.Number kinds.Several

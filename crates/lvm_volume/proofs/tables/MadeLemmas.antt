@@ -5,7 +5,7 @@ use Rattle.lvm_volume.proofs.tables.NamedLemmas.{origin_named}
 use Rattle.lvm_volume.proofs.checks.OriginLemmas.{all_filtered}
 use Rattle.std.specs.Prelude.{◌≡◌, ◌+◌, ◌*◌, ◌^◌, ◌<◌, ◌==◌, ◌∷◌}
 
--- Lengths
+-- ---- the lengths of volumes
 
 abbrev SegmentsFit : ℕ → List Physical → List Segment → Type 0
 SegmentsFit size physicals = AllByRecursion (IsSegmentIn size physicals)
@@ -27,7 +27,7 @@ fit_at size physicals [] i fit = tt
 fit_at size physicals (volume ∷ volumes) zero fit = fit.0
 fit_at size physicals (volume ∷ volumes) (suc i) fit = fit_at size physicals volumes i fit.1
 
--- The layer of an origin has a valid name
+-- ---- the layer of an origin has a valid name
 
 real_named : (group : List ℕ) (snapshots : List Record) (first i : ℕ) (volumes : List Volume) → flat_map (unnamed_volume group) (zip (map (role_of snapshots) (enumerate_from first volumes)) volumes) ≡ []
     → slice_index_or (map (role_of snapshots) (enumerate_from first volumes)) i roles.Plain ≡ roles.Origin → fault_of (device_parts group (name_at volumes i) (Some Real)) ≡ None
@@ -38,7 +38,7 @@ real_named group snapshots first zero (volume ∷ volumes) none is =
 real_named group snapshots first (suc i) (volume ∷ volumes) none is =
     real_named group snapshots (first + 1) i volumes (append-nil_both (unnamed_volume group (role_of snapshots (first, volume), volume)) _ none).1 is
 
--- The snapshot of a store is one of the group's snapshots
+-- ---- the snapshot of a store is one of the group's snapshots
 
 abbrev FitsIn : Group → Record → Type 0
 FitsIn group snapshot = (length_of group (segments_at group.volumes snapshot.origin) < 2 ^ 64) × (fault_of (device_parts group.name (name_at group.volumes snapshot.origin) (Some Real)) ≡ None)
@@ -54,7 +54,7 @@ snapshot_fits group snapshots at fit =
     snapshot_by group (recorded at.1.segments) (list_any (λ snapshot. snapshot.origin == at.0) snapshots) (filter test snapshots)
     (all_changed (λ (s : Record). (test s ≡ true) × FitsIn group s) (FitsIn group) (filter test snapshots) (λ s h. h.1) (all_filtered (FitsIn group) test snapshots fit))
 
--- All volumes
+-- ---- all volumes of a group
 
 made_from : (group : Group) (snapshots : List Record) (first : ℕ) (volumes : List Volume) → AllByRecursion (FitsIn group) snapshots → AllByRecursion (λ volume. SegmentsFit group.extent_size group.physicals volume.segments) volumes
     → flat_map (unnamed_volume group.name) (zip (map (role_of snapshots) (enumerate_from first volumes)) volumes) ≡ [] → AllByRecursion (IsMadeIn group) (zip (map (role_of snapshots) (enumerate_from first volumes)) volumes)
@@ -75,7 +75,7 @@ all_made group sound named =
     sound.origins in
     made_from group snapshots 0 group.volumes fits sound.volumes none
 
--- The parts of a group, one by one
+-- ---- the parts of a group, one by one
 
 pub names_of : (group : Group) (name : List ℕ) (all : List Role) (volumes : List Volume) → name ≡ group.name → all ≡ roles_of group.volumes → volumes ≡ group.volumes
     → first_or (flat_map (unnamed_volume name) (zip all volumes)) None ≡ first_or (unnamed group) None

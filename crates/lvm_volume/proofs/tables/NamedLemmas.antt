@@ -5,7 +5,7 @@ use Rattle.lvm_volume.specs.declared.group.roles.Role.TheVariants as roles
 use Rattle.lvm_volume.proofs.checks.Sound.{hit-nil}
 use Rattle.std.specs.Prelude.{◌≡◌, ◌∷◌}
 
--- Volumes whose devices all get a name
+-- ---- volumes whose devices all get a name
 
 not_some : (o : Option NameFault) → is_some o ≡ false → o ≡ None
 not_some None e = refl
@@ -17,7 +17,7 @@ layers_named group volume (layer ∷ layers) e =
     let a = append-nil_both (unnamed_layer group volume layer) _ e in
     (not_some (fault_of (device_parts group volume.name layer)) (hit-nil _ Name volume.line a.0), layers_named group volume layers a.1)
 
--- The names of a volume's devices, by its role
+-- ---- the names of a volume's devices, by its role
 
 abbrev Named : List ℕ → Volume → Option Layer → Type 0
 Named group volume layer = fault_of (device_parts group volume.name layer) ≡ None

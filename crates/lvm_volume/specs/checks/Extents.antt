@@ -20,7 +20,7 @@ hit bad kind line = if bad then source_faults kind line else []
 abbrev pub name_faults : List Physical → List LoadFault
 name_faults physicals = faults_by Name (λ physical. source_line physical.line) (λ physical. not (is_disk_name physical.disk)) physicals
 
--- The first segment in the text for which a test is true: the one on the least line, whatever its number in its volume
+-- ---- the first segment in the text for which a test is true: the one on the least line, whatever its number in its volume
 
 -- the lesser of a line and another one, if there is another
 abbrev pub lesser : ℕ → Option ℕ → ℕ
@@ -42,7 +42,7 @@ abbrev pub at_line : LoadKind → Option ℕ → List LoadFault
 at_line kind None = []
 at_line kind (Some line) = source_faults kind line
 
--- Unknown: a stripe on an unknown physical volume, or a snapshot of or on an unknown logical volume
+-- ---- Unknown: a stripe on an unknown physical volume, or a snapshot of or on an unknown logical volume
 
 -- the stripes of a segment; only a striped one has any
 abbrev pub stripes_of : SegmentType → List Stripe
@@ -67,7 +67,7 @@ is_unknown physicals volumes segment =
 abbrev pub unknown_faults : Group → List LoadFault
 unknown_faults group = at_line Unknown (least_line_of (λ alone. is_unknown (length group.physicals) (length group.volumes)) group.volumes)
 
--- Snapshot: a snapshot that doesn't fit the other volumes of its group
+-- ---- Snapshot: a snapshot that doesn't fit the other volumes of its group
 
 -- the fault of the first segment in the text that is a snapshot which doesn't fit the other volumes
 abbrev pub snapshot_faults_in : List Volume → List LoadFault
@@ -77,7 +77,7 @@ snapshot_faults_in volumes = at_line loads.Snapshot (least_line_of (is_bad_snaps
 abbrev pub snapshot_faults : Group → List LoadFault
 snapshot_faults group = snapshot_faults_in group.volumes
 
--- Extents: physical volumes that are longer than their device
+-- ---- Extents: physical volumes that are longer than their device
 
 -- the extents of a physical volume end beyond the size of its device, in sectors
 abbrev pub is_too_long : ℕ → Physical → Bool
@@ -87,7 +87,7 @@ is_too_long extent_size physical = nat_lt physical.size (physical.start + physic
 abbrev pub size_faults : ℕ → List Physical → List LoadFault
 size_faults extent_size physicals = faults_by Extents (λ physical. source_line physical.line) (is_too_long extent_size) physicals
 
--- Extents: the extents that the stripes of segments use
+-- ---- Extents: the extents that the stripes of segments use
 
 -- a range of extents on a physical volume: from `first` up to but not including `end`
 pub record Claim : Type 0 where

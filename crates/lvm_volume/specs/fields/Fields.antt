@@ -8,7 +8,7 @@ use Rattle.lvm_text.specs.declared.tree.Scalar.{Scalar as code_scalar}
 use Rattle.std.specs.Prelude.{◌≡◌, ◌⊎◌, ◌*◌, ◌&&◌, ◌||◌, ◌==◌, ◌∷◌, ◌++◌, if◌then◌else◌}
 use denote.Ref.{Bor}
 
--- The tables of fields
+-- ---- the tables of fields
 
 -- a field: its key, its kind of content, and the condition on which it is required
 pub record Field : Type 0 where
@@ -67,7 +67,7 @@ segment_fields =
     ∷ field (codes "cow_store") kinds.Text Snapshot
     ∷ []
 
--- What a section has under a key
+-- ---- what a section has under a key
 
 -- the integer in a content, or 0 if it holds none
 abbrev pub number_in : Content → ℕ
@@ -123,7 +123,7 @@ section_at key tree = held [] section_in (node_of key tree.values)
 abbrev pub segments_of : Tree → List Tree
 segments_of volume = flat_map (λ i. section_at (codes "segment" ++ decimal i) volume) (range_with_len 1 (number_at (codes "segment_count") volume))
 
--- Where a field is required
+-- ---- where a field is required
 
 -- the segment is of type striped
 abbrev pub is_striped : Tree → Bool
@@ -141,7 +141,7 @@ is_asked Striped key tree = is_striped tree
 is_asked Several key tree = is_striped tree && nat_lt 1 (number_at (codes "stripe_count") tree)
 is_asked Snapshot key tree = is_snapshot tree
 
--- What content a field may have
+-- ---- what content a field may have
 
 -- the content is a string that passes the test
 abbrev pub is_text_with : (List ℕ → Bool) → Content → Bool
@@ -191,7 +191,7 @@ fits kinds.TypeWord tree content = is_text_with is_type content
 fits kinds.Stripes tree content = is_list_with (λ items. are_pairs items && 2 * number_at (codes "stripe_count") tree == length items) content
 fits kinds.Section tree content = is_section content
 
--- The limit for numbers: 2^50, for numbers of extents also when counted in sectors
+-- ---- the limit for numbers: 2^50, for numbers of extents also when counted in sectors
 
 -- the greatest number of sectors or extents: 2^50
 abbrev pub most : ℕ
@@ -214,7 +214,7 @@ is_far extent_size kind (Whole (Text text)) = false
 is_far extent_size kind (Items items) = list_any is_far_scalar items
 is_far extent_size kind (Inner tree) = false
 
--- What a check finds at the fields of a section
+-- ---- what a check finds at the fields of a section
 
 -- the first of a list of faults, if there is one
 abbrev pub first_of : List LoadFault → Option LoadFault
@@ -253,7 +253,7 @@ node_faults check kind tree (Some shown) = if is_wrong check kind tree shown.con
 unfoldable pub field_faults : Check → Tree → Field → List LoadFault
 field_faults check tree f = if is_asked f.when f.key tree then node_faults check f.kind tree (node_of f.key tree.values) else []
 
--- The order of the fields
+-- ---- the order of the fields
 
 -- the faults that a check finds at the fields of a section, in order
 abbrev pub fields_faults : Check → Tree → List Field → List LoadFault
@@ -291,7 +291,7 @@ one_group_faults check line (group ∷ second ∷ more) = missing check second.1
 abbrev pub faults_of_fields : Check → Tree → List LoadFault
 faults_of_fields check top = fields_faults check top top_fields ++ one_group_faults check top.line (sections_of top.values)
 
--- Sections and lists as contracts see them
+-- ---- sections and lists as contracts see them
 
 -- the keys and sections inside a section, or none if it is missing
 abbrev pub inner_sections : Option (Bor Tree) → List (List ℕ × Tree)

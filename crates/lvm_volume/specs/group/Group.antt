@@ -16,7 +16,7 @@ pub record Group : Type 0 where
 abbrev pub group_with : (name : List ℕ) → (extent_size : ℕ) → List Physical → List Volume → Group
 group_with name extent_size physicals volumes = record { name = name; extent_size = extent_size; physicals = physicals; volumes = volumes }
 
--- Physical volumes
+-- ---- physical volumes
 
 -- a section with its key
 abbrev pub Keyed : Type 0
@@ -57,7 +57,7 @@ physical_of devices physical = record {
 abbrev pub physicals_in : List Keyed → List Physical
 physicals_in sections = map (physical_of (map device_of sections)) sections
 
--- Logical volumes
+-- ---- logical volumes
 
 -- the keys of the sections, in order
 abbrev pub keys_in : List Keyed → List (List ℕ)
@@ -122,7 +122,7 @@ volume_of keys volume = record {
   line = volume.1.line;
 }
 
--- The volume group
+-- ---- the volume group
 
 -- the keys of a group's physical volumes and of its logical volumes, in order
 abbrev pub positions_in : Tree → GroupPositions

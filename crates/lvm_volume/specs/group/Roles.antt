@@ -4,7 +4,7 @@ use Rattle.lvm_volume.specs.declared.group.volume.Volume.{Volume}
 use Rattle.lvm_volume.specs.declared.group.roles.Role.TheVariants as roles
 use Rattle.std.specs.Prelude.{◌+◌, ◌-◌, ◌||◌, ◌==◌, ◌∷◌}
 
--- Records: volumes whose only segment is of type snapshot, and which say what its origin and its store are
+-- ---- Records: volumes whose only segment is of type snapshot, and which say what its origin and its store are
 
 -- the snapshot that a segment says, if it is of type snapshot; `line` is the segment's line
 abbrev pub snapshot_of : (line : ℕ) → SegmentType → List Record
@@ -23,7 +23,7 @@ recorded (segment ∷ second ∷ more) = []
 abbrev pub records_of : List Volume → List Record
 records_of volumes = flat_map (λ volume. recorded volume.segments) volumes
 
--- Roles
+-- ---- the roles of volumes
 
 -- the role of a volume that isn't a record, by whether it is an origin and by the snapshots that have it as their store
 abbrev pub role_by : (is_origin : Bool) → (stored : List Record) → Role
@@ -51,7 +51,7 @@ roles_among snapshots volumes = map (role_of snapshots) (enumerate_from 0 volume
 abbrev pub roles_of : List Volume → List Role
 roles_of volumes = roles_among (records_of volumes) volumes
 
--- Look-ups by position
+-- ---- look-ups by position
 
 -- the role of the volume at a position; Plain past the end
 abbrev pub role_at : List Role → ℕ → Role

@@ -19,7 +19,7 @@ use Rattle.lvm_volume.specs.group.Roles.{extents_of, name_at, records_of, role_a
 use Rattle.lvm_volume.specs.checks.Extents.{hit, name_faults, size_faults, snapshot_faults, source_line, stripes_of, unknown_faults, volume_faults}
 use Rattle.std.specs.Prelude.{◌≡◌, ◌+◌, ◌*◌, ◌^◌, ◌<◌, ◌∷◌, ◌++◌}
 
--- The checks in order
+-- ---- the checks of a group, in order
 
 -- the faults in how extents are used: those of physical volumes, and then those of segments
 abbrev pub extent_faults : Group → List LoadFault
@@ -35,7 +35,7 @@ group_checks top =
     let group = group_of top in
     faults_of_fields Fields top ∷ faults_of_fields (Limits group.extent_size) top ∷ name_faults group.physicals ∷ checks_of_parts group
 
--- The lines of a volume's table
+-- ---- the lines of a volume's table
 
 -- the physical volume at a position, or an empty one past the end
 abbrev pub physical_at : List Physical → ℕ → Physical
@@ -73,7 +73,7 @@ line_of extent_size physicals segment = record {
 abbrev pub lines_of : Group → List Segment → List Line
 lines_of group segments = map (line_of group.extent_size group.physicals) segments
 
--- Devices
+-- ---- the devices of a volume
 
 -- the last part of the name of an origin's or store's hidden layer
 abbrev pub layer_text : Layer → List ℕ
@@ -208,7 +208,7 @@ pub record IsSoundGroup (group : Group) : Type 0 where
   pub volumes : AllByRecursion (λ volume. AreSegmentsIn group volume.segments) group.volumes
   pub origins : AllByRecursion (λ snapshot. role_at (roles_of group.volumes) snapshot.origin ≡ roles.Origin) (records_of group.volumes)
 
--- What is needed to make the devices of a volume: lengths that fit 64 bits, and valid names
+-- ---- what is needed to make the devices of a volume: lengths that fit 64 bits, and valid names
 
 -- for a store, the length of its snapshot's origin fits 64 bits, and the origin's layer gets a name
 abbrev pub IsSnapshotIn : Group → Role → Type 0
