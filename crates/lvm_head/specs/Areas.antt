@@ -18,7 +18,7 @@ is_header area bytes =
 abbrev pub location_in : (bytes : List ℕ) → Location
 location_in bytes = record { ring = eight_at bytes 32; offset = eight_at bytes 40; size = eight_at bytes 48; sum = four_at bytes 56; flags = four_at bytes 60 }
 
--- the location says no text: the area is to be ignored, or has no text yet
+-- the location gives no text: the area is to be ignored, or has no text yet
 abbrev pub is_none : Location → Bool
 is_none location = (location.flags % 2 == 1) || (location.offset == 0)
 

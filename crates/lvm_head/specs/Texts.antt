@@ -24,7 +24,7 @@ last_byte bytes = slice_index bytes (length bytes - 1)
 abbrev pub ended : (bytes : List ℕ) → Result (List ℕ) HeadFault
 ended bytes = if last_byte bytes == 0 then Ok (take (length bytes - 1) bytes) else (if last_byte bytes == 10 then Ok bytes else Err Text)
 
--- the text at a location in the area that begins at byte `start`, or [] if the location says none
+-- the text at a location in the area that begins at byte `start`, or [] if the location gives none
 abbrev pub text_at : Sectors → (start : ℕ) → Location → Result (List ℕ) HeadFault
 text_at sectors start location =
     if is_none location then Ok []

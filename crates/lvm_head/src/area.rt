@@ -74,7 +74,7 @@ pub(crate) fn location_in(sector: &[u8]) -> Location
     }
 }
 
-/// Whether the location says no text: the area is to be ignored, or has no text yet.
+/// Whether the location gives no text: the area is to be ignored, or has no text yet.
 pub(crate) fn is_none(location: Location) -> bool
     ensures { result ≡ is_none location }
 {

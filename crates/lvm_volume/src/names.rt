@@ -31,7 +31,7 @@ fn begins_with(part: &[u8], byte: u8) -> bool
     !part.is_empty() && part[0] == byte
 }
 
-/// Whether all bytes of a part may occur in one.
+/// Whether all bytes may occur in a part of a name.
 fn are_letters(part: &[u8]) -> bool
     ensures { result ≡ list_all is_letter part.now }
 {

@@ -1,4 +1,4 @@
--- Forms of texts: a text passes all checks of its form exactly if it describes values, and these are the values that its rows say.
+-- Forms of texts: a text passes all checks of its form exactly if it describes values, and these are the values that its rows describe.
 use Rattle.dm_table.proofs.Prelude.{ℕ, suc, Bool, true, false, not, List, [], map, Option, Some, None, Result, refl, sym, ap, ◌∙◌, append_assoc, cons_option, AllByRecursion, option_to_list, not-false, not_from_true, append-nil, Part, NotText, Syntax, Field, Name, LoadFault, parts_at, lines_of, rest_of, Answers, first_fault, untexts, unended, row_checks, unless, IsParsed, SayEach, LinesSay, values_from, with_rows}
 use Rattle.std.specs.Global.{Vec}
 use Rattle.dm_table.proofs.words.FieldLemmas.{last_split, some_parts}
@@ -7,7 +7,7 @@ use Rattle.dm_table.proofs.load.Parsing.{parsed}
 use Rattle.dm_table.proofs.Lists.{all_append, all_front, append-nil_both}
 use Rattle.std.specs.Prelude.{◌≡◌, ◌∷◌, ◌++◌}
 
--- a form of texts that are cut into pieces, such as lines: the tests of a piece, the value read from its row, and which value it says
+-- a form of texts that are cut into pieces, such as lines: the tests of a piece, the value read from its row, the value it describes
 pub record Form (R X : Type 0) : Type 1 where
   pub part : Part
   pub is_text : List ℕ → Bool
@@ -26,7 +26,7 @@ pub record IsRead {R X : Type 0} (form : Form R X) (n : ℕ) (piece : List ℕ) 
   pub names : form.has_names (form.row_of piece) ≡ true
   pub read : form.value_in n (form.row_of piece) ≡ Some value
 
--- the law of a form: a piece that passes all tests says the value read from it, and a piece that says a value passes all tests
+-- the law of a form: a piece that passes all tests describes the value read from it, and a piece that describes a value passes them
 pub record IsLawful {R X : Type 0} (form : Form R X) : Type 0 where
   pub says : (n : ℕ) (text : List ℕ) → form.is_text text ≡ true → form.is_row (form.row_of text) ≡ true → form.has_values (form.row_of text) ≡ true → form.has_names (form.row_of text) ≡ true
       → (value : X) × (form.value_in n (form.row_of text) ≡ Some value) × form.says n text value
@@ -37,7 +37,7 @@ pub record IsLawful {R X : Type 0} (form : Form R X) : Type 0 where
 abbrev AllPass : {X : Type 0} → (X → Bool) → List X → Type 0
 AllPass test xs = AllByRecursion (λ x. not (test x) ≡ false) xs
 
--- pieces that pass all tests say the values read from their rows
+-- pieces that pass all tests describe the values read from their rows
 each_says : {R X : Type 0} (form : Form R X) → IsLawful form → (n : ℕ) (texts : List (List ℕ)) → AllPass form.is_text texts → AllPass form.is_row (map form.row_of texts)
     → AllPass form.has_values (map form.row_of texts) → AllPass form.has_names (map form.row_of texts) → SayEach form.says n texts (values_from form.value_in n (map form.row_of texts))
 each_says form law n [] t r v h = tt
@@ -45,7 +45,7 @@ each_says form law n (text ∷ texts) t r v h =
     let first = law.says n text (not-false _ t.0) (not-false _ r.0) (not-false _ v.0) (not-false _ h.0) in
     rw first.1 (first.2, each_says form law (suc n) texts t.1 r.1 v.1 h.1)
 
--- pieces that say values pass all tests, and those values are read from their rows
+-- pieces that describe values pass all tests, and those values are read from their rows
 record AreRead {R X : Type 0} (form : Form R X) (n : ℕ) (texts : List (List ℕ)) (all : List X) : Type 0 where
   pub text : AllPass form.is_text texts
   pub row : AllPass form.is_row (map form.row_of texts)
@@ -67,7 +67,7 @@ are_read form law n (text ∷ texts) (value ∷ values) say =
     }
 are_read form law n texts values say = absurd say
 
--- what holds of each piece that says a value holds of all pieces
+-- what holds of each piece that describes a value holds of all pieces
 pub each_said : {X : Type 0} (says : ℕ → List ℕ → X → Type 0) (P : List ℕ → Type 0) → ((n : ℕ) (text : List ℕ) (value : X) → says n text value → P text)
     → (n : ℕ) (texts : List (List ℕ)) (values : List X) → SayEach says n texts values → AllByRecursion P texts
 each_said says P so n [] [] say = tt
@@ -83,7 +83,7 @@ checks_of form pieces texts rest =
 abbrev values_of : {R X : Type 0} → Form R X → (texts : List (List ℕ)) → List X
 values_of form texts = values_from form.value_in 1 (map form.row_of texts)
 
--- if no check finds a fault, the pieces say the values read from their rows
+-- if no check finds a fault, the pieces describe the values read from their rows
 pub none_says : {R X : Type 0} (form : Form R X) → IsLawful form → (pieces texts more : List (List ℕ)) (rest : List ℕ) → pieces ≡ texts ++ more → first_fault (checks_of form pieces texts rest) ≡ None
     → (rest ≡ []) × SayEach form.says 1 texts (values_of form texts)
 none_says form law pieces texts more rest cut h =
@@ -99,7 +99,7 @@ none_says form law pieces texts more rest cut h =
           (faults_from-nil form.part Name (λ row. not (form.has_names row)) 1 rows none.1.1.1.0),
     )
 
--- if the pieces say values, no check finds a fault, and those values are read from their rows
+-- if the pieces describe values, no check finds a fault, and those values are read from their rows
 pub says_none : {R X : Type 0} (form : Form R X) → IsLawful form → (texts more : List (List ℕ)) (values : List X) → AllPass form.is_text more → SayEach form.says 1 texts values
     → (first_fault (checks_of form (texts ++ more) texts []) ≡ None) × (values_of form texts ≡ values)
 says_none form law texts more values clear say =
@@ -131,13 +131,13 @@ text_checks form text = checks_of form (parts_at 10 text) (lines_of text) (rest_
 abbrev pub text_values : {R X : Type 0} → Form R X → List ℕ → List X
 text_values form text = values_of form (lines_of text)
 
--- a text of lines in which no check finds a fault says the values of its rows
+-- a text of lines in which no check finds a fault describes the values of its rows
 pub lines_said : {R X : Type 0} (form : Form R X) → IsLawful form → (text : List ℕ) → first_fault (text_checks form text) ≡ None → LinesSay form.says text (text_values form text)
 lines_said form law text h =
     let none = none_says form law (parts_at 10 text) (lines_of text) (rest_of text ∷ []) (rest_of text) (lines_and_rest text) h in
     record { ended = none.0; said = none.1 }
 
--- in a text of lines that says values, no check finds a fault, and those values are read from its rows
+-- in a text of lines that describes values, no check finds a fault, and those values are read from its rows
 pub lines_again : {R X : Type 0} (form : Form R X) → IsLawful form → form.is_text [] ≡ true → (text : List ℕ) (values : List X) → LinesSay form.says text values
     → (first_fault (text_checks form text) ≡ None) × (text_values form text ≡ values)
 lines_again form law empty text values say =
@@ -156,7 +156,7 @@ lines_parsed form law empty text answer h =
 
 -- ---- adding the values of rows, one row at a time
 
--- the value that a row says, if any, comes after the earlier values and before the later ones
+-- the value that a row describes, if any, comes after the earlier values and before the later ones
 pub said_after : {X : Type 0} (values : List X) (said : Option X) (more : List X) → (values ++ option_to_list said) ++ more ≡ values ++ cons_option said more
 said_after values None more = rw (append-nil values)
 said_after values (Some value) more = append_assoc values (value ∷ []) more

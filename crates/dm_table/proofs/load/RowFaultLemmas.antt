@@ -79,7 +79,7 @@ pub first_failed-none : (is_row has_values has_names : Bool) → first_failed is
 first_failed-none true true true h = (refl, refl, refl)
 first_failed-none is_row has_values has_names h = absurd cc
 
--- a row that was read has no fault and says what was read; a row that was refused has that fault. It needs that each row without a fault says something
+-- a row that was read has no fault and describes what was read; a row that was refused has that fault. It needs that each row without a fault describes a value
 
 pub said_read : {X : Type 0} (fault : Option RowFault) (said : Option X) (value : X) → said_unless fault said ≡ Ok value → (unless fault (tt {0}) ≡ Ok (tt {0})) × (said ≡ Some value)
 said_read None (Some other) value h = let is : other ≡ value = cc in (refl, ap Some is)

@@ -45,17 +45,17 @@ chosen : {X : Type 0} (b : Bool) (o : Option X) (x : X) → (if b then o else No
 chosen true o x h = (refl, h)
 chosen false o x h = absurd cc
 
--- ---- what fields say
+-- ---- the line that fields describe
 
 -- the fields are the texts of these arguments, and if the names among the arguments are valid, a table can contain the arguments
 abbrev IsSaid : List (List ℕ) → List Argument → Type 0
 IsSaid fs arguments = (map argument_text arguments ≡ fs) × (list_all has_name arguments ≡ true → AllByRecursion IsArgument arguments)
 
--- a field that says a value is the text of this argument, and if the name in it is valid, a table can contain it
+-- a field that describes a value is the text of this argument, and if the name in it is valid, a table can contain it
 record SaysOne {X : Type 0} (said : List ℕ → Option X) (argument : X → Argument) : Type 0 where
   read : (text : List ℕ) (x : X) → said text ≡ Some x → (argument_text (argument x) ≡ text) × (has_name (argument x) ≡ true → IsArgument (argument x))
 
--- fields that say a value are the texts of these arguments, in the sense of IsSaid
+-- fields that describe a value are the texts of these arguments, in the sense of IsSaid
 record SaysAll {X : Type 0} (said : List (List ℕ) → Option X) (arguments : X → List Argument) : Type 0 where
   read : (fs : List (List ℕ)) (x : X) → said fs ≡ Some x → IsSaid fs (arguments x)
 
@@ -88,7 +88,7 @@ nothing_read (f ∷ fs) x h = absurd cc
 nothing_says : SaysAll nothing_in (λ nothing. [])
 nothing_says = record { read = nothing_read }
 
--- if then_in gives a value, the first field says one and the others say one
+-- if then_in gives a value, the first field describes one and the others describe one
 then_there : {X Y : Type 0} (first : List ℕ → Option X) (others : List (List ℕ) → Option Y) (fs : List (List ℕ)) (both : X × Y) → then_in first others fs ≡ Some both
     → (f : List ℕ) × (more : List (List ℕ)) × (fs ≡ f ∷ more) × (first f ≡ Some both.0) × (others more ≡ Some both.1)
 then_there first others [] both h = absurd cc
@@ -132,7 +132,7 @@ count_row count n m c half =
     let same : m ≡ number_in count = omega arith in
     (ap decimal same ∙ sym spelled.digits, rw same spelled.short)
 
--- the fields say a target of this type, in the sense of IsSaid
+-- the fields describe a target of this type, in the sense of IsSaid
 abbrev SaysTarget : List ℕ → List (List ℕ) → Target → Type 0
 SaysTarget type fs target = ((target_row target).type ≡ type) × IsSaid fs (target_row target).arguments
 
@@ -153,7 +153,7 @@ striped_says (count ∷ others) target h =
     let counted = count_row count (length others) (length m.0.1) c.0 (omega (arith, half, long)) in
     rw (← m.2) (refl, (rw (counted.0, a.0), λ valid. (counted.1, a.1 valid)))
 
--- if a type is found among the first word and those after it, the fields say a target of that type
+-- if a type is found among the first word and those after it, the fields describe a target of that type
 by_word : (type word : List ℕ) (fs : List (List ℕ)) (target : Target) (o p : Option Target) → (o ≡ Some target → SaysTarget word fs target) → (p ≡ Some target → SaysTarget type fs target)
     → (if pointwise nat_eq type word then o else p) ≡ Some target → SaysTarget type fs target
 by_word type word fs target o p says others h = elim (cases_Bool (pointwise nat_eq type word)) [
@@ -174,7 +174,7 @@ target_says type fs target h =
     (by_word type (codes "snapshot-origin") fs target _ _ (row_says (λ said. Origin said.0) (then_says lower_says nothing_says) (λ said. refl) fs target)
     (no_word type fs target)))))) h
 
--- fields that pass the test of a body say a line
+-- fields that pass the test of a body describe a line
 pub body_there : (at : Place) (fs : List (List ℕ)) → is_body fs ≡ true → (line : Line) × (line_in at fs ≡ Some line)
 body_there at fs h = there (body_in fs) (line_at at) h where
   there : (o : Option Body) (f : Body → Line) → is_some o ≡ true → (line : Line) × (option_map f o ≡ Some line)

@@ -49,7 +49,7 @@ unfolding numbered
 numbered_as n [] = refl
 numbered_as n (device ∷ devices) = numbered_device device.name n (n + length device.lines) device.lines (named_lines devices) devices refl (numbered_as (n + length device.lines) devices)
 
--- a line that some text can say: its name and its body are valid
+-- a line that some text can describe: its name and its body are valid
 abbrev IsSayable : NamedLine → Type 0
 IsSayable named = (is_device_name named.name ≡ true) × IsBody named.line
 

@@ -22,7 +22,7 @@ spaced_after : (fs : List (List ℕ)) → is_body_row fs ≡ true → join_with_
 spaced_after [] r = absurd cc
 spaced_after (f ∷ fs) r = space_joined f fs
 
--- a text whose fields pass the tests is the body of the line that they say
+-- a text whose fields pass the tests is the body of the line that they describe
 pub body_writes : (at : Place) (text : List ℕ) (line : Line) → is_body_row (body_fields text) ≡ true → line_in at (body_fields text) ≡ Some line → WritesBody text line
 body_writes at text line r l =
     let bs = body_fields text in
@@ -173,7 +173,7 @@ label_passes : (name uuid minor flags : List ℕ) (bodies : List (List ℕ)) →
 label_passes name uuid minor flags [] some a b c d = absurd (omega arith)
 label_passes name uuid minor flags (body ∷ bodies) some a b c d = and_from _ _ a (and_from _ _ b (and_from _ _ c d))
 
--- ---- from the fields of a device to what its text says
+-- ---- from the fields of a device to its text
 
 lines_said : (n : ℕ) (texts : List (List ℕ)) → list_all (λ text. is_body_row (body_fields text)) texts ≡ true → list_all (λ text. is_body (body_fields text)) texts ≡ true
     → list_all (λ text. has_body_names (body_fields text)) texts ≡ true → SaysLines n texts (lines_in (place_of n) texts)
@@ -190,7 +190,7 @@ lines_said n (text ∷ texts) r l h =
       lines_said n texts a.1 b.1 c.1,
     )
 
--- the entries say a device, and the text is that device
+-- the entries describe a device, and the text is that device
 pub record IsDeviceSaid (n : ℕ) (text : List ℕ) (es : List (List ℕ)) : Type 0 where
   pub device : DeviceSpec
   pub is : device_in n es ≡ Some device
@@ -232,7 +232,7 @@ device_said n text r l h =
     let names = and_parts (has_label_names (entries text)) _ h in
     entries_said n text (entries text) (sym (join-parts_at 44 text)) label.1 values.0 names.0 a.1 values.1 names.1
 
--- ---- from what a device's text says to its fields
+-- ---- from the text of a device to its fields
 
 record Passes (n : ℕ) (texts : List (List ℕ)) (lines : List Line) : Type 0 where
   pub rows : list_all (λ text. is_body_row (body_fields text)) texts ≡ true

@@ -1,4 +1,4 @@
--- Rows of two fields: a disk's name, and a field that says a value.
+-- Rows of two fields: a disk's name, and a field that describes a value.
 use Rattle.dm_table.proofs.Prelude.{inl, inr, ℕ, Bool, true, false, List, [], length, Option, Some, None, Ok, Err, refl, sym, ap, ◌∙◌, is_some, option_map, cases_Bool, RowFault, is_disk_name, texts, unless, fault_in, first_failed, row_fault, has_name, is_pair, pair_in, reading_of}
 use Rattle.dm_table.specs.declared.load.row_faults.RowFault.TheVariants.{Syntax}
 use Rattle.dm_table.proofs.tables.TargetRows.{read_parts}
@@ -9,7 +9,7 @@ mapped_some : {V X : Type 0} (f : V → X) (said : Option V) → is_some (option
 mapped_some f None some = absurd cc
 mapped_some f (Some value) some = (value, refl)
 
--- a row that says a value is a name and a field that says the value
+-- a row that describes a value is a name and a field that describes the value
 pub pair_split : {V X : Type 0} (value_of : List ℕ → Option V) (made : ℕ → List ℕ → V → X) (row : List (List ℕ)) → is_some (pair_in value_of made 0 row) ≡ true
     → (name : List ℕ) × (second : List ℕ) × (value : V) × (row ≡ name ∷ second ∷ []) × (value_of second ≡ Some value)
 pair_split value_of made (name ∷ second ∷ []) some = let value = mapped_some (made 0 name) (value_of second) some in (name, second, value.0, refl, value.1)
@@ -32,7 +32,7 @@ pair_found {V} value_of made named is n (name ∷ second ∷ []) = by (is_pair (
   ])
 pair_found value_of made named is n row = refl
 
--- a row that was read has no fault and says what was read; a row that was refused has that fault
+-- a row that was read has no fault and describes what was read; a row that was refused has that fault
 
 pub pair_read : {V X : Type 0} (value_of : List ℕ → Option V) (made : ℕ → List ℕ → V → X) (named : X → Bool) → ((n : ℕ) (name : List ℕ) (value : V) → named (made n name value) ≡ is_disk_name name) → (n : ℕ) (row : List (List ℕ)) (value : X)
     → (if is_pair row then reading_of named (pair_in value_of made n row) else Err Syntax) ≡ Ok value

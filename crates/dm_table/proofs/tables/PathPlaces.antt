@@ -1,4 +1,4 @@
--- Lemmas about how a line of a path list is cut, and what its path says.
+-- Lemmas about how a line of a path list is cut, and the file and offset in its path.
 use Rattle.dm_table.proofs.Prelude.{ℕ, inl, inr, false, eqb, List, [], length, take, drop, get_or, Some, None, Result, Ok, Err, refl, sym, ap, ◌∙◌, arith, MatchResult, is_ok, join_with_byte, onto_first, IsUtf8, is_utf8, nat_tests, cases_Bool, eq-eqb, ne_eqb, false_from_ne_true, elements, common_steps, drop-drop, drop_all, drop_more, take-append-drop, take_rest, slice_split-cons_yes, slice_split-cons_no, IsUtf8-from_is_utf8, is_utf8-from_IsUtf8, drop-append_seam, after_equals, name_and_path, place_in, fields, last_or, parts_at}
 use Rattle.memchr.specs.Find.{is_byte, IsFirstByte, IsLastByte}
 use Rattle.dm_table.specs.tables.PathList.{place_of}
@@ -85,16 +85,16 @@ last_nowhere text none = sym (ap (last_or []) (parts_at-clear 61 text (λ k d be
 
 -- ---- a place in a file
 
--- a path whose file is UTF-8 and whose offset is a multiple of 512 says a place
+-- a path whose file is UTF-8 and whose offset is a multiple of 512 gives a file and a sector
 pub place_taken : (path file : List ℕ) (byte : ℕ) → (file, byte) ≡ place_of path → IsUtf8 file → byte % 512 ≡ 0 → Some (file, byte / 512) ≡ place_in path
 place_taken path file byte is utf8 whole = rw (← is) (rw (is_utf8-from_IsUtf8 file utf8, eq-eqb _ _ whole) refl)
 
--- a path whose file isn't UTF-8 says no place
+-- a path whose file isn't UTF-8 gives no file and no sector
 pub place_untext : (path file : List ℕ) (byte : ℕ) → (file, byte) ≡ place_of path → (IsUtf8 file → ⊥) → None ≡ place_in path
 place_untext path file byte is other =
     let no : is_utf8 file ≡ false = false_from_ne_true _ (λ t. other (IsUtf8-from_is_utf8 file t)) in
     rw (← is) (rw no refl)
 
--- a path whose offset isn't a multiple of 512 says no place
+-- a path whose offset isn't a multiple of 512 gives no file and no sector
 pub place_inside : (path file : List ℕ) (byte : ℕ) → (file, byte) ≡ place_of path → IsUtf8 file → (byte % 512 ≡ 0 → ⊥) → None ≡ place_in path
 place_inside path file byte is utf8 other = rw (← is) (rw (is_utf8-from_IsUtf8 file utf8, ne_eqb _ _ other) refl)

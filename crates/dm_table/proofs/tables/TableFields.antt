@@ -49,7 +49,7 @@ not_spaced fs e = refl
 abbrev pub place : ℕ → Place
 place n = record { part = Source; number = n }
 
--- a line with the name that its label says
+-- a line with the name in its label
 abbrev pub with_label : List ℕ → Line → NamedLine
 with_label label line = record { name = name_in label; line = line }
 
@@ -69,7 +69,7 @@ row_found n (label ∷ fs) = elim (cases_Bool (is_row (label ∷ fs))) [
   | inr e ↦ rw e
 ]
 
--- a line that was read is the line that the row says
+-- a line that was read is the line that the row describes
 pub row_taken : (n : ℕ) (row : List (List ℕ)) (named : NamedLine) → row_reading n row ≡ Ok named → named_in n row ≡ Some named
 row_taken n row named h = said_by has_line_names (is_row row) (named_in n row) named h
 

@@ -1,4 +1,4 @@
--- Neighbouring lines with the same name, joined into devices: what the devices say, and that no other devices say it.
+-- Neighbouring lines with the same name, joined into devices: the devices have these lines, and no other devices have them.
 use Rattle.dm_table.proofs.Prelude.{inl, inr, ℕ, Bool, true, false, nat_eq, List, [], map, refl, sym, ap, ◌∙◌, pointwise, AllByRecursion, bytes_eq-Decides, cases_Bool, false_from_ne_true, Line, DeviceSpec, Place, NamedLine, named_lines, HasPlaceOf, IsDescribed, DifferInName, alone, join_line, joined}
 use Rattle.std.specs.Prelude.{◌≡◌, ◌≢◌, ◌∷◌, ◌++◌}
 
@@ -20,7 +20,7 @@ is_other_name a b h = false_from_ne_true _ (λ e. h (same_name a b e))
 abbrev pub named_of : List ℕ → List Line → List NamedLine
 named_of name lines = map (λ line. record { name = name; line = line }) lines
 
--- ---- what lines say after they were joined into devices
+-- ---- the lines of joined devices
 
 name_taken : (named : NamedLine) (name : List ℕ) (lines : List Line) (b : Bool) → pointwise nat_eq named.name name ≡ b → b ≡ true → named_of name (named.line ∷ lines) ≡ named ∷ named_of name lines
 name_taken named name lines b e t = rw (same_name named.name name (e ∙ t))

@@ -102,7 +102,7 @@ joined_more (one ∷ ns) named = add_join one (joined ns) named ∙ ap (join_lin
 
 -- ---- adding the lines of rows, one after another
 
--- the devices after the line that one more row says
+-- the devices after the line that one more row describes
 abbrev with_named : List DeviceSpec → ℕ → List (List ℕ) → List DeviceSpec
 with_named devices n row = add_said devices (named_in n row)
 
@@ -116,7 +116,7 @@ pub rows_joined : (ns : List NamedLine) (n : ℕ) (rows : List (List (List ℕ))
 rows_joined ns n [] = ap joined (sym (append-nil ns))
 rows_joined ns n (row ∷ rows) = one_joined ns (suc n) rows (named_in n row) (λ more. rows_joined more (suc n) rows)
 
--- a row that was read has no fault and says what was read; a row that was refused has that fault
+-- a row that was read has no fault and describes what was read; a row that was refused has that fault
 pub named_read : (n : ℕ) (row : List (List ℕ)) (named : NamedLine) → row_reading n row ≡ Ok named → (unless (table_row_fault row) (tt {0}) ≡ Ok (tt {0})) × (named_in n row ≡ Some named)
 named_read n row named h =
     let clear : table_row_fault row ≡ None = sym (row_found n row) ∙ ap fault_in h in

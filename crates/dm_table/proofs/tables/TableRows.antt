@@ -46,14 +46,14 @@ label_spelled label h =
     let long : 1 < length label = ltb-true 1 (length label) a.0 in
     cc (eqb-true (last_or 0 label) 58 a.1, last_split 0 label (omega arith))
 
--- a row with valid values says a line
+-- a row with valid values describes a line
 pub row_there : (n : ℕ) (row : List (List ℕ)) → has_values row ≡ true → (named : NamedLine) × (named_in n row ≡ Some named)
 row_there n [] l = absurd cc
 row_there n (label ∷ fs) l =
     let line = body_there (place n) fs l in
     (record { name = name_in label; line = line.0 }, rw line.1)
 
--- the row of the line that a row says is that row
+-- the row of the line that a row describes is that row
 pub row_again : (n : ℕ) (row : List (List ℕ)) (named : NamedLine) → is_row row ≡ true → named_in n row ≡ Some named → row_for named ≡ row
 row_again n [] named r l = absurd cc
 row_again n (label ∷ fs) named r l =
@@ -76,7 +76,7 @@ row_begins : (row : List (List ℕ)) → is_row row ≡ true → join_with_byte 
 row_begins [] r = absurd cc
 row_begins (f ∷ fs) r = space_joined f fs
 
--- a text line whose row passes the tests is the line that its row says
+-- a text line whose row passes the tests is the line that its row describes
 pub line_writes : (n : ℕ) (line : List ℕ) (named : NamedLine) → is_row (row_fields line) ≡ true → named_in n (row_fields line) ≡ Some named → Writes line named
 line_writes n line named r l =
     let whole : line ≡ join_with_byte 32 (fields line) = sym (join-parts_at 32 line) in

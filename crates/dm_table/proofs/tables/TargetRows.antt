@@ -157,7 +157,7 @@ made_fault {X} of_x of_y make same (Some x) fault h = elim (cases_Bool (of_x x))
   | inr e ↦ rw (same x e) (let both : ◌≡◌ {A = Result X RowFault} (Err Name) (Err fault) = rw e at h in let is : Name ≡ fault = cc in ap Err is)
 ]
 
--- a value that was read is the one that was said, and its names are valid
+-- a value that was read is the one that the fields describe, and its names are valid
 pub read_parts : {X : Type 0} (has_names : X → Bool) (o : Option X) (x : X) → reading_of has_names o ≡ Ok x → (o ≡ Some x) × (has_names x ≡ true)
 read_parts has_names None x h = absurd cc
 read_parts {X} has_names (Some other) x h = elim (cases_Bool (has_names other)) [

@@ -1,17 +1,17 @@
--- Texts that say one value per line, the checks of their rows, and the values that their rows say.
+-- Texts that describe one value per line, the checks of their rows, and the values that their rows describe.
 use Rattle.dm_table.specs.Base.{ℕ, suc, Bool, List, [], map, Option, cons_option, Part, LoadFault}
 use Rattle.dm_table.specs.words.Fields.{parts_at, lines_of, rest_of}
 use Rattle.dm_table.specs.load.LoadFault.{untexts, row_checks}
 use Rattle.dm_table.specs.words.Bytes.{code}
 use Rattle.std.specs.Prelude.{◌≡◌, ◌∷◌}
 
--- each text says the value at its position in the list; the texts are numbered from n on
+-- each text describes the value at its position in the list; the texts are numbered from n on
 abbrev pub SayEach : {X : Type 0} → (says : ℕ → List ℕ → X → Type 0) → ℕ → (texts : List (List ℕ)) → List X → Type 0
 SayEach says n [] [] = Unit {0}
 SayEach says n (text ∷ texts) (value ∷ values) = says n text value × SayEach says (suc n) texts values
 SayEach says n texts values = ⊥
 
--- the text consists of complete lines, each ended by a newline, and line by line they say the values
+-- the text consists of complete lines, each ended by a newline, and line by line they describe the values
 pub record LinesSay {X : Type 0} (says : ℕ → List ℕ → X → Type 0) (text : List ℕ) (values : List X) : Type 0 where
   pub ended : rest_of text ≡ []
   pub said : SayEach says 1 (lines_of text) values
@@ -21,7 +21,7 @@ abbrev pub line_checks : (is_text : List ℕ → Bool) → Part → (List ℕ �
 line_checks is_text part row_of is_row has_values has_names text =
     untexts is_text part (parts_at (code "\n") text) ∷ row_checks part is_row has_values has_names (map row_of (lines_of text)) (rest_of text)
 
--- the values that rows say, without rows that say none; rows are numbered from n on
+-- the values that rows describe, without rows that describe none; rows are numbered from n on
 abbrev pub values_from : {R X : Type 0} → (value_in : ℕ → R → Option X) → ℕ → List R → List X
 values_from value_in n [] = []
 values_from value_in n (row ∷ rows) = cons_option (value_in n row) (values_from value_in (suc n) rows)

@@ -19,7 +19,7 @@ abbrev pub Reads : {X Y : Type 0} → (X → Y) → Result X RowFault → Result
 Reads view (Ok x) reading = reading ≡ Ok (view x)
 Reads view (Err fault) reading = fault ≢ Memory → reading ≡ Err fault
 
--- the fault if there is one, else what the row says; Syntax if it says nothing
+-- the fault if there is one, else the value that the row describes; Syntax if it describes none
 abbrev pub said_unless : {X : Type 0} → (fault : Option RowFault) → (said : Option X) → Result X RowFault
 said_unless None said = ok_or said Syntax
 said_unless (Some fault) said = Err fault

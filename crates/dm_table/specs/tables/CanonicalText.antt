@@ -28,28 +28,28 @@ concise_device device = device.name ++ flag_text device.ro ++ join_with_byte (co
 abbrev pub concise_text : List DeviceSpec → List ℕ
 concise_text devices = join_with_byte (code ";") (map concise_device devices) ++ code "\n" ∷ []
 
--- ---- what table text can say of devices
+-- ---- which devices table text can describe
 
 -- lines with their places set to their numbers in the source, counted from n
 abbrev pub placed_lines : ℕ → List Line → List Line
 placed_lines n [] = []
 placed_lines n (line ∷ lines) = record line { at = record { part = Source; number = n } } ∷ placed_lines (suc n) lines
 
--- devices as table text can say them: writable, with lines numbered from n; a device's place is that of its first line
+-- devices as table text can describe them: writable, with lines numbered from n; a device's place is that of its first line
 abbrev pub as_table : ℕ → List DeviceSpec → List DeviceSpec
 as_table n [] = []
 as_table n (device ∷ devices) =
     record { name = device.name; ro = false; lines = placed_lines n device.lines; at = record { part = Source; number = n } }
     ∷ as_table (n + length device.lines) devices
 
--- ---- what the concise form can say of devices
+-- ---- which devices the concise form can describe
 
 -- lines with their places set to `at`
 abbrev pub lines_at : Place → List Line → List Line
 lines_at at [] = []
 lines_at at (line ∷ lines) = record line { at = at } ∷ lines_at at lines
 
--- devices as the concise form can say them: a device and all of its lines have the device's number as place, counted from n
+-- devices as the concise form can describe them: a device and all of its lines have the device's number as place, counted from n
 abbrev pub as_concise : ℕ → List DeviceSpec → List DeviceSpec
 as_concise n [] = []
 as_concise n (device ∷ devices) =

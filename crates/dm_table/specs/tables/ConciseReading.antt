@@ -26,7 +26,7 @@ abbrev pub fault_of_bodies : List (List ℕ) → Option RowFault
 fault_of_bodies [] = None
 fault_of_bodies (text ∷ texts) = earlier_of (fault_of_body text) (fault_of_bodies texts)
 
--- the lines that the bodies say, all at the same place
+-- the lines that the bodies describe, all at the same place
 abbrev pub lines_in : Place → List (List ℕ) → List Line
 lines_in at texts = filter_map (λ text. line_in at (body_fields text)) texts
 
@@ -43,7 +43,7 @@ fault_of_entries on_a_line entries =
 abbrev pub fault_of_device : List ℕ → Option RowFault
 fault_of_device text = row_fault is_device has_values has_names text
 
--- the device that the entries say, as device number n
+-- the device that the entries describe, as device number n
 abbrev pub device_in : ℕ → List (List ℕ) → Option DeviceSpec
 device_in n (name ∷ uuid ∷ minor ∷ flags ∷ bodies) = Some (record { name = name; ro = is_ro flags; lines = lines_in (place_of n) bodies; at = place_of n })
 device_in n _ = None
@@ -54,7 +54,7 @@ device_in n _ = None
 abbrev pub bodies_reading : Place → Option RowFault → List (List ℕ) → Result (List Line) RowFault
 bodies_reading at before texts = unless (earlier_of before (fault_of_bodies texts)) (lines_in at texts)
 
--- device number n, or the fault of its entries; on_a_line says that they contain no newline
+-- device number n, or the fault of its entries; on_a_line is true if they contain no newline
 abbrev pub entries_reading : ℕ → Bool → List (List ℕ) → Result DeviceSpec RowFault
 entries_reading n on_a_line entries = said_unless (fault_of_entries on_a_line entries) (device_in n entries)
 
@@ -62,7 +62,7 @@ entries_reading n on_a_line entries = said_unless (fault_of_entries on_a_line en
 abbrev pub device_reading : ℕ → List ℕ → Result DeviceSpec RowFault
 device_reading n text = said_unless (fault_of_device text) (device_in n (entries text))
 
--- the devices that the texts say, numbered from n
+-- the devices that the texts describe, numbered from n
 abbrev pub devices_from : ℕ → List (List ℕ) → List DeviceSpec
 devices_from = values_from (λ n text. device_in n (entries text))
 

@@ -29,7 +29,7 @@ is_ro text = pointwise nat_eq text (codes "ro")
 abbrev pub is_flags : List ℕ → Bool
 is_flags text = length text == 0 || (is_ro text || pointwise nat_eq text (codes "rw"))
 
--- ---- what a text in the concise form says
+-- ---- which devices a text in the concise form describes
 
 -- the place of device number n, and of each of its lines
 abbrev pub place_of : ℕ → Place

@@ -10,7 +10,7 @@ use Rattle.dm_table.specs.tables.LineReading.{reading_of}
 use Rattle.dm_table.specs.words.Bytes.{code}
 use Rattle.std.specs.Prelude.{◌≡◌, ◌^◌, ◌<◌, ◌&&◌, ◌∷◌, ◌++◌, if◌then◌else◌}
 
--- ---- what a disk list says
+-- ---- what the lines of a disk list describe
 
 -- the line for a disk, without its newline
 abbrev pub disk_line : Disk → List ℕ
@@ -34,7 +34,7 @@ abbrev pub is_pair : List (List ℕ) → Bool
 is_pair (name ∷ sectors ∷ []) = nat_lt 0 (length name) && nat_lt 0 (length sectors)
 is_pair _ = false
 
--- what a row of two fields says, as row n: a name, and the value that the second field spells
+-- what a row of two fields describes, as row n: a name, and the value that the second field spells
 abbrev pub pair_in : {V X : Type 0} → (value_of : List ℕ → Option V) → (made : ℕ → (name : List ℕ) → V → X) → ℕ → List (List ℕ) → Option X
 pair_in value_of made n (name ∷ second ∷ []) = option_map (made n name) (value_of second)
 pair_in value_of made n _ = None
@@ -43,11 +43,11 @@ pair_in value_of made n _ = None
 abbrev pub disk_at : ℕ → List ℕ → ℕ → Disk
 disk_at n name len = record { name = name; len = len; at = record { part = Disks; number = n } }
 
--- the disk that a row says, from line number n, if the second field is a number
+-- the disk that a row describes, from line number n, if the second field is a number
 abbrev pub disk_in : ℕ → List (List ℕ) → Option Disk
 disk_in = pair_in number_of disk_at
 
--- the row says a disk, whatever its line number: the second field is a number of sectors
+-- the row describes a disk, whatever its line number: the second field is a number of sectors
 abbrev pub has_sectors : List (List ℕ) → Bool
 has_sectors row = is_some (disk_in 0 row)
 
@@ -62,6 +62,6 @@ disk_checks text = line_checks is_printable Disks fields is_pair has_sectors has
 
 -- ---- how a row of a disk list is read
 
--- the disk that a row says, as line n, or the fault of the first test that it fails
+-- the disk that a row describes, as line n, or the fault of the first test that it fails
 abbrev pub disk_reading : ℕ → List (List ℕ) → Result Disk RowFault
 disk_reading n row = if is_pair row then reading_of (λ disk. is_disk_name disk.name) (disk_in n row) else Err Syntax

@@ -13,7 +13,7 @@ use Rattle.dm_table.specs.words.Number.{number_of, number_in}
 use Rattle.dm_table.specs.words.Bytes.{code}
 use Rattle.std.specs.Prelude.{◌≡◌, ◌+◌, ◌*◌, ◌^◌, ◌<◌, ◌==◌, ◌&&◌, ◌∷◌, ◌++◌, if◌then◌else◌}
 
--- ---- what a body says
+-- ---- which lines a body can describe, and how they are written
 
 -- the text for the device or disk that a target names
 abbrev pub dev_text : DevRef → List ℕ
@@ -179,7 +179,7 @@ pub record Body : Type 0 where
   pub len : ℕ
   pub target : Target
 
--- the body that fields say: a start, a length and a target
+-- the body that fields describe: a start, a length and a target
 abbrev pub body_in : List (List ℕ) → Option Body
 body_in fields = option_map (λ said. record { start = said.0; len = said.1.0; target = said.1.1 }) (then_in number_of (then_in number_of target_in) fields)
 
@@ -189,7 +189,7 @@ body_in fields = option_map (λ said. record { start = said.0; len = said.1.0; t
 abbrev pub is_body_row : List (List ℕ) → Bool
 is_body_row fields = nat_le 3 (length fields) && list_all (λ field. nat_lt 0 (length field)) fields
 
--- the fields say a body
+-- the fields describe a body
 abbrev pub is_body : List (List ℕ) → Bool
 is_body fields = is_some (body_in fields)
 
@@ -203,6 +203,6 @@ has_name (Flag kind) = true
 abbrev pub has_target_names : Target → Bool
 has_target_names target = list_all has_name (target_row target).arguments
 
--- all names in the body that the fields say are valid; true if they say no body
+-- all names in the body that the fields describe are valid; true if they describe no body
 abbrev pub has_body_names : List (List ℕ) → Bool
 has_body_names fields = unwrap_or (option_map (λ body. has_target_names body.target) (body_in fields)) true

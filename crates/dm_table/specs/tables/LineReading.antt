@@ -13,7 +13,7 @@ use Rattle.std.specs.Prelude.{◌∷◌, ◌++◌, if◌then◌else◌}
 abbrev pub line_at : Place → Body → Line
 line_at at body = record { start = body.start; len = body.len; target = body.target; at = at }
 
--- the line that the fields say, if they say a body
+-- the line that the fields describe, if they describe a body
 abbrev pub line_in : Place → List (List ℕ) → Option Line
 line_in at fields = option_map (line_at at) (body_in fields)
 
@@ -23,7 +23,7 @@ line_in at fields = option_map (line_at at) (body_in fields)
 abbrev pub dev_reading : List ℕ → Result DevRef RowFault
 dev_reading text = if is_dev_ref (dev_in text) then Ok (dev_in text) else Err Name
 
--- the value that fields say: Field if they say none, Name if a name in it isn't valid
+-- the value that fields describe: Field if they describe none, Name if a name in it isn't valid
 abbrev pub reading_of : {X : Type 0} → (has_names : X → Bool) → Option X → Result X RowFault
 reading_of has_names None = Err Field
 reading_of has_names (Some x) = if has_names x then Ok x else Err Name
@@ -42,7 +42,7 @@ both_read (Err Syntax) others = Err Syntax
 both_read (Err Field) others = Err Field
 both_read (Err Memory) others = Err Memory
 
--- the columns that fields say, or their fault: Field before Name
+-- the columns that fields describe, or their fault: Field before Name
 abbrev pub columns_reading : List (List ℕ) → Result (List Column) RowFault
 columns_reading fields = reading_of has_column_names (columns_in fields)
 
@@ -53,11 +53,11 @@ fault_before Syntax fields = Syntax
 fault_before Field fields = Field
 fault_before Memory fields = Memory
 
--- the target of this type that the arguments say, or their fault: Field before Name
+-- the target of this type that the arguments describe, or their fault: Field before Name
 abbrev pub target_reading : (type : List ℕ) → List (List ℕ) → Result Target RowFault
 target_reading type arguments = reading_of has_target_names (arguments_in type arguments)
 
--- the line at this place that the fields say, or their fault: Field before Name
+-- the line at this place that the fields describe, or their fault: Field before Name
 abbrev pub body_reading : Place → List (List ℕ) → Result Line RowFault
 body_reading at fields = reading_of (λ line. has_target_names line.target) (line_in at fields)
 

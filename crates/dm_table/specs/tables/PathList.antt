@@ -11,7 +11,7 @@ use Rattle.dm_table.specs.words.Fields.{fields, last_or, lines_of, parts_at}
 use Rattle.dm_table.specs.words.Name.{is_disk_name}
 use Rattle.std.specs.Prelude.{◌≡◌, ◌+◌, ◌-◌, ◌/◌, ◌%◌, ◌<◌, ◌==◌, ◌&&◌, ◌∷◌, ◌++◌, if◌then◌else◌}
 
--- ---- what a path says
+-- ---- the file and the offset in a path
 
 -- the byte offset that 1 to 18 digits spell
 abbrev pub offset_in : List ℕ → Option ℕ
@@ -27,7 +27,7 @@ abbrev pub place_by : Option ℕ → (front path : List ℕ) → List ℕ × ℕ
 place_by None front path = (path, 0)
 place_by (Some byte) front path = if ends_with nat_eq front (codes "?offset=") then (take (length front - 8) front, byte) else (path, 0)
 
--- the file and byte offset that a path says: FILE?offset=BYTES, or any other path for a file and offset 0
+-- the file and byte offset in a path: FILE?offset=BYTES, or any other path for a file and offset 0
 abbrev pub place_of : List ℕ → List ℕ × ℕ
 place_of path = let digits = after_equals path in place_by (offset_in digits) (take (length path - length digits) path) path
 
@@ -35,7 +35,7 @@ place_of path = let digits = after_equals path in place_by (offset_in digits) (t
 abbrev pub place_in : List ℕ → Option (List ℕ × ℕ)
 place_in path = let place = place_of path in if is_utf8 place.0 && place.1 % 512 == 0 then Some (place.0, place.1 / 512) else None
 
--- ---- what a path list says
+-- ---- what the lines of a path list describe
 
 -- a line in a path list may be any UTF-8 text without a NUL
 abbrev pub is_path_text : List ℕ → Bool
@@ -65,11 +65,11 @@ name_and_path line = let name = get_or (fields line) 0 [] in name ∷ drop (leng
 abbrev pub path_at : ℕ → List ℕ → List ℕ × ℕ → DiskPath
 path_at n name place = record { disk = name; file = place.0; start = place.1; at = record { part = Paths; number = n } }
 
--- the disk's image that a row says, as line number n, if its path is valid
+-- the disk's image that a row describes, as line number n, if its path is valid
 abbrev pub path_in : ℕ → List (List ℕ) → Option DiskPath
 path_in = pair_in place_in path_at
 
--- the row's path is valid, whatever its line number: it says a file and a sector
+-- the row's path is valid, whatever its line number: it gives a file and a sector
 abbrev pub has_place : List (List ℕ) → Bool
 has_place row = is_some (path_in 0 row)
 
@@ -83,6 +83,6 @@ read_paths text = unless (first_fault (path_checks text)) (values_from path_in 1
 
 -- ---- how a row of a path list is read
 
--- the disk's image that a row says, as line n, or the fault of the first test that it fails
+-- the disk's image that a row describes, as line n, or the fault of the first test that it fails
 abbrev pub path_reading : ℕ → List (List ℕ) → Result DiskPath RowFault
 path_reading n row = if is_pair row then reading_of (λ (disk : DiskPath). is_disk_name disk.disk) (path_in n row) else Err Syntax

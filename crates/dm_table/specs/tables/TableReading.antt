@@ -14,7 +14,7 @@ use Rattle.std.specs.Prelude.{◌&&◌, ◌∷◌, ◌++◌, if◌then◌else◌
 abbrev pub rows_of : List (List ℕ) → List (List (List ℕ))
 rows_of = map row_fields
 
--- the line of a table that a row says, with its device's name, as line number n of the text
+-- the line of a table that a row describes, with its device's name, as line number n of the text
 abbrev pub named_in : ℕ → List (List ℕ) → Option NamedLine
 named_in n (label ∷ body) = option_map (λ line. record { name = name_in label; line = line }) (line_in (record { part = Source; number = n }) body)
 named_in n [] = None
@@ -45,7 +45,7 @@ add_line (device ∷ []) named =
     if pointwise nat_eq named.name device.name then record device { lines = device.lines ++ named.line ∷ [] } ∷ [] else device ∷ alone named ∷ []
 add_line (device ∷ next ∷ devices) named = device ∷ add_line (next ∷ devices) named
 
--- devices with the line that a row says added at the end, if it says one
+-- devices with the line that a row describes added at the end, if it describes one
 abbrev pub add_said : List DeviceSpec → Option NamedLine → List DeviceSpec
 add_said devices None = devices
 add_said devices (Some named) = add_line devices named
@@ -58,14 +58,14 @@ table_row_fault row = row_fault is_row has_values has_names row
 abbrev pub has_line_names : NamedLine → Bool
 has_line_names named = is_device_name named.name && has_target_names named.line.target
 
--- the line that a body says for the device `name`, or the fault of its values or names
+-- the line that a body describes for the device `name`, or the fault of its values or names
 abbrev pub named_reading : List ℕ → Place → List (List ℕ) → Result NamedLine RowFault
 named_reading name at body = reading_of has_line_names (option_map (λ line. record { name = name; line = line }) (line_in at body))
 
--- the line that a row says, as line n of the text, or the fault of the first test that it fails
+-- the line that a row describes, as line n of the text, or the fault of the first test that it fails
 abbrev pub row_reading : ℕ → List (List ℕ) → Result NamedLine RowFault
 row_reading n row = if is_row row then reading_of has_line_names (named_in n row) else Err Syntax
 
--- the devices that rows say; their lines are numbered from n on
+-- the devices that rows describe; their lines are numbered from n on
 abbrev pub devices_from : ℕ → List (List (List ℕ)) → List DeviceSpec
 devices_from n rows = joined (values_from named_in n rows)

@@ -10,7 +10,7 @@ use Rattle.dm_table.specs.tables.LineBody.{body_text, IsBody, is_body_row, is_bo
 use Rattle.dm_table.specs.words.Bytes.{code}
 use Rattle.std.specs.Prelude.{◌≡◌, ◌≢◌, ◌⊎◌, ◌==◌, ◌&&◌, ◌∷◌, ◌++◌}
 
--- ---- what table text says
+-- ---- which devices table text describes
 
 -- a line of a table, with the name of its device
 pub record NamedLine : Type 0 where
@@ -21,17 +21,17 @@ pub record NamedLine : Type 0 where
 abbrev pub line_text : NamedLine → List ℕ
 line_text named = named.name ++ code ":" ∷ code " " ∷ body_text named.line
 
--- the text line says this named line; one space at its end has no meaning
+-- the text line describes this named line; one space at its end has no meaning
 abbrev pub Writes : List ℕ → NamedLine → Type 0
 Writes text named = (text ≡ line_text named) ⊎ (text ≡ line_text named ++ code " " ∷ [])
 
--- a named line that text line number n can say: its name and its body are valid, and its place is n
+-- a named line that text line number n can describe: its name and its body are valid, and its place is n
 pub record IsSaid (n : ℕ) (named : NamedLine) : Type 0 where
   pub name : is_device_name named.name ≡ true
   pub body : IsBody named.line
   pub at : named.line.at ≡ record { part = Source; number = n }
 
--- text line number n says this named line
+-- text line number n describes this named line
 abbrev pub SaysLine : ℕ → List ℕ → NamedLine → Type 0
 SaysLine n text named = Writes text named × IsSaid n named
 
@@ -44,7 +44,7 @@ abbrev pub HasPlaceOf : List Line → Place → Type 0
 HasPlaceOf [] at = ⊥
 HasPlaceOf (line ∷ lines) at = at ≡ line.at
 
--- a device that table text can say: it is writable, as there is no flag for read-only, and its place is that of its first line
+-- a device that table text can describe: it is writable, as there is no flag for read-only, and its place is that of its first line
 pub record IsDescribed (device : DeviceSpec) : Type 0 where
   pub writable : device.ro ≡ false
   pub at : HasPlaceOf device.lines device.at
@@ -55,7 +55,7 @@ DifferInName [] = Unit {0}
 DifferInName (device ∷ []) = Unit {0}
 DifferInName (device ∷ next ∷ devices) = (device.name ≢ next.name) × DifferInName (next ∷ devices)
 
--- the text says these devices
+-- the text describes these devices
 pub record DescribesTable (text : List ℕ) (devices : List DeviceSpec) : Type 0 where
   pub said : LinesSay SaysLine text (named_lines devices)
   pub each : AllByRecursion IsDescribed devices

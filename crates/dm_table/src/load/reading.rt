@@ -70,7 +70,7 @@ pub(crate) trait FromRows: Drop {
     fn cut_line<'a>(row: &mut Vec<&'a [u8]>, line: &'a [u8]) -> Result<(), AllocError>
         ensures { OnOk result (texts row.new.items ≡ row_of line.now) };
 
-    /// Adds what row `number` of a text says to the values of the rows before it. After a fault, the values
+    /// Adds what row `number` of a text describes to the values of the rows before it. After a fault, the values
     /// may be anything.
     fn read_row(
         alloc: Global,
@@ -83,7 +83,7 @@ pub(crate) trait FromRows: Drop {
             (unless (row_fault is_row has_values has_names (texts row.now)) tt) };
 }
 
-/// The values that the lines of a text say, or the first fault of the first check that finds any. Takes
+/// The values that the lines of a text describe, or the first fault of the first check that finds any. Takes
 /// one pass to check the bytes and one to read the lines.
 pub(crate) fn read_lines<T: FromRows>(
     alloc: Global,
@@ -100,7 +100,7 @@ pub(crate) fn read_lines<T: FromRows>(
     read_rows(alloc, part, text)
 }
 
-/// The values that the lines of a text say, or the first fault of the first check of rows that finds any. The
+/// The values that the lines of a text describe, or the first fault of the first check of rows that finds any. The
 /// bytes of the text have been checked before. One pass.
 pub(crate) fn read_rows<T: FromRows>(
     alloc: Global,

@@ -21,7 +21,7 @@ use std::cmp::min;
 /// The most lines to allocate for before reading them, since a text may consist of nothing but commas.
 const MOST_RESERVED: usize = 65536;
 
-/// The device that a text says, as device `number`. The vectors, for its entries and for the fields of a
+/// The device that a text describes, as device `number`. The vectors, for its entries and for the fields of a
 /// body, are passed in so that all devices can share them.
 pub(crate) fn read_device<'a>(
     alloc: Global,
@@ -36,7 +36,7 @@ pub(crate) fn read_device<'a>(
     read_entries(alloc, fields, lacks(b'\n', text), &*entries, number)
 }
 
-/// The device that entries say, as device `number`; on_a_line says that the entries contain no newline.
+/// The device that entries describe, as device `number`; on_a_line is true if the entries contain no newline.
 fn read_entries<'a>(
     alloc: Global,
     fields: &mut Vec<&'a [u8]>,
@@ -63,7 +63,7 @@ fn read_entries<'a>(
     })
 }
 
-/// The fault of a device's label, if it has one; on_a_line says that the entries contain no newline.
+/// The fault of a device's label, if it has one; on_a_line is true if the entries contain no newline.
 fn entry_label_fault(on_a_line: bool, entries: &[&[u8]]) -> Option<RowFault>
     ensures { result ≡ fault_of_label on_a_line (texts entries.now) }
 {
@@ -167,7 +167,7 @@ fn read_bodies<'a>(
     }
 }
 
-/// Adds the line that a body says to the lines, or returns the fault of the body.
+/// Adds the line that a body describes to the lines, or returns the fault of the body.
 fn add_line<'a>(
     alloc: Global,
     lines: &mut Table,

@@ -64,7 +64,7 @@ impl FromRows for Disk {
     }
 }
 
-/// The disk that a row says, as line `number` of the text. Of several faults, `Syntax` comes before `Field`,
+/// The disk that a row describes, as line `number` of the text. Of several faults, `Syntax` comes before `Field`,
 /// and `Field` before `Name`.
 fn read_disk(alloc: Global, row: &[&[u8]], number: u64) -> Result<Disk, RowFault>
     ensures { Reads (λ disk. disk) result (disk_reading number (texts row.now)) }

@@ -69,7 +69,7 @@ impl BodyHead {
     }
 }
 
-/// Appends the line that a body says to the lines. Of several faults, `Field` comes before `Name`.
+/// Appends the line that a body describes to the lines. Of several faults, `Field` comes before `Name`.
 pub(crate) fn read_body(
     alloc: Global,
     lines: &mut Table,
@@ -179,7 +179,7 @@ fn read_striped(alloc: Global, arguments: &[&[u8]]) -> Result<Target, RowFault>
 
 /// A type that one argument of a target is read into.
 trait Argument: Drop {
-    /// The value that a field says.
+    /// The value that a field describes.
     ghost said: { List ℕ → Option Self };
 
     /// Whether the value, if it is a name, is a valid one.
@@ -235,7 +235,7 @@ impl Argument for DevRef {
 
 /// A list of types that the arguments of a target are read into, in order.
 trait Arguments: Drop {
-    /// The values that the fields say.
+    /// The values that the fields describe.
     ghost said: { List (List ℕ) → Option Self };
 
     /// Whether all names among the values are valid.

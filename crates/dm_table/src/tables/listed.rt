@@ -10,7 +10,7 @@ use crate::reserved::Reserved;
 use std::alloc::{AllocError, Global};
 use std::marker::Model;
 
-/// Values in order. A contract sees them as a list.
+/// A vector of values in order, which a contract sees as a list.
 #[derive(Debug, Drop)]
 pub struct Listed<T> {
     items: Reserved<T>,

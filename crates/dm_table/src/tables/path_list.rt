@@ -97,7 +97,7 @@ fn cut_name(line: &[u8]) -> (&[u8], &[u8])
     }
 }
 
-/// The entry that a row says, as line `number` of the text. Of several faults, `Syntax` comes before `Field`,
+/// The entry that a row describes, as line `number` of the text. Of several faults, `Syntax` comes before `Field`,
 /// and `Field` before `Name`.
 fn read_path(alloc: Global, row: &[&[u8]], number: u64) -> Result<DiskPath, RowFault>
     ensures { Reads (λ disk. disk) result (path_reading number (texts row.now)) }
@@ -126,7 +126,7 @@ fn read_path(alloc: Global, row: &[&[u8]], number: u64) -> Result<DiskPath, RowF
     })
 }
 
-/// The file that a path says, and the sector of it at which the disk begins.
+/// The file that a path gives, and the sector of it at which the disk begins.
 fn place_in(path: &[u8]) -> Option<(&str, u64)>
     ensures is { option_map (λ place. (place.0.now, place.1)) result ≡ place_in path.now }
     ensures near { IfSome result (λ place. place.1 < 2 ^ 51) }
@@ -141,7 +141,7 @@ fn place_in(path: &[u8]) -> Option<(&str, u64)>
     Some((file, byte / 512))
 }
 
-/// The file that a path says, and the byte offset in it at which the disk begins.
+/// The file that a path gives, and the byte offset in it at which the disk begins.
 fn place_of(path: &[u8]) -> (&[u8], u64)
     ensures is { (result.0.now, result.1) ≡ place_of path.now }
     ensures near { result.1 < 10 ^ 18 }

@@ -6,36 +6,36 @@ use Rattle.std.specs.Prelude.{◌≡◌, ◌⊎◌, ◌∷◌, ◌++◌}
 use base.Stored.{coded_unit}
 use Rattle.lvm_text.specs.Tree.{Scalar, Int, Text, Values, Nothing, Section, Single, Several, Tree}
 
--- a scalar in the code: an integer or a string
+-- a scalar in a tree's code: an integer or a string
 abbrev pub Flat : Type 0
 Flat = ℕ ⊎ List ℕ
 
--- what a key holds in the code: a section that begins here, a scalar, or a list of scalars
+-- what a key holds, in a tree's code: a section that begins here, a scalar, or a list of scalars
 abbrev pub Held : Type 0
 Held = Unit {0} ⊎ (Flat ⊎ List Flat)
 
--- an item of the code: the end of a section, or a key with its line and what it holds
+-- an item of a tree's code: the end of a section, or a key with its line and what it holds
 abbrev pub Item : Type 0
 Item = Unit {0} ⊎ ((List ℕ × ℕ) × Held)
 
--- a scalar in its form in the code
+-- the form of a scalar in a tree's code
 abbrev pub flat_scalar : Scalar → Flat
 flat_scalar (Int n) = inl n
 flat_scalar (Text t) = inr t
 
--- the scalar, from its form in the code
+-- the scalar, from its form in a tree's code
 abbrev pub scalar_back : Flat → Scalar
 scalar_back (inl n) = Int n
 scalar_back (inr t) = Text t
 
--- values in their form in the code: a flat list
+-- the form of values in a tree's code: a flat list
 abbrev pub flat_values : Values → List Item
 flat_values Nothing = []
 flat_values (Section k n inner rest) = inr ((k, n), inl tt) ∷ (flat_values inner ++ inl tt ∷ flat_values rest)
 flat_values (Single k n s rest) = inr ((k, n), inr (inl (flat_scalar s))) ∷ flat_values rest
 flat_values (Several k n ss rest) = inr ((k, n), inr (inr (map flat_scalar ss))) ∷ flat_values rest
 
--- the values read from a code so far, and the values after the end of each section that is still open
+-- the values read so far from a tree's code, and the values after the end of each section that is still open
 abbrev pub Pile : Type 0
 Pile = Values × List Values
 
@@ -50,7 +50,7 @@ held k n (inl u) pile = entered k n pile.0 pile.1
 held k n (inr (inl s)) pile = (Single k n (scalar_back s) pile.0, pile.1)
 held k n (inr (inr ss)) pile = (Several k n (map scalar_back ss) pile.0, pile.1)
 
--- the values of a code, read from its end, with those after the end of each section that is still open
+-- the values in a tree's code, read from its end, with those after the end of each section that is still open
 abbrev pub pile_of : List Item → Pile
 pile_of [] = (Nothing, [])
 pile_of (inl u ∷ is) = (Nothing, (pile_of is).0 ∷ (pile_of is).1)
@@ -73,23 +73,23 @@ pile_is (Section k n inner rest) is more e =
 pile_is (Single k n s rest) is more e = rw (pile_is rest is more e, scalar_is s) refl
 pile_is (Several k n ss rest) is more e = rw (pile_is rest is more e, scalars_are ss) refl
 
--- the values, from their form in the code
+-- the values, from their form in a tree's code
 abbrev pub values_back : List Item → Values
 values_back is = (pile_of is).0
 
 pub values_back-flat_values : (v : Values) → values_back (flat_values v) ≡ v
 values_back-flat_values v = ap values_back (sym (append-nil (flat_values v))) ∙ ap (λ (p : Pile). p.0) (pile_is v [] [] refl)
 
--- that scalars can be told apart
+-- a code for scalars, so that they can be told apart
 abbrev coded_flat : Coded Flat
 coded_flat = coded⊎ coded_ℕ (coded_list coded_ℕ)
 
--- that values can be told apart, by their form in the code
+-- a code for values, by their form in a tree's code
 abbrev pub values_code : Coded Values
 values_code =
     code_by (List Item) (coded_list (coded⊎ coded_unit (coded× (coded× (coded_list coded_ℕ) coded_ℕ) (coded⊎ coded_unit (coded⊎ coded_flat (coded_list coded_flat))))))
     flat_values values_back values_back-flat_values
 
--- that trees can be told apart, by their lines and values
+-- a code for trees, by their lines and values
 abbrev pub tree_code : Coded Tree
 tree_code = code_by (ℕ × Values) (coded× coded_ℕ values_code) (λ t. (t.line, t.values)) (λ p. record { line = p.0; values = p.1 }) (λ _. refl)

@@ -43,7 +43,7 @@ taken_here f xs i other p within e =
       sym (rw at (nothing (not (is_disk_name (f x).disk)) (fault_at Source Name (f x).line) (name_faults more) a.0)),
     )
 
--- ---- the fields that sections say, with names, are the physical volumes that they say
+-- ---- the fields that sections describe, with names, are the physical volumes that they describe
 
 devices_said : (sections : List Keyed) → devices_in (map fields_of sections) ≡ map device_of sections
 devices_said [] = refl

@@ -32,7 +32,7 @@ abbrev pub least_line : (Segment → Bool) → List Segment → Option ℕ → O
 least_line test [] later = later
 least_line test (segment ∷ segments) later = if test segment then Some (lesser segment.line (least_line test segments later)) else least_line test segments later
 
--- the least line of a segment, in any volume, for which the test is true; `alone` says that its volume has no other segment
+-- the least line of a segment, in any volume, for which the test is true; `alone` is true if its volume has no other segment
 abbrev pub least_line_of : ((alone : Bool) → Segment → Bool) → List Volume → Option ℕ
 least_line_of test [] = None
 least_line_of test (volume ∷ volumes) = least_line (test (length volume.segments == 1)) volume.segments (least_line_of test volumes)
@@ -58,7 +58,7 @@ volumes_named (Striped stripe_size stripes) = []
 volumes_named Zero = []
 volumes_named Error = []
 
--- the segment refers to a physical or logical volume that doesn't exist; `physicals` and `volumes` say how many do
+-- the segment refers to a physical or logical volume that doesn't exist, when there are `physicals` and `volumes` of them
 abbrev pub is_unknown : (physicals volumes : ℕ) → Segment → Bool
 is_unknown physicals volumes segment =
     list_any (λ stripe. not (nat_lt stripe.physical physicals)) (stripes_of segment.target) || list_any (λ position. not (nat_lt position volumes)) (volumes_named segment.target)

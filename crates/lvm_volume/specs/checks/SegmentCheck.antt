@@ -5,7 +5,7 @@ use Rattle.lvm_volume.specs.declared.checks.segment_check.SegmentCheck.TheVarian
 use Rattle.lvm_volume.specs.checks.Extents.{is_unknown}
 use Rattle.lvm_volume.specs.group.Roles.{is_bad_snapshot}
 
--- the check finds fault with the segment; `alone` says that its volume has no other segment
+-- the check finds fault with the segment; `alone` is true if its volume has no other segment
 abbrev pub test_of : SegmentCheck → (alone : Bool) → Segment → Bool
 test_of (Unknown physicals volumes) alone segment = is_unknown physicals volumes segment
 test_of (Snapshot volumes all) alone segment = is_bad_snapshot volumes.now all.now alone segment

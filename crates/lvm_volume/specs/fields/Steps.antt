@@ -18,8 +18,8 @@ or_first (Some fault) faults = Some fault
 abbrev pub after : FieldReader → List LoadFault → FieldReader
 after reader faults = record { extent_size = reader.extent_size; excess = or_first reader.excess faults }
 
--- the effect of reading some fields: it fails with the first fault of the check Fields, or because memory ran out; else there is no
--- such fault, and the reader has noted the first fault of the check Limits
+-- the effect of reading some fields: it fails with the first fault of the check Fields, or because memory ran out; else that check finds
+-- no fault, and the reader has noted the first fault of the check Limits
 pub record IsStep (faults : Check → List LoadFault) (old new : FieldReader) (failed : Option LoadFault) : Type 0 where
   pub passed : failed ≡ None → (faults Fields ≡ []) × (new ≡ after old (faults (Limits old.extent_size)))
   pub failed_at : (fault : LoadFault) → failed ≡ Some fault → (first_of (faults Fields) ≡ Some fault) ⊎ IsMemoryFault Source fault

@@ -43,7 +43,7 @@ chosen shared key device = if begins_with_slash device && (not shared && is_disk
 abbrev pub disk_name : List (List ℕ) → Keyed → List ℕ
 disk_name devices physical = chosen (is_shared devices (device_of physical)) physical.0 (device_of physical)
 
--- the physical volume that a section says; `devices` are the devices of all physical volumes
+-- the physical volume that a section describes; `devices` are the devices of all physical volumes
 unfoldable pub physical_of : List (List ℕ) → Keyed → Physical
 physical_of devices physical = record {
   disk = disk_name devices physical;
@@ -53,7 +53,7 @@ physical_of devices physical = record {
   line = physical.1.line;
 }
 
--- the physical volumes that the sections say
+-- the physical volumes that the sections describe
 abbrev pub physicals_in : List Keyed → List Physical
 physicals_in sections = map (physical_of (map device_of sections)) sections
 
@@ -67,16 +67,16 @@ keys_in = map (λ section. section.0)
 abbrev pub position_of : List (List ℕ) → List ℕ → ℕ
 position_of keys key = position_or_len (bytes_eq key) keys
 
--- the stripes that pairs in a list say: a physical volume's key, and the stripe's first extent there
+-- the stripes that pairs in a list describe: a physical volume's key, and the stripe's first extent there
 abbrev pub stripes_in : List (List ℕ) → List Scalar → List Stripe
 stripes_in keys (Text key ∷ Int extent ∷ items) = record { physical = position_of keys key; extent = extent } ∷ stripes_in keys items
 stripes_in keys _ = []
 
--- the striped segment that a section says; `keys` are the keys of the physical volumes
+-- the striped segment that a section describes; `keys` are the keys of the physical volumes
 abbrev pub striped_in : List (List ℕ) → Tree → SegmentType
 striped_in keys segment = Striped (number_at (codes "stripe_size") segment) (stripes_in keys (items_at (codes "stripes") segment))
 
--- the snapshot segment that a section says; `keys` are the keys of the logical volumes
+-- the snapshot segment that a section describes; `keys` are the keys of the logical volumes
 abbrev pub snapshot_in : List (List ℕ) → Tree → SegmentType
 snapshot_in keys segment =
     Snapshot (number_at (codes "chunk_size") segment) (position_of keys (text_at (codes "origin") segment)) (position_of keys (text_at (codes "cow_store") segment))
@@ -88,7 +88,7 @@ target_of keys segment =
     else (if is_snapshot segment then snapshot_in keys.volumes segment
     else (if bytes_eq (text_at (codes "type") segment) (codes "zero") then Zero else Error))
 
--- the segment that a section says
+-- the segment that a section describes
 unfoldable pub segment_of : GroupPositions → Tree → Segment
 segment_of keys segment = record {
   start = number_at (codes "start_extent") segment;
@@ -113,7 +113,7 @@ is_writable volume =
     || (lists (codes "status") (codes "WRITE_LOCKED") volume
     || lists (codes "flags") (codes "WRITE_LOCKED") volume)
 
--- the logical volume that a section says
+-- the logical volume that a section describes
 unfoldable pub volume_of : GroupPositions → Keyed → Volume
 volume_of keys volume = record {
   name = volume.0;
@@ -135,7 +135,7 @@ positions_in group = record {
 abbrev pub volumes_in : Tree → List Volume
 volumes_in group = map (volume_of (positions_in group)) (sections_at (codes "logical_volumes") group)
 
--- the volume group that a section says
+-- the volume group that a section describes
 abbrev pub group_in : Keyed → Group
 group_in group = record {
   name = group.0;

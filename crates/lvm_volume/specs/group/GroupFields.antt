@@ -7,7 +7,7 @@ use Rattle.lvm_volume.specs.group.Group.{Keyed, keys_in, volume_of, volumes_in}
 use Rattle.lvm_volume.specs.group.PhysicalFields.{fields_of, fields_view}
 use Rattle.std.specs.Prelude.{◌≡◌}
 
--- the logical volumes that sections say, in a group with these physical volumes
+-- the logical volumes that sections describe, in a group with these physical volumes
 abbrev pub volumes_said : (physicals volumes : List Keyed) → List Volume
 volumes_said physicals volumes = map (volume_of (record { physicals = keys_in physicals; volumes = keys_in volumes })) volumes
 

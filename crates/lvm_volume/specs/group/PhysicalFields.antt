@@ -1,4 +1,4 @@
--- The fields of a physical volume as its section says them, before its disk has a name.
+-- The fields of a physical volume as its section describes them, before its disk has a name.
 use Rattle.lvm_volume.specs.Base.{ℕ, List, codes, map, Physical}
 use Rattle.lvm_volume.specs.declared.group.physical.PhysicalFields as code
 use Rattle.lvm_volume.specs.fields.Fields.{number_at}
@@ -13,7 +13,7 @@ pub record Fields : Type 0 where
   pub count : ℕ
   pub line : ℕ
 
--- the fields that a section with its key says
+-- the fields that a section with its key describes
 abbrev pub fields_of : Keyed → Fields
 fields_of physical = record {
   key = physical.0;

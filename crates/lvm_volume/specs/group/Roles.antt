@@ -6,7 +6,7 @@ use Rattle.std.specs.Prelude.{◌+◌, ◌-◌, ◌||◌, ◌==◌, ◌∷◌}
 
 -- ---- Records: volumes whose only segment is of type snapshot, and which say what its origin and its store are
 
--- the snapshot that a segment says, if it is of type snapshot; `line` is the segment's line
+-- the snapshot that a segment describes, if it is of type snapshot; `line` is the segment's line
 abbrev pub snapshot_of : (line : ℕ) → SegmentType → List Record
 snapshot_of line (Snapshot chunk_size origin store) = record { chunk_size = chunk_size; origin = origin; store = store; line = line } ∷ []
 snapshot_of line (Striped stripe_size stripes) = []
@@ -95,6 +95,6 @@ is_bad_target volumes all alone count (Striped stripe_size stripes) = false
 is_bad_target volumes all alone count Zero = false
 is_bad_target volumes all alone count Error = false
 
--- the segment is a snapshot that doesn't fit the other volumes; `alone` says that its volume has no other segment
+-- the segment is a snapshot that doesn't fit the other volumes; `alone` is true if its volume has no other segment
 abbrev pub is_bad_snapshot : List Volume → List Role → (alone : Bool) → Segment → Bool
 is_bad_snapshot volumes all alone segment = is_bad_target volumes all alone segment.count segment.target

@@ -19,7 +19,7 @@ use std::alloc::Global;
 /// A check of one segment.
 #[derive(Drop)]
 enum SegmentCheck<'g> {
-    /// The segment refers to a physical or logical volume that doesn't exist; the numbers say how many do.
+    /// The segment refers to a physical or logical volume that doesn't exist; the numbers are how many do.
     Unknown {
         physicals: usize,
         volumes: usize,
@@ -108,7 +108,7 @@ fn lesser(line: u64, other: Option<u64>) -> u64
     }
 }
 
-/// Whether the check finds fault with a segment; `alone` says that its volume has no other segment.
+/// Whether the check finds fault with a segment; `alone` is true if its volume has no other segment.
 fn is_hit(check: &SegmentCheck<'_>, alone: bool, segment: &Segment) -> bool
     ensures { result ≡ test_of check.now alone segment.now }
 {
@@ -138,7 +138,7 @@ fn has_unknown(physicals: usize, stripes: &[Stripe]) -> bool
     stripes.iter().any(|stripe| !(stripe.physical < physicals))
 }
 
-/// Whether a segment is a snapshot that doesn't fit these volumes; `alone` says that its volume has no other segment.
+/// Whether a segment is a snapshot that doesn't fit these volumes; `alone` is true if its volume has no other segment.
 fn is_bad_snapshot(volumes: &[Volume], roles: &[Role], alone: bool, segment: &Segment) -> bool
     ensures { result ≡ is_bad_snapshot volumes.now roles.now alone segment.now }
 {

@@ -17,8 +17,8 @@ use dm_table::LoadFault;
 use lvm_text::Section;
 use std::alloc::Global;
 
-/// A volume group as its text says it: its key, the extent size in sectors, its physical volumes, whose disks have no
-/// names yet, and its logical volumes.
+/// A volume group as its text describes it: its key, the extent size in sectors, its physical volumes, whose disks
+/// have no names yet, and its logical volumes.
 #[derive(Drop)]
 pub(crate) struct GroupFields<'a> {
     pub name: &'a str,
@@ -112,7 +112,7 @@ fn head_of<'s, 'a>(group: &'s Section<'a>) -> Result<GroupHead<'s, 'a>, LoadFaul
     })
 }
 
-/// Reads all fields of the group that a section with its key says.
+/// Reads all fields in the section of a group, given with its key.
 #[tactic(auto, unfolding(crate::specs::fields::Fields::group_faults))]
 fn group_fields<'a>(
     alloc: Global,

@@ -1,4 +1,4 @@
-//! Physical volumes as their sections say them, and the names of their disks.
+//! Physical volumes as their sections describe them, and the names of their disks.
 //!
 //! The device in a section is only a hint, and two physical volumes may have the same one. So a disk is named
 //! after its device only if that is an absolute path that no other physical volume has, and else after the key.
@@ -15,8 +15,8 @@ use lvm_text::Section;
 use std::alloc::{AllocError, Global};
 use std::collections::BTreeMap;
 
-/// A physical volume as its section says it: its key, its device, the device's size in sectors, the sector at which
-/// its extents begin, how many there are, and the line of the key.
+/// A physical volume as its section describes it: its key, its device, the device's size in sectors, the sector at
+/// which its extents begin, how many there are, and the line of the key.
 #[derive(Clone, Copy, Drop)]
 pub(crate) struct PhysicalFields<'a> {
     pub key: &'a str,

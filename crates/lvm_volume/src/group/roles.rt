@@ -13,7 +13,7 @@ use crate::group::segment::{Segment, SegmentType};
 use crate::group::volume::Volume;
 use std::alloc::{AllocError, Global};
 
-/// A snapshot as its record says it: the chunk size in sectors, the positions of its origin and its store among
+/// A snapshot as its record describes it: the chunk size in sectors, the positions of its origin and its store among
 /// the volumes of the group, and the line of the record's segment.
 #[derive(Clone, Copy, Debug, Drop)]
 pub(crate) struct Record {

@@ -1,4 +1,4 @@
-//! Segments of a logical volume as their sections say them; they refer to other volumes by position.
+//! Segments of a logical volume as their sections describe them; they refer to other volumes by position.
 //!
 //! Whether these references are valid is not checked here. A new type of segment is a variant of `SegmentType`, a
 //! word of the field `type`, and an arm where segments are checked and where they become lines.
@@ -69,7 +69,7 @@ impl Segment {
 /// The segments of a volume, in the order of their numbers.
 pub(crate) type Segments = Listed<Segment>;
 
-/// The stripes that a list of pairs says. One pass, with one look-up per stripe.
+/// The stripes that a list of pairs describes. One pass, with one look-up per stripe.
 fn stripes_of(
     alloc: Global,
     positions: &Positions<'_>,

@@ -1,4 +1,4 @@
-//! Logical volumes as their sections say them.
+//! Logical volumes as their sections describe them.
 
 ghost use Rattle.lvm_volume.specs.Prelude.{codes, decimal, map, IfOk, OnOk, result_err, flat_map, list_any, range_with_len, string_bytes, item_view, scalar_view, scalar_views, fields_faults, items_at, number_at, section_at, section_view, volume_faults, volume_fields, volumes_faults, IsPlainStep, IsStep, numbers_faults, is_text_of, is_writable, lists, volume_of};
 ghost use Rattle.std.specs.Prelude.{◌≡◌, ◌++◌, ◌+◌, ◌||◌};

@@ -1,4 +1,4 @@
--- A line read with a fault is no request, and a line read without one is the request that its fields say.
+-- A line read with a fault is no request, and a line read without one is the request that its fields describe.
 use Rattle.dm_table.proofs.Prelude.{false, rules, arith, inl, inr, Form, Length, fields, is_length}
 use Rattle.dm_table.proofs.requests.RequestLemmas.{described, unique, refused, read-said, fault-numbers, fault-length, no_length}
 use Rattle.dm_table.proofs.requests.request_line.parse_request.Goals as goal
