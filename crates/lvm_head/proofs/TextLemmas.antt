@@ -24,7 +24,7 @@ gathered_first byte n (suc k) bytes part before within are =
     rw (next, gathered_first byte n k bytes part before (omega (arith, within)) are, are k (omega (arith, within)))
     (ap Ok (append_assoc bytes (take k part) (get_or part k 0 ∷ []) ∙ ap (λ more. bytes ++ more) (sym (take-suc part k 0 (omega (arith, within))))))
 
--- if the first n bytes were read and `part` holds the next `count` bytes, the first n + count are both joined
+-- if the first n bytes were read and `part` is the next `count` bytes, the first n + count bytes are the two joined
 pub gathered_row : (byte : ℕ → Result ℕ HeadFault) (n count : ℕ) (bytes part : List ℕ) → gathered byte n ≡ Ok bytes → length part ≡ count → ((i : ℕ) → i < count → byte (n + i) ≡ Ok (get_or part i 0)) → gathered byte (n + count) ≡ Ok (bytes ++ part)
 gathered_row byte n count bytes part before len are =
     gathered_first byte n count bytes part before (omega (arith, len)) (λ i less. are i (omega (arith, less, len)))

@@ -84,7 +84,7 @@ pub fault_in : {E : Type 0} {old new : OutputPast} {fault : E} {text : List ℕ}
     → Wrote old new (Err fault) text → Wrote old new result text
 fault_in result is h = let given = err_from_is_err_and result is in rw (given.1, given.2) h
 
--- the text of a list's elements is that of those before index i, of element i, and of those after it
+-- the text of all elements is the text of the first i, then of element i, then of the elements after it
 pub flat_map_at : {X : Type 0} (f : X → List ℕ) (xs : List X) (i : ℕ) (x : X) → i < length xs → x ≡ get_or xs i x → flat_map f xs ≡ flat_map f (take i xs) ++ (f x ++ flat_map f (drop (i + 1) xs))
 flat_map_at f xs i x below is =
     let rest : drop i xs ≡ x ∷ drop (i + 1) xs = rw is (drop_more xs i x below) in

@@ -4,7 +4,7 @@ use Rattle.dm_table.specs.declared.load.row_faults.RowFault.TheVariants.{Memory}
 use Rattle.dm_table.proofs.load.RowFaultLemmas.{found_read, read_clear}
 use Rattle.std.specs.Prelude.{◌≡◌, ◌≢◌, ◌∷◌}
 
--- if no fault has been noted, the values so far and those of the rows that are left are those of all rows, also after one more row
+-- reading one more row keeps the invariant: if no fault was noted, the values so far and those of the rows left are those of all rows
 pub values_left : {X : Type 0} (add : List X → ℕ → List (List ℕ) → List X) (part : Part) (rows more : List (List (List ℕ))) (row cut : List (List ℕ)) (n m : ℕ) (read : Result (Unit {0}) RowFault) (seen new : FirstFaults) (old values all : List X)
     → rows ≡ row ∷ more → m ≡ suc n → cut ≡ row → OnOk read (values ≡ add old n cut) → fault_in read ≢ Some Memory → new ≡ noted_at part seen n (fault_in read)
     → (first_noted seen ≡ None → with_rows add old n rows ≡ all) → first_noted new ≡ None → with_rows add values m more ≡ all
@@ -12,7 +12,7 @@ values_left add part rows more row cut n m read seen new old values all is_first
     let here = read_clear read part seen n taken text (sym (ap first_noted noted) ∙ clear) in
     rw (is_next, here.0, is_cut) (rw is_first at (so_far here.1))
 
--- the faults so far and those of the rows that are left are those of all rows, also after one more row
+-- reading one more row keeps the invariant: the faults so far and those of the rows left are those of all rows
 pub faults_left : {X : Type 0} (part : Part) (fault_of : X → Option RowFault) (rows more : List X) (row cut : X) (n m : ℕ) (read : Result (Unit {0}) RowFault) (seen new all : FirstFaults)
     → rows ≡ row ∷ more → m ≡ suc n → cut ≡ row → Reads (λ done. done) read (unless (fault_of cut) tt) → fault_in read ≢ Some Memory → new ≡ noted_at part seen n (fault_in read)
     → noted_rows part fault_of seen n rows ≡ all → noted_rows part fault_of new m more ≡ all

@@ -207,7 +207,7 @@ body_says at fs body h =
     let m = mapped (λ said. let body : Body = record { start = said.0; len = said.1.0; target = said.1.1 } in body) (then_in number_of (then_in number_of target_in) fs) body h in
     rw (← m.2) (parts_say at fs m.0 m.1)
 
--- the fields that a line is written with are those that it was read from
+-- if a line is read from some fields, the fields that it is written with are the same
 pub body_again : (at : Place) (fs : List (List ℕ)) (line : Line) → line_in at fs ≡ Some line → body_fields line ≡ fs
 body_again at fs line h = let m = mapped (line_at at) (body_in fs) line h in rw (← m.2) (body_says at fs m.0 m.1).again
 

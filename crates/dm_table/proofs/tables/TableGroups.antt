@@ -78,7 +78,7 @@ run_joins name line [] rest h = first_joins name line (joined rest) h
 run_joins name line (next ∷ lines) rest h =
     ap (join_line (record { name = name; line = line })) (run_joins name next lines rest h) ∙ rw is_same_name
 
--- the lines of a device, in front of others with another name, are joined into that device again
+-- joining the lines of a device, in front of lines with another name, gives that device again
 device_again : (name : List ℕ) (ro : Bool) (lines : List Line) (at : Place) (rest : List NamedLine) → ro ≡ false → HasPlaceOf lines at → BeginsOther name (joined rest)
     → joined (named_of name lines ++ rest) ≡ record { name = name; ro = ro; lines = lines; at = at } ∷ joined rest
 device_again name ro [] at rest w h other = absurd h
@@ -92,7 +92,7 @@ apart_rest : (device : DeviceSpec) (ds : List DeviceSpec) → DifferInName (devi
 apart_rest device [] h = tt
 apart_rest device (d ∷ ds) h = h.1
 
--- described devices whose neighbours differ in name are what their lines are joined into
+-- joining the lines of described devices gives these devices again, if neighbours differ in name
 pub devices_again : (ds : List DeviceSpec) → AllByRecursion IsDescribed ds → DifferInName ds → joined (named_lines ds) ≡ ds
 devices_again [] each apart = refl
 devices_again (d ∷ ds) each apart =

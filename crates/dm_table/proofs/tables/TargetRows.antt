@@ -104,7 +104,7 @@ column_unnamed (f ∷ g ∷ fs) d e offset fault h n r =
     rw (take_rest (f ∷ g ∷ fs) 2, a.1, n) (one_unnamed (record { to = dev_in f.now; offset = offset }) (columns_in (texts fs)) a.0)
 column_unnamed fs d e offset fault h n r = absurd (omega arith)
 
--- running out of memory stays the result
+-- a Memory fault stays a Memory fault, whatever fields come after it
 pub memory_before : (fault : RowFault) (fields : List (List ℕ)) → fault ≡ Memory → fault_before fault fields ≡ Memory
 memory_before fault fields e = rw e
 

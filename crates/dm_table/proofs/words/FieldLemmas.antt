@@ -124,7 +124,7 @@ line_found text after n found is_after =
 pub no_line_found : (text : List ℕ) → IsFirstByte (is_byte 10) text None → (lines_of text ≡ []) × (rest_of text ≡ text)
 no_line_found text none = let parts = parts_at-nowhere 10 text none in (ap all_but_last parts, ap (last_or []) parts)
 
--- lines that contain no newline, each ended by one, are the parts of the text that they make, followed by an empty part
+-- lines without a newline in them, each followed by one, are the parts of the resulting text, before an empty last part
 pub parts_at-lines : (lines : List (List ℕ)) → AllByRecursion (IsClearOf 10) lines → parts_at 10 (flat_map (λ line. line ++ 10 ∷ []) lines) ≡ lines ++ [] ∷ []
 parts_at-lines [] clear = refl
 parts_at-lines (line ∷ lines) clear =

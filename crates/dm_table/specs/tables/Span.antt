@@ -24,7 +24,7 @@ column_span len column = record { to = column.to; offset = column.offset; len = 
 abbrev pub whole_span : DevRef → Use → Span
 whole_span to kind = record { to = to; offset = 0; len = None; kind = kind }
 
--- the extents that a line of this length names: linear one, striped one per column, a snapshot all of its store and, to read, of its origin
+-- the extents that a line of this length maps to: one for linear, one per column for striped, all of its store and of its origin for a snapshot
 abbrev pub target_spans : ℕ → Target → List Span
 target_spans len (targets.Linear to offset) = record { to = to; offset = offset; len = Some len; kind = Own } ∷ []
 target_spans len (targets.Striped chunk columns) = map (column_span (len / length columns)) columns

@@ -34,7 +34,7 @@ use std::alloc::{AllocError, Global};
 pub fn parse_paths(alloc: Global, text: &[u8]) -> Result<Vec<DiskPath>, LoadFault>
     // An accepted text describes the entries returned; a refused one gives the first fault of the first check.
     ensures parsed { IsParsed Paths (DescribesPaths text.now) (path_checks text.now) result }
-    // The clause above determines the answer, except that memory may run out; this one gives it as a function.
+    // `IsParsed` determines the answer, except that memory may run out; this clause gives it as a function.
     ensures read { Answers Paths (λ v. v.items) result (read_paths text.now) }
 {
     if let Err(fault) = check_pieces::<PathText>(alloc, Part::Paths, b'\n', text) {

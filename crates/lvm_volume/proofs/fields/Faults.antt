@@ -25,7 +25,7 @@ checked (Err fault) found e = inl (sym e)
 pub range_more : (i end : ℕ) → i < end → range_with_len (i + 1) (end - i) ≡ (i + 1) ∷ range_with_len (i + 1 + 1) (end - (i + 1))
 range_more i end below = let n : end - i ≡ suc (end - (i + 1)) = omega arith in rw n
 
--- the elements made so far, and those that the numbers left give, are all, also after one more number
+-- the elements made so far, with those that the numbers left give, are all elements, also after one more number
 pub made_more : {X : Type 0} (f : ℕ → List X) (made more : List X) (i end : ℕ) → i < end → more ≡ made ++ f (i + 1) → more ++ flat_map f (range_with_len (i + 1 + 1) (end - (i + 1))) ≡ made ++ flat_map f (range_with_len (i + 1) (end - i))
 made_more {X} f made more i end below e =
     rw (e, range_more i end below) (append_assoc made (f (i + 1)) _)

@@ -81,7 +81,7 @@ goes_on f view xs i x within is h k = in_words (at_index f view xs i x within is
 pub none_left : {X Y : Type 0} (f : Check → Y → List LoadFault) (view : X → Y) (xs : List X) (i : ℕ) (reader : FieldReader) → length xs ≤ i → IsStep (λ check. flat_map (f check) (map view (drop i xs))) reader reader None
 none_left {X} f view xs i reader past = in_words (λ check. sym (rw (drop_of_length-le xs past))) (nothing_left reader)
 
--- the values made so far, and those of the elements left, are all, also after one more element
+-- the values made so far, with those of the elements left, are the values of all elements, also after one more element
 pub made_next : {X Y Z : Type 0} (f : Y → Z) (view : X → Y) (xs : List X) (i : ℕ) (x : X) (z : Z) (done more : List Z) → i < length xs → x ≡ get_or xs i x → z ≡ f (view x) → more ≡ done ++ z ∷ []
     → more ++ map f (map view (drop (i + 1) xs)) ≡ done ++ map f (map view (drop i xs))
 made_next {X} {Y} {Z} f view xs i x z done more within is said pushed =

@@ -1,4 +1,4 @@
--- Names of devices: those that are built, and those that are refused.
+-- Device names that are built, and device names that are refused.
 use Rattle.lvm_volume.proofs.Prelude.{ℕ, false, List, [], Option, Some, None, refl, subst, is_some, AllByRecursion, flat_map, Name, Real, Cow, NameFault, Record, Role, Volume, fault_of, device_parts, layers_of, unnamed_layer, unnamed_volume, append-nil_both}
 use Rattle.lvm_volume.specs.declared.tables.device_names.Layer.{Layer}
 use Rattle.lvm_volume.specs.declared.group.roles.Role.TheVariants as roles

@@ -281,7 +281,7 @@ group_faults check group =
     ++ (physicals_faults check (sections_at (codes "physical_volumes") group)
     ++ volumes_faults check (sections_at (codes "logical_volumes") group))
 
--- the faults at the groups of a text: it must have exactly one, and a second one is a fault on that one's line
+-- the faults at the groups of a text, which must have exactly one; if there is a second one, the fault is on its line
 unfoldable pub one_group_faults : Check → ℕ → List (List ℕ × Tree) → List LoadFault
 one_group_faults check line [] = missing check line
 one_group_faults check line (group ∷ []) = group_faults check group.1

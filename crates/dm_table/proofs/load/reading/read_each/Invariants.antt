@@ -1,4 +1,4 @@
--- the values and faults so far, with those of the rows that are left, are those of all rows
+-- the values and faults so far, with those of the rows left, are the values and faults of all rows
 use Rattle.dm_table.proofs.Prelude.{[], None, length, map, lines_of, rest_of, with_rows, first_noted, no_faults, noted_rows, row_fault}
 use Rattle.dm_table.proofs.load.reading.read_each.Given as goal
 use Rattle.std.specs.Prelude.{◌≡◌, ◌+◌, ◌≤◌}

@@ -1,4 +1,4 @@
--- the devices and faults so far, with those of the parts that are left, are those of all parts
+-- the devices and faults so far, with those of the parts left, are the devices and faults of all parts
 use Rattle.dm_table.proofs.Prelude.{None, drop, Source, texts, first_noted, no_faults, noted_rows, fault_of_device, devices_from}
 use Rattle.dm_table.proofs.tables.concise_text.read_devices.Given as goal
 use Rattle.std.specs.Prelude.{◌≡◌, ◌+◌, ◌++◌}

@@ -1,4 +1,4 @@
--- the flag so far, and the bytes that are left, decide as all bytes do
+-- the flag so far and the test of the bytes left give the test of all bytes
 use Rattle.dm_table.proofs.Prelude.{drop, list_all, is_disk_byte}
 use Rattle.dm_table.proofs.words.disk_name.are_disk_bytes.Given as goal
 use Rattle.std.specs.Prelude.{◌≡◌, ◌&&◌}

@@ -1,4 +1,4 @@
--- the maps contain the ranges of the segments so far, and the fault of the segments left is that of all
+-- the maps contain the ranges of the segments so far, and the first fault among the segments left is that among all segments
 use Rattle.lvm_volume.proofs.Prelude.{List, None, drop, length, first_or, Claim, segment_faults, used_after, Holds}
 use Rattle.lvm_volume.proofs.checks.extents.check_segments.Given as goal
 use Rattle.std.specs.Prelude.{◌≡◌}

@@ -1,4 +1,4 @@
--- the maps contain the ranges in use, and the fault of the volumes left is that of all
+-- the maps contain the ranges in use, and the first fault among the volumes left is that among all volumes
 use Rattle.lvm_volume.proofs.Prelude.{List, [], None, drop, length, first_or, Claim, Holds}
 use Rattle.lvm_volume.specs.checks.Extents.{volume_faults}
 use Rattle.lvm_volume.proofs.checks.extents.check_volumes.Given as goal

@@ -1,4 +1,4 @@
--- the sections so far and those left in the iterator are all sections
+-- the sections so far, with those left in the iterator, are all sections
 use Rattle.lvm_volume.proofs.Prelude.{map, item_view, sections_left}
 use Rattle.lvm_text.specs.Tree as spec
 use Rattle.lvm_volume.proofs.fields.value.sections_of.Given as goal

@@ -1,4 +1,4 @@
--- the fields so far and those of the sections left are all fields; the faults in the sections left are those in all
+-- the fields so far, with those of the sections left, are all fields, and the faults in the sections left are the faults in all sections
 use Rattle.lvm_volume.proofs.Prelude.{Option, drop, map, item_view, LoadFault, FieldReader, physicals_faults, IsStep, fields_of, fields_view}
 use Rattle.lvm_volume.proofs.group.physical.fields_in.Given as goal
 use Rattle.std.specs.Prelude.{◌≡◌, ◌++◌}

@@ -1,4 +1,4 @@
--- the physical volumes so far and those left are all of them, and each disk so far got a name
+-- the physical volumes so far, with those left, are all physical volumes, and each disk so far got a name
 use Rattle.lvm_volume.proofs.Prelude.{None, drop, map, first_or, name_faults, all_named, fields_view, with_disk_name, devices_in}
 use Rattle.lvm_volume.proofs.group.physical.named_physicals.Given as goal
 use Rattle.std.specs.Prelude.{◌≡◌, ◌++◌}

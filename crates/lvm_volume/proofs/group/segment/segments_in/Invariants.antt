@@ -1,4 +1,4 @@
--- the segments so far and those of the sections left are all segments; the faults in the sections left are those in all
+-- the segments so far, with those of the sections left, are all segments, and the faults in the sections left are the faults in all sections
 use Rattle.lvm_volume.proofs.Prelude.{Option, drop, map, LoadFault, FieldReader, section_view, IsStep, segments_faults, segment_of}
 use Rattle.lvm_volume.proofs.group.segment.segments_in.Given as goal
 use Rattle.std.specs.Prelude.{◌≡◌, ◌++◌}

@@ -1,4 +1,4 @@
--- the sections so far and those of the numbers left are all sections; the faults at the numbers left are those at all
+-- the sections so far, with those of the numbers left, are all sections, and the faults at the numbers left are the faults at all numbers
 use Rattle.lvm_volume.proofs.Prelude.{Option, codes, decimal, map, flat_map, range_with_len, LoadFault, field_faults, section_at, section_view, segment_field, IsPlainStep, numbers_faults}
 use Rattle.lvm_volume.proofs.group.volume.segment_sections.Given as goal
 use Rattle.std.specs.Prelude.{◌≡◌, ◌+◌, ◌-◌, ◌++◌}

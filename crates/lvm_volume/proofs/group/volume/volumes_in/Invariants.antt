@@ -1,4 +1,4 @@
--- the volumes so far and those of the sections left are all volumes; the faults in the sections left are those in all
+-- the volumes so far, with those of the sections left, are all volumes, and the faults in the sections left are the faults in all sections
 use Rattle.lvm_volume.proofs.Prelude.{Option, drop, map, item_view, LoadFault, FieldReader, volumes_faults, IsStep, volume_of}
 use Rattle.lvm_volume.proofs.group.volume.volumes_in.Given as goal
 use Rattle.std.specs.Prelude.{◌≡◌, ◌++◌}

@@ -1,4 +1,4 @@
--- the first fault of the volumes left is that of all
+-- the first fault among the volumes left is the first fault among all volumes
 use Rattle.lvm_volume.proofs.Prelude.{None, zip_first, zip_second, flat_map, zip, iter_rest, first_or, unnamed_volume}
 use Rattle.lvm_volume.proofs.tables.device_names.check_names.Given as goal
 use Rattle.std.specs.Prelude.{◌≡◌}

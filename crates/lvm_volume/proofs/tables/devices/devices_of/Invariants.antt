@@ -1,4 +1,4 @@
--- the devices so far, with those of the volumes left, are all devices
+-- the devices so far, with those of the volumes left, are the devices of all volumes
 use Rattle.lvm_volume.proofs.Prelude.{zip_first, zip_second, AllByRecursion, flat_map, zip, iter_rest, group_view, IsMadeIn}
 use Rattle.lvm_volume.specs.tables.Tables.{devices_in}
 use Rattle.lvm_volume.proofs.tables.devices.devices_of.Given as goal

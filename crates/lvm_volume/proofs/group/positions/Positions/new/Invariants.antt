@@ -1,4 +1,4 @@
--- the keys so far and those of the sections left are all keys
+-- the keys so far, with those of the sections left, are the keys of all sections
 use Rattle.lvm_volume.proofs.Prelude.{sections_of, sections_left, keys_in, texts}
 use Rattle.lvm_volume.proofs.group.positions.Positions.new.Given as goal
 use Rattle.std.specs.Prelude.{◌≡◌, ◌++◌}
