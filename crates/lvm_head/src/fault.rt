@@ -21,8 +21,8 @@ pub enum HeadFault {
     /// None of the first four sectors is a label, or the first that lvm2 regards as one isn't valid.
     #[error("no label")]
     Label,
-    /// The lists in the header don't end, or name more than two metadata areas; or the header of an area isn't valid;
-    /// or a text doesn't fit into its ring.
+    /// The lists in the header don't end, or name more than two metadata areas; or an area is out of place, or its
+    /// header isn't valid; or a text doesn't fit into its ring.
     #[error("a header that isn't sound")]
     Header,
     /// The metadata text has more than 1,048,576 bytes.

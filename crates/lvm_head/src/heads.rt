@@ -58,8 +58,8 @@ fn joined(heads: Heads, head: Head) -> Result<Heads, HeadFault>
 ///
 /// # Errors
 ///
-/// The first disk whose head is refused, with the first fault met while the head is read. `Memory` if an allocation
-/// was refused.
+/// The first disk whose head is refused, with the first fault met while the head is read and compared with the others.
+/// `Memory` if an allocation was refused.
 pub fn read_heads<D: Disks>(
     alloc: Global,
     disks: &mut D,

@@ -50,7 +50,7 @@ impl VolumeGroup {
     /// Reads the volume group that a metadata text describes, from the top of its tree.
     ///
     /// The checks run over the whole text one after the other, and the first that finds a fault reports its first one,
-    /// with a volume's segments in the order of their numbers, but for `Unknown` and `Snapshot` of their lines: `Field`
+    /// by the order of the text, or of the segments' numbers for all kinds but `Unknown` and `Snapshot`: `Field`
     /// for a field that is missing or invalid, `Limit` for an integer above 2^50, for numbers of extents also in
     /// sectors, `Name` for a physical volume whose disk gets no name, `Unknown` for a stripe on an unknown physical
     /// volume and a snapshot with an unknown origin or store, `Extents` for physical volumes longer than their

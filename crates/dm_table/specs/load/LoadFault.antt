@@ -8,7 +8,7 @@ use Rattle.std.specs.Prelude.{◌≡◌, ◌≢◌, ◌+◌, ◌==◌, ◌&&◌,
 abbrev pub fault : LoadKind → Place → LoadFault
 fault kind at = record { kind = kind; at = at }
 
--- a fault of a kind at the line, device or value with this number in a part
+-- a fault of a kind at the line or device with this number in a part
 abbrev pub fault_at : Part → LoadKind → ℕ → LoadFault
 fault_at part kind number = fault kind (record { part = part; number = number })
 

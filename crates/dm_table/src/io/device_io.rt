@@ -37,7 +37,7 @@ pub trait Output {
     /// and flushes failed, and how many flushes were requested.
     ghost past: { Self → OutputPast };
 
-    /// The output holds no bytes in a buffer: it has passed all of them on, or a call behind it failed.
+    /// No accepted bytes are left in a buffer, unless a call of the output behind has failed.
     ghost is_out: { Self → Type 0 };
 
     /// Accepts the first bytes of the slice and returns how many, which is 0 only for an empty slice.

@@ -21,11 +21,11 @@ pub enum LoadKind {
     NotText,
     /// A line or device without the structure of its form.
     Syntax,
-    /// A field that should be a number and isn't, an unknown target, or wrong arguments.
+    /// A field that is missing or isn't a valid number, an unknown target, or wrong arguments.
     Field,
-    /// A name that isn't valid for a device or for a disk.
+    /// An invalid name of a device, a disk or a volume.
     Name,
-    /// A name that appears twice.
+    /// A name of a device or disk, or a key of metadata, that occurs twice.
     Twice,
     /// A device without lines, or a length of 0.
     Empty,
@@ -33,21 +33,21 @@ pub enum LoadKind {
     Gap,
     /// A line that starts before the end of the one before.
     Overlap,
-    /// A line that names an unknown device or disk.
+    /// A line that names an unknown device or disk, or metadata that names an unknown volume.
     Unknown,
     /// A device that is, directly or through other devices, below itself.
     Cycle,
-    /// A device with too many levels of devices below it.
+    /// A device with too many levels of devices below it, or sections of metadata nested too deep.
     Deep,
     /// A line that maps sectors past the end of the device or disk below.
     Range,
     /// A striped line with a bad number of columns or chunk size, or a length that they don't divide.
     Stripe,
-    /// A snapshot, or a snapshot-origin line, that doesn't fit its table or the devices that it names.
+    /// A snapshot, or a snapshot-origin line, that doesn't fit its table or the devices or volumes that it names.
     Snapshot,
     /// An exception store that cannot hold the exceptions of a snapshot.
     Store,
-    /// Extents that don't fit their logical volume.
+    /// Extents of an LVM2 volume that are misplaced, used twice, or past the end of their device.
     Extents,
     /// A number or a count above its limit.
     Limit,
