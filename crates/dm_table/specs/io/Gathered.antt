@@ -1,4 +1,4 @@
--- The state of a `GatheredOutput`, which collects bytes in a buffer and writes them to another output.
+-- The state of a `Gathered`, an output that collects bytes in a buffer and writes them to another output.
 use Rattle.dm_table.specs.Base.{ℕ, List, Bool, true, nat_lt}
 use Rattle.dm_table.specs.io.DeviceIo.{OutputPast}
 use Rattle.std.specs.Prelude.{◌≡◌, ◌≤◌, ◌++◌, ◌||◌}

@@ -42,7 +42,7 @@ argument_text (Lower to) = dev_text to
 argument_text (Amount n) = decimal n
 argument_text (Flag kind) = kind_text kind
 
--- a target as text fields would give it: its type and its arguments
+-- a target in the order of its text: its type and its arguments
 pub record Row : Type 0 where
   pub type : List ℕ
   pub arguments : List Argument
@@ -75,12 +75,12 @@ target_text target = join_with_byte (code " ") (target_fields target)
 abbrev pub body_text : Line → List ℕ
 body_text line = join_with_byte (code " ") (decimal line.start ∷ decimal line.len ∷ target_fields line.target)
 
--- a name below is a valid device name or a valid disk name
+-- the device or disk has a valid name
 abbrev pub is_dev_ref : DevRef → Bool
 is_dev_ref (Device name) = is_device_name name
 is_dev_ref (Disk name) = is_disk_name name
 
--- a table can name this device or disk
+-- a table can name this device or disk: its name is valid
 abbrev pub IsDevRef : DevRef → Type 0
 IsDevRef dev = is_dev_ref dev ≡ true
 

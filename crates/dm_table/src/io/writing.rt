@@ -28,7 +28,7 @@ pub fn write_all<W: Output>(writer: &mut W, bytes: &[u8]) -> Result<(), OutFault
 /// `OutFault` if a write failed before, or if the flush fails.
 #[tactic(auto, using(crate::proofs::io::WriteLemmas::closed_unflushed, crate::proofs::io::WriteLemmas::closed_flushed))]
 pub fn close<W: Output>(written: Result<(), OutFault>, output: &mut W) -> Result<(), OutFault>
-    // For every text that was being written, and wherever in the output's history it began.
+    // This holds for every text that was being written, wherever in the output's history it began.
     ensures closed { (start : OutputPast) (text : List ℕ) → Wrote start (W.past output.old) written text
         → IsClosedAfter start (W.past output.new) (IsErr result) text }
     // After a failed write, the output isn't called again.

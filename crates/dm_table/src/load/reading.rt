@@ -53,13 +53,13 @@ pub(crate) trait FromRows: Drop {
     /// How a line is cut into fields.
     ghost row_of: { List ℕ → List (List ℕ) };
 
-    /// Whether fields have the form of a row, else `Syntax`.
+    /// Whether fields have the form of a row; if not, the fault is `Syntax`.
     ghost is_row: { List (List ℕ) → Bool };
 
-    /// Whether the values in a row are valid, else `Field`.
+    /// Whether the values in a row are valid; if not, the fault is `Field`.
     ghost has_values: { List (List ℕ) → Bool };
 
-    /// Whether the names in a row are valid, else `Name`.
+    /// Whether the names in a row are valid; if not, the fault is `Name`.
     ghost has_names: { List (List ℕ) → Bool };
 
     /// The list of values after one more row, which has this number and no fault.

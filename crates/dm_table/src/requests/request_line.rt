@@ -160,7 +160,7 @@ pub fn parse_request<'a>(line: &'a [u8], number: u64) -> Result<Request<'a>, Req
         → a ≡ b }
     // A refused line gives the first fault that applies.
     ensures fault { IfErr result (λ fault. request_reading line.now ≡ Err fault) }
-    // The limit as a figure.
+    // `MOST_SECTORS` as a figure.
     ensures limit { MOST_SECTORS ≡ 1048576 }
 {
     let Some((op, device, rest)) = head(line) else {
