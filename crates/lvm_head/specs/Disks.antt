@@ -24,7 +24,7 @@ abbrev pub answer : {F : Type 0} → Result (Unit {0}) F → (bytes : List ℕ) 
 answer (Ok done) bytes = Ok bytes
 answer (Err fault) bytes = Err fault
 
--- the next step with the value of the one before, or the first fault
+-- `>>=`: the next step, given the value of the step before, or the first fault
 infixl 10 ◌>>=◌
 abbrev pub ◌>>=◌ : {X Y F : Type 0} → Result X F → (X → Result Y F) → Result Y F
 Ok value >>= next = next value

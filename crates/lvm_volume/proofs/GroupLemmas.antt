@@ -3,11 +3,11 @@ use Rattle.lvm_volume.proofs.Prelude.{inl, inr, List, [], Option, Some, None, Re
 use Rattle.lvm_volume.proofs.checks.FaultKinds.{NoMemory, first_kind, of_walk, of_unknown, of_extents, of_snapshots, of_unnamed}
 use Rattle.std.specs.Prelude.{◌≡◌, ◌≢◌, ◌⊎◌, ◌∷◌}
 
--- the result that a call may have when it returned this fault: it ran out of memory, or the fault was found
+-- `said` is the error `fault`, unless the fault is that memory ran out
 abbrev pub Refused : {X : Type 0} → LoadFault → Result X LoadFault → Type 0
 Refused fault said = (fault.kind ≡ Memory → IsMemoryFault Source fault) × (fault.kind ≢ Memory → said ≡ Err fault)
 
--- a step found the fault, or ran out of memory; in both cases the call may return that fault
+-- if a step found the fault or ran out of memory, the whole call may return that fault
 pub refused_by : {X : Type 0} {found : Option LoadFault} {fault : LoadFault} {said : Result X LoadFault} → (found ≡ Some fault → Refused fault said) → (found ≡ Some fault) ⊎ IsMemoryFault Source fault → Refused fault said
 refused_by refused (inl is) = refused is
 refused_by refused (inr memory) = (λ kind. memory, λ other. absurd (other (rw memory)))

@@ -21,7 +21,7 @@ use std::alloc::Global;
 pub enum OwnedFault {
     /// The disk with this number, counted from 0, can't be used for the physical volume with its id.
     Disk(usize, DiskFault),
-    /// The text is refused, as it would be without images.
+    /// The text is refused for this fault, as it would be without images.
     Load(LoadFault),
 }
 

@@ -69,27 +69,27 @@ segment_fields =
 
 -- ---- what a section has under a key
 
--- the integer in a content, or 0 if it holds none
+-- the integer, if the content is one, else 0
 abbrev pub number_in : Content → ℕ
 number_in (Whole (Int n)) = n
 number_in _ = 0
 
--- the string in a content, or an empty one if it holds none
+-- the string, if the content is one, else an empty one
 abbrev pub text_in : Content → List ℕ
 text_in (Whole (Text text)) = text
 text_in _ = []
 
--- the elements of the list in a content, or none if it holds no list
+-- the elements of the list, if the content is one, else none
 abbrev pub items_in : Content → List Scalar
 items_in (Items items) = items
 items_in _ = []
 
--- the keys and sections inside the section in a content, or none if it holds no section
+-- the keys and sections inside, if the content is a section, else none
 abbrev pub sections_in : Content → List (List ℕ × Tree)
 sections_in (Inner tree) = sections_of tree.values
 sections_in _ = []
 
--- the section in a content, as a list of at most one
+-- the section, if the content is one, as a list of at most one
 abbrev pub section_in : Content → List Tree
 section_in (Inner tree) = tree ∷ []
 section_in _ = []
@@ -133,7 +133,7 @@ is_striped segment = bytes_eq (text_at (codes "type") segment) (codes "striped")
 abbrev pub is_snapshot : Tree → Bool
 is_snapshot segment = bytes_eq (text_at (codes "type") segment) (codes "snapshot")
 
--- the field is required in this section, or, with Given, is there
+-- the field is required in this section, or, if its condition is Given, is there
 abbrev pub is_asked : Condition → List ℕ → Tree → Bool
 is_asked Always key tree = true
 is_asked Given key tree = is_some (node_of key tree.values)

@@ -13,7 +13,7 @@ letters_of text = filter (λ letter. not (letter == code "-")) text
 abbrev pub id_in : Keyed → List ℕ
 id_in physical = letters_of (text_at (codes "id") physical.1)
 
--- the physical volumes in a text, in order, and below their ids
+-- the physical volumes in a text, in order; and below, their ids
 abbrev pub physicals_of : Tree → List Keyed
 physicals_of top = sections_at (codes "physical_volumes") (first_section (sections_of top.values)).1
 
