@@ -40,7 +40,7 @@ pub record AreOwnChunks (chunk len : ℕ) (chunks : List ℕ) : Type 0 where
 abbrev pub TookOwn : Description → State → Type 0
 TookOwn stack state = (device : ℕ) (snapshot : ResolvedSnapshot) → snapshot_at stack device ≡ Some snapshot → AreOwnChunks snapshot.chunk (device_len stack device) (taken_at state device).chunks
 
--- no snapshot is lost
+-- no snapshot of the stack is lost, and each took only chunks of its own, none twice
 pub record IsIntact (stack : Description) (state : State) : Type 0 where
   pub fits : IsFitting stack state
   pub valid : (device : ℕ) → (taken_at state device).valid ≡ true

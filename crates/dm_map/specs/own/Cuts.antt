@@ -38,7 +38,7 @@ unfoldable pub take_chunks : Description → List Due → State → Step
 take_chunks stack [] state = keep [] state
 take_chunks stack (one ∷ later) state = and_then (take_chunk stack one.snapshot one.device one.chunk state) (λ after. take_chunks stack later after)
 
--- where no claims meet, each top device has its row, or errors, after a cut too
+-- if no claims clash, each sector of a top device still reads as last written through it, or as an error, after a power cut
 pub record AreCutAlone (V : Type 0) (stack : Description) : Type 0 where
   -- sectors without data may change freely
   pub spare : (zeros : V) (state : State) (values others : Values V) (rows : Rows V) → IsTidy stack → AreOwn zeros stack state values rows → HaveSameData stack state values others → AreOwn zeros stack state others rows

@@ -13,7 +13,7 @@ pub record Node : Type 0 where
 abbrev pub node : Lower → (sector : ℕ) → Node
 node lower sector = record { lower = lower; sector = sector }
 
--- a read of the one sector goes on at the other
+-- a read of the one sector continues at the other, directly below it
 pub record Leads (stack : Description) (state : State) (from to : Node) : Type 0 where
   pub device : ℕ
   pub on : from.lower ≡ Device device
