@@ -1,4 +1,4 @@
--- Legs: the longest runs of a line's sectors below which one range, zeros or errors lie.
+-- Legs: runs of a line's sectors with one thing below them: consecutive sectors, zeros, errors, or a snapshot's or origin's.
 use Rattle.dm_stack.specs.Base.{ℕ, Bool, false, true, List, length, StripePosition}
 use Rattle.dm_stack.specs.declared.lines.resolved_columns.ResolvedColumn.{ResolvedColumn}
 use Rattle.dm_stack.specs.declared.id.Lower.TheVariants.{Disk}

@@ -104,7 +104,7 @@ fn check_ids(alloc: Global, stack: &Resolved) -> Result<u32, LoadFault>
     Ok(deepest(&graph.depths))
 }
 
-/// The checks by what devices name, with what was followed of that, and those after them.
+/// Runs the check for cycles and all later checks, with the cycle and the depths that were found.
 fn check_graph(stack: &Resolved, found: &BadLines, graph: &Graph) -> Result<(), LoadFault>
     requires lines { AreFirst stack.now found.now }
     requires before { first_fault (checks_before stack.now) ≡ None }

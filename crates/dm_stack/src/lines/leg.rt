@@ -1,4 +1,4 @@
-//! Legs: the longest runs of a line's sectors below which one range, zeros or errors lie.
+//! Legs: runs of a line's sectors with one thing below them, such as consecutive sectors, zeros or errors.
 //!
 //! This module decides what a target without state does with its sectors; only stripes, in `legs`, have more than
 //! one leg. A walk goes down leg by leg, and looks at what lies below a leg, not at the target. To add a target,
@@ -51,8 +51,7 @@ impl<'l> Leg<'l> {
 }
 
 impl ResolvedTarget {
-    /// The longest leg of a line with this target, of at most `most` sectors, from a distance into the line on.
-    ///
+    /// The leg at a distance into a line with this target: its length, at most `most`, and what lies below it.
     /// A leg ends at the end of a stripe's chunk; for any other target, one leg covers all the sectors. Where the
     /// sectors of a snapshot lie, and what a write to an origin does first, depends on the state. No memory is
     /// allocated.
