@@ -74,8 +74,8 @@ impl Stack {
     ///     1,024.
     /// 12. `Store`: a snapshot whose store is neither a disk nor a writable device of linear and
     ///     striped lines that names nothing but disks and such devices, down to disks.
-    /// 13. `Limit`: the snapshot whose store brings all stores to more than 4,194,304 places for
-    ///     chunks together.
+    /// 13. `Limit`: the first snapshot at which the stores so far have room for more than 4,194,304 chunks
+    ///     together.
     ///
     /// A check goes over the devices in order, and over the lines of each; disks come last. `Memory`, with the
     /// number 0, means that memory ran out, and tells nothing about the lists.

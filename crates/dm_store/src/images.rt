@@ -18,7 +18,7 @@ pub const MOST_BYTES: usize = 65_536;
 #[derive(Clone, Copy, Debug, PartialEq, Eq, Drop)]
 pub struct ReadFault;
 
-/// Images, each named by its line in a list, and by its path.
+/// Gives access to images, each named by its line in a list and its path.
 pub trait Images {
     /// Says which contents of all images agree with the reads so far. Before the first read all contents do, as
     /// the maker of images promises; or, if the contents are known, only these do.

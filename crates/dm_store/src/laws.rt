@@ -51,7 +51,7 @@ pub fn restarts(stack: &Stack)
     ensures found { IsAlwaysFound stack.now }
     ensures exact { IsAlwaysExact stack.now }
 {
-    // Called because its contract says that the stack is sound.
+    // The contract of `depth` says that the stack is sound.
     stack.depth();
 }
 

@@ -19,7 +19,7 @@ use dm_map::{Mapper, Taken};
 use dm_stack::{DeviceId, place};
 use dm_table::StoreKind;
 
-/// Takes the chunk that a pair lists, unless the list has a fault, with this pair or before it.
+/// Takes the chunk of a pair, unless this pair or an earlier one has a fault; returns the list's fault so far.
 fn take_listed<T: Taken>(
     mapper: &mut Mapper<'_, T>,
     device: DeviceId,
