@@ -69,7 +69,7 @@ snapshot_spans stack len (targets.Snapshot origin store kind chunk_size) snapsho
     snapshot_is a b e = cc
 snapshot_spans stack len target snapshot is = absurd cc
 
--- a span of a whole device or disk claims every sector of it that a read can reach through the line
+-- a span that a line names in whole: a read can reach each of its sectors through the line
 record IsWholeVia (stack : Description) (device index column : ℕ) (it : Line) (lower : Lower) (kind : Use) : Type 0 where
   named : IsNamed stack device index column it lower
   via : (at : ℕ) → at < lower_len stack lower → IsVia stack device index column it lower at kind
