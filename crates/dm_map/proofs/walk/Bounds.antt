@@ -35,7 +35,7 @@ pub mapped_target : {S F : Type 0} {past : SinkPast S} {result : Result (Unit {0
 mapped_target {past} {result} {old} {new} {before} {after} {distance} {n} op levels device start other target is same kind mapped =
     rw (same, kind) mapped
 
--- below a line, paths differ where the line's chunk does
+-- the path below a line; two sectors in different chunks of the line have different paths
 abbrev lower_path : Description → State → (levels device : ℕ) → ResolvedTarget → (distance : ℕ) → List PathStep
 lower_path stack state levels device target distance = by_below (below_target (read_over (taken_at state device)) target distance) [] [] (λ to lower. path stack state levels to lower)
 

@@ -38,7 +38,7 @@ stretches_same f h s t zero each = refl
 stretches_same f h s t (suc n) each = ap suc (changes_same f h s t n (λ i within.
     cc (each i (omega (arith, within)), each (suc i) (omega (arith, within)))))
 
--- paths that each have one more step in front have at least as many changes
+-- two paths that stay the same below don't change below, so there are at most as many changes as above
 fewer_here : (a b : Bool) → (a ≡ true → b ≡ true) → cond b 0 1 ≤ cond a 0 1
 fewer_here true b same = rw (same refl) (omega arith)
 fewer_here false true same = omega arith
