@@ -23,19 +23,19 @@ pub record MapperView : Type 0 where
 abbrev pub with_looked : MapperView → Counts → MapperView
 with_looked mapper counts = record { stack = mapper.stack; state = mapper.state; failed = mapper.failed; looked = counts; last = mapper.last }
 
--- P, where the sink failed during this request; nothing for any other result
+-- P, if the sink failed during this request; trivially true for any other result
 abbrev pub OnSinkFault : {R F : Type 0} → Result R (MapFault F) → Type 0 → Type 0
 OnSinkFault (Ok done) P = Unit {0}
 OnSinkFault (Err (faults.Sink fault)) P = P
 OnSinkFault (Err faults.Stopped) P = Unit {0}
 
--- P, where the request was refused since an earlier one had failed; nothing for any other result
+-- P, if the request was refused since an earlier one had failed; trivially true for any other result
 abbrev pub OnStopped : {R F : Type 0} → Result R (MapFault F) → Type 0 → Type 0
 OnStopped (Ok done) P = Unit {0}
 OnStopped (Err (faults.Sink fault)) P = Unit {0}
 OnStopped (Err faults.Stopped) P = P
 
--- P, unless the request was refused since an earlier one had failed
+-- P, unless the request was refused since an earlier one had failed; then trivially true
 abbrev pub OnTried : {R F : Type 0} → Result R (MapFault F) → Type 0 → Type 0
 OnTried (Ok done) P = P
 OnTried (Err (faults.Sink fault)) P = P

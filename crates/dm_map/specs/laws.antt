@@ -1,3 +1,3 @@
--- Laws whose proofs stand among the specs, for importers that can import nothing but specs.
+-- Laws whose proofs are among the specs, for importers that can import nothing but specs.
 pub mod Contents
 pub mod PieceLists

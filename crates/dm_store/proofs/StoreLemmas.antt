@@ -1,8 +1,8 @@
--- What is told of a store, by its header and its list.
+-- What the reader reports for a store, by its header and its list.
 use Rattle.dm_store.proofs.Prelude.{ℕ, Bool, true, Result, Ok, Err, length, refl, sym, ap, ◌∙◌, arith, OnOk, length-set, set-set, State, Taken, put, taken_at, taken_same, StoreFault, told, told_list, taken_in, Holds}
 use Rattle.std.specs.Prelude.{◌≡◌, ◌<◌}
 
--- a valid snapshot that took what a list holds
+-- a valid snapshot's entry is what a store with its list of chunks holds
 pub taken_valid : (taken : Taken) → taken.valid ≡ true → Ok taken ≡ taken_in (Holds taken.chunks)
 taken_valid taken valid = ap (λ (b : Bool). let t : Taken = record { chunks = taken.chunks; valid = b } in let r : Result Taken StoreFault = Ok t in r) valid
 

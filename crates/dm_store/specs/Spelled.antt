@@ -20,7 +20,7 @@ pub record IsClear (sectors : Sectors) (chunk number : ℕ) : Type 0 where
   pub read : sectors (row_sector chunk (number / 32)) ≡ Ok row
   pub zeros : pair_in row (number % 32) ≡ record { old = 0; new = 0 }
 
--- after count pairs the list goes on, and every pair from there to the end of the metadata area is zero
+-- the store's areas hold more than count pairs, and every pair from there to the end of its area is zero
 pub record AreClearFrom (sectors : Sectors) (chunk store_len count : ℕ) : Type 0 where
   pub inside : count < pair_count chunk store_len
   pub clear : (i : ℕ) → i < rest_count chunk count → IsClear sectors chunk (count + i)

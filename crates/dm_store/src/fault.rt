@@ -27,7 +27,7 @@ pub enum ListFault {
 pub enum StoreFault {
     /// The header can't be read, or a sector of the metadata areas that the list fills or ends in.
     Unread(SectorFault),
-    /// It is not a store: its first number is neither the magic number nor 0.
+    /// The header is not one of a store: its first number is neither the magic number nor 0.
     Magic,
     /// The version in the header isn't 1.
     Version,

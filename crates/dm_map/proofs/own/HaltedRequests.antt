@@ -4,7 +4,7 @@ use Rattle.dm_stack.specs.declared.checks.graph.TheConstants.{MOST_DEPTH}
 use Rattle.dm_map.proofs.own.OwnRequests.{both_own, none_own, played_first, rows_first, step_own}
 use Rattle.std.specs.Prelude.{◌≡◌, ◌+◌, ◌-◌, ◌≤◌, ◌++◌}
 
--- a request halted after these units: some number of its sectors is complete, the state is the one after those, and each top device reads as its row says
+-- a request halted after these units: some number of its sectors is complete, the state is the one after those, and each top device reads as its row says, or as an error
 record IsHalted {V : Type 0} (zeros : V) (written : ℕ → V) (stack : Description) (top : ℕ) (step : State → ℕ → Step) (state : State) (sector at len : ℕ) (units : List BlockUnit) (values : Values V) (rows : Rows V) : Type 0 where
   pub sectors : ℕ
   pub past : sector_past units at ≡ at + sectors

@@ -33,7 +33,7 @@ store_touches stack state (suc levels) (Device device) sector sound store inside
 pub node_is : (c : Node) (e d t s : ℕ) → c.lower ≡ Device e → e ≡ d → t ≡ c.sector → t ≡ s → c ≡ node (Device d) s
 node_is c e d t s lower same at is = rw (lower, same, ← at, is)
 
--- a way that reaches the sector below a line without state passes the line's own sector, or starts below it
+-- a way from a node that no line leads to, if it reaches the sector below a line without state, passes the line's own sector
 pub touch_up : (stack : Description) (state : State) (a : Node) (device sector : ℕ) (lower : Lower) (at : ℕ) → IsSound stack → IsFitting stack state → IsTidy stack → IsNoLines stack a.lower
     → IsLineStep stack device sector lower at → Touches stack state a (node lower at) → Touches stack state a (node (Device device) sector)
 touch_up stack state a device sector lower at sound fitting tidy free step touches = elim (back stack state a (node lower at) touches) [

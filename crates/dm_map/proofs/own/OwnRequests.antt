@@ -97,7 +97,7 @@ last_own {V = V} zeros written stack state top sector step values rows w own (Wr
       ];
     })
 
--- what is known of a sector's step if each top device read as its row said before: about all of its units, with any units after them, and about its first units
+-- what is known of a sector's step if each top device read as its row said, or as an error, before: about all of its units, with any units after them, and about its first units
 pub record IsOwnStep {V : Type 0} (zeros : V) (written : ℕ → V) (stack : Description) (top : ℕ) (state : State) (sector : ℕ) (step : Step) (values : Values V) (rows : Rows V) : Type 0 where
   pub later : Values V
   pub after : Rows V

@@ -102,7 +102,7 @@ only_by_line stack state d s e t lower at line sound fitting tidy inside is step
     let one = one_via stack d e a.index b.index (span_index line.target (s - line.start)) 0 a.it b.it lower at Own Serving tidy a.via via refl in
     absurd (line_no_origin stack d s line lower at a.it b.it origin a.is step one.lines b.target)
 
--- only the snapshot leads to a sector of its store, and by a taken chunk
+-- the step to a sector of the store starts in the snapshot, at a sector of a taken chunk
 pub record IsInStore (state : State) (device : ℕ) (snapshot : ResolvedSnapshot) (at e t : ℕ) : Type 0 where
   pub same : e ≡ device
   pub number : ℕ

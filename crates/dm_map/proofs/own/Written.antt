@@ -59,7 +59,7 @@ written_none stack state lower sector step unit which is = record {
   alone = λ disk x a e root unserved touches. absurd (no_write unit disk x which e);
 }
 
--- Writes that go on below, by a line without state
+-- Writes to a line without state, which continue below it
 
 read_next : (stack : Description) (state : State) (device sector : ℕ) (to : Lower) (at : ℕ) → IsSound stack → read_below stack state device sector ≡ Lies to at → read stack state (Device device) sector ≡ read stack state to at
 read_next stack state device sector to at sound e = cc (read_down stack state device sector sound)

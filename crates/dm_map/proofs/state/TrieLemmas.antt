@@ -159,7 +159,7 @@ no_trie slots table =
 
 -- Taking a chunk
 
--- replacing an empty node by a number changes no chunk's way
+-- replacing a node that isn't a fork by another that isn't changes no chunk's way
 put_way : (nodes after : List Node) (here : ℕ) → is_fork (node_at nodes here) ≡ false → is_fork (node_at after here) ≡ false → ((at : ℕ) → (at ≡ here → ⊥) → node_at after at ≡ node_at nodes at)
     → (chunk start steps : ℕ) → way after chunk start steps ≡ way nodes chunk start steps
 put_way nodes after here before now others chunk start zero = way-zero after chunk start ∙ sym (way-zero nodes chunk start)

@@ -29,7 +29,7 @@ mapped_below {before} {after} {sector} {n} op levels device start distance at li
           omega (arith, most);
     }
 
--- the same promise for an equal target and start
+-- sectors mapped for one target and start are mapped for an equal target and start
 pub mapped_target : {S F : Type 0} {past : SinkPast S} {result : Result (Unit {0}) F} {old new : S} {before after : WalkerView} {distance n : ℕ} (op : Op) (levels device : ℕ) (start other : ℕ) (target is : ResolvedTarget)
     → start ≡ other → target ≡ is → IsMapped past result old new before after (target_mapping op levels device other is) distance n → IsMapped past result old new before after (target_mapping op levels device start target) distance n
 mapped_target {past} {result} {old} {new} {before} {after} {distance} {n} op levels device start other target is same kind mapped =

@@ -6,7 +6,7 @@ use Rattle.dm_map.proofs.walk.Ranges.{plain_step}
 use Rattle.dm_map.proofs.walk.Rows.{none_added, walked_as}
 use Rattle.std.specs.Prelude.{◌≡◌, ◌+◌, ◌≤◌, ◌∷◌}
 
--- the legs left of such a line lie on disks
+-- the legs left of a line striped over disks lie on disks
 pub legs_on_disks : (stack other : Description) (device : ℕ) (line : ResolvedLine) (legs : LegsView) (distance len : ℕ) → other ≡ stack → IsLine stack device line → distance + len ≤ line.len → has_disk_columns line.target ≡ true → legs ≡ record { target = line.target; distance = distance; left = len }
     → AreOnDisks other legs
 legs_on_disks stack other device line legs distance len same of inside each made =

@@ -36,7 +36,7 @@ first_reads stack state lower sector n unit is = ap (λ (step : Step). step.unit
 first_of_units : (us : List BlockUnit) (u v : BlockUnit) (vs : List BlockUnit) → u ∷ us ≡ v ∷ vs → (u ≡ v) × (us ≡ vs)
 first_of_units us u v vs same = (cc, cc)
 
--- so are those of a part of the stretch
+-- the units of the first sectors of a stretch are those of its ground
 pub row_front : (f : ℕ → BlockUnit) (sector m n : ℕ) (unit : BlockUnit) → row f sector m ≡ units_in unit m → n ≤ m → row f sector n ≡ units_in unit n
 row_front f sector m zero unit same few = refl
 row_front f sector zero (suc n) unit same few = absurd (omega (arith, few))

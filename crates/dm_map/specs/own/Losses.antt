@@ -11,7 +11,7 @@ use Rattle.dm_map.specs.state.State.{State, taken_at}
 use Rattle.dm_map.specs.pieces.Units.{Fails}
 use Rattle.std.specs.Prelude.{◌≡◌, ◌⊎◌, ◌+◌, ◌-◌, ◌/◌, ◌<◌, ◌≤◌, ◌∷◌, ◌++◌, if◌then◌else◌}
 
--- Due chunks: those that a write takes before it goes on, unless they are settled
+-- Due chunks: those that a write takes before it writes, unless they are settled
 
 -- a chunk of a snapshot that a write takes first, by the device that the snapshot is
 pub record Due : Type 0 where

@@ -3,7 +3,7 @@ use Rattle.dm_map.specs.Base.{ℕ, List, [], Result, OnOk, OnErr, fault_of, Desc
 use Rattle.dm_map.specs.pieces.Units.{BlockUnit}
 use Rattle.std.specs.Prelude.{◌≡◌, ◌+◌, ◌≤◌, ◌++◌}
 
--- the stack on whose disks pieces lie, how many more sectors of pieces without a disk the sink accepts, and how many pieces the sink has failed at so far
+-- the stack on whose disks pieces lie, the most sectors that a piece without a disk may have, and how many pieces the sink has failed at so far
 pub record SinkView : Type 0 where
   pub stack : Description
   pub room : ℕ

@@ -100,7 +100,7 @@ pub clash_here : (before : List Claim) (k : ℕ) (earlier later : Claim) → k <
 clash_here before k earlier later within is met =
     rw ((drop-cons before k earlier within ∙ ap (λ (one : Claim). one ∷ drop (suc k) before) (sym is)), met)
 
--- no element that a failed search passed over passes the test
+-- if a search finds nothing, no element passes the test
 none_found : (test : Claim → Bool) (xs : List Claim) → find test xs ≡ None → All (λ one. test one ≡ false) xs
 none_found test xs e k d within = fails_before_first test xs k d (by (position_or_len test xs) (cases_lt (position_or_len test xs) (length xs)) (sym (find_at test xs) ∙ e))
   where

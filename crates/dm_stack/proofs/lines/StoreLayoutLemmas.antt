@@ -3,7 +3,7 @@ use Rattle.dm_stack.proofs.Prelude.{ℕ, zero, suc, false, arith, refl, inl, inr
 use Rattle.dm_table.specs.declared.tables.table.StoreKind.TheVariants.{Persistent, Transient}
 use Rattle.std.specs.Prelude.{◌≡◌, ◌+◌, ◌-◌, ◌*◌, ◌/◌, ◌%◌, ◌<◌, ◌≤◌, ◌↔◌}
 
--- a number is below the count of data chunks exactly if its place is below the count of all chunks
+-- if a number is below the count of data chunks, its place is below the count of all chunks
 within : (most rest number q a r b : ℕ) → r < most → b < most + 1 → q * most + r ≡ number → a * (most + 1) + b ≡ rest → number < rest - a → number + q < rest
 within most rest number q a r b small_r small_b is_number is_rest below = elim (cases_lt a q) [
   | inl more ↦ let m : (a + 1) * most ≤ q * most = mul-le-mul_right most (omega (arith, more)) in absurd (omega (arith, m, small_r, small_b, is_number, is_rest, below))

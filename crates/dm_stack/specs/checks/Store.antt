@@ -1,4 +1,4 @@
--- What may be the exception store of a snapshot: a disk, or a writable device of linear and striped lines over such.
+-- What may be the exception store of a snapshot: a disk, or a writable device of linear and striped lines, down to disks.
 use Rattle.dm_stack.specs.Base.{ℕ, zero, suc, Bool, true, false, not, List, [], length, map, nat_le, list_all, range_with_len, slice_index_or, Line, Target, spans}
 use Rattle.dm_table.specs.declared.tables.table.Target.TheVariants as targets
 use Rattle.dm_stack.specs.declared.checks.graph.TheConstants.{MOST_DEPTH}

@@ -70,7 +70,7 @@ pub record AreTops (stack : Description) (tops : List Bool) : Type 0 where
   pub all : length tops ≡ length stack.devices
   pub each : (device : ℕ) → device < length stack.devices → IsTrue (slice_index_or tops device false) ↔ IsTop stack device
 
--- the clash of a list of claims: the first claim that clashes with an earlier one, the earliest of those, and the least sector at which the two do
+-- the clash of a list of claims: the first claim that clashes with an earlier one, the earliest claim that it clashes with, and the least sector at which the two do
 pub record IsClash (all : List Claim) (clash : Clash) : Type 0 where
   pub before : List Claim
   pub earlier : Claim

@@ -48,7 +48,7 @@ is_whole _ = false
 abbrev pub has_crowd : DeviceSpec → Bool
 has_crowd device = not (length device.lines == 1) && list_any (λ line. is_whole line.target) device.lines
 
--- the snapshots that origin lines copy from: none if a load will refuse a crowded table, which bounds the copies by the number of devices
+-- the snapshots that origin lines copy from: none if a load will refuse a crowded table, in which there could be as many copies as the square of the lines
 unfoldable pub copied : Description → List ResolvedOver
 copied stack = if list_any has_crowd stack.devices then [] else all_over stack
 

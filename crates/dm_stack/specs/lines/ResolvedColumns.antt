@@ -4,7 +4,7 @@ use Rattle.dm_stack.specs.declared.id.Lower.{Lower}
 use Rattle.dm_stack.specs.declared.id.Lower.TheVariants.{Device, Disk}
 use Rattle.dm_stack.specs.declared.lines.resolved_columns.ResolvedColumn.{ResolvedColumn}
 
--- it is a disk, not a device
+-- the lower device or disk is a disk
 abbrev pub is_disk : Lower → Bool
 is_disk (Device device) = false
 is_disk (Disk disk) = true

@@ -19,7 +19,7 @@ pub enum Beneath<'l> {
     Zeros,
     /// Nothing: every request fails.
     Errors,
-    /// Whatever the state of this snapshot says.
+    /// A snapshot, whose state says where each of its sectors lies.
     Snapshot(&'l ResolvedSnapshot),
     /// The sectors of what this origin names; before a write, the origin's snapshots take their chunks.
     Origin(&'l ResolvedOrigin),
