@@ -119,7 +119,7 @@ snapshot_sound stack id lines line origin store kind chunk whole good stored =
       store = not-false _ stored;
     }
 
--- a snapshot or an origin, which must be the only line of its table, has no line beside it
+-- in a table of several lines, no line is a snapshot or an origin
 one_alone : (stack : Description) (count len : ℕ) (target : Target) → (count == 1) ≡ false → is_bad_snapshot stack count len target ≡ false → is_whole target ≡ false
 one_alone stack count len (targets.Snapshot origin store kind chunk) many good = absurd cc
 one_alone stack count len (targets.Origin origin) many good = absurd cc

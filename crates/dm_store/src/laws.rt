@@ -55,9 +55,9 @@ pub fn restarts(stack: &Stack)
     stack.depth();
 }
 
-/// States what `restarts` does for any number of cuts, each followed by a restart and by further requests: each time, reading
-/// the stores gives what lists keep of the state, and each sector of a top device reads as last written, or as an
-/// error.
+/// States what `restarts` does for any number of cuts, each followed by a restart and by further requests: each
+/// time, reading the stores gives what lists keep of the state, and each sector of a top device reads as last
+/// written, or as an error.
 pub fn restarts_go_on(stack: &Stack)
     ensures { AreAllFound stack.now }
 {
