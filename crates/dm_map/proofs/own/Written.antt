@@ -200,7 +200,7 @@ origin_written stack state device sector line origin step sound fitting tidy ser
           ]);
     }
 
--- Every write is one of these
+-- The write of any sector
 
 held_is : (stack : Description) (device sector : ℕ) (line held : ResolvedLine) → found_at stack device sector ≡ Some line → has_state line.target ≡ false → found_at stack device sector ≡ Some held → has_state held.target ≡ false
 held_is stack device sector line held is plain held_at = rw (← same_Some line held (sym is ∙ held_at)) plain

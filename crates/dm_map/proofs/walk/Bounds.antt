@@ -1,4 +1,4 @@
--- The promise of a walk and its bound on searches, for sectors of a line by what lies below, and for sectors of a device in one line.
+-- Walks and bounds on their searches, for sectors of a line by what lies below, and for sectors of a device in one line.
 use Rattle.dm_map.proofs.Prelude.{ℕ, suc, false, List, [], Some, length, refl, sym, ap, ◌∙◌, arith, nat_lt, Result, ne_eqb, mul-le-mul_right, Op, Read, ResolvedLine, ResolvedTarget, Lower, Device, Below, Lies, below_target, found_at, is_same_chunk, IsLineOf, Description, device_len, stack_depth, IsSound, depth_of, SinkPast, IsMapped, found_mapping, range_mapping, target_mapping, target_path, PathStep, is_same_path, path, read_stretches, stretches, by_below, read_over, State, taken_at, Step, steps, WalkerView, line_step, refuses}
 use Rattle.dm_stack.specs.Prelude.{chunk_at}
 use Rattle.dm_stack.specs.declared.checks.graph.TheConstants.{MOST_DEPTH}

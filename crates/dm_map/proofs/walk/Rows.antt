@@ -14,12 +14,12 @@ added_then first second third one two = record {
   few = omega (arith, one.searches, two.searches, one.few, two.few);
 }
 
--- the promise of a walk for an equal step
+-- a walk by one step is a walk by an equal step
 pub walked_as : {S R F : Type 0} {past : SinkPast S} {result : Result R F} {old new : S} {before after : WalkerView} {step other : Step} {len : ℕ} → step ≡ other
     → IsWalked past result old new before after step len → IsWalked past result old new before after other len
 walked_as {past} {result} {old} {new} {before} {after} {len} same walked = rw same at walked
 
--- the promise of a walk for more sectors
+-- a walk that uses the sink's room for few sectors is one that uses it for len, if that is at least as many
 pub walked_within : {S R F : Type 0} {past : SinkPast S} {result : Result R F} {old new : S} {before after : WalkerView} {step : Step} {few len : ℕ} → few ≤ len
     → IsWalked past result old new before after step few → IsWalked past result old new before after step len
 walked_within {past} {result} {old} {new} {few} {len} within walked = record {

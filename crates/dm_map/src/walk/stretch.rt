@@ -1,4 +1,4 @@
-//! Stretches: where the first sectors of a range are read from, and for how many this continues.
+//! Stretches: where the first sectors of a range are read from, and how many of them in a row.
 //!
 //! The walk hands pieces to a sink; this follows the same legs and returns the first piece of a read, without a
 //! sink and without a loop over sectors, at the cost of one look-up for each level. It is for copies, which need
@@ -132,7 +132,7 @@ fn line_stretch<T: Taken>(
     }
 }
 
-/// Where the first sectors of a range of a device are read from, for how many this continues.
+/// Where the first sectors of a range of a device are read from, and how many of them in a row.
 pub(crate) fn first_read<T: Taken>(
     walker: &mut Walker<'_, T>,
     device: DeviceId,

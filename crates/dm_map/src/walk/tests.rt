@@ -30,8 +30,8 @@ const TABLE: &str = "a: 0 4 linear sda 10\na: 4 2 zero\na: 6 2 error\n\
 
 const DISKS: &str = "sda 16\nsdb 4\nsdc 64\nsdd 64\n";
 
-/// A write, a read after it, the length of the read's first stretch, and that of its first piece. The chunk was
-/// taken, or wasn't, or only the origin took it, or a write to the origin's device took it.
+/// A write, a read after it, the length of the read's first stretch, and that of its first piece. The chunk is
+/// taken, or not, or taken only in the origin, or taken by a write to the origin's device.
 static AFTER_A_WRITE: [(&str, &str, u64, u64); 6] = [
     ("W s 4 1", "R s 0 16", 4, 4),
     ("W t 0 8", "R t 3 13", 5, 5),
